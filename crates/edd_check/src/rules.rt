@@ -3,6 +3,7 @@
 use crate::sources::{BUILTINS, Source};
 use edd_breaches::{Breach, Rule};
 use edd_name_meanings::fault::NameFault;
+use edd_repairs::help_of_left_out;
 use edd_reports::diagnostic::{Diagnostic, Finding};
 use edd_reports::nearest::Nearest;
 use edd_syntax::limits::Limit;
@@ -136,6 +137,29 @@ fn limit_help(limit: Limit) -> &'static str {
     }
 }
 
+// What is said of a word that other languages have, or EDDL elsewhere.
+fn foreign_help(word: &str) -> Option<&'static str> {
+    match word {
+        "TRUE" | "true" => Some("a method has numbers alone: write 1"),
+        "FALSE" | "false" | "NULL" | "null" => Some("a method has numbers alone: write 0"),
+        "METHODID" | "VARID" | "ITEM_ID" | "MEMBER_ID" => {
+            Some("an item is named by itself, without a function round it")
+        }
+        "fgetval" | "igetval" | "lgetval" | "vassign" | "fassign" | "fvar_value" | "dassign"
+        | "float_value" => {
+            Some("a variable is read by its name and set by =, or by ivar_value and iassign")
+        }
+        "acknowledge" => Some("ACKNOWLEDGE(text) asks the user to go on"),
+        "put_message" | "display" => Some("PUT_MESSAGE(text) shows a text"),
+        "delay" => Some("DELAY(seconds, text) waits"),
+        "get_dev_var_value" => Some("GET_DEV_VAR_VALUE(text, variable) asks for a value"),
+        "select_from_list" => Some("SELECT_FROM_LIST(text, \"a;b\") asks for a choice"),
+        "printf" | "print" => Some("PUT_MESSAGE(text) shows a text"),
+        "sizeof" => Some("a size is a number that is written out"),
+        _ => None,
+    }
+}
+
 // What helps where a name means nothing: where it does, or the nearest one.
 fn help_unknown(
     alloc: Global,
@@ -146,6 +170,13 @@ fn help_unknown(
     if let Some(number) = source.declared(name) {
         let text = format!(in alloc; "{name} means nothing here, but is declared")?;
         return found.help_at(source.span(number), text);
+    }
+    if let Some(text) = foreign_help(name).or(help_of_left_out(name)) {
+        return found.help(String::from_str(alloc, text)?);
+    }
+    if let Some(function) = function_of(name) {
+        let text = format!(in alloc; "{} is a function: its arguments stand in ( )", function.name())?;
+        return found.help(text);
     }
     let text = match source.nearest(alloc, name)? {
         Some(near) => format!(in alloc; "{near} may be meant")?,

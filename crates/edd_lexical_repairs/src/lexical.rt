@@ -3,6 +3,7 @@
 //! The fault is known, and its line. A scan over that line finds the byte: what could be the
 //! fault's token is given to the lexer by itself.
 
+use crate::characters::help_of_character;
 use crate::finding::Found;
 use crate::scanning::{Scanned, Shape, byte_at, piece_at};
 use edd_lexer::fault::LexFault;
@@ -10,6 +11,23 @@ use edd_lexer::lex;
 use edd_reports::diagnostic::{Diagnostic, Finding};
 use edd_reports::words::{Span, text_in};
 use std::alloc::{AllocError, Global};
+
+/// The most bytes of a name.
+const LONGEST_NAME: usize = 255;
+
+// What is said of a character past ASCII that no token has.
+fn named_character(
+    alloc: Global,
+    fault: &LexFault,
+    word: &str,
+) -> Result<Option<String>, AllocError> {
+    match (fault, word.chars().next()) {
+        (LexFault::BadCharacter { .. }, Some(character)) if !character.is_ascii() => {
+            Ok(Some(help_of_character(alloc, character)?))
+        }
+        _ => Ok(None),
+    }
+}
 
 // Where the first byte of a line is, counted from 1; the end of the text where there is no such
 // line.
@@ -99,9 +117,17 @@ fn valid_length(text: &[u8]) -> usize {
 fn first_bad_character(text: &[u8], span: Span) -> Span {
     for (index, byte) in text.iter().enumerate().take(span.end).skip(span.start) {
         if 0x80 <= *byte {
-            return Span {
+            let rest = Span {
                 start: index,
                 end: span.end,
+            };
+            let length = match text_in(text, rest).chars().next() {
+                Some(character) => character.len_utf8(),
+                None => 1,
+            };
+            return Span {
+                start: index,
+                end: index.saturating_add(length),
             };
         }
     }
@@ -128,35 +154,42 @@ fn first_bad_escape(text: &[u8], span: Span) -> Span {
     span
 }
 
-// What helps where no token has a character.
-fn help_of_character(character: &str) -> &'static str {
-    match character.chars().next() {
-        Some('\'' | '`' | '‘' | '’' | '‚' | '“' | '”' | '„' | '«' | '»') =>
-            "a text stands between two \"",
-        Some('–' | '—' | '−') => "a minus is written -",
-        Some('\u{a0}') => "this is no space, though it looks like one",
-        _ => "no token has this character outside of strings and comments",
+// What helps where a word that begins with a digit is no number.
+fn help_of_number(word: &str) -> &'static str {
+    let is_of = |allowed: &str| word.chars().all(|letter| allowed.contains(letter));
+    if word.starts_with("0b") || word.starts_with("0B") {
+        "a number is decimal, or to the base 16 as 0x1F"
+    } else if word.starts_with("0x") || word.starts_with("0X") || word.contains('.') {
+        "a number has no 0 in front, unless it is as 0x1F, and is at most 4294967295"
+    } else if is_of("0123456789uUlL") && !is_of("0123456789") {
+        "a number has no letters behind it"
+    } else if is_of("0123456789_") && word.contains('_') {
+        "the digits of a number stand side by side, without _"
+    } else if word.bytes().any(|byte| byte.is_ascii_alphabetic()) {
+        "a name begins with a letter or _"
+    } else {
+        "a number has no 0 in front, unless it is as 0x1F, and is at most 4294967295"
     }
-}
-
-// Whether a word that is no number is meant as a name.
-fn is_like_name(word: &str) -> bool {
-    let is_number = word.starts_with("0x") || word.starts_with("0X") || word.contains('.');
-    !is_number && word.bytes().any(|byte| byte.is_ascii_alphabetic())
 }
 
 fn help_of(fault: &LexFault, word: &str) -> &'static str {
     match fault {
+        LexFault::BadCharacter { .. } if LONGEST_NAME < word.len() => {
+            "a name has at most 255 letters, digits and _"
+        }
         LexFault::TooLong => "a text has at most 1048576 bytes",
         LexFault::NotUtf8 { .. } => "save the source as UTF-8",
-        LexFault::BadCharacter { .. } => help_of_character(word),
+        LexFault::BadCharacter { .. } if word.starts_with('\'') || word.starts_with('`') => {
+            "a text stands between two \""
+        }
+        LexFault::BadCharacter { .. } => {
+            "no token has this character outside of strings and comments"
+        }
         LexFault::OpenComment { .. } => "the comment that begins here is never closed by */",
         LexFault::OpenString { .. } =>
             "the string that begins here is never closed; a quote may be missing before it",
         LexFault::BadEscape { .. } => "the escapes are \\\" \\\\ \\n \\t and \\|",
-        LexFault::BadNumber { .. } if is_like_name(word) => "a name begins with a letter or _",
-        LexFault::BadNumber { .. } =>
-            "a number has no 0 in front, unless it is as 0x1F, and is at most 4294967295",
+        LexFault::BadNumber { .. } => help_of_number(word),
         LexFault::Directive { .. } => "run the preprocessor first",
         LexFault::Memory => "",
     }
@@ -215,15 +248,36 @@ fn place_on(
     Ok(None)
 }
 
-// The first string that goes over the end of its line.
-fn first_long_string(text: &[u8]) -> Option<Span> {
+// Whether a fault may come of a quote that is missing before it.
+fn may_miss_quote(fault: &LexFault) -> bool {
+    match fault {
+        LexFault::OpenString { .. }
+        | LexFault::BadCharacter { .. }
+        | LexFault::BadEscape { .. }
+        | LexFault::BadNumber { .. }
+        | LexFault::Directive { .. } => true,
+        _ => false,
+    }
+}
+
+// Whether a word begins right after a string, as where a quote is missing and those after it open
+// what they closed.
+fn goes_on(text: &[u8], string: Span) -> bool {
+    let next = byte_at(text, string.end);
+    next.is_ascii_alphanumeric() || next == b'_'
+}
+
+// The first string that goes over the end of its line, if it ends before a place. Where texts of
+// several lines are no sign of a fault, one after which a word goes on.
+fn first_long_string(text: &[u8], before: usize, any: bool) -> Option<Span> {
     let mut place = 0;
     for _ in 0..text.len() {
-        if text.len() <= place {
+        if before <= place {
             return None;
         }
         let piece = piece_at(text, place);
-        if piece.shape == Shape::String && text_in(text, piece.span).contains('\n') {
+        let is_long = piece.shape == Shape::String && text_in(text, piece.span).contains('\n');
+        if is_long && (any || goes_on(text, piece.span)) {
             return Some(piece.span);
         }
         place = piece.span.end;
@@ -231,9 +285,20 @@ fn first_long_string(text: &[u8]) -> Option<Span> {
     None
 }
 
-// Says which string may be the one that misses its quote, where an earlier one is likelier.
-fn help_long_string(alloc: Global, text: &[u8], found: &mut Diagnostic) -> Result<(), AllocError> {
-    match first_long_string(text) {
+/// Says which string may be the one that misses its quote, where an earlier one than the place goes
+/// over several lines: any such, or one after which a word goes on.
+pub fn help_long_string(
+    alloc: Global,
+    text: &[u8],
+    before: Option<Span>,
+    any: bool,
+    found: &mut Diagnostic,
+) -> Result<(), AllocError> {
+    let before = match before {
+        Some(place) => place.start,
+        None => text.len(),
+    };
+    match first_long_string(text, before, any) {
         Some(place) => {
             let help = String::from_str(alloc, "a string goes over several lines, which begins")?;
             found.help_at(Some(place), help)
@@ -262,9 +327,15 @@ pub fn found_in(
         Some(place) => text_in(text, place),
         None => "",
     };
-    diagnostic.help(String::from_str(alloc, help_of(fault, word))?)?;
-    if let LexFault::OpenString { .. } = fault {
-        help_long_string(alloc, text, &mut diagnostic)?;
+    let help = match named_character(alloc, fault, word)? {
+        Some(help) => help,
+        None => String::from_str(alloc, help_of(fault, word))?,
+    };
+    diagnostic.help(help)?;
+    if may_miss_quote(fault) {
+        let place = diagnostic.place;
+        let any = matches!(fault, LexFault::OpenString { .. });
+        help_long_string(alloc, text, place, any, &mut diagnostic)?;
     }
     Ok(Found {
         diagnostic,

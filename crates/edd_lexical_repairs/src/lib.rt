@@ -2,9 +2,10 @@
 //! into pieces, whether or not it has tokens. Proved is that all of it is safe and ends.
 #![tactic(auto)]
 
+mod characters;
 mod finding;
 mod lexical;
 pub mod scanning;
 
 pub use finding::Found;
-pub use lexical::found_in;
+pub use lexical::{found_in, help_long_string};

@@ -2,12 +2,12 @@
 
 use edd_lexer::token::TokenKind;
 use edd_reports::nearest::Nearest;
-use edd_syntax::operators::{Comparison, Operator};
+use edd_syntax::operators::Comparison;
 use edd_syntax::symbols::{Keyword, Symbol};
 use std::alloc::{AllocError, Global};
 
 /// The signs that may be missing after a token, and before one.
-pub const BEHIND: [&str; 7] = [";", ",", ")", "}", "]", ">", "&"];
+pub const BEHIND: [&str; 5] = [";", ",", ")", "}", "]"];
 
 pub const BEFORE: [&str; 4] = ["(", "{", "[", ":"];
 
@@ -154,17 +154,13 @@ pub fn missing_before(
     }
 }
 
-const FOR_EQUALS: &[&str] = &["=="];
-
 const FOR_EQUAL: &[&str] = &["="];
 
 const FOR_SEMICOLON: &[&str] = &[",", ":"];
 
-const FOR_COMMA: &[&str] = &[";", ":", "&"];
+const FOR_COMMA: &[&str] = &[";", ":"];
 
 const FOR_COLON: &[&str] = &[";", ","];
-
-const FOR_AND: &[&str] = &["&"];
 
 const FOR_OPEN_PARENTHESIS: &[&str] = &["{", "["];
 
@@ -186,12 +182,10 @@ pub fn signs_for(kind: TokenKind) -> &'static [&'static str] {
         return FOR_NOTHING;
     };
     match sign {
-        Symbol::Equals => FOR_EQUALS,
         Symbol::Comparison(Comparison::Equal) => FOR_EQUAL,
         Symbol::Semicolon => FOR_SEMICOLON,
         Symbol::Comma => FOR_COMMA,
         Symbol::Colon => FOR_COLON,
-        Symbol::LogicalAnd | Symbol::Operator(Operator::Or) => FOR_AND,
         Symbol::OpenParenthesis => FOR_OPEN_PARENTHESIS,
         Symbol::OpenBrace => FOR_OPEN_BRACE,
         Symbol::OpenBracket => FOR_OPEN_BRACKET,

@@ -4,15 +4,19 @@
 #![tactic(auto)]
 
 mod candidates;
+mod fitting;
 mod grammar;
 mod later;
+mod left_out;
 mod located;
 mod sections;
+mod slips;
 mod syntax;
 mod trials;
 
 pub use edd_lexical_repairs::Found;
 pub use grammar::{Grammar, TextFault, tokens_of};
+pub use left_out::help_of_left_out;
 pub use later::{LaterFault, explained, later_faults};
 use std::alloc::{AllocError, Global};
 

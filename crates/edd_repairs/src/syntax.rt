@@ -1,18 +1,19 @@
 //! What is said of a text that spells no unit.
 
+use crate::fitting::fitting;
 use crate::grammar::{Grammar, TextFault};
+use crate::left_out::help_of_left_out;
 use crate::located::{Where, located, place_on, tokens_on};
 use crate::sections::is_item_word;
+use crate::slips::{early_end, slip_at};
 use crate::trials::{Change, Misfit};
 use edd_lexer::token::{Token, TokenKind};
-use edd_lexical_repairs::Found;
-use edd_lexical_repairs::scanning::byte_at;
+use edd_lexical_repairs::{Found, help_long_string};
 use edd_reports::diagnostic::{Diagnostic, Finding};
 use edd_reports::outline::Outline;
 use edd_reports::words::{Span, item_kind, kind_word, span_of, word_of};
 use edd_syntax::numbers::{ATTRIBUTES, Attr, KINDS, Kind};
-use edd_syntax::operators::Operator;
-use edd_syntax::symbols::{Keyword, Symbol};
+use edd_syntax::symbols::Keyword;
 use edd_token_reader::fault::ParseFault;
 use std::alloc::{AllocError, Global};
 
@@ -148,41 +149,6 @@ fn help_change(
 const IDENTIFICATION: &str =
     "a description begins with MANUFACTURER .., DEVICE_TYPE .., DEVICE_REVISION .., DD_REVISION ..";
 
-// What is wrong about a token that does not fit, where what is around it says so.
-fn told_by_neighbours(at: Misfit<'_>, token: &Token) -> Option<&'static str> {
-    let before = at.before()?;
-    let is_word = matches!(token.kind, TokenKind::Name | TokenKind::Keyword(_));
-    let is_joined = before.end == token.start;
-    match before.kind {
-        TokenKind::String if is_word && is_joined => {
-            Some("a quote inside of a text is written \\\"")
-        }
-        TokenKind::Name if is_operator(token, Operator::Subtract) && is_joined => {
-            Some("a name has letters, digits and _ alone")
-        }
-        _ if is_operator(token, Operator::Multiply) && ends_comment(at.text, token) => {
-            Some("no comment is open here: comments do not stand inside of one another")
-        }
-        TokenKind::Keyword(Keyword::Return) if before.line == token.line && !is_brace(token) => {
-            Some("a method gives no value: return stands alone")
-        }
-        _ => None,
-    }
-}
-
-fn is_operator(token: &Token, operator: Operator) -> bool {
-    token.kind == TokenKind::Symbol(Symbol::Operator(operator))
-}
-
-// Whether a star and what is right after it are `*/`.
-fn ends_comment(text: &[u8], star: &Token) -> bool {
-    byte_at(text, star.end as usize) == b'/'
-}
-
-fn is_brace(token: &Token) -> bool {
-    token.kind == TokenKind::Symbol(Symbol::CloseBrace)
-}
-
 fn is_condition(token: &Token) -> bool {
     matches!(
         token.kind,
@@ -213,8 +179,13 @@ fn help_misfit<G: Grammar>(
         String::from_str(alloc, IDENTIFICATION)?
     } else if at.wants_text::<G>(alloc)? {
         String::from_str(alloc, "a text belongs here: quotes may be missing")?
+    } else if let Some(text) = help_of_left_out(word) {
+        String::from_str(alloc, text)?
     } else {
-        format!(in alloc; "{word} fits nothing here")?
+        match fitting::<G>(alloc, at)? {
+            Some(wanted) => format!(in alloc; "{wanted} fits here, and not {word}")?,
+            None => format!(in alloc; "{word} fits nothing here")?,
+        }
     };
     found.help(text)?;
     if item_kind(token).is_some() {
@@ -233,8 +204,12 @@ fn misfit<G: Grammar>(
         return help_end(alloc, at.tokens, &outline, found);
     };
     found.place = Some(span_of(token));
-    if let Some(text) = told_by_neighbours(at, token) {
-        return found.help(String::from_str(alloc, text)?);
+    if let Some(slip) = slip_at(at) {
+        found.place = Some(slip.place);
+        return found.help(String::from_str(alloc, slip.help)?);
+    }
+    if let Some(end) = early_end(at, &outline) {
+        return found.help_at(Some(end.place), String::from_str(alloc, end.help)?);
     }
     if let Some(kind) = outline.kind_around(at.tokens, at.number) {
         if is_condition(token) {
@@ -375,6 +350,7 @@ fn syntax<G: Grammar>(
             return Ok(None);
         }
     };
+    let start = start_of(tokens, number);
     let line = tokens_on(tokens, line);
     let at = Misfit {
         text,
@@ -383,7 +359,9 @@ fn syntax<G: Grammar>(
         number,
     };
     misfit::<G>(alloc, at, found)?;
-    Ok(start_of(tokens, number))
+    let place = start.map(|start| Span { start, end: start });
+    help_long_string(alloc, text, place, false, found)?;
+    Ok(start)
 }
 
 fn too_deep<G: Grammar>(

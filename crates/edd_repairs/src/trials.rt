@@ -6,7 +6,9 @@ use crate::candidates::{
 use crate::grammar::{Grammar, TextFault};
 use crate::located::{Edit, LineTokens, line_of, spread};
 use edd_lexer::token::{Token, TokenKind};
-use edd_reports::words::{Span, word_of};
+use edd_reports::words::{Span, is_sign, word_of};
+use edd_syntax::operators::{Comparison, Operator};
+use edd_syntax::symbols::{Keyword, Symbol};
 use edd_token_reader::fault::ParseFault;
 use std::alloc::{AllocError, Global};
 
@@ -148,6 +150,52 @@ impl<'a> Misfit<'a> {
         Ok(())
     }
 
+    // Whether the token is a sign without a value of its own: it may be one too many.
+    fn is_idle(&self) -> bool {
+        let Some(token) = self.tokens.get(self.number) else {
+            return false;
+        };
+        match token.kind {
+            TokenKind::Symbol(
+                Symbol::Semicolon
+                | Symbol::Comma
+                | Symbol::OpenBrace
+                | Symbol::CloseBrace
+                | Symbol::OpenParenthesis
+                | Symbol::CloseParenthesis
+                | Symbol::OpenBracket
+                | Symbol::CloseBracket,
+            ) => true,
+            // As after the word of an attribute, where other languages have them.
+            TokenKind::Symbol(Symbol::Equals | Symbol::Colon) => {
+                matches!(self.kind_before(), Some(TokenKind::Keyword(_)))
+            }
+            _ => false,
+        }
+    }
+
+    // Whether the token comes after a mask that is not closed, as in `name < 3`.
+    fn closes_mask(&self) -> bool {
+        let opens = self.number.saturating_sub(2);
+        let is_number = matches!(self.kind_before(), Some(TokenKind::Integer(_)));
+        is_number && is_sign(self.tokens, opens, Symbol::Comparison(Comparison::Less))
+    }
+
+    // Whether the token is among the words of CLASS or HANDLING, which `&` joins.
+    fn is_between_words(&self) -> bool {
+        for count in 1..=self.number {
+            let Some(token) = self.tokens.get(self.number.saturating_sub(count)) else {
+                return false;
+            };
+            match token.kind {
+                TokenKind::Name | TokenKind::Symbol(Symbol::Operator(Operator::And)) => {}
+                TokenKind::Keyword(Keyword::Class | Keyword::Handling) => return 1 < count,
+                _ => return false,
+            }
+        }
+        false
+    }
+
     // Tries what may be missing before the token.
     fn attempt_missing<G: Grammar>(
         &self,
@@ -191,7 +239,16 @@ impl<'a> Misfit<'a> {
         for sign in BEHIND {
             self.attempt::<G>(alloc, &mut best, Change::Behind(sign))?;
         }
-        self.attempt::<G>(alloc, &mut best, Change::LeaveOut)?;
+        if self.closes_mask() {
+            self.attempt::<G>(alloc, &mut best, Change::Behind(">"))?;
+        }
+        if self.is_between_words() {
+            self.attempt::<G>(alloc, &mut best, Change::Behind("&"))?;
+            self.attempt::<G>(alloc, &mut best, Change::Instead("&"))?;
+        }
+        if self.is_idle() {
+            self.attempt::<G>(alloc, &mut best, Change::LeaveOut)?;
+        }
         self.attempt_signs::<G>(alloc, &mut best)?;
         for sign in BEFORE {
             self.attempt::<G>(alloc, &mut best, Change::Before(sign))?;
@@ -199,6 +256,19 @@ impl<'a> Misfit<'a> {
         self.attempt_missing::<G>(alloc, &mut best)?;
         self.attempt_kinds::<G>(alloc, &mut best)?;
         Ok(best.change)
+    }
+
+    /// Whether the grammar takes a word or a sign in place of the token.
+    pub fn takes<G: Grammar>(&self, alloc: Global, word: &str) -> Result<bool, AllocError> {
+        let edit = Some(edit_of(self.number, Change::Instead(word)));
+        let text = spread(alloc, self.text, self.tokens, self.line, edit)?;
+        Ok(match G::text_fault(alloc, &text)? {
+            None => true,
+            Some(TextFault::Parse(ParseFault::Unsupported { word: found })) => {
+                found.as_str() != word
+            }
+            Some(fault) => self.own_line() < line_of(&fault).unwrap_or(0),
+        })
     }
 
     /// Whether a text fits in place of a name that does not.

@@ -1,0 +1,422 @@
+//! Slips that are known by the tokens around them, each with its own words.
+
+use crate::trials::Misfit;
+use edd_lexer::token::{Token, TokenKind};
+use edd_reports::outline::Outline;
+use edd_reports::words::{Span, is_sign, is_word, item_kind, span_of, word_of};
+use edd_syntax::numbers::Kind;
+use edd_syntax::operators::Operator;
+use edd_syntax::symbols::{Keyword, Symbol};
+
+/// What is wrong, and where that is.
+#[derive(Clone, Copy)]
+pub struct Slip {
+    pub place: Span,
+    pub help: &'static str,
+}
+
+/// How many tokens are looked at for where a statement begins.
+const LONGEST: usize = 64;
+
+/// The tokens around the one that does not fit.
+#[derive(Clone, Copy)]
+struct Around<'a> {
+    at: Misfit<'a>,
+    token: &'a Token,
+    before: &'a Token,
+}
+
+fn on(token: &Token, help: &'static str) -> Option<Slip> {
+    Some(Slip {
+        place: span_of(token),
+        help,
+    })
+}
+
+fn is_symbol(token: &Token, symbol: Symbol) -> bool {
+    token.kind == TokenKind::Symbol(symbol)
+}
+
+fn is_joined(before: &Token, token: &Token) -> bool {
+    before.end == token.start
+}
+
+// What two signs that are joined are meant as.
+fn help_of_signs(before: &str, sign: &str) -> Option<&'static str> {
+    match (before, sign) {
+        ("=", "<") => Some("less or equal is written <="),
+        ("=", ">") => Some("greater or equal is written >="),
+        ("<", ">") => Some("not equal is written !="),
+        ("*", "*") => Some("there is no power: a square is a * a"),
+        ("=", "!") => Some("not equal is written !="),
+        ("==", "=") => Some("equal is written =="),
+        _ => None,
+    }
+}
+
+/// Words before a name that other languages have there.
+fn help_of_type(word: &str) -> Option<&'static str> {
+    match word {
+        "const" | "volatile" | "register" | "auto" | "extern" | "inline" => {
+            Some("a local has a type and a name alone, as in int k = 1;")
+        }
+        "static" => Some("a local begins anew in each run: what is kept is a VARIABLE"),
+        "int8_t" | "int16_t" | "int32_t" | "int64_t" | "uint8_t" | "uint16_t" | "uint32_t"
+        | "uint64_t" | "size_t" | "bool" | "BOOL" | "boolean" | "byte" | "BYTE" | "word"
+        | "WORD" | "DWORD" | "integer" | "INTEGER" | "UNSIGNED_INTEGER" | "var" | "string"
+        | "String" | "DD_STRING" | "void" => Some("a local is of the type int or long"),
+        _ => None,
+    }
+}
+
+/// Words with which a branch goes on in other languages.
+fn is_else_if(word: &str) -> bool {
+    matches!(word, "elseif" | "elsif" | "elif" | "ELSEIF" | "ELSIF" | "ELIF")
+}
+
+impl<'a> Around<'a> {
+    fn of(at: Misfit<'a>) -> Option<Around<'a>> {
+        Some(Around {
+            at,
+            token: at.tokens.get(at.number)?,
+            before: at.before()?,
+        })
+    }
+
+    fn word(&self, token: &Token) -> &'a str {
+        word_of(self.at.text, token)
+    }
+
+    // The token so many places before the one that does not fit.
+    fn back(&self, count: usize) -> Option<&'a Token> {
+        self.at.tokens.get(self.at.number.checked_sub(count)?)
+    }
+
+    fn ahead(&self) -> Option<&'a Token> {
+        self.at.tokens.get(self.at.number.saturating_add(1))
+    }
+
+    // The number of the token with which the statement begins that holds the one before.
+    fn statement(&self) -> usize {
+        let mut first = self.at.number.saturating_sub(1);
+        for _ in 0..LONGEST {
+            let Some(before) = first.checked_sub(1) else {
+                break;
+            };
+            let ends = matches!(
+                self.at.tokens.get(before).map(|token| token.kind),
+                Some(TokenKind::Symbol(
+                    Symbol::Semicolon | Symbol::OpenBrace | Symbol::CloseBrace
+                ))
+            );
+            if ends {
+                break;
+            }
+            first = before;
+        }
+        first
+    }
+
+    // Two signs that other languages join.
+    fn signs(&self) -> Option<Slip> {
+        if is_symbol(self.token, Symbol::Colon) && is_symbol(self.ahead()?, Symbol::Equals) {
+            return on(self.token, "a value is assigned by = alone");
+        }
+        if !is_joined(self.before, self.token) {
+            return None;
+        }
+        let help = help_of_signs(self.word(self.before), self.word(self.token))?;
+        Some(Slip {
+            place: Span {
+                start: self.before.start as usize,
+                end: self.token.end as usize,
+            },
+            help,
+        })
+    }
+
+    // A type, or a word that goes on a branch, before the token.
+    fn words(&self) -> Option<Slip> {
+        let number = self.statement();
+        let first = self.at.tokens.get(number)?;
+        if first.kind != TokenKind::Name {
+            return None;
+        }
+        let word = self.word(first);
+        let is_call = is_symbol(self.at.tokens.get(number.saturating_add(1))?, Symbol::OpenParenthesis);
+        if is_else_if(word) && is_call {
+            return on(first, "another condition is written else if (..), in attributes ELSE IF (..)");
+        }
+        if number.saturating_add(1) == self.at.number {
+            return on(first, help_of_type(word)?);
+        }
+        None
+    }
+
+    // A second name without a comma before it.
+    fn names(&self) -> Option<Slip> {
+        let first = self.at.tokens.get(self.statement())?;
+        let declares = matches!(
+            first.kind,
+            TokenKind::Keyword(Keyword::Int | Keyword::Long)
+        );
+        if declares && self.before.kind == TokenKind::Name && self.token.kind == TokenKind::Name {
+            return on(self.token, "a comma stands between two locals: int a, b;");
+        }
+        if declares && is_symbol(self.token, Symbol::OpenBracket) {
+            return on(self.token, "a local is one number: arrays have variables alone");
+        }
+        let is_type = matches!(self.token.kind, TokenKind::Keyword(Keyword::Int | Keyword::Long));
+        if is_type && self.before.kind == TokenKind::Keyword(Keyword::Method) {
+            return on(self.token, "a METHOD has a name alone, and no type");
+        }
+        if is_type && matches!(self.back(2)?.kind, TokenKind::Keyword(Keyword::For)) {
+            return on(self.token, "a local is declared before the loop");
+        }
+        let are_names = self.before.kind == TokenKind::Name && self.token.kind == TokenKind::Name;
+        if are_names && item_kind(self.back(2)?).is_some() {
+            return if self.word(self.before) == "void" {
+                on(self.before, "a METHOD has a name alone, and no type")
+            } else {
+                on(self.token, "a name is one word, without a space in it")
+            };
+        }
+        None
+    }
+
+    // A sign where no text, number or name has one.
+    fn operand(&self) -> Option<Slip> {
+        let sign = self.word(self.token);
+        match (self.before.kind, sign) {
+            (TokenKind::String, "+" | "&" | ".") => {
+                on(self.token, "texts that stand side by side are one text, without a sign between them")
+            }
+            (TokenKind::Integer(_), ",") => {
+                let next = self.ahead()?;
+                let is_number = matches!(next.kind, TokenKind::Integer(_));
+                if is_number && is_joined(self.before, self.token) && is_joined(self.token, next) {
+                    return on(self.token, "numbers are whole: take a smaller unit");
+                }
+                None
+            }
+            (TokenKind::Symbol(Symbol::CloseBracket), _)
+                if matches!(
+                    self.token.kind,
+                    TokenKind::Symbol(
+                        Symbol::Equals
+                            | Symbol::CompoundAssign(_)
+                            | Symbol::Increment
+                            | Symbol::Decrement
+                    )
+                ) =>
+            {
+                on(self.token, "an element of an array is read alone: set the variable that it is")
+            }
+            (TokenKind::Keyword(_), _) => None,
+            (_, "=") if !self.is_in_method() => on(self.token, "equal is written =="),
+            (TokenKind::Name, _) => None,
+            (_, "=") => {
+                on(self.token, "before = stands a variable or a local alone; == compares")
+            }
+            _ => None,
+        }
+    }
+
+    // Whether a question of `? :` has no second part so far.
+    fn is_half_asked(&self) -> bool {
+        let mut open: usize = 0;
+        for number in self.statement()..self.at.number {
+            if is_sign(self.at.tokens, number, Symbol::Question) {
+                open = open.saturating_add(1);
+            } else if is_sign(self.at.tokens, number, Symbol::Colon) {
+                open = open.saturating_sub(1);
+            }
+        }
+        0 < open
+    }
+
+    // A value that ends too early or goes on too far.
+    fn value(&self) -> Option<Slip> {
+        let is_end = matches!(
+            self.token.kind,
+            TokenKind::Symbol(Symbol::Semicolon | Symbol::CloseParenthesis | Symbol::Comma)
+        );
+        if is_end && self.is_half_asked() {
+            return on(self.token, "a : is missing: a choice is written a ? b : c");
+        }
+        let is_label = matches!(self.back(2)?.kind, TokenKind::Keyword(Keyword::MethodCase));
+        let is_sign = matches!(self.token.kind, TokenKind::Symbol(Symbol::Operator(_)));
+        if is_label && is_sign {
+            return on(self.token, "a label of case is one integer, with or without a sign");
+        }
+        None
+    }
+
+    // Parentheses that are missing, or that do not belong there.
+    fn parentheses(&self) -> Option<Slip> {
+        let before = self.word(self.before);
+        let is_type = matches!(
+            before,
+            "INTEGER" | "UNSIGNED_INTEGER" | "ENUMERATED" | "BIT_ENUMERATED"
+        );
+        match self.token.kind {
+            TokenKind::Integer(_) if is_type => {
+                on(self.token, "a size stands in parentheses, as in INTEGER (2)")
+            }
+            TokenKind::String if self.before.kind == TokenKind::Name && self.is_in_method() => {
+                on(self.token, "what a function takes stands in parentheses, as in PUT_MESSAGE(..)")
+            }
+            TokenKind::Symbol(Symbol::OpenParenthesis)
+                if self.before.kind == TokenKind::Name
+                    && !self.is_in_method()
+                    && !is_type
+                    && item_kind(self.back(2)?).is_none() =>
+            {
+                on(self.before, "functions are called in methods alone; an attribute reads a variable by its name")
+            }
+            _ => None,
+        }
+    }
+
+    // Whether the token is in the body of a method: the last DEFINITION is after the last word of an
+    // item. Words of items stand in no body.
+    fn is_in_method(&self) -> bool {
+        for count in 1..=self.at.number {
+            let Some(token) = self.back(count) else {
+                return false;
+            };
+            if token.kind == TokenKind::Keyword(Keyword::Definition) {
+                return true;
+            }
+            if item_kind(token).is_some() {
+                return false;
+            }
+        }
+        false
+    }
+
+    // What the tokens right before say.
+    fn neighbours(&self) -> Option<Slip> {
+        let is_word = matches!(self.token.kind, TokenKind::Name | TokenKind::Keyword(_));
+        let is_joined = is_joined(self.before, self.token);
+        match self.before.kind {
+            TokenKind::String if is_word && is_joined => {
+                on(self.token, "a quote inside of a text is written \\\"")
+            }
+            TokenKind::Name
+                if is_symbol(self.token, Symbol::Operator(Operator::Subtract)) && is_joined =>
+            {
+                on(self.token, "a name has letters, digits and _ alone")
+            }
+            TokenKind::Keyword(Keyword::Return)
+                if self.before.line == self.token.line
+                    && !is_symbol(self.token, Symbol::CloseBrace) =>
+            {
+                on(self.token, "a method gives no value: return stands alone")
+            }
+            _ => None,
+        }
+    }
+
+    // Signs of comments and of merges.
+    fn marks(&self) -> Option<Slip> {
+        let start = self.token.start as usize;
+        let behind = self.at.text.get(start..).unwrap_or(b"");
+        if behind.starts_with(b"*/") {
+            return on(
+                self.token,
+                "no comment is open here: comments do not stand inside of one another",
+            );
+        }
+        let first = self.at.tokens.get(self.at.line.first)?;
+        let line = self.at.text.get(first.start as usize..).unwrap_or(b"");
+        if line.starts_with(b"<<<<<<<") || line.starts_with(b"=======") || line.starts_with(b">>>>>>>") {
+            return on(first, "this is a mark of a merge, of which one side is to be taken");
+        }
+        if line.starts_with(b"--") && !self.is_in_method() {
+            return on(first, "a comment is written // .. or /* .. */");
+        }
+        None
+    }
+}
+
+/// A slip that is known by the tokens around the one that does not fit.
+pub fn slip_at(at: Misfit<'_>) -> Option<Slip> {
+    let around = Around::of(at)?;
+    if let Some(slip) = around.neighbours() {
+        return Some(slip);
+    }
+    if let Some(slip) = around.marks() {
+        return Some(slip);
+    }
+    if let Some(slip) = around.signs() {
+        return Some(slip);
+    }
+    if let Some(slip) = around.words() {
+        return Some(slip);
+    }
+    if let Some(slip) = around.names() {
+        return Some(slip);
+    }
+    if let Some(slip) = around.value() {
+        return Some(slip);
+    }
+    if let Some(slip) = around.operand() {
+        return Some(slip);
+    }
+    around.parentheses()
+}
+
+// The number of the last closing brace before a token.
+fn brace_before(tokens: &[Token], number: usize) -> Option<usize> {
+    for count in 1..=number {
+        let place = number.saturating_sub(count);
+        if is_sign(tokens, place, Symbol::CloseBrace) {
+            return Some(place);
+        }
+    }
+    None
+}
+
+// The brace that ends a method, where a statement comes after it and no item.
+fn end_of_method(at: Misfit<'_>, outline: &Outline) -> Option<Slip> {
+    let brace = at.before()?;
+    let token = at.tokens.get(at.number)?;
+    let is_statement = matches!(
+        token.kind,
+        TokenKind::Name | TokenKind::Keyword(Keyword::MethodIf | Keyword::Return)
+    );
+    let mut last = None;
+    for item in outline.items.iter() {
+        if item.name < at.number {
+            last = Some(item.kind);
+        }
+    }
+    if !is_statement || !is_symbol(brace, Symbol::CloseBrace) || !matches!(last, Some(Kind::Method)) {
+        return None;
+    }
+    on(
+        brace,
+        "this brace ends the METHOD: one closing brace may be too many up to here",
+    )
+}
+
+/// The brace that ends the body of a method too early, where statements go on after it.
+pub fn early_end(at: Misfit<'_>, outline: &Outline) -> Option<Slip> {
+    let Some(open) = outline.opened(at.tokens, at.number) else {
+        return end_of_method(at, outline);
+    };
+    if !matches!(outline.kind_around(at.tokens, at.number), Some(Kind::Method)) {
+        return None;
+    }
+    for number in open..at.number {
+        if is_word(at.tokens, number, Keyword::Definition) {
+            let brace = at.tokens.get(brace_before(at.tokens, at.number)?)?;
+            return on(
+                brace,
+                "this brace ends the body of the method: one closing brace may be too many up to here",
+            );
+        }
+    }
+    None
+}
