@@ -3,6 +3,8 @@
 
 pub mod constants;
 pub mod expressions;
+pub mod instrument;
 pub mod lint;
+pub mod range;
 pub mod tokens_left;
 pub mod warning;

@@ -4,6 +4,7 @@ use crate::statements::check_parts;
 use edd_lexer::token::{Token, TokenKind};
 use edd_lints::constants::Width;
 use edd_lints::expressions::Walk;
+use edd_lints::instrument::Instrument;
 use edd_lints::lint::Lint;
 use edd_lints::tokens_left::{Mark, TokensLeft, mark_of};
 use edd_lints::warning::Findings;
@@ -67,11 +68,12 @@ pub fn check_method(
     attributes: &[Attribute<Target>],
     text: &[u8],
     tokens: &[Token],
+    instrument: &Instrument,
     findings: &mut Findings,
 ) -> Result<(), AllocError> {
     let locals = locals_of(findings.alloc, text, tokens)?;
     let tokens_left = TokensLeft::new(text, tokens);
-    let mut walk = Walk::new(findings.alloc, tokens_left, Width::Method);
+    let mut walk = Walk::new(findings.alloc, tokens_left, Width::Method, instrument);
     for attribute in attributes {
         if let Attribute::Definition(parts) = attribute {
             check_parts(parts, &mut walk, findings)?;

@@ -1,5 +1,6 @@
 //! Statements that are never reached, and loops that nothing ends.
 
+use edd_lexer::token::TokenKind;
 use edd_lints::constants::{Known, Width, evaluate, is_literal};
 use edd_lints::expressions::{Walk, check_condition, check_expression};
 use edd_lints::lint::Lint;
@@ -9,7 +10,7 @@ use edd_syntax::expr::Expr;
 use edd_syntax::operators::Builtin;
 use edd_syntax::reference::Target;
 use edd_syntax::stmt::{Declarator, Part, Stmt};
-use edd_syntax::symbols::Keyword;
+use edd_syntax::symbols::{Keyword, Symbol};
 use std::alloc::AllocError;
 
 /// How a method goes on after a statement.
@@ -106,6 +107,7 @@ fn check_declarators(
     let mut asks = false;
     for declarator in declarators {
         if let Some(e) = &declarator.value {
+            walk.tokens_left.to(TokenKind::Symbol(Symbol::Equals));
             let here = check_value(e, false, walk, findings)?;
             asks = asks || here;
         }
@@ -258,6 +260,13 @@ fn check_if<'a>(
 ) -> Result<Flow<'a>, AllocError> {
     let at = walk.tokens_left.to_word(Keyword::MethodIf);
     let asks = check_test(condition, at, walk, findings)?;
+    if let Stmt::Empty = first {
+        let message = String::from_str(
+            findings.alloc,
+            "nothing is done where this condition holds: a ; stands right after it",
+        )?;
+        findings.add(Lint::EmptyBranch, at, message)?;
+    }
     let first = check_statement(first, walk, findings)?;
     Ok(joined(at, asks, first, GOES_ON))
 }

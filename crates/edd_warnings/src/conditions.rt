@@ -4,6 +4,7 @@ use crate::repeats::Numbers;
 use crate::steps::{Step, push_cond, push_conds};
 use edd_lints::constants::Width;
 use edd_lints::expressions::{Walk, check_condition, check_expression};
+use edd_lints::instrument::Instrument;
 use edd_lints::lint::Lint;
 use edd_lints::tokens_left::TokensLeft;
 use edd_lints::warning::Findings;
@@ -174,9 +175,10 @@ fn check_attribute(
 pub fn check_conditionals(
     attributes: &[Attribute<Target>],
     tokens_left: TokensLeft<'_>,
+    instrument: &Instrument,
     findings: &mut Findings,
 ) -> Result<(), AllocError> {
-    let mut walk = Walk::new(findings.alloc, tokens_left, Width::Attribute);
+    let mut walk = Walk::new(findings.alloc, tokens_left, Width::Attribute, instrument);
     for attribute in attributes {
         check_attribute(attribute, &mut walk, findings)?;
     }

@@ -1,8 +1,9 @@
 //! Enumerators that the variable can't hold, or that one list has twice.
 
 use crate::repeats::Numbers;
-use crate::variables::{Range, check_range};
+use crate::variables::check_range;
 use edd_lexer::token::TokenKind;
+use edd_lints::range::Range;
 use edd_lints::lint::Lint;
 use edd_lints::tokens_left::TokensLeft;
 use edd_lints::warning::Findings;

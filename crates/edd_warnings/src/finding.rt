@@ -9,6 +9,7 @@ use crate::repeats::Numbers;
 use crate::unused::check_uses;
 use crate::variables::check_type;
 use edd_lexer::token::Token;
+use edd_lints::instrument::Instrument;
 use edd_lints::tokens_left::{TokensLeft, items_of};
 use edd_lints::warning::{Findings, Warning};
 use edd_method_warnings::check_method;
@@ -22,11 +23,12 @@ fn check_item<'a>(
     item: &Item<Target>,
     text: &'a [u8],
     tokens: &'a [Token],
+    instrument: &Instrument,
     commands: &mut Numbers<'a>,
     findings: &mut Findings,
 ) -> Result<(), AllocError> {
     let mut tokens_left = TokensLeft::new(text, tokens);
-    check_conditionals(item.attributes(), tokens_left, findings)?;
+    check_conditionals(item.attributes(), tokens_left, instrument, findings)?;
     match item {
         Item::Variable(variable) => {
             for attribute in &variable.attributes {
@@ -36,7 +38,7 @@ fn check_item<'a>(
         Item::Command(command) => {
             check_command(&command.attributes, tokens_left, commands, findings)?;
         }
-        Item::Method(method) => check_method(&method.attributes, text, tokens, findings)?,
+        Item::Method(method) => check_method(&method.attributes, text, tokens, instrument, findings)?,
         Item::Menu(_) | Item::Collection(_) | Item::Array(_) => {}
     }
     Ok(())
@@ -53,9 +55,11 @@ pub fn warnings(
 ) -> Result<Vec<Warning>, AllocError> {
     let mut findings = Findings::new(alloc);
     let items = items_of(alloc, tokens)?;
+    let elements = checked.elements(alloc)?;
+    let instrument = Instrument::of(alloc, &checked.items, &elements)?;
     let mut commands = command_numbers(alloc);
     for (item, own) in checked.items.iter().zip(&items) {
-        check_item(item, text, own, &mut commands, &mut findings)?;
+        check_item(item, text, own, &instrument, &mut commands, &mut findings)?;
     }
     check_classes(text, tokens, &mut findings)?;
     check_texts(text, tokens, &mut findings)?;

@@ -3,6 +3,7 @@
 use crate::enumerators::check_enumerators;
 use edd_lints::constants::{Known, Width, evaluate};
 use edd_lints::lint::Lint;
+use edd_lints::range::Range;
 use edd_lints::tokens_left::{Mark, TokensLeft, first_on};
 use edd_lints::warning::Findings;
 use edd_syntax::cond::{Arm, Cond};
@@ -10,41 +11,7 @@ use edd_syntax::expr::Expr;
 use edd_syntax::item::{Attribute, TypePart, TypeWord};
 use edd_syntax::numbers::Attr;
 use edd_syntax::reference::Target;
-use edd_syntax::types::VarType;
 use std::alloc::AllocError;
-
-/// The numbers from `low` to `high`, with both ends.
-#[derive(Clone, Copy)]
-pub struct Range {
-    low: i64,
-    high: i64,
-}
-
-impl Range {
-    // What a variable of a type and a size in octets can hold.
-    fn of(kind: VarType, size: Option<u32>) -> Range {
-        let count: i64 = match size {
-            None | Some(1) => 256,
-            Some(2) => 65_536,
-            Some(3) => 16_777_216,
-            Some(_) => 4_294_967_296,
-        };
-        match kind {
-            VarType::Integer => Range {
-                low: -(count / 2),
-                high: count / 2 - 1,
-            },
-            VarType::UnsignedInteger | VarType::Enumerated | VarType::BitEnumerated => Range {
-                low: 0,
-                high: count - 1,
-            },
-        }
-    }
-
-    fn holds(self, number: i64) -> bool {
-        self.low <= number && number <= self.high
-    }
-}
 
 /// A warning where a number is outside of the range of its variable.
 pub fn check_range(

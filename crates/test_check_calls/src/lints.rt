@@ -3,7 +3,7 @@
 use edd_warnings::{LINTS, Lint};
 
 // The names by hand, in the order of the lints.
-const NAMES: [&str; 18] = [
+const NAMES: [&str; 26] = [
     "value-out-of-range",
     "limits-crossed",
     "default-outside-limits",
@@ -14,11 +14,19 @@ const NAMES: [&str; 18] = [
     "trapping-expression",
     "constant-condition",
     "repeated-case",
+    "misread-operators",
+    "missing-element",
     "cyclic-menu",
     "unknown-class",
     "stray-bar",
     "missing-language",
     "unused-item",
+    "dropped-comparison",
+    "assigned-condition",
+    "assigned-to-itself",
+    "empty-branch",
+    "store-out-of-range",
+    "missing-transaction",
     "unreachable-statement",
     "endless-loop",
     "unread-local",
