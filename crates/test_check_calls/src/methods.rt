@@ -16,7 +16,7 @@ const BEHIND: &str = "} }";
 const BODIES: &str = r#"
 @ 4 << trapping-expression
 a = 1 << 32;
-@
+@ 4 = store-out-of-range
 a = 1 << 31;
 @ 4 /= trapping-expression
 a /= 3 - 3;
