@@ -1,6 +1,6 @@
 //! The words of `open` that say whether it reads lines or keys.
 
-use crate::{Keys, Size};
+use crate::{RawTerminal, Size};
 use clap::{Arg, ArgAction, ArgMatches};
 use std::alloc::Global;
 
@@ -76,11 +76,11 @@ fn number_of(of: &ArgMatches<'_>, id: &str, least: u32, usual: usize) -> usize {
 }
 
 /// The terminal whose keys are read, unless lines are read.
-pub fn keys_of(of: &ArgMatches<'_>) -> Option<Keys> {
+pub fn keys_of(of: &ArgMatches<'_>) -> Option<RawTerminal> {
     if !of.get_flag(KEYS) || of.get_flag(LINES) {
         return None;
     }
-    Some(Keys {
+    Some(RawTerminal {
         size: Size {
             rows: number_of(of, ROWS, 2, USUAL.rows),
             columns: number_of(of, COLUMNS, 1, USUAL.columns),

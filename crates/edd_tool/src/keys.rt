@@ -7,7 +7,7 @@ use crate::files::FileFault;
 use crate::input::Bytes;
 use crate::opening::INPUT;
 use crate::requests::{Stop, of_file};
-use edd_command_line::{Keys, Size};
+use edd_command_line::{RawTerminal, Size};
 use edd_device::Device;
 use edd_display::print_text;
 use edd_instructions::Request;
@@ -48,7 +48,7 @@ enum Event {
 }
 
 impl<'t, R: Read, W: Write> Terminal<'t, R, W> {
-    pub fn new(input: R, keys: Keys, out: &'t mut W) -> Terminal<'t, R, W> {
+    pub fn new(input: R, keys: RawTerminal, out: &'t mut W) -> Terminal<'t, R, W> {
         Terminal {
             bytes: Bytes::new(input),
             keys: KeyBytes::new(),

@@ -7,7 +7,7 @@ use crate::input::Lines;
 use crate::keys::{Terminal, converse_by_keys};
 use crate::requests::{Stop, of_file, read, read_device, read_script};
 use crate::script::parse_sets;
-use edd_command_line::{Keys, Opening};
+use edd_command_line::{RawTerminal, Opening};
 use edd_compiler::compile;
 use edd_device::Device;
 use edd_loader::{Image, load};
@@ -28,7 +28,7 @@ const MAGIC: &[u8] = b"EDI1";
 pub struct Manner<'l> {
     pub language: &'l str,
     /// Where keys are read and no lines, their terminal.
-    pub keys: Option<Keys>,
+    pub keys: Option<RawTerminal>,
 }
 
 // The image in the bytes of a file: of a source what it is compiled to.
