@@ -5,6 +5,7 @@ pub mod Cuts
 pub mod DriveEnds
 pub mod Drivings
 pub mod Openings
+pub mod OriginTurns
 pub mod Outcomes
 pub mod Playings
 pub mod Sets

@@ -2,6 +2,7 @@
 #![tactic(auto)]
 
 mod answers;
+mod depths;
 mod driving;
 mod fault;
 mod host;
