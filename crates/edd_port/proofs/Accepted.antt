@@ -50,7 +50,7 @@ values_after s Abort = refl
 
 module _ (b : List ℕ) (m : Machine) (values : List ℤ) (a : Answer) (is : IsMachine b m values)
     (accepted : refusal (types_in b) m.status a ≡ None) where
-  abbrev asks : (r : Request) × (m.status ≡ status.Asking r) × (answer_fault (types_in b) a ≡ None)
+  abbrev pub asks : (r : Request) × (m.status ≡ status.Asking r) × (answer_fault (types_in b) a ≡ None)
   asks = taken (types_in b) m.status a accepted
 
   pub room : length m.operands < 128

@@ -1,6 +1,6 @@
 use Rattle.std.proofs.Common.{◌≡◌, false, true, ◌-◌, suc, sym, ◌∙◌, ◌⊎◌, inl, inr, arith}
 use Rattle.edd_instructions.specs.declared.records.Status.TheVariants.{Running}
-use Rattle.edd_port.proofs.Advancing.{Advanced, begins, goes, ends}
+use Rattle.edd_port.proofs.Advancing.{begins, goes, ends}
 use Rattle.edd_port.proofs.steps.execute.Goals.{then-loop-left-test+else-matches, in-Running, in_default, else-loop-left-test}
 use Rattle.edd_port.proofs.steps.execute.Goals as goal
 
@@ -17,26 +17,23 @@ loop-left-preserved c =
     goes _ _ _ _ _ _ _ _ _ _ c.loop-left.invariant runs fewer c.step.ensures.step
     c.step.ensures.machine
 
-over : (c : goal.Returns) → (c.loop-left.left ≡ 0) ⊎ (c.loop-left.machine.status ≡ Running → ⊥)
-over c = elim c.loop-left-test.branch [
-  | then-loop-left-test+else-matches w ↦ inr (elim w.match-matches.branch [
-    | in-Running w' ↦ let clash : true ≡ false = sym w'.matches-is ∙ w.if-matches.false in absurd cc
-    | in_default w' ↦ w'.in_default.not-Running
-  ])
-  | else-loop-left-test w ↦ inl (omega (arith, w.loop-left-test.false))
-]
-
-done : (c : goal.Returns) → Advanced c.args.image.now c.args.budget
-    (c.args.budget - c.loop-left.left) c.args.machine.now c.args.values.now c.loop-left.machine
-    c.loop-left.values
-done c = ends _ _ _ _ _ _ _ c.loop-left.invariant (over c)
-
 pub returns : goal.returns
-returns c = record {
-  machine = (done c).machine;
-  state = (done c).state;
-  count = (done c).counts;
-  ending = (done c).ending;
-  all = (done c).all;
-  moves = (done c).moves;
-}
+returns c =
+    let over : (c.loop-left.left ≡ 0) ⊎ (c.loop-left.machine.status ≡ Running → ⊥) =
+    elim c.loop-left-test.branch [
+      | then-loop-left-test+else-matches w ↦ inr (elim w.match-matches.branch [
+        | in-Running w' ↦ let clash : true ≡ false = sym w'.matches-is
+            ∙ w.if-matches.false in absurd cc
+        | in_default w' ↦ w'.in_default.not-Running
+      ])
+      | else-loop-left-test w ↦ inl (omega (arith, w.loop-left-test.false))
+    ] in
+    let done = ends _ _ _ _ _ _ _ c.loop-left.invariant over in
+    record {
+      machine = done.machine;
+      state = done.state;
+      count = done.counts;
+      ending = done.ending;
+      all = done.all;
+      moves = done.moves;
+    }
