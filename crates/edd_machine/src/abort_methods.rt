@@ -5,7 +5,7 @@ ghost use Rattle.edd_instructions.specs.AbortMethods.{aborting, start_in, start_
 ghost use Rattle.edd_image.specs.Contents.{contents_in};
 ghost use Rattle.edd_instructions.specs.Steps.{State};
 ghost use Rattle.edd_instructions.specs.Validity.{IsValid};
-ghost use Rattle.edd_machine.specs.AbortLists.{aborted};
+ghost use Rattle.edd_machine.specs.AbortLists.{aborted, methods_of};
 ghost use Rattle.edd_machine.specs.Running.{IsUnitOf, start_of};
 
 use crate::code_unit::CodeUnit;
@@ -54,6 +54,13 @@ impl AbortMethods {
         ensures { self.new ≡ self.old ++ method ∷ [] }
     {
         self.numbers.push(method.0);
+    }
+
+    /// The numbers of the methods, in order.
+    pub fn numbers(&self) -> &[u16]
+        ensures { methods_of result.now ≡ self.now }
+    {
+        self.numbers.as_slice()
     }
 
     // Takes the first off.

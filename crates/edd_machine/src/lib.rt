@@ -18,7 +18,9 @@ mod values;
 pub use abort_methods::AbortMethods;
 pub use code_unit::CodeUnit;
 pub use fault::{ReadFault, SetFault, ValuesFault};
-pub use laws::{answers_stay_in_the_unit, asking_has_room, bodies_open_as_their_rows};
+pub use laws::{
+    answers_stay_in_the_unit, asking_has_room, bodies_open_as_their_rows, values_may_be_set,
+};
 pub use machine::Machine;
 pub use operands::Operands;
 pub use reading::{attribute, attribute_of_device};

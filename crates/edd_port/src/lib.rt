@@ -9,6 +9,7 @@ mod host;
 mod laws;
 mod playing;
 mod session;
+mod steps;
 mod turn;
 
 pub use driving::drive;
@@ -17,4 +18,5 @@ pub use host::{Host, Reply};
 pub use laws::sessions_may_be_cut;
 pub use playing::{Ending, Transcript, play};
 pub use session::Session;
-pub use turn::{Drive, Turn};
+pub use steps::{execute, go_on};
+pub use turn::{Drive, Turn, turn_of};

@@ -5,10 +5,10 @@ pub invariant_of-result : goal.invariant_of-result
 invariant_of-result c =
     let valid = c.in-Some.ensures.valid in (
       valid,
-      c.open.ensures.machine _ valid c.in-Some.ensures.unit
+      c.open.ensures.machine _ _ valid c.in-Some.ensures.unit
           (c.are_of.ensures.0 c.if-not-are_of.false),
     )
 
 pub returns-clause-opens : goal.returns-clause-opens
 returns-clause-opens c = opens_in _ _ c.in-Some.unit _ _ c.in-Some.ensures.valid
-    c.in-Some.ensures.value (c.open.ensures.state _)
+    c.in-Some.ensures.value (c.open.ensures.state _ _)

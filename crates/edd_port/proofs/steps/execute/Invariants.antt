@@ -1,0 +1,9 @@
+use Rattle.edd_port.proofs.Advancing.{Advances}
+use Rattle.edd_port.proofs.steps.execute.Given as goal
+
+abbrev pub invariant-loop-left : goal.invariant-loop-left
+invariant-loop-left l = Advances l.image l.budget l.left l.initial.machine l.initial.values
+    l.machine l.values
+
+abbrev pub decreases-loop-left : goal.decreases-loop-left
+decreases-loop-left l = l.left
