@@ -1,6 +1,7 @@
 //! The list of abort methods.
 
 ghost use Rattle.std.specs.Prelude.{◌≡◌, [], ◌∷◌, ◌++◌, ◌<◌, ◌≤◌, IfNone, IfSome, OnSome, length, nat_le};
+ghost use Rattle.edd_instructions.specs.declared.unit.Sort.TheVariants.{Method};
 ghost use Rattle.edd_instructions.specs.AbortMethods.{aborting, start_in, start_listed};
 ghost use Rattle.edd_image.specs.Contents.{contents_in};
 ghost use Rattle.edd_instructions.specs.Steps.{State};
@@ -76,6 +77,7 @@ impl AbortMethods {
     pub fn next_body(&mut self, image: &Image<'_>) -> Option<CodeUnit>
         ensures valid { OnSome result (IsValid image.now) }
         ensures unit { IfSome result (IsUnitOf image.now) }
+        ensures sort { IfSome result (λ unit. unit.sort ≡ Method) }
         ensures slots { IfSome result (λ unit. unit.slots ≤ 64) }
         ensures starts { IfSome result (λ unit. (s : State)
             → start_listed (start_in (contents_in image.now)) self.old s

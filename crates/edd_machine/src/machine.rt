@@ -312,6 +312,7 @@ impl Machine {
             (state_of image.now self.old values) }
         ensures machine { (values : List ℤ) → IsMachine image.now self.old values
             → IsMachine image.now self.new values }
+        ensures method { self.old.unit.sort ≡ Method → self.new.unit.sort ≡ Method }
         ensures emitted { self.new.emitted ≡ self.old.emitted }
     {
         match self.abort_methods.next_body(image) {
@@ -329,6 +330,7 @@ impl Machine {
             ≡ next (start_in (contents_in image.now)) (state_of image.now self.old values) }
         ensures machine { (values : List ℤ) → IsMachine image.now self.old values
             → IsMachine image.now self.new values }
+        ensures method { self.old.unit.sort ≡ Method → self.new.unit.sort ≡ Method }
         ensures emitted { self.new.emitted ≡ self.old.emitted }
     {
         let goes_on = match self.status {
@@ -349,6 +351,7 @@ impl Machine {
         requires running { self.old.status ≡ Running }
         ensures step { StepsTo image.now self.old values.old self.new values.new }
         ensures machine { IsMachine image.now self.new values.new }
+        ensures method { self.old.unit.sort ≡ Method → self.new.unit.sort ≡ Method }
     {
         let code = code_of(image.bytes(), self.unit);
         match decode(code, self.place) {
