@@ -5,4 +5,5 @@ pub mod Origins
 pub mod Plays
 pub mod Refusals
 pub mod Runs
+pub mod Suspensions
 pub mod Turns

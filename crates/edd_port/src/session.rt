@@ -26,11 +26,11 @@ use std::marker::Model;
 /// A run of a method of an image, at any point of it. Contracts see it as a `Run`.
 #[derive(Drop)]
 pub struct Session<'i, 'b> {
-    image: &'i Image<'b>,
-    machine: Machine,
-    values: Values,
+    pub(crate) image: &'i Image<'b>,
+    pub(crate) machine: Machine,
+    pub(crate) values: Values,
     // How many instructions were executed so far.
-    taken: u64,
+    pub(crate) taken: u64,
 }
 
 impl<'i, 'b> Model for Session<'i, 'b> {
@@ -38,6 +38,8 @@ impl<'i, 'b> Model for Session<'i, 'b> {
 
     ghost Value = { Run };
 
+    ghost use Rattle.std.specs.Prelude.{◌≡◌};
+    ghost use Rattle.edd_instructions.specs.declared.unit.Sort.TheVariants.{Method};
     ghost use Rattle.edd_instructions.specs.Validity.{IsValid};
     ghost use Rattle.edd_machine.specs.Running.{state_of, IsMachine};
 
@@ -48,7 +50,8 @@ impl<'i, 'b> Model for Session<'i, 'b> {
     } };
 
     ghost invariant = { λ s. IsValid s.image.now
-        × IsMachine s.image.now s.machine s.values.numbers.items };
+        × IsMachine s.image.now s.machine s.values.numbers.items
+        × (s.machine.unit.sort ≡ Method) };
 }
 
 impl<'i, 'b> Session<'i, 'b> {

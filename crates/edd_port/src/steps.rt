@@ -3,6 +3,7 @@
 ghost use Rattle.std.specs.Prelude.{◌≡◌, ◌<◌, ◌≤◌, ℕ, ℤ, List, [], length};
 ghost use Rattle.edd_instructions.specs.declared.records.Request.{Request};
 ghost use Rattle.edd_instructions.specs.declared.records.Status.TheVariants.{Asking, Running};
+ghost use Rattle.edd_instructions.specs.declared.unit.Sort.TheVariants.{Method};
 ghost use Rattle.edd_instructions.specs.AbortMethods.{answered_in, execute_in};
 ghost use Rattle.edd_image.specs.Contents.{contents_in};
 ghost use Rattle.edd_instructions.specs.Execution.{answered};
@@ -20,6 +21,7 @@ use edd_machine::Machine;
 pub fn execute(image: &Image<'_>, machine: &mut Machine, values: &mut [i64], budget: u32) -> u32
     requires { IsMachine image.now machine.old values.old }
     ensures machine { IsMachine image.now machine.new values.new }
+    ensures method { machine.old.unit.sort ≡ Method → machine.new.unit.sort ≡ Method }
     ensures state { state_of image.now machine.new values.new
         ≡ (execute_in (contents_in image.now) budget
         (state_of image.now machine.old values.old) []).state }
@@ -66,6 +68,7 @@ pub fn go_on(image: &Image<'_>, machine: &mut Machine, code: Option<i32>)
         (without_sets code)).state }
     ensures machine { (values : List ℤ) (r : Request) → IsMachine image.now machine.old values
         → machine.old.status ≡ Asking r → IsMachine image.now machine.new values }
+    ensures method { machine.old.unit.sort ≡ Method → machine.new.unit.sort ≡ Method }
 {
     take_code(machine, code);
     machine.follow(image);

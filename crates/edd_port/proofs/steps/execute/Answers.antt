@@ -5,7 +5,7 @@ use Rattle.edd_port.proofs.steps.execute.Goals.{then-loop-left-test+else-matches
 use Rattle.edd_port.proofs.steps.execute.Goals as goal
 
 pub loop-left-init : goal.loop-left-init
-loop-left-init c = begins _ _ _ _ c.requires
+loop-left-init c = record { run = begins _ _ _ _ c.requires; method = λ sort. sort }
 
 pub loop-left-preserved : goal.loop-left-preserved
 loop-left-preserved c =
@@ -14,8 +14,11 @@ loop-left-preserved c =
       | in-Running w ↦ w.in-Running.is
       | in_default w ↦ let clash : false ≡ true = sym w.matches-is ∙ c.if-matches.true in absurd cc
     ] in
-    goes _ _ _ _ _ _ _ _ _ _ c.loop-left.invariant runs fewer c.step.ensures.step
-    c.step.ensures.machine
+    record {
+      run = goes _ _ _ _ _ _ _ _ _ _ c.loop-left.invariant.run runs fewer c.step.ensures.step
+          c.step.ensures.machine;
+      method = λ sort. c.step.ensures.method (c.loop-left.invariant.method sort);
+    }
 
 pub returns : goal.returns
 returns c =
@@ -28,9 +31,10 @@ returns c =
       ])
       | else-loop-left-test w ↦ inl (omega (arith, w.loop-left-test.false))
     ] in
-    let done = ends _ _ _ _ _ _ _ c.loop-left.invariant over in
+    let done = ends _ _ _ _ _ _ _ c.loop-left.invariant.run over in
     record {
       machine = done.machine;
+      method = c.loop-left.invariant.method;
       state = done.state;
       count = done.counts;
       ending = done.ending;

@@ -50,6 +50,7 @@ invariant_of-self c =
       c.self.invariant.0,
       subst (λ (v : List ℤ). IsStateIn b c.go_on.new.machine.unit
           (state_of b c.go_on.new.machine v)) (made ∙ written _ _ items count) there,
+      c.go_on.ensures.method c.self.invariant.2,
     )
 
 pub returns-clause-sound : goal.returns-clause-sound

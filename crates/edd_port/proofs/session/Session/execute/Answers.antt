@@ -12,4 +12,5 @@ invariant_of-self c =
       c.self.invariant.0,
       subst (λ (values : List ℤ). IsStateIn b m.unit (state_of b m values))
           (written _ _ c.self.inside.values.numbers.items count) c.execute-count.ensures.machine,
+      c.execute-count.ensures.method c.self.invariant.2,
     )
