@@ -1,8 +1,9 @@
 -- The effects of the instructions that a machine has beside those that both sorts of units have.
-use Rattle.std.proofs.Common.{◌≡◌, ℕ, ◌<◌, true, ℤ, List, ◌∷◌, length, Option, Some, refl, sym, ap, subst, ◌∙◌, arith}
+use Rattle.std.proofs.Common.{◌≡◌, ℕ, ◌<◌, true, ℤ, List, ◌∷◌, length, Option, Some, refl, sym, ap, subst, ◌∙◌, arith, w32, FitsSigned, to_z, of_z}
 use Rattle.std.specs.Prelude.{slice_set}
 use Rattle.std.specs.List.{slice_get}
 use Rattle.std.proofs.lemmas.Bool.{ltb-true}
+use Rattle.std.proofs.lemmas.Int.{to_z-of_z}
 use Rattle.std.proofs.lemmas.Option.{get_or_from_slice_get}
 use Rattle.std.proofs.lemmas.Slice.Zip.{AllZip-long}
 use Rattle.edd_syntax.specs.declared.numbers.MethNo.{MethNo}
@@ -14,16 +15,17 @@ use Rattle.edd_instructions.specs.declared.instruction.Instruction.TheVariants a
 use Rattle.edd_image.specs.declared.parts.VarKind.{VarKind}
 use Rattle.edd_image.specs.declared.versions.Version.TheVariants.{One, Two}
 use Rattle.edd_instructions.specs.declared.instruction.Ask.{Ask}
+use Rattle.edd_instructions.specs.declared.records.Request.{Request}
 use Rattle.edd_image.specs.Contents.{contents_in, fields_of_variable}
 use Rattle.edd_instructions.specs.References.{names_exist}
 use Rattle.edd_image.specs.Fields.{counts_in}
-use Rattle.edd_instructions.specs.Steps.{State, Environment, Effect, on_top, store_in, act, act_ask}
+use Rattle.edd_instructions.specs.Steps.{State, Environment, Effect, ask_for, on_top, on_two, store_in, act, act_ask}
 use Rattle.edd_instructions.specs.Validity.{IsValid}
 use Rattle.edd_machine.specs.declared.machine.Machine.{Machine}
 use Rattle.edd_machine.specs.declared.outcome.Outcome.{Outcome}
 use Rattle.edd_machine.specs.declared.outcome.Outcome.TheVariants.{GoesOn, Gives, Ends, Traps}
 use Rattle.edd_machine.specs.Outcomes.{IsShared, comes_to}
-use Rattle.edd_machine.specs.Running.{IsEffect, CanAct}
+use Rattle.edd_machine.specs.Running.{state_of, IsEffect, CanAct}
 use Rattle.edd_loader.specs.Lookups.{type_of_kind}
 use Rattle.edd_machine.specs.Types.{types_in}
 use Rattle.edd_loader.proofs.VariableTypes.{type_at_number, types_counted}
@@ -60,9 +62,39 @@ pub ask_acts : (env : Environment) (request : Ask) (next : ℕ) (s : State) (i :
 unfolding act
 ask_acts env request next s i e = rw e refl
 
-pub effect_same : (o p : Option Effect) (b : List ℕ) (m : Machine) → o ≡ p → IsEffect p b m
-    → IsEffect o b m
-effect_same o p b m e i = record {
+-- The second state is the first without its topmost operand. This number is read of it.
+pub record TakesTop (s t : State) (number : ℤ) : Type 0 where
+  pub taken : s.operands ≡ number ∷ t.operands
+  pub others : t ≡ record s { operands = t.operands }
+
+pub takes_top : (b : List ℕ) (m n : Machine) (values : List ℤ) (number : ℤ)
+    → m.operands ≡ number ∷ n.operands → n ≡ record m { operands = n.operands }
+    → FitsSigned w32 number
+    → TakesTop (state_of b m values) (state_of b n values) (to_z w32 (of_z w32 number))
+takes_top b m n values number taken others fits = record {
+  taken = taken ∙ ap (λ (z : ℤ). z ∷ n.operands) (sym (to_z-of_z w32 number fits));
+  others = ap (λ (x : Machine). state_of b x values) others;
+}
+
+-- a request with one number, and one with two
+pub asks_one : (s t : State) (next : ℕ) (a : ℤ) (f : ℤ → Request) → TakesTop s t a
+    → on_top s.operands (λ x rest. ask_for s next rest (f x)) ≡ ask_for t next t.operands (f a)
+asks_one s t next a f top =
+    ap (λ (operands : List ℤ). on_top operands (λ x rest. ask_for s next rest (f x))) top.taken
+    ∙ ap (λ (v : State). ask_for v next t.operands (f a)) (sym top.others)
+
+pub asks_two : (s t u : State) (next : ℕ) (a z : ℤ) (f : ℤ → ℤ → Request) → TakesTop s t z
+    → TakesTop t u a → on_two s.operands (λ x y rest. ask_for s next rest (f x y))
+    ≡ ask_for u next u.operands (f a z)
+asks_two s t u next a z f upper lower =
+    ap (λ (operands : List ℤ). on_two operands (λ x y rest. ask_for s next rest (f x y)))
+    (upper.taken ∙ ap (λ (rest : List ℤ). z ∷ rest) lower.taken)
+    ∙ ap (λ (v : State). ask_for v next u.operands (f a z))
+    (sym (lower.others ∙ ap (λ (v : State). record v { operands = u.operands }) upper.others))
+
+pub effect_same : (o p : Option Effect) (b : List ℕ) (m : Machine) (values : List ℤ) → o ≡ p
+    → IsEffect p b m values → IsEffect o b m values
+effect_same o p b m values e i = record {
   effect = i.effect;
   is = e ∙ i.is;
   state = i.state;

@@ -1,6 +1,7 @@
 -- States that ask, and their answers.
-use Rattle.std.proofs.Common.{◌≡◌, ℕ, suc, ◌<◌, ◌≤◌, List, length, refl, sym, ap, subst, ◌∙◌, arith}
+use Rattle.std.proofs.Common.{◌≡◌, ℕ, suc, ◌<◌, ◌≤◌, ℤ, List, length, refl, sym, ap, subst, ◌∙◌, arith}
 use Rattle.edd_syntax.specs.Answers.{Answer, Go, Abort, IsValidAnswer}
+use Rattle.edd_syntax.specs.DeviceValues.{AreDeviceValues}
 use Rattle.edd_instructions.specs.declared.records.Request.{Request}
 use Rattle.edd_instructions.specs.declared.records.Status.{Status}
 use Rattle.edd_instructions.specs.declared.records.Status.TheVariants.{Asking}
@@ -27,6 +28,22 @@ asking_room context env s r is asks =
     let count : suc (length s.operands) ≡ here.depth there.0.place = here.operands
     ∙ ap here.depth (sym there.1) in
     omega (arith, count, there.2)
+
+pub set_there : (b : List ℕ) (u : CodeUnit) (s : State) (values : List ℤ) → IsStateIn b u s
+    → AreDeviceValues (types_in b) values → IsStateIn b u (record s { values = values })
+set_there b u s values is are = record {
+  unit = is.unit;
+  runs = is.runs;
+  state = record {
+    sort = is.state.sort;
+    stands = is.state.stands;
+    operands = is.state.operands;
+    slot_count = is.state.slot_count;
+    slots = is.state.slots;
+    variable_count = is.state.variable_count;
+    values = are;
+  };
+}
 
 same_unit : (s : State) (answer : Answer) → (answered s answer).state.unit ≡ s.unit
 same_unit s (Go code sets) = refl

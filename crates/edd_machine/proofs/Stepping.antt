@@ -93,23 +93,24 @@ module _ (b : List ℕ) (u : CodeUnit) (s : State) (valid : IsValid b) (is : IsS
 
 -- ---- machines
 
-pub acted : (b : List ℕ) (m n : Machine) (found : Instruction × ℕ) → m.status ≡ Running
-    → instruction_at (code_at b m.unit) m.place ≡ Some found → ActsTo b found.0 found.1 m n
-    → IsEffect (step (environment_of (contents_in b)) (state_of b m)) b n
-acted b m n found running e acts = record {
+pub acted : (b : List ℕ) (m n : Machine) (before after : List ℤ) (found : Instruction × ℕ)
+    → m.status ≡ Running → instruction_at (code_at b m.unit) m.place ≡ Some found
+    → ActsTo b found.0 found.1 m before n after
+    → IsEffect (step (environment_of (contents_in b)) (state_of b m before)) b n after
+acted b m n before after found running e acts = record {
   effect = acts.effect;
-  is = step_is (environment_of (contents_in b)) (state_of b m) found (Some acts.effect) running e
-      acts.is;
+  is = step_is (environment_of (contents_in b)) (state_of b m before) found (Some acts.effect)
+      running e acts.is;
   state = acts.state;
   emitted = acts.emitted;
 }
 
 -- with what follows it
-pub stepped : (b : List ℕ) (m n o : Machine)
-    → IsEffect (step (environment_of (contents_in b)) (state_of b m)) b n
-    → state_of b o ≡ next (start_in (contents_in b)) (state_of b n) → o.emitted ≡ n.emitted
-    → StepsTo b m o
-stepped b m n o e follows same =
+pub stepped : (b : List ℕ) (m n o : Machine) (before after : List ℤ)
+    → IsEffect (step (environment_of (contents_in b)) (state_of b m before)) b n after
+    → state_of b o after ≡ next (start_in (contents_in b)) (state_of b n after)
+    → o.emitted ≡ n.emitted → StepsTo b m before o after
+stepped b m n o before after e follows same =
     let on = next (start_in (contents_in b)) in
     record {
       effect = follow_with on e.effect;
@@ -118,14 +119,15 @@ stepped b m n o e follows same =
       emitted = e.emitted ∙ sym same;
     }
 
-pub again : (b : List ℕ) (m n : Machine) → IsValid b → IsMachine b m → m.status ≡ Running
-    → n.unit ≡ m.unit → IsEffect (step (environment_of (contents_in b)) (state_of b m)) b n
-    → IsMachine b n
-again b m n valid is running same e =
-    let runs : e.effect.state.unit ≡ (state_of b m).unit =
+pub again : (b : List ℕ) (m n : Machine) (before after : List ℤ) → IsValid b
+    → IsMachine b m before → m.status ≡ Running → n.unit ≡ m.unit
+    → IsEffect (step (environment_of (contents_in b)) (state_of b m before)) b n after
+    → IsMachine b n after
+again b m n before after valid is running same e =
+    let runs : e.effect.state.unit ≡ (state_of b m before).unit =
     ap (λ (t : State). t.unit) e.state ∙ ap (running_unit b) same in
-    let next = state_again b m.unit (state_of b m) valid is running e.effect e.is runs in
-    subst (λ (u : CodeUnit). IsStateIn b u (state_of b n)) (sym same)
+    let next = state_again b m.unit (state_of b m before) valid is running e.effect e.is runs in
+    subst (λ (u : CodeUnit). IsStateIn b u (state_of b n after)) (sym same)
     (subst (λ (t : State). IsStateIn b m.unit t) e.state next)
 
 pub opened : (b : List ℕ) (u : CodeUnit) (s : State) (values : List ℤ) → IsValid b → IsUnitOf b u

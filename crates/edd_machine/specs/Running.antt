@@ -1,5 +1,5 @@
 -- A machine on a unit of an image, as a state.
-use Rattle.std.specs.Prelude.{◌≡◌, ℕ, ◌+◌, ◌-◌, ◌≤◌, true, List, length, Option, Some, IfSome}
+use Rattle.std.specs.Prelude.{◌≡◌, ℕ, ◌+◌, ◌-◌, ◌≤◌, ℤ, true, List, length, Option, Some, IfSome}
 use Rattle.std.specs.List.{slice_get}
 use Rattle.edd_instructions.specs.declared.instruction.Instruction.{Instruction}
 use Rattle.edd_instructions.specs.declared.unit.Context.{Context}
@@ -18,6 +18,7 @@ use Rattle.edd_machine.specs.declared.machine.Machine.{Machine}
 abbrev pub unit_at : List ℕ → AttributeFields → CodeUnit
 unit_at b r = record {
   sort = sort_of r;
+  item = r.item;
   slots = slots_of r;
   start = code_start b + r.span.start;
   size = r.span.size;
@@ -35,14 +36,14 @@ running_unit b u = record { sort = u.sort; code = code_at b u }
 abbrev pub start_of : List ℕ → CodeUnit → Start
 start_of b u = record { unit = running_unit b u; slots = u.slots }
 
--- a machine as a state, over the bytes of the image
-abbrev pub state_of : List ℕ → Machine → State
-state_of b m = record {
+-- a machine as a state, over the bytes of the image and these values of the device
+abbrev pub state_of : List ℕ → Machine → (values : List ℤ) → State
+state_of b m values = record {
   unit = running_unit b m.unit;
   place = m.place;
   operands = m.operands;
   slots = m.slots.items;
-  values = m.values.numbers.items;
+  values = values;
   status = m.status;
   abort_methods = m.abort_methods;
   is_aborting = m.is_aborting;
@@ -62,25 +63,28 @@ pub record IsStateIn (b : List ℕ) (u : CodeUnit) (s : State) : Type 0 where
   pub state : IsState (placed_unit (contents_in b) unit.row).context
       (environment_of (contents_in b)) s
 
--- It runs the unit of a row of the image, and keeps what every state of it keeps.
-abbrev pub IsMachine : List ℕ → Machine → Type 0
-IsMachine b m = IsStateIn b m.unit (state_of b m)
+-- It runs the unit of a row of the image over these values, and keeps what every state of it keeps.
+abbrev pub IsMachine : List ℕ → Machine → (values : List ℤ) → Type 0
+IsMachine b m values = IsStateIn b m.unit (state_of b m values)
 
--- There is an effect, and it is this machine with what it emits. Its changes are those of the
--- effect.
-pub record IsEffect (o : Option Effect) (b : List ℕ) (m : Machine) : Type 0 where
+-- There is an effect, and it is this machine over these values with what it emits. Its changes are
+-- those of the effect.
+pub record IsEffect (o : Option Effect) (b : List ℕ) (m : Machine) (values : List ℤ) : Type 0 where
   pub effect : Effect
   pub is : o ≡ Some effect
-  pub state : effect.state ≡ state_of b m
+  pub state : effect.state ≡ state_of b m values
   pub emitted : effect.emitted ≡ m.emitted
 
--- the second machine is the first after its step, with what follows it
-abbrev pub StepsTo : List ℕ → Machine → Machine → Type 0
-StepsTo b m n = IsEffect (step_in (contents_in b) (state_of b m)) b n
+-- the second machine and its values are the first with its own after its step, with what follows it
+abbrev pub StepsTo : List ℕ → Machine → (before : List ℤ) → Machine → (after : List ℤ) → Type 0
+StepsTo b m before n after = IsEffect (step_in (contents_in b) (state_of b m before)) b n after
 
--- the instruction, after which the place `next` lies, makes the second of the first machine
-abbrev pub ActsTo : List ℕ → Instruction → ℕ → Machine → Machine → Type 0
-ActsTo b i next m n = IsEffect (act (environment_of (contents_in b)) i next (state_of b m)) b n
+-- the instruction, after which the place `next` lies, makes the second machine and its values of
+-- the first with its own
+abbrev pub ActsTo : List ℕ → Instruction → ℕ → Machine → (before : List ℤ) → Machine
+    → (after : List ℤ) → Type 0
+ActsTo b i next m before n after =
+    IsEffect (act (environment_of (contents_in b)) i next (state_of b m before)) b n after
 
 -- what the rules on a unit say of the instruction at which the state is
 pub record CanAct (b : List ℕ) (i : Instruction) (s : State) : Type 0 where

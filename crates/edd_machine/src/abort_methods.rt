@@ -1,11 +1,12 @@
 //! The list of abort methods.
 
 ghost use Rattle.std.specs.Prelude.{◌≡◌, [], ◌∷◌, ◌++◌, ◌<◌, ◌≤◌, IfNone, IfSome, OnSome, length, nat_le};
+ghost use Rattle.edd_instructions.specs.declared.unit.Sort.TheVariants.{Method};
 ghost use Rattle.edd_instructions.specs.AbortMethods.{aborting, start_in, start_listed};
 ghost use Rattle.edd_image.specs.Contents.{contents_in};
 ghost use Rattle.edd_instructions.specs.Steps.{State};
 ghost use Rattle.edd_instructions.specs.Validity.{IsValid};
-ghost use Rattle.edd_machine.specs.AbortLists.{aborted};
+ghost use Rattle.edd_machine.specs.AbortLists.{aborted, methods_of};
 ghost use Rattle.edd_machine.specs.Running.{IsUnitOf, start_of};
 
 use crate::code_unit::CodeUnit;
@@ -56,6 +57,13 @@ impl AbortMethods {
         self.numbers.push(method.0);
     }
 
+    /// The numbers of the methods, in order.
+    pub fn numbers(&self) -> &[u16]
+        ensures { methods_of result.now ≡ self.now }
+    {
+        self.numbers.as_slice()
+    }
+
     // Takes the first off.
     fn take_first(&mut self) -> Option<MethNo>
         ensures first { IfSome result (λ method. self.old ≡ method ∷ self.new) }
@@ -69,6 +77,7 @@ impl AbortMethods {
     pub fn next_body(&mut self, image: &Image<'_>) -> Option<CodeUnit>
         ensures valid { OnSome result (IsValid image.now) }
         ensures unit { IfSome result (IsUnitOf image.now) }
+        ensures sort { IfSome result (λ unit. unit.sort ≡ Method) }
         ensures slots { IfSome result (λ unit. unit.slots ≤ 64) }
         ensures starts { IfSome result (λ unit. (s : State)
             → start_listed (start_in (contents_in image.now)) self.old s

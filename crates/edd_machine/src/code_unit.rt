@@ -5,11 +5,13 @@ ghost use Rattle.edd_machine.specs.Running.{code_at};
 
 use edd_instructions::Sort;
 
-/// The unit of an attribute row: its sort, its number of slots, and the place and the number of the
-/// bytes of its code among those of the image.
+/// The unit of an attribute row: its sort, the number of the item whose unit it is, its number of
+/// slots, and the place and the number of the bytes of its code among those of the image.
 #[derive(Clone, Copy, PartialEq, Eq, Debug)]
 pub struct CodeUnit {
     pub sort: Sort,
+    /// The number of the item among those of its kind: of a method for a body.
+    pub item: u16,
     pub slots: u16,
     pub start: usize,
     pub size: usize,

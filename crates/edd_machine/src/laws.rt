@@ -2,6 +2,7 @@
 
 ghost use Rattle.std.specs.Prelude.{◌≡◌, ℕ, ℤ, ◌<◌, List, Some, length};
 ghost use Rattle.edd_syntax.specs.Answers.{Answer, IsValidAnswer};
+ghost use Rattle.edd_syntax.specs.DeviceValues.{AreDeviceValues};
 ghost use Rattle.edd_instructions.specs.declared.records.Request.{Request};
 ghost use Rattle.edd_instructions.specs.declared.records.Status.TheVariants.{Asking};
 ghost use Rattle.edd_image.specs.Contents.{AttributeFields, contents_in};
@@ -27,6 +28,13 @@ pub fn answers_stay_in_the_unit()
         → IsStateIn b u s
         → s.status ≡ Asking r → IsValidAnswer (types_in b) answer
         → IsStateIn b u (answered s answer).state }
+{}
+
+/// Any values of the device may stand in a state in place of its own.
+pub fn values_may_be_set()
+    ensures { (b : List ℕ) (u : CodeUnit) (s : State) (values : List ℤ) → IsStateIn b u s
+        → AreDeviceValues (types_in b) values
+        → IsStateIn b u (record s { values = values }) }
 {}
 
 /// The unit of a method's body opens as its row does.

@@ -16,12 +16,14 @@ mod sets;
 mod values;
 
 pub use abort_methods::AbortMethods;
-pub use code_unit::CodeUnit;
+pub use code_unit::{CodeUnit, code_of};
 pub use fault::{ReadFault, SetFault, ValuesFault};
-pub use laws::{answers_stay_in_the_unit, asking_has_room, bodies_open_as_their_rows};
+pub use laws::{
+    answers_stay_in_the_unit, asking_has_room, bodies_open_as_their_rows, values_may_be_set,
+};
 pub use machine::Machine;
 pub use operands::Operands;
 pub use reading::{attribute, attribute_of_device};
 pub use rows::find_body;
 pub use sets::set_fault;
-pub use values::Values;
+pub use values::{Values, are_values};

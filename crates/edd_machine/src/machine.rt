@@ -1,6 +1,6 @@
 //! A state of the machine, and its step.
 
-ghost use Rattle.std.specs.Prelude.{◌≡◌, ℕ, ◌<◌, ◌≤◌, List, [], ◌∷◌, length, pos, replicate};
+ghost use Rattle.std.specs.Prelude.{◌≡◌, ℕ, ◌<◌, ◌≤◌, ℤ, List, [], ◌∷◌, length, pos, replicate};
 ghost use Rattle.std.specs.List.{AllByRecursion};
 ghost use Rattle.edd_syntax.specs.DeviceValues.{AreDeviceValues};
 ghost use Rattle.edd_instructions.specs.declared.instruction.Instruction.TheVariants as instructions;
@@ -23,13 +23,13 @@ use crate::code_unit::{CodeUnit, code_of};
 use crate::operands::Operands;
 use crate::outcome::{Outcome, perform};
 use crate::ranges::stored;
-use crate::values::Values;
 use arrayvec::ArrayVec;
 use edd_instructions::{Ask, Emitted, Instruction, Request, Sort, Status, decode};
 use edd_loader::Image;
 use edd_syntax::numbers::{MethNo, VarNo};
 
-/// A state of the machine over one unit of an image, and what its last step emitted.
+/// A state of the machine over one unit of an image, but for the values of the device, and what its
+/// last step emitted. The values are the caller's: each step is given them.
 #[derive(Debug, Drop)]
 pub struct Machine {
     pub unit: CodeUnit,
@@ -37,7 +37,6 @@ pub struct Machine {
     pub place: usize,
     pub operands: Operands,
     pub slots: ArrayVec<i64, 64>,
-    pub values: Values,
     pub status: Status,
     pub emitted: Emitted,
     /// The methods that are to run, in order, if the run is aborted, or that are left of them.
@@ -59,23 +58,21 @@ fn empty_slots(count: u16) -> ArrayVec<i64, 64>
 }
 
 impl Machine {
-    /// The state at the start of a unit, under these values.
-    pub fn open(unit: CodeUnit, values: Values) -> Machine
+    /// The state at the start of a unit, under any values.
+    pub fn open(unit: CodeUnit) -> Machine
         requires { unit.slots ≤ 64 }
-        ensures state { (b : List ℕ) → state_of b result ≡ opening (running_unit b unit) unit.slots
-            values.numbers.items }
+        ensures state { (b : List ℕ) (values : List ℤ) → state_of b result values
+            ≡ opening (running_unit b unit) unit.slots values }
         ensures unit { result.unit ≡ unit }
         ensures emitted { result.emitted ≡ emitted.Nothing }
-        ensures machine { (b : List ℕ) → IsValid b → IsUnitOf b unit
-            → AreDeviceValues (types_in b) values.numbers.items
-            → IsMachine b result }
+        ensures machine { (b : List ℕ) (values : List ℤ) → IsValid b → IsUnitOf b unit
+            → AreDeviceValues (types_in b) values → IsMachine b result values }
     {
         Machine {
             unit,
             place: 0,
             operands: Operands::new(),
             slots: empty_slots(unit.slots),
-            values,
             status: Status::Running,
             emitted: Emitted::Nothing,
             abort_methods: AbortMethods::new(),
@@ -99,8 +96,13 @@ impl Machine {
     #[inline(always)]
     fn take_on(&mut self, outcome: Outcome)
         ensures unit { self.new.unit ≡ self.old.unit }
-        ensures value { (b : List ℕ) → comes_to outcome self.old.operands (state_of b self.old)
-            ≡ record { state = state_of b self.new; emitted = self.new.emitted; changes = [] } }
+        ensures value { (b : List ℕ) (values : List ℤ)
+            → comes_to outcome self.old.operands (state_of b self.old values)
+            ≡ record {
+              state = state_of b self.new values;
+              emitted = self.new.emitted;
+              changes = [];
+            } }
     {
         match outcome {
             Outcome::GoesOn(place) => {
@@ -129,7 +131,8 @@ impl Machine {
         requires room { length self.old.operands < 128 }
         requires exists { slot < length self.old.slots.items }
         ensures unit { self.new.unit ≡ self.old.unit }
-        ensures acts { (b : List ℕ) → ActsTo b (instructions.GetLocal slot) next self.old self.new }
+        ensures acts { (b : List ℕ) (values : List ℤ)
+            → ActsTo b (instructions.GetLocal slot) next self.old values self.new values }
     {
         self.operands.push(self.slots.as_slice()[slot as usize]);
         self.place = next;
@@ -143,7 +146,8 @@ impl Machine {
         requires enough { 1 ≤ length self.old.operands }
         requires exists { slot < length self.old.slots.items }
         ensures unit { self.new.unit ≡ self.old.unit }
-        ensures acts { (b : List ℕ) → ActsTo b (instructions.SetLocal slot) next self.old self.new }
+        ensures acts { (b : List ℕ) (values : List ℤ)
+            → ActsTo b (instructions.SetLocal slot) next self.old values self.new values }
     {
         self.slots[slot as usize] = self.operands.top();
         self.place = next;
@@ -152,19 +156,20 @@ impl Machine {
 
     // Stores the topmost operand in a variable, and leaves what is read back.
     #[tactic(auto, unfolding(edd_instructions::specs::Steps::act))]
-    fn store(&mut self, image: &Image<'_>, variable: VarNo, next: usize)
+    fn store(&mut self, image: &Image<'_>, values: &mut [i64], variable: VarNo, next: usize)
         requires enough { 1 ≤ length self.old.operands }
         requires valid { IsValid image.now }
         requires exists { variable.0 < (counts_in image.now).variables }
-        requires values { AreDeviceValues (types_in image.now) self.old.values.numbers.items }
+        requires values { AreDeviceValues (types_in image.now) values.old }
         ensures unit { self.new.unit ≡ self.old.unit }
-        ensures acts { ActsTo image.now (instructions.Store variable) next self.old self.new }
+        ensures acts { ActsTo image.now (instructions.Store variable) next self.old values.old
+            self.new values.new }
     {
         let Some(kind) = image.variable(variable) else {
             unreachable!()
         };
         let kept = stored(kind, self.operands.top());
-        self.values.numbers[variable.0 as usize] = kept;
+        values[variable.0 as usize] = kept;
         self.operands.set_top(wrapped(self.unit.sort, kept));
         self.place = next;
         self.emit_nothing();
@@ -173,8 +178,9 @@ impl Machine {
     // Waits for the answer to a request.
     fn wait(&mut self, next: usize, request: Request)
         ensures unit { self.new.unit ≡ self.old.unit }
-        ensures acts { (b : List ℕ)
-            → IsEffect (ask_for (state_of b self.old) next self.old.operands request) b self.new }
+        ensures acts { (b : List ℕ) (values : List ℤ)
+            → IsEffect (ask_for (state_of b self.old values) next self.old.operands request) b
+            self.new values }
     {
         self.place = next;
         self.status = Status::Asking(request);
@@ -196,7 +202,8 @@ impl Machine {
         requires enough { numbers_asked ask ≤ length self.old.operands }
         requires fit { AllByRecursion (Fits Method) self.old.operands }
         ensures unit { self.new.unit ≡ self.old.unit }
-        ensures acts { (b : List ℕ) → IsEffect (act_ask ask next (state_of b self.old)) b self.new }
+        ensures acts { (b : List ℕ) (values : List ℤ)
+            → IsEffect (act_ask ask next (state_of b self.old values)) b self.new values }
     {
         match ask {
             Ask::PutMessage(text) => self.wait(next, Request::PutMessage(text)),
@@ -228,8 +235,8 @@ impl Machine {
     #[tactic(auto, unfolding(edd_instructions::specs::Steps::act))]
     fn abort(&mut self)
         ensures unit { self.new.unit ≡ self.old.unit }
-        ensures acts { (b : List ℕ) (next : ℕ)
-            → ActsTo b instructions.Abort next self.old self.new }
+        ensures acts { (b : List ℕ) (values : List ℤ) (next : ℕ)
+            → ActsTo b instructions.Abort next self.old values self.new values }
     {
         self.status = Status::Aborted;
         self.emit_nothing();
@@ -240,8 +247,8 @@ impl Machine {
     fn add_abort_method(&mut self, method: MethNo, next: usize)
         requires { length self.old.operands < 128 }
         ensures unit { self.new.unit ≡ self.old.unit }
-        ensures acts { (b : List ℕ)
-            → ActsTo b (instructions.AddAbortMethod method) next self.old self.new }
+        ensures acts { (b : List ℕ) (values : List ℤ)
+            → ActsTo b (instructions.AddAbortMethod method) next self.old values self.new values }
     {
         if self.is_aborting || self.abort_methods.is_full() {
             self.operands.push(-1);
@@ -255,14 +262,20 @@ impl Machine {
 
     // The effect of an instruction that the rules on its unit allow here.
     #[inline(always)]
-    fn execute(&mut self, image: &Image<'_>, instruction: Instruction, next: usize)
+    fn execute(
+        &mut self,
+        image: &Image<'_>,
+        values: &mut [i64],
+        instruction: Instruction,
+        next: usize,
+    )
         requires valid { IsValid image.now }
-        requires ready { CanAct image.now instruction (state_of image.now self.old) }
+        requires ready { CanAct image.now instruction (state_of image.now self.old values.old) }
         ensures unit { self.new.unit ≡ self.old.unit }
-        ensures acts { ActsTo image.now instruction next self.old self.new }
+        ensures acts { ActsTo image.now instruction next self.old values.old self.new values.new }
     {
         match instruction {
-            Instruction::Store(variable) => self.store(image, variable, next),
+            Instruction::Store(variable) => self.store(image, values, variable, next),
             Instruction::GetLocal(slot) => self.push_slot(slot, next),
             Instruction::SetLocal(slot) => self.set_slot(slot, next),
             Instruction::Ask(ask) => self.ask(ask, next),
@@ -270,7 +283,6 @@ impl Machine {
             Instruction::AddAbortMethod(method) => self.add_abort_method(method, next),
             _ => {
                 let sort = self.unit.sort;
-                let values = self.values.numbers.as_slice();
                 let outcome = perform(&mut self.operands, image, sort, values, instruction, next);
                 self.take_on(outcome);
             }
@@ -281,8 +293,8 @@ impl Machine {
     fn start(&mut self, unit: CodeUnit)
         requires { unit.slots ≤ 64 }
         ensures unit { self.new.unit ≡ unit }
-        ensures state { (b : List ℕ) → state_of b self.new
-            ≡ aborting (start_of b unit) self.old.abort_methods (state_of b self.old) }
+        ensures state { (b : List ℕ) (values : List ℤ) → state_of b self.new values
+            ≡ aborting (start_of b unit) self.old.abort_methods (state_of b self.old values) }
         ensures emitted { self.new.emitted ≡ self.old.emitted }
     {
         self.unit = unit;
@@ -295,11 +307,12 @@ impl Machine {
 
     // Goes on with the first listed method that has a body; after the last the run is aborted.
     fn start_listed(&mut self, image: &Image<'_>)
-        requires { IsMachine image.now self.old }
-        ensures follows { state_of image.now self.new
+        ensures follows { (values : List ℤ) → state_of image.now self.new values
             ≡ start_listed (start_in (contents_in image.now)) self.old.abort_methods
-            (state_of image.now self.old) }
-        ensures machine { IsMachine image.now self.new }
+            (state_of image.now self.old values) }
+        ensures machine { (values : List ℤ) → IsMachine image.now self.old values
+            → IsMachine image.now self.new values }
+        ensures method { self.old.unit.sort ≡ Method → self.new.unit.sort ≡ Method }
         ensures emitted { self.new.emitted ≡ self.old.emitted }
     {
         match self.abort_methods.next_body(image) {
@@ -313,10 +326,11 @@ impl Machine {
     /// the run is aborted. Else nothing follows. It is no step, and takes no memory.
     #[inline(always)]
     pub fn follow(&mut self, image: &Image<'_>)
-        requires { IsMachine image.now self.old }
-        ensures follows { state_of image.now self.new
-            ≡ next (start_in (contents_in image.now)) (state_of image.now self.old) }
-        ensures machine { IsMachine image.now self.new }
+        ensures follows { (values : List ℤ) → state_of image.now self.new values
+            ≡ next (start_in (contents_in image.now)) (state_of image.now self.old values) }
+        ensures machine { (values : List ℤ) → IsMachine image.now self.old values
+            → IsMachine image.now self.new values }
+        ensures method { self.old.unit.sort ≡ Method → self.new.unit.sort ≡ Method }
         ensures emitted { self.new.emitted ≡ self.old.emitted }
     {
         let goes_on = match self.status {
@@ -329,18 +343,19 @@ impl Machine {
         }
     }
 
-    /// One step: the effect of the instruction at its place, and what follows it. A running state
-    /// of a unit of the image has exactly one, and keeps what every state keeps. It takes no
-    /// memory.
-    pub fn step(&mut self, image: &Image<'_>)
-        requires machine { IsMachine image.now self.old }
+    /// One step over these values of the device, one number for each variable: the effect of the
+    /// instruction at its place, and what follows it. A running state of a unit of the image has
+    /// exactly one, and keeps what every state keeps. It takes no memory.
+    pub fn step(&mut self, image: &Image<'_>, values: &mut [i64])
+        requires machine { IsMachine image.now self.old values.old }
         requires running { self.old.status ≡ Running }
-        ensures step { StepsTo image.now self.old self.new }
-        ensures machine { IsMachine image.now self.new }
+        ensures step { StepsTo image.now self.old values.old self.new values.new }
+        ensures machine { IsMachine image.now self.new values.new }
+        ensures method { self.old.unit.sort ≡ Method → self.new.unit.sort ≡ Method }
     {
         let code = code_of(image.bytes(), self.unit);
         match decode(code, self.place) {
-            Some((instruction, next)) => self.execute(image, instruction, next),
+            Some((instruction, next)) => self.execute(image, values, instruction, next),
             None => unreachable!(),
         }
         self.follow(image);

@@ -10,7 +10,8 @@ ghost use Rattle.edd_machine.specs.Running.{unit_at, IsUnitOf};
 
 use crate::code_unit::CodeUnit;
 use edd_image::{
-    ATTRIBUTE_ROW, attribute_length, attribute_number, attribute_start, attribute_sub,
+    ATTRIBUTE_ROW, attribute_item, attribute_length, attribute_number, attribute_start,
+    attribute_sub,
 };
 use edd_instructions::Sort;
 use edd_loader::{Image, Starts, attribute_row, body_row};
@@ -28,9 +29,11 @@ fn placed_unit(bytes: &[u8], starts: Starts, row: usize) -> CodeUnit
 {
     let start = starts.code + attribute_start(bytes, row) as usize;
     let size = attribute_length(bytes, row) as usize;
+    let item = attribute_item(bytes, row);
     if attribute_number(bytes, row) == DEFINITION {
         CodeUnit {
             sort: Sort::Method,
+            item,
             slots: attribute_sub(bytes, row),
             start,
             size,
@@ -38,6 +41,7 @@ fn placed_unit(bytes: &[u8], starts: Starts, row: usize) -> CodeUnit
     } else {
         CodeUnit {
             sort: Sort::Attribute,
+            item,
             slots: 0,
             start,
             size,

@@ -14,7 +14,7 @@ use Rattle.edd_port.specs.declared.turn.Drive.TheVariants.{Done, Waiting, Refuse
 use Rattle.edd_port.specs.declared.turn.Turn.{Turn}
 use Rattle.edd_port.specs.declared.turn.Turn.TheVariants as turn
 use Rattle.edd_port.specs.Books.{Pair, Book, with_pair}
-use Rattle.edd_port.specs.Drives.{AreMet, EndsAs, Shows, RefusesLast, GoesOn, Stops, accepted, added, driven, failed_after, nothing_after, standing}
+use Rattle.edd_port.specs.Drives.{AreMet, AreValid, EndsAs, Shows, RefusesLast, GoesOn, Stops, accepted, added, driven, failed_after, nothing_after, standing}
 use Rattle.edd_port.specs.Faults.{answer_fault_of}
 use Rattle.edd_port.specs.Refusals.{BadSet}
 use Rattle.edd_port.specs.Runs.{Run, environment, counted}
@@ -97,6 +97,7 @@ pub record Ends (first : Run) (steps : ℕ) (before : Book) (end : Drive) (now :
   pub used : (driven first steps (accepted end (added before new))).answers ≡ []
   pub met : AreMet first.state (driven first steps (accepted end (added before new)))
       (requests_of (accepted end (added before new)))
+  pub valid : AreValid (environment first.image).types (accepted end (added before new))
   pub pairs : new.pairs ≡ before.pairs ++ added before new
   pub refused : RefusesLast (environment first.image).types end now.state (added before new)
   pub nothing : new.nothing ≡ nothing_after end before.nothing
@@ -169,6 +170,7 @@ module _ (first : Run) (steps left : ℕ) (now : Run) (before book new : Book)
         shows = shows;
         used = f.used;
         met = f.met;
+        valid = f.valid;
         pairs = ap (λ (b : Book). b.pairs) noted ∙ ap (λ (ps : List Pair). before.pairs ++ ps)
             (sym all);
         refused = tt;
@@ -189,6 +191,7 @@ module _ (first : Run) (steps left : ℕ) (now : Run) (before book new : Book)
         shows = shown q asks;
         used = f.used;
         met = f.met;
+        valid = f.valid;
         pairs = pairs_noted ∙ ap (λ (ps : List Pair). before.pairs ++ ps) (sym all);
         refused = tt;
         nothing = ap (λ (b : Book). b.nothing) same ∙ ap (λ (b : Book). counted (b.nothing + 1))
@@ -213,6 +216,7 @@ module _ (first : Run) (steps left : ℕ) (now : Run) (before book new : Book)
         shows = shown pair.request asks;
         used = f.used;
         met = f.met;
+        valid = f.valid;
         pairs = more ∙ ap (λ (ps : List Pair). before.pairs ++ ps) (sym all);
         refused = (
           is.pairs,
@@ -241,6 +245,7 @@ module _ (first : Run) (steps left : ℕ) (now : Run) (before book new : Book)
         shows = shown q asks;
         used = f.used;
         met = f.met;
+        valid = f.valid;
         pairs = pairs_noted ∙ ap (λ (ps : List Pair). before.pairs ++ ps) (sym all);
         refused = tt;
         nothing = ap (λ (b : Book). b.nothing) same ∙ ap (λ (b : Book). b.nothing) is.noted;

@@ -1,6 +1,7 @@
 -- A drive, turn by turn.
 use Rattle.std.proofs.Common.{◌≡◌, ℕ, zero, suc, ◌+◌, ◌-◌, List, [], ◌∷◌, ◌++◌, map, None, refl, sym, ap, subst, ◌∙◌, append_assoc, append-nil, zero-add, arith}
 use Rattle.edd_syntax.specs.Answers.{Answer, Go, Abort, Change, answer_fault}
+use Rattle.edd_syntax.specs.DeviceValues.{VariableType}
 use Rattle.edd_instructions.specs.declared.records.Request.{Request}
 use Rattle.edd_instructions.specs.declared.records.Status.{Status}
 use Rattle.edd_instructions.specs.declared.records.Status.TheVariants as status
@@ -10,7 +11,8 @@ use Rattle.edd_instructions.specs.Reading.{environment_of}
 use Rattle.edd_instructions.specs.Execution.{Ending, Outcome, answered}
 use Rattle.edd_instructions.specs.Steps.{State}
 use Rattle.edd_port.specs.Books.{Pair}
-use Rattle.edd_port.specs.Drives.{AreMet, Executes, Takes, driven, standing}
+use Rattle.edd_port.specs.Drives.{AreMet, AreValid, Executes, Takes, driven, standing}
+use Rattle.edd_port.specs.Refusals.{CodeFits}
 use Rattle.edd_port.specs.Runs.{Run, environment, advanced, counted, followed}
 use Rattle.edd_port.specs.Turns.{turn_of, ending_of}
 use Rattle.edd_port.proofs.Asked.{one_stands, follows_standing}
@@ -36,6 +38,7 @@ pub record Driving (first : Run) (steps left : ℕ) (now : Run) (pairs : List Pa
       ≡ followed done (execute_in (contents_in first.image) left now.state answers)
   pub met : standing first.state.status ++ done.requests ≡ requests_of pairs
       ++ standing now.state.status
+  pub valid : AreValid (environment first.image).types pairs
 
 pub starts : (first : Run) (steps : ℕ) → first.taken ≡ counted first.taken
     → Driving first steps steps first []
@@ -47,6 +50,7 @@ starts first steps small = let none : first.taken ≡ first.taken + 0 = omega ar
   runs = λ answers. sym (behind_nothing first.state Ending.OutOfSteps
       (execute_in (contents_in first.image) steps first.state answers));
   met = append-nil (standing first.state.status);
+  valid = tt;
 }
 
 -- ---- instructions
@@ -113,6 +117,7 @@ executed first steps left fewer now next pairs is to =
           ∙ append_assoc (requests_of pairs) (standing now.state.status) o.requests
           ∙ ap (λ (rs : List Request). requests_of pairs ++ rs)
           (stands_here first.image left fewer now next to is.image);
+      valid = is.valid;
     }
 
 -- ---- answers
@@ -121,6 +126,13 @@ map_more : {A B : Type 0} (f : A → B) (xs : List A) (x : A) → map f (xs ++ x
     ∷ []
 map_more f [] x = refl
 map_more f (y ∷ xs) x = ap (λ (ys : List _). f y ∷ ys) (map_more f xs x)
+
+one_valid_more : (types : List VariableType) (pairs : List Pair) (pair : Pair)
+    → AreValid types pairs → CodeFits pair.answer → answer_fault types pair.answer ≡ None
+    → AreValid types (pairs ++ pair ∷ [])
+one_valid_more types [] pair all fits none = ((fits, none), tt)
+one_valid_more types (p ∷ pairs) pair all fits none =
+    (all.0, one_valid_more types pairs pair all.1 fits none)
 
 none_asked : (s : State) (answer : Answer) → standing (answered s answer).state.status ≡ []
 none_asked s (Go code sets) = refl
@@ -170,6 +182,7 @@ given first steps left now next pairs pair is takes =
           ∙ ap (λ (rs : List Request). requests_of (pairs ++ pair ∷ []) ++ rs)
           (sym (none_stands c now.state pair.answer))
           ∙ ap (λ (s : State). requests_of (pairs ++ pair ∷ []) ++ standing s.status) there;
+      valid = one_valid_more (environment first.image).types pairs pair is.valid takes.fits valid;
     }
 
 -- ---- the end
@@ -180,6 +193,7 @@ pub record Driven (first : Run) (steps : ℕ) (pairs : List Pair) (now : Run) : 
   pub state : now.state ≡ (driven first steps pairs).state
   pub taken : now.taken ≡ counted (first.taken + (driven first steps pairs).steps)
   pub met : AreMet first.state (driven first steps pairs) (requests_of pairs)
+  pub valid : AreValid (environment first.image).types pairs
   pub ending : (driven first steps pairs).ending ≡ ending_of (turn_of now.state.status)
   pub used : (driven first steps pairs).answers ≡ []
   pub spent : now.state.status ≡ status.Running → (driven first steps pairs).steps ≡ steps
@@ -209,6 +223,7 @@ ends first steps left now pairs is last =
           ∙ ap (λ (rs : List Request). standing first.state.status ++ rs)
           (append-nil is.done.requests)
           ∙ is.met ∙ ap (λ (s : State). requests_of pairs ++ standing s.status) (sym state_there);
+      valid = is.valid;
       ending = ap (λ (o : Outcome). o.ending) whole;
       used = ap (λ (o : Outcome). o.answers) whole;
       spent = λ runs. omega (arith, is.counts, steps_there, last runs);

@@ -4,8 +4,11 @@ pub mod Asked
 pub mod Cuts
 pub mod DriveEnds
 pub mod Drivings
+pub mod MethodBodies
 pub mod Openings
+pub mod OriginTurns
 pub mod Outcomes
 pub mod Playings
+pub mod RunTests
 pub mod Sets
 pub mod ShownTurns

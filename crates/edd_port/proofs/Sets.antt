@@ -1,7 +1,8 @@
 -- Sets of an answer that have no fault.
-use Rattle.std.proofs.Common.{◌≡◌, ℕ, zero, suc, ◌+◌, ◌<◌, ℤ, List, [], ◌∷◌, length, map, drop, get_or, drop-cons, add-one, Option, Some, None, refl, sym, ap, subst, ◌∙◌, arith}
+use Rattle.std.proofs.Common.{◌≡◌, ℕ, zero, suc, ◌+◌, ◌<◌, ℤ, List, [], ◌∷◌, ◌++◌, length, map, drop, take, get_or, drop-cons, add-one, Option, Some, None, refl, sym, ap, subst, ◌∙◌, arith}
 use Rattle.std.specs.Prelude.{if◌then◌else◌, slice_set}
 use Rattle.std.specs.List.{AllByRecursion, slice_get}
+use Rattle.std.proofs.Math.Seq.{take-append_seam}
 use Rattle.edd_syntax.specs.Answers.{Change, SetFault, BadVariable, OutOfRange, set_fault, sets_fault, values_set}
 use Rattle.edd_syntax.specs.declared.numbers.VarNo.{VarNo}
 use Rattle.edd_syntax.specs.DeviceValues.{VariableType, is_in_range}
@@ -73,3 +74,9 @@ module _ (numbers : List ℤ) (sets : List (VarNo × ℤ)) (i : ℕ) (d : VarNo 
       ≡ values_set (slice_set numbers (get_or sets i d).0.0 (get_or sets i d).1)
       (map change_of (drop (i + 1) sets))
   one_is_made = ap (λ (xs : List Change). values_set numbers xs) one_set
+
+-- what a slice of all items holds at its end stands in their place
+pub written : (count : ℕ) (values items : List ℤ) → length values ≡ count
+    → values ≡ take count (values ++ drop (length values) items)
+written count values items e = sym (ap (λ (n : ℕ). take n (values ++ drop (length values) items))
+    (sym e) ∙ take-append_seam values (drop (length values) items))

@@ -1,5 +1,6 @@
 -- A session that is driven by a host.
 use Rattle.std.specs.Prelude.{◌≡◌, ◌≢◌, ℕ, ◌+◌, ◌-◌, ◌<◌, ◌≤◌, List, [], ◌∷◌, ◌++◌, length, map, drop, take, Some, None, option_map, ⊤, ◌⊎◌}
+use Rattle.std.specs.List.{AllByRecursion}
 use Rattle.edd_syntax.specs.Answers.{answer_fault}
 use Rattle.edd_syntax.specs.DeviceValues.{VariableType}
 use Rattle.edd_instructions.specs.declared.records.Request.{Request}
@@ -16,7 +17,7 @@ use Rattle.edd_port.specs.declared.turn.Turn.{Turn}
 use Rattle.edd_port.specs.declared.turn.Turn.TheVariants as turn
 use Rattle.edd_port.specs.Books.{Pair, Book, with_pair, with_nothing, with_failure}
 use Rattle.edd_port.specs.Faults.{answer_fault_of}
-use Rattle.edd_port.specs.Refusals.{BadSet}
+use Rattle.edd_port.specs.Refusals.{BadSet, CodeFits}
 use Rattle.edd_port.specs.Runs.{Run, environment, advanced, counted}
 use Rattle.edd_port.specs.Turns.{turn_of}
 
@@ -32,6 +33,11 @@ accepted (Done t) pairs = pairs
 accepted Waiting pairs = pairs
 accepted (Refused fault) pairs = take (length pairs - 1) pairs
 accepted HostFailed pairs = pairs
+
+-- the code of each of these answers has 32 bits, and none of its sets has a fault
+abbrev pub AreValid : List VariableType → List Pair → Type 0
+AreValid types pairs =
+    AllByRecursion (λ pair. CodeFits pair.answer × (answer_fault types pair.answer ≡ None)) pairs
 
 -- what a run results in within so many steps under the answers of these pairs
 abbrev pub driven : Run → (steps : ℕ) → List Pair → Outcome
@@ -109,6 +115,7 @@ pub record Executes (left : ℕ) (before : Run) (fewer : ℕ) (after : Run) : Ty
 pub record Takes (before : Run) (pair : Pair) (after : Run) : Type 0 where
   pub asks : before.state.status ≡ status.Asking pair.request
   pub valid : answer_fault (environment before.image).types pair.answer ≡ None
+  pub fits : CodeFits pair.answer
   pub is : after ≡ record before {
     state = (answered_in (contents_in before.image) before.state pair.answer).state;
   }

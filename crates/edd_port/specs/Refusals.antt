@@ -1,5 +1,5 @@
 -- Why an answer is not taken.
-use Rattle.std.specs.Prelude.{ℤ, List, [], Option, Some, option_map, ⊤, FitsSigned}
+use Rattle.std.specs.Prelude.{ℤ, List, [], Option, Some, None, option_map, ⊤, FitsSigned}
 use Rattle.std.specs.Int.{w32}
 use Rattle.edd_syntax.specs.declared.numbers.VarNo.{VarNo}
 use Rattle.edd_syntax.specs.Answers.{Answer, Go, Abort, Change, SetFault, answer_fault}
@@ -31,6 +31,16 @@ change_of set = record { variable = set.0; value = set.1 }
 abbrev pub sets_of : Answer → List Change
 sets_of (Go code sets) = sets
 sets_of Abort = []
+
+-- the code of an answer, none where the method ends
+abbrev pub code_of : Answer → Option ℤ
+code_of (Go code sets) = Some code
+code_of Abort = None
+
+-- the answer with this code that sets nothing
+abbrev pub without_sets : Option ℤ → Answer
+without_sets (Some code) = Go code []
+without_sets None = Abort
 
 -- the code of an answer has 32 bits
 abbrev pub CodeFits : Answer → Type 0

@@ -1,19 +1,17 @@
-//! The test of an answer, and what it makes of a machine that asks.
+//! The test of an answer, and its sets.
 
-ghost use Rattle.std.specs.Prelude.{◌≡◌, ℕ, ◌<◌, List, length, map, option_map};
+ghost use Rattle.std.specs.Prelude.{◌≡◌, ◌<◌, length, map, option_map};
 ghost use Rattle.std.specs.List.{AllByRecursion};
 ghost use Rattle.edd_syntax.specs.Answers.{answer_of, sets_fault, values_set};
-ghost use Rattle.edd_instructions.specs.Execution.{answered};
 ghost use Rattle.edd_machine.specs.Faults.{set_fault_of};
-ghost use Rattle.edd_machine.specs.Running.{state_of};
 ghost use Rattle.edd_machine.specs.Types.{types_in};
 ghost use Rattle.edd_port.specs.Faults.{answer_fault_of};
-ghost use Rattle.edd_port.specs.Refusals.{CodeFits, change_of, refusal, sets_of};
+ghost use Rattle.edd_port.specs.Refusals.{CodeFits, change_of, code_of, refusal, sets_of};
 
 use crate::fault::{AnswerFault, fault_of_set};
 use edd_instructions::Status;
 use edd_loader::Image;
-use edd_machine::{Machine, SetFault, set_fault};
+use edd_machine::{SetFault, set_fault};
 use edd_syntax::answer::Answer;
 use edd_syntax::numbers::VarNo;
 
@@ -58,22 +56,19 @@ fn set_values(numbers: &mut [i64], sets: &[(VarNo, i64)])
     }
 }
 
-/// The event of an answer to a machine that asks.
-pub fn take_answer(machine: &mut Machine, answer: &Answer)
-    requires room { length machine.old.operands < 128 }
-    requires exist { AllByRecursion (λ set. set.variable.0
-        < length machine.old.values.numbers.items) (sets_of (answer_of answer.now)) }
-    ensures unit { machine.new.unit ≡ machine.old.unit }
-    ensures code { CodeFits (answer_of answer.now) }
-    ensures state { (b : List ℕ) → state_of b machine.new
-        ≡ (answered (state_of b machine.old) (answer_of answer.now)).state }
+/// Makes the sets of an answer, in their order, and gives its code, or none where the method ends.
+pub fn make_sets(values: &mut [i64], answer: &Answer) -> Option<i32>
+    requires { AllByRecursion (λ set. set.variable.0 < length values.old)
+        (sets_of (answer_of answer.now)) }
+    ensures values { values.new ≡ values_set values.old (sets_of (answer_of answer.now)) }
+    ensures code { result ≡ code_of (answer_of answer.now) }
+    ensures fits { CodeFits (answer_of answer.now) }
 {
     match answer {
         Answer::Go { code, sets } => {
-            set_values(machine.values.numbers.as_mut_slice(), sets.as_slice());
-            machine.operands.push(i64::from(*code));
-            machine.status = Status::Running;
+            set_values(values, sets.as_slice());
+            Some(*code)
         }
-        Answer::Abort => machine.status = Status::Aborted,
+        Answer::Abort => None,
     }
 }

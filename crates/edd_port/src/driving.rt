@@ -4,7 +4,7 @@ ghost use Rattle.std.specs.Prelude.{◌≡◌, [], ◌++◌, ◌+◌, ◌≤◌,
 ghost use Rattle.edd_instructions.specs.declared.records.Status.TheVariants.{Running, Asking};
 ghost use Rattle.edd_machine.specs.Types.{types_in};
 ghost use Rattle.edd_port.specs.Books.{Pair, with_pair};
-ghost use Rattle.edd_port.specs.Drives.{AreMet, EndsAs, Executes, GoesOn, RefusesLast, Shows, Stops, Takes, accepted, added, driven, failed_after, nothing_after};
+ghost use Rattle.edd_port.specs.Drives.{AreMet, AreValid, EndsAs, Executes, GoesOn, RefusesLast, Shows, Stops, Takes, accepted, added, driven, failed_after, nothing_after};
 ghost use Rattle.edd_port.specs.Runs.{counted};
 ghost use Rattle.edd_port.specs.Turns.{turn_of};
 
@@ -105,6 +105,8 @@ pub fn drive<H: Host>(session: &mut Session<'_, '_>, host: &mut H, steps: u64) -
         AreMet session.old.state (driven session.old steps pairs) (map (λ p. p.request) pairs) }
     ensures pairs { (H.book host.new).pairs ≡ (H.book host.old).pairs
         ++ added (H.book host.old) (H.book host.new) }
+    ensures valid { AreValid (types_in session.old.image)
+        (accepted result (added (H.book host.old) (H.book host.new))) }
     ensures refused { RefusesLast (types_in session.old.image) result session.new.state
         (added (H.book host.old) (H.book host.new)) }
     ensures nothing { (H.book host.new).nothing ≡ nothing_after result (H.book host.old).nothing }

@@ -1,15 +1,31 @@
 //! Laws of sessions, for their callers.
 
-ghost use Rattle.std.specs.Prelude.{◌≡◌, ◌≢◌, ℕ, ◌+◌, ◌-◌, List, [], ◌∷◌, None};
+ghost use Rattle.std.specs.Prelude.{◌≡◌, ◌≢◌, ℕ, ℤ, ◌+◌, ◌-◌, List, [], ◌∷◌, None};
 ghost use Rattle.edd_syntax.specs.Answers.{Answer, answer_fault};
 ghost use Rattle.edd_instructions.specs.declared.records.Request.{Request};
 ghost use Rattle.edd_instructions.specs.declared.records.Status.TheVariants.{Asking};
+ghost use Rattle.edd_instructions.specs.declared.unit.Sort.TheVariants.{Method};
 ghost use Rattle.edd_instructions.specs.AbortMethods.{answered_in, execute_in, next, start_in};
 ghost use Rattle.edd_image.specs.Contents.{Contents};
 ghost use Rattle.edd_instructions.specs.Execution.{Stuck, preceded, resumed_following};
 ghost use Rattle.edd_instructions.specs.Reading.{environment_of};
 ghost use Rattle.edd_instructions.specs.Steps.{State};
+ghost use Rattle.edd_instructions.specs.Validity.{IsValid};
+ghost use Rattle.edd_machine.specs.declared.machine.Machine.{Machine};
+ghost use Rattle.edd_machine.specs.Running.{IsMachine};
+ghost use Rattle.edd_port.specs.declared.suspension.Suspended.{Suspended};
 ghost use Rattle.edd_port.specs.Runs.{followed};
+ghost use Rattle.edd_port.specs.Suspensions.{IsBodyIn, IsSuspendedIn};
+
+/// The unit of a machine that runs a method is the body of the method whose number it has, so that
+/// what is suspended of a run can be resumed.
+pub fn methods_may_be_suspended()
+    ensures bodies { (b : List ℕ) (m : Machine) (values : List ℤ) → IsValid b → IsMachine b m values
+        → m.unit.sort ≡ Method → IsBodyIn b m.unit }
+    ensures resumed { (b : List ℕ) (s : Suspended) → IsValid b
+        → IsMachine b s.machine s.values.numbers.items → s.machine.unit.sort ≡ Method
+        → IsSuspendedIn b s }
+{}
 
 /// Every cutting of a run into budgets gives the same run, and an answer may be handed in wherever
 /// a request is pending.

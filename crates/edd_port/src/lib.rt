@@ -2,18 +2,25 @@
 #![tactic(auto)]
 
 mod answers;
+mod depths;
 mod driving;
 mod fault;
 mod host;
 mod laws;
 mod playing;
+mod runs;
 mod session;
+mod steps;
+mod suspension;
 mod turn;
 
 pub use driving::drive;
 pub use fault::{AnswerFault, PlayFault, StartFault};
 pub use host::{Host, Reply};
-pub use laws::sessions_may_be_cut;
+pub use laws::{methods_may_be_suspended, sessions_may_be_cut};
 pub use playing::{Ending, Transcript, play};
+pub use runs::is_run;
 pub use session::Session;
-pub use turn::{Drive, Turn};
+pub use steps::{execute, go_on};
+pub use suspension::Suspended;
+pub use turn::{Drive, Turn, turn_of};

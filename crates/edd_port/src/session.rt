@@ -9,14 +9,14 @@ ghost use Rattle.edd_instructions.specs.AbortMethods.{answered_in};
 ghost use Rattle.edd_image.specs.Contents.{contents_in};
 ghost use Rattle.edd_machine.specs.Types.{types_in};
 ghost use Rattle.edd_port.specs.Faults.{IsStartFault, answer_fault_of};
-ghost use Rattle.edd_port.specs.Refusals.{refusal};
+ghost use Rattle.edd_port.specs.Refusals.{CodeFits, refusal};
 ghost use Rattle.edd_port.specs.Runs.{IsRun, OpensIn, advanced, counted};
 ghost use Rattle.edd_port.specs.Turns.{ending_of, turn_of};
 
-use crate::answers::{fault_of_answer, take_answer};
+use crate::answers::{fault_of_answer, make_sets};
 use crate::fault::{AnswerFault, StartFault};
+use crate::steps::{execute, go_on};
 use crate::turn::{Turn, turn_of};
-use edd_instructions::Status;
 use edd_loader::Image;
 use edd_machine::{Machine, Values, find_body};
 use edd_syntax::answer::Answer;
@@ -26,10 +26,11 @@ use std::marker::Model;
 /// A run of a method of an image, at any point of it. Contracts see it as a `Run`.
 #[derive(Drop)]
 pub struct Session<'i, 'b> {
-    image: &'i Image<'b>,
-    machine: Machine,
+    pub(crate) image: &'i Image<'b>,
+    pub(crate) machine: Machine,
+    pub(crate) values: Values,
     // How many instructions were executed so far.
-    taken: u64,
+    pub(crate) taken: u64,
 }
 
 impl<'i, 'b> Model for Session<'i, 'b> {
@@ -37,16 +38,20 @@ impl<'i, 'b> Model for Session<'i, 'b> {
 
     ghost Value = { Run };
 
+    ghost use Rattle.std.specs.Prelude.{◌≡◌};
+    ghost use Rattle.edd_instructions.specs.declared.unit.Sort.TheVariants.{Method};
     ghost use Rattle.edd_instructions.specs.Validity.{IsValid};
     ghost use Rattle.edd_machine.specs.Running.{state_of, IsMachine};
 
     ghost view = { λ s. record {
       image = s.image.now;
-      state = state_of s.image.now s.machine;
+      state = state_of s.image.now s.machine s.values.numbers.items;
       taken = s.taken;
     } };
 
-    ghost invariant = { λ s. IsValid s.image.now × IsMachine s.image.now s.machine };
+    ghost invariant = { λ s. IsValid s.image.now
+        × IsMachine s.image.now s.machine s.values.numbers.items
+        × (s.machine.unit.sort ≡ Method) };
 }
 
 impl<'i, 'b> Session<'i, 'b> {
@@ -76,7 +81,8 @@ impl<'i, 'b> Session<'i, 'b> {
         }
         Ok(Session {
             image,
-            machine: Machine::open(unit, values),
+            machine: Machine::open(unit),
+            values,
             taken: 0,
         })
     }
@@ -92,12 +98,8 @@ impl<'i, 'b> Session<'i, 'b> {
         ensures all { self.new.state.status ≡ Running → result ≡ budget }
         ensures moves { self.old.state.status ≡ Running → 1 ≤ budget → 1 ≤ result }
     {
-        let mut left = budget;
-        while left > 0 && matches!(self.machine.status, Status::Running) {
-            self.machine.step(self.image);
-            left -= 1;
-        }
-        let count = budget - left;
+        let values = self.values.numbers.as_mut_slice();
+        let count = execute(self.image, &mut self.machine, values, budget);
         self.taken = self.taken.saturating_add(u64::from(count));
         count
     }
@@ -128,6 +130,7 @@ impl<'i, 'b> Session<'i, 'b> {
         ensures sound { OnOk result
             (self.new.state ≡ (answered_in (contents_in self.old.image) self.old.state
             (answer_of answer.now)).state) }
+        ensures fits { OnOk result (CodeFits (answer_of answer.now)) }
         ensures refused { option_map answer_fault_of (result_err result)
             ≡ refusal (types_in self.old.image) self.old.state.status (answer_of answer.now) }
         ensures kept { OnErr result (self.new ≡ self.old) }
@@ -135,8 +138,8 @@ impl<'i, 'b> Session<'i, 'b> {
         if let Some(fault) = fault_of_answer(self.image, self.machine.status, answer) {
             return Err(fault);
         }
-        take_answer(&mut self.machine, answer);
-        self.machine.follow(self.image);
+        let code = make_sets(self.values.numbers.as_mut_slice(), answer);
+        go_on(self.image, &mut self.machine, code);
         Ok(())
     }
 
@@ -144,7 +147,7 @@ impl<'i, 'b> Session<'i, 'b> {
     pub fn values(&self) -> &Values
         ensures { result.now.numbers.items ≡ self.now.state.values }
     {
-        &self.machine.values
+        &self.values
     }
 
     /// Where the session is: `Spent` while the method runs.
@@ -166,6 +169,6 @@ impl<'i, 'b> Session<'i, 'b> {
     pub(crate) fn into_values(self) -> Values
         ensures { result.numbers.items ≡ self.entry.state.values }
     {
-        self.machine.values
+        self.values
     }
 }

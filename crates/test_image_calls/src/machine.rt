@@ -127,30 +127,35 @@ fn labels_and_defaults_are_read(rt: HostRuntime) -> Result<(), Fail> {
     Ok(())
 }
 
-fn go_on(machine: &mut Machine, image: &Image<'_>)
-    requires { IsMachine image.now machine.old }
-    ensures { IsMachine image.now machine.new }
+fn go_on(machine: &mut Machine, image: &Image<'_>, values: &mut [i64])
+    requires { IsMachine image.now machine.old values.old }
+    ensures { IsMachine image.now machine.new values.new }
 {
     if machine.status != Status::Running {
         return;
     }
-    machine.step(image);
+    machine.step(image, values);
 }
 
-// The machine on the one method of an image, after at most so many steps.
-fn after(alloc: Global, image: &Image<'_>, numbers: &[i64], steps: u8) -> Result<Machine, Fail> {
-    let values = Values::new(alloc, image, numbers)?;
+// The machine on the one method of an image, and its values, after at most so many steps.
+fn after(
+    alloc: Global,
+    image: &Image<'_>,
+    numbers: &[i64],
+    steps: u8,
+) -> Result<(Machine, Values), Fail> {
+    let mut values = Values::new(alloc, image, numbers)?;
     let Some(unit) = find_body(image, MethNo(0)) else {
         return Err(Fail::from("no body"));
     };
     if image.bytes().is_empty() {
         return Err(Fail::from("no image"));
     }
-    let mut machine = Machine::open(unit, values);
+    let mut machine = Machine::open(unit);
     for _ in 0..steps {
-        go_on(&mut machine, image);
+        go_on(&mut machine, image, values.numbers.as_mut_slice());
     }
-    Ok(machine)
+    Ok((machine, values))
 }
 
 // A place, the value of the variable, the status, and what was emitted last.
@@ -200,8 +205,8 @@ fn of_code(alloc: Global, code: &[u8]) -> Result<Vec<u8>, AllocError> {
 fn after_three(alloc: Global, code: &[u8]) -> Result<After, Fail> {
     let bytes = of_code(alloc, code)?;
     let image = load(alloc, &bytes)?;
-    let machine = after(alloc, &image, &[9], 3)?;
-    let x = machine.values.get(VarNo(0));
+    let (machine, values) = after(alloc, &image, &[9], 3)?;
+    let x = values.get(VarNo(0));
     Ok((machine.place, x, machine.status, machine.emitted))
 }
 

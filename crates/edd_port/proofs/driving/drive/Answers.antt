@@ -37,6 +37,7 @@ returns-in-Err g c =
       shows = e'.shows;
       used = e'.used;
       met = e'.met;
+      valid = e'.valid;
       pairs = e'.pairs;
       refused = e'.refused;
       nothing = e'.nothing;

@@ -13,26 +13,24 @@ perform-outcome-requires-clause-shared c = shared c.args.instruction c.in_defaul
     c.in_default.not-AddAbortMethod
 
 pub perform-outcome-requires-clause-exists : goal.perform-outcome-requires-clause-exists
-perform-outcome-requires-clause-exists c = λ v e. rw c.as_slice-values.ensures.value
-    (variable_there _ _ _ v c.requires.ready e)
+perform-outcome-requires-clause-exists c = λ v e. variable_there _ _ _ v c.requires.ready e
 
 pub perform-outcome-requires-clause-counted : goal.perform-outcome-requires-clause-counted
-perform-outcome-requires-clause-counted c = rw c.as_slice-values.ensures.value
-    (values_counted _ _ c.requires.valid c.requires.ready.is.values)
+perform-outcome-requires-clause-counted c = values_counted _ _ c.requires.valid c.requires.ready.is.values
 
 pub returns-in-Ask-clause-acts : goal.returns-in-Ask-clause-acts
-returns-in-Ask-clause-acts c = effect_same _ _ _ _ (ask_acts _ _ _ _ _ c.in-Ask.is)
-    (c.ask.ensures.acts c.args.image.now)
+returns-in-Ask-clause-acts c = effect_same _ _ _ _ _ (ask_acts _ _ _ _ _ c.in-Ask.is)
+    (c.ask.ensures.acts c.args.image.now c.args.values.now)
 
 pub returns-in_default-clause-acts : goal.returns-in_default-clause-acts
 returns-in_default-clause-acts c =
     let env = environment_of (contents_in c.args.image.now) in
-    let s = state_of c.args.image.now c.args.self.now in
+    let s = state_of c.args.image.now c.args.self.now c.args.values.now in
     let acted : act env c.args.instruction c.args.next s
     ≡ Some (comes_to c.perform-outcome.result c.perform-outcome.new.operands s) =
-    rw c.as_slice-values.ensures.value at (c.perform-outcome.ensures env s refl) in
+    c.perform-outcome.ensures env s refl in
     let taken = comes_over c.perform-outcome.result c.perform-outcome.new.operands s
-    ∙ c.take_on.ensures.value c.args.image.now in
+    ∙ c.take_on.ensures.value c.args.image.now c.args.values.now in
     record {
       effect = comes_to c.perform-outcome.result c.perform-outcome.new.operands s;
       is = acted;

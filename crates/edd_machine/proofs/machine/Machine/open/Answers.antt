@@ -3,5 +3,5 @@ use Rattle.edd_machine.proofs.Stepping.{opened}
 use Rattle.edd_machine.proofs.machine.Machine.open.Goals as goal
 
 pub returns-clause-machine : goal.returns-clause-machine
-returns-clause-machine c = λ b valid is values. opened b c.args.unit _ c.args.values.numbers.items
-    valid is values (rw (c.new.ensures, c.empty_slots.ensures, c.new-2.ensures) refl)
+returns-clause-machine c = λ b values valid is are. opened b c.args.unit _ values valid is are
+    (rw (c.new.ensures, c.empty_slots.ensures, c.new-2.ensures) refl)

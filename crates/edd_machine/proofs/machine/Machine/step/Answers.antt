@@ -14,7 +14,7 @@ decode-requires c =
     c.code_of-code.ensures ∙ ap (λ (b : List ℕ). code_at b c.args.self.now.unit)
     c.bytes.ensures.sound in
     rw same (place_inside c.args.image.now c.args.self.now.unit
-    (state_of c.args.image.now c.args.self.now) c.bytes.ensures.valid c.requires.machine
+    (state_of c.args.image.now c.args.self.now c.args.values.now) c.bytes.ensures.valid c.requires.machine
     c.requires.running)
 
 pub execute-requires-clause-ready : goal.execute-requires-clause-ready
@@ -26,7 +26,7 @@ execute-requires-clause-ready c =
     ≡ Some (c.in-Some.instruction, c.in-Some.next) =
     ap (λ (code : List ℕ). instruction_at code c.args.self.now.place) (sym same)
     ∙ sym c.decode.ensures.value ∙ c.in-Some.is in
-    can_act c.args.image.now c.args.self.now.unit (state_of c.args.image.now c.args.self.now)
+    can_act c.args.image.now c.args.self.now.unit (state_of c.args.image.now c.args.self.now c.args.values.now)
     c.bytes.ensures.valid c.requires.machine c.requires.running (
       c.in-Some.instruction,
       c.in-Some.next,
@@ -42,11 +42,11 @@ unreachable-requires c =
     ap (λ (code : List ℕ). instruction_at code c.args.self.now.place) (sym same)
     ∙ sym c.decode.ensures.value ∙ c.in-None.is in
     instruction_there c.args.image.now c.args.self.now.unit
-    (state_of c.args.image.now c.args.self.now) c.bytes.ensures.valid c.requires.machine
+    (state_of c.args.image.now c.args.self.now c.args.values.now) c.bytes.ensures.valid c.requires.machine
     c.requires.running nothing
 
-pub follow-requires : goal.follow-requires
-follow-requires c =
+pub returns-clause-machine : goal.returns-clause-machine
+returns-clause-machine c =
     let same : c.code_of-code.result.now ≡ code_at c.args.image.now c.args.self.now.unit =
     c.code_of-code.ensures ∙ ap (λ (b : List ℕ). code_at b c.args.self.now.unit)
     c.bytes.ensures.sound in
@@ -54,12 +54,15 @@ follow-requires c =
     ≡ Some (c.in-Some.instruction, c.in-Some.next) =
     ap (λ (code : List ℕ). instruction_at code c.args.self.now.place) (sym same)
     ∙ sym c.decode.ensures.value ∙ c.in-Some.is in
-    again c.args.image.now c.args.self.now c.execute.new.self c.bytes.ensures.valid
-    c.requires.machine c.requires.running c.execute.ensures.unit
-    (acted c.args.image.now c.args.self.now c.execute.new.self (
+    c.follow.ensures.machine c.execute.new.values
+    (again c.args.image.now c.args.self.now c.execute.new.self c.args.values.now
+    c.execute.new.values c.bytes.ensures.valid c.requires.machine c.requires.running
+    c.execute.ensures.unit
+    (acted c.args.image.now c.args.self.now c.execute.new.self c.args.values.now
+    c.execute.new.values (
       c.in-Some.instruction,
       c.in-Some.next,
-    ) c.requires.running at c.execute.ensures.acts)
+    ) c.requires.running at c.execute.ensures.acts))
 
 pub returns-clause-step : goal.returns-clause-step
 returns-clause-step c =
@@ -70,9 +73,11 @@ returns-clause-step c =
     ≡ Some (c.in-Some.instruction, c.in-Some.next) =
     ap (λ (code : List ℕ). instruction_at code c.args.self.now.place) (sym same)
     ∙ sym c.decode.ensures.value ∙ c.in-Some.is in
-    stepped c.args.image.now c.args.self.now c.execute.new.self c.follow.new.self
-    (acted c.args.image.now c.args.self.now c.execute.new.self (
+    stepped c.args.image.now c.args.self.now c.execute.new.self c.follow.new.self c.args.values.now
+    c.execute.new.values
+    (acted c.args.image.now c.args.self.now c.execute.new.self c.args.values.now
+    c.execute.new.values (
       c.in-Some.instruction,
       c.in-Some.next,
-    ) c.requires.running at c.execute.ensures.acts) c.follow.ensures.follows
-    c.follow.ensures.emitted
+    ) c.requires.running at c.execute.ensures.acts)
+    (c.follow.ensures.follows c.execute.new.values) c.follow.ensures.emitted
