@@ -28,14 +28,14 @@ use Rattle.edd_port.specs.declared.playing.Ending.TheVariants as ending
 use Rattle.edd_port.specs.declared.turn.Turn.{Turn}
 use Rattle.edd_port.specs.declared.turn.Turn.TheVariants as turn
 use Rattle.edd_port.specs.Books.{Pair}
-use Rattle.edd_port.specs.Drives.{driven, standing}
+use Rattle.edd_port.specs.Drives.{AreValid, driven, standing}
 use Rattle.edd_port.specs.Plays.{IsPlayFault, ending_shown, played}
 use Rattle.edd_port.specs.Refusals.{CodeFits}
 use Rattle.edd_port.specs.Runs.{Run}
 use Rattle.edd_port.specs.Turns as turns
 use Rattle.edd_port.specs.Turns.{turn_of}
 use Rattle.edd_promise.specs.Plays.{Shown, PlayShows, SameShown, SameSession, BeginsWith, IsRefusedPlay}
-use Rattle.edd_promise.specs.Sessions.{Past, nothing_done, with_run, answers_of, requests_of, Started, Driven, IsSession, IsDriven, at_once, IsOneRun}
+use Rattle.edd_promise.specs.Sessions.{Past, nothing_done, with_run, answers_of, requests_of, Comes, Started, Advanced, Answered, Driven, IsSession, IsDriven, at_once, IsOneRun}
 use Rattle.edd_promise.proofs.OneRun.{comes_of_one}
 use Rattle.edd_promise.proofs.UnitReads.{device_of_image}
 use Rattle.edd_promise.proofs.UnitRuns.{begins, never_bad, no_such_method, not_out, over, plays, plays_on, stays}
@@ -68,6 +68,30 @@ valid_answers : (types : List VariableType) (answers : List Answer)
 valid_answers types [] fine fit = tt
 valid_answers types (a ∷ rest) fine fit =
     (valid_answer types a fine.0 fit.0, valid_answers types rest fine.1 fit.1)
+
+-- ---- the answers of a session have codes of 32 bits
+
+both_fit : (xs ys : List Answer) → AllByRecursion CodeFits xs → AllByRecursion CodeFits ys
+    → AllByRecursion CodeFits (xs ++ ys)
+both_fit [] ys front after = after
+both_fit (x ∷ xs) ys front after = (front.0, both_fit xs ys front.1 after)
+
+pairs_fit : (types : List VariableType) (pairs : List Pair) → AreValid types pairs
+    → AllByRecursion CodeFits (answers_of pairs)
+pairs_fit types [] are = tt
+pairs_fit types (p ∷ rest) are = (are.0.0, pairs_fit types rest are.1)
+
+answers_fit : (first : Run) (past : Past) (now : Run) → Comes first past now
+    → AllByRecursion CodeFits past.answers
+answers_fit first past now Started = tt
+answers_fit first past now (Advanced earlier before after budget comes advances) =
+    both_fit earlier.answers [] (answers_fit first earlier before comes) tt
+answers_fit first past now (Answered earlier before after pair comes takes) =
+    both_fit earlier.answers (pair.answer ∷ []) (answers_fit first earlier before comes)
+    (takes.fits, tt)
+answers_fit first past now (Driven earlier before after steps pairs comes drives) =
+    both_fit earlier.answers (answers_of pairs) (answers_fit first earlier before comes)
+    (pairs_fit (types_in before.image) pairs drives.valid)
 
 module _ (unit : Description Target) (b : List ℕ) (valid : IsValid b)
     (agrees : Agrees unit (contents_in b)) where
@@ -266,7 +290,7 @@ module _ (unit : Description Target) (b : List ℕ) (valid : IsValid b)
     all_valid : Valid past.answers
     all_valid = valid_answers (types_in b) past.answers
         (used_are_taken c past.steps (opening_of c row device) past.answers
-        (sym (ap (λ (x : Outcome). x.answers) same) ∙ is_one.used)) is.fit
+        (sym (ap (λ (x : Outcome). x.answers) same) ∙ is_one.used)) (answers_fit first past now is.comes)
 
     ending_here : o.ending ≡ turns.ending_of (turn_of now.state.status)
     ending_here = sym (ap (λ (x : Outcome). x.ending) same) ∙ is_one.ending
@@ -373,7 +397,6 @@ module _ (unit : Description Target) (b : List ℕ) (valid : IsValid b)
       opens = is.opens;
       accepted = is.accepted;
       comes = Driven nothing_done is.first now steps pairs Started is.drives;
-      fit = is.fit;
     }
 
     requests_are : past.requests ≡ requests_of pairs ++ standing now.state.status

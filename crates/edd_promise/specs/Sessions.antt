@@ -1,6 +1,5 @@
 -- What calls on a session make of it, and the one execution that does the same.
 use Rattle.std.specs.Prelude.{◌≡◌, ℕ, ◌+◌, ℤ, List, [], ◌∷◌, ◌++◌, map}
-use Rattle.std.specs.List.{AllByRecursion}
 use Rattle.edd_syntax.specs.declared.numbers.MethNo.{MethNo}
 use Rattle.edd_syntax.specs.Answers.{Answer}
 use Rattle.edd_syntax.specs.DeviceValues.{AreDeviceValues}
@@ -10,8 +9,7 @@ use Rattle.edd_instructions.specs.AbortMethods.{execute_in}
 use Rattle.edd_instructions.specs.Execution.{Outcome}
 use Rattle.edd_machine.specs.Types.{types_in}
 use Rattle.edd_port.specs.Books.{Pair}
-use Rattle.edd_port.specs.Drives.{AreMet, Takes, driven}
-use Rattle.edd_port.specs.Refusals.{CodeFits}
+use Rattle.edd_port.specs.Drives.{AreMet, AreValid, Takes, driven}
 use Rattle.edd_port.specs.Runs.{OpensIn, Run, advanced}
 use Rattle.edd_port.specs.Turns.{turn_of, ending_of}
 
@@ -51,11 +49,13 @@ pub record Advances (before : Run) (budget : ℕ) (after : Run) : Type 0 where
   pub image : after.image ≡ before.image
   pub state : after.state ≡ (advanced before budget).state
 
--- What `drive` says of a session before and after it, where it accepted the answers of these pairs.
+-- What `drive` says of a session before and after it, where it accepted the answers of these pairs,
+-- which are valid.
 pub record Drives (before : Run) (steps : ℕ) (pairs : List Pair) (after : Run) : Type 0 where
   pub image : after.image ≡ before.image
   pub state : after.state ≡ (driven before steps pairs).state
   pub used : (driven before steps pairs).answers ≡ []
+  pub valid : AreValid (types_in before.image) pairs
 
 -- This is what calls on a session, in any order and however it is cut, make of it.
 pub data Comes (first : Run) : Past → Run → Type 0 where
@@ -74,7 +74,7 @@ pub data Comes (first : Run) : Past → Run → Type 0 where
       → Comes first (with_run past (answers_of pairs) (driven before steps pairs)) after
 
 -- A session on this method of the image, started under these values of a device, that did this and
--- is now here. Its answers have codes of 32 bits, as all have in the code.
+-- is now here.
 pub record IsSession (b : List ℕ) (method : MethNo) (device : List ℤ) (past : Past) (now : Run)
     : Type 0 where
   pub first : Run
@@ -82,7 +82,6 @@ pub record IsSession (b : List ℕ) (method : MethNo) (device : List ℤ) (past 
   pub opens : OpensIn b method device first.state
   pub accepted : AreDeviceValues (types_in b) device
   pub comes : Comes first past now
-  pub fit : AllByRecursion CodeFits past.answers
 
 -- A session on this method of the image that a host drove from its start to here, where the answers
 -- of these pairs were accepted.
@@ -94,7 +93,6 @@ pub record IsDriven (b : List ℕ) (method : MethNo) (device : List ℤ) (steps 
   pub accepted : AreDeviceValues (types_in b) device
   pub drives : Drives first steps pairs now
   pub met : AreMet first.state (driven first steps pairs) (requests_of pairs)
-  pub fit : AllByRecursion CodeFits (answers_of pairs)
 
 -- what results from a session's start within so many instructions under these answers, in one piece
 abbrev pub at_once : Run → (steps : ℕ) → List Answer → Outcome
