@@ -319,6 +319,17 @@ fn help_left_out(alloc: Global, word: &str, found: &mut Diagnostic) -> Result<()
         "float" | "double" => "numbers are whole: take int or long",
         "char" | "short" | "unsigned" => "take int or long",
         "goto" => "take a loop or an if",
+        "IMPORT" => "copy the items that are needed, or have a preprocessor put them in",
+        "UNIT" => "write CONSTANT_UNIT of each variable, with IF where the unit changes",
+        "REFRESH" => "leave the item out: conditions follow the values by themselves",
+        "WRITE_AS_ONE" => "put the variables into one REQUEST",
+        "SCALING_FACTOR" => "take a smaller unit in CONSTANT_UNIT",
+        "ROWBREAK" | "COLUMNBREAK" => "leave it out, or put a text there",
+        "AXIS" | "CHART" | "GRAPH" | "GRID" | "IMAGE" | "SOURCE" | "WAVEFORM" => {
+            "leave the item out, and show its variables in a menu"
+        }
+        "LIST" | "RECORD" | "VARIABLE_LIST" => "take a COLLECTION or an ARRAY OF VARIABLE",
+        "FLOAT" | "DOUBLE" => "numbers are whole: take INTEGER (4) in a smaller unit",
         "RESPONSE_CODES" => "response codes stand in the braces of a COMMAND",
         _ => "leave it out",
     };

@@ -16,6 +16,13 @@ struct HelpLine<'a> {
     column: Option<usize>,
 }
 
+/// The file and the line that a preprocessor has marked.
+#[derive(Drop, Serialize)]
+struct OriginLine<'a> {
+    source: Option<&'a str>,
+    line: usize,
+}
+
 /// What is wrong as an object. `null` stands for what there is none of.
 #[derive(Drop, Serialize)]
 struct Line<'a> {
@@ -24,6 +31,7 @@ struct Line<'a> {
     column: Option<usize>,
     end_line: Option<usize>,
     end_column: Option<usize>,
+    origin: Option<OriginLine<'a>>,
     severity: &'static str,
     number: Option<u16>,
     kind: Option<&'a str>,
@@ -61,6 +69,14 @@ fn corner_at(lines: &Lines<'_>, byte: Option<usize>) -> Corner {
             column: None,
         },
     }
+}
+
+fn origin_at<'a>(lines: &Lines<'a>, byte: Option<usize>) -> Option<OriginLine<'a>> {
+    let origin = lines.place(byte?).origin?;
+    Some(OriginLine {
+        source: origin.file,
+        line: origin.line,
+    })
 }
 
 fn start_of(place: Option<Span>) -> Option<usize> {
@@ -145,6 +161,7 @@ fn line_of<'a>(
         column: start.column,
         end_line: end.line,
         end_column: end.column,
+        origin: origin_at(source.lines, start_of(found.place)),
         severity: words.severity,
         number: words.number,
         kind: words.kind,

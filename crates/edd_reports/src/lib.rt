@@ -6,6 +6,7 @@ pub mod diagnostic;
 mod fault;
 mod json;
 pub mod lines;
+mod marks;
 pub mod nearest;
 pub mod outline;
 mod text;
@@ -14,6 +15,7 @@ pub mod words;
 use diagnostic::Diagnostic;
 pub use fault::ReportFault;
 use lines::Lines;
+pub use marks::Origin;
 use std::alloc::Global;
 use std::io::Write;
 

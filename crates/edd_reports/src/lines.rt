@@ -1,5 +1,6 @@
 //! Lines and columns of a text.
 
+use crate::marks::{Marks, Origin};
 use crate::words::{Span, text_in};
 use std::alloc::{AllocError, Global};
 
@@ -16,6 +17,8 @@ pub struct Place<'a> {
     pub text: &'a str,
     /// How many bytes of the line are before the column.
     pub before: usize,
+    /// From where the line is, as a preprocessor has marked it.
+    pub origin: Option<Origin<'a>>,
 }
 
 /// A text and where its lines begin.
@@ -23,6 +26,7 @@ pub struct Place<'a> {
 pub struct Lines<'a> {
     pub text: &'a [u8],
     starts: Vec<usize>,
+    marks: Marks<'a>,
 }
 
 // A line that is short enough to be shown, without the end of a line of another system.
@@ -43,7 +47,12 @@ impl<'a> Lines<'a> {
                 starts.push(index.saturating_add(1))?;
             }
         }
-        Ok(Lines { text, starts })
+        let marks = Marks::of(alloc, text, &starts)?;
+        Ok(Lines {
+            text,
+            starts,
+            marks,
+        })
     }
 
     // The line that a byte is on, counted from 0.
@@ -73,6 +82,7 @@ impl<'a> Lines<'a> {
             column: before.chars().count().saturating_add(1),
             text: shown(self.text, start, self.end_of(line)),
             before: before.len(),
+            origin: self.marks.origin(line),
         }
     }
 }

@@ -3,7 +3,7 @@
 use crate::diagnostic::{Diagnostic, Finding, Help};
 use crate::lines::{Lines, Place};
 use crate::words::Span;
-use crate::{ReportFault, Source, print};
+use crate::{Origin, ReportFault, Source, print};
 use std::alloc::Global;
 use std::fmt::Write as _;
 use std::io::Write;
@@ -63,7 +63,14 @@ fn print_help<W: Write>(
     line.push_str(help.text.as_str())?;
     if let Some(place) = help.place {
         let at = lines.place(place.start);
-        write!(line, " at {}:{}", at.line, at.column)?;
+        match at.origin {
+            Some(Origin {
+                file: Some(file),
+                line: number,
+            }) => write!(line, " at {file}:{number}:{}", at.column)?,
+            Some(origin) => write!(line, " at {}:{}", origin.line, at.column)?,
+            None => write!(line, " at {}:{}", at.line, at.column)?,
+        }
     }
     print(line, out)
 }
@@ -93,8 +100,11 @@ fn print_at<W: Write>(
     out: &mut W,
 ) -> Result<(), ReportFault> {
     let at = source.lines.place(place.start);
-    let name = source.name;
-    let mut line = format!(in alloc; "{name}:{}:{}", at.line, at.column)?;
+    let (name, number) = match at.origin {
+        Some(origin) => (origin.file.unwrap_or(source.name), origin.line),
+        None => (source.name, at.line),
+    };
+    let mut line = format!(in alloc; "{name}:{number}:{}", at.column)?;
     push_finding(&mut line, &found.finding)?;
     print(line, out)?;
     print_line(alloc, source.lines.text, place, at, out)
