@@ -35,6 +35,25 @@ const GROUPS: [&[Explanation]; 8] = [
     &testing::EXPLANATIONS,
 ];
 
+/// The explanation of a name, or none where no refusal has it.
+pub fn explain_name(name: &str) -> Option<&'static Explanation>
+    ensures sound { IfSome result (λ found. found.now.name.now ≡ name.now) }
+{
+    for group in GROUPS {
+        for one in group {
+            if one.name == name {
+                return Some(one);
+            }
+        }
+    }
+    None
+}
+
+/// The groups of all explanations, by their numbers.
+pub fn all() -> &'static [&'static [Explanation]] {
+    &GROUPS
+}
+
 /// The explanation of a number, or none where nothing is refused with it.
 pub fn explain(number: u32) -> Option<&'static Explanation>
     ensures sound { IfSome result (λ found. found.now.number ≡ number) }

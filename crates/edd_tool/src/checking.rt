@@ -22,9 +22,28 @@ fn lint_of<'a>(name: &'a str) -> Result<Lint, Stop<'a>> {
     }
 }
 
-fn deny_all<'a>(choices: &mut Choices, names: &[&'a str]) -> Result<(), Stop<'a>> {
-    for name in names {
-        let lint = lint_of(*name)?;
+/// It stands for every lint.
+const ALL: &str = "all";
+
+fn allow<'a>(choices: &mut Choices, name: &'a str) -> Result<(), Stop<'a>> {
+    if name != ALL {
+        let lint = lint_of(name)?;
+        choices.allow(lint)?;
+        return Ok(());
+    }
+    for lint in LINTS {
+        choices.allow(lint)?;
+    }
+    Ok(())
+}
+
+fn deny<'a>(choices: &mut Choices, name: &'a str) -> Result<(), Stop<'a>> {
+    if name != ALL {
+        let lint = lint_of(name)?;
+        choices.deny(lint)?;
+        return Ok(());
+    }
+    for lint in LINTS {
         choices.deny(lint)?;
     }
     Ok(())
@@ -34,10 +53,11 @@ fn deny_all<'a>(choices: &mut Choices, names: &[&'a str]) -> Result<(), Stop<'a>
 pub fn choices_of<'a>(alloc: Global, lints: &Lints<'a>) -> Result<Choices, Stop<'a>> {
     let mut choices = Choices::new(alloc);
     for name in &lints.allowed {
-        let lint = lint_of(*name)?;
-        choices.allow(lint)?;
+        allow(&mut choices, *name)?;
     }
-    deny_all(&mut choices, &lints.denied)?;
+    for name in &lints.denied {
+        deny(&mut choices, *name)?;
+    }
     Ok(choices)
 }
 

@@ -7,6 +7,7 @@ ghost use Rattle.std.specs.Prelude.{◌≤◌};
 mod checking;
 mod conversation;
 mod devices;
+mod explaining;
 mod files;
 mod input;
 mod keys;

@@ -2,6 +2,7 @@
 
 ghost use Rattle.std.specs.Prelude.{◌≤◌};
 
+use crate::explaining::print_explanation;
 use crate::checking::{check_text, choices_of, push_lints};
 use crate::devices::play_with_device;
 use crate::files::{FileFault, Files, read_all};
@@ -14,7 +15,6 @@ use edd_command_line::{Form, Lints, NoRequest, Request, Run};
 use edd_compiler::{Fault, compile};
 use edd_display::{ShowFault, print, print_text, show};
 use edd_dump::dump;
-use edd_explanations::explain;
 use edd_loader::{Image, LoadFault, load};
 use edd_machine::{Values, ValuesFault};
 use edd_port::PlayFault;
@@ -41,7 +41,8 @@ pub enum Stop<'a> {
     /// A simulated device had no answer, which is this fault of its own.
     Device(String),
     /// Nothing is refused with this number.
-    NoRefusal(u32),
+    /// No refusal has the number, and neither a refusal nor a lint the name.
+    NoRefusal(&'a str),
     /// No lint has this name.
     NoLint(&'a str),
     /// A refusal that is printed already.
@@ -309,23 +310,6 @@ fn dump_file<'a, F: Files, W: Write>(
     }
 }
 
-fn print_explanation<'a, W: Write>(
-    alloc: Global,
-    number: u32,
-    out: &mut W,
-) -> Result<(), Stop<'a>> {
-    let Some(explanation) = explain(number) else {
-        return Err(Stop::NoRefusal(number));
-    };
-    print(
-        alloc,
-        out,
-        format_args!("{} {}\n", explanation.number, explanation.name),
-    )?;
-    print_text(out, explanation.text)?;
-    Ok(())
-}
-
 /// Does what the words of the command line ask for. All files are read before anything else is
 /// done.
 pub fn answer<'a, F: Files, W: Write>(
@@ -356,7 +340,7 @@ pub fn answer<'a, F: Files, W: Write>(
         Request::Open(opening) => open(alloc, opening, files, out),
         Request::Test { names, is_update } => test_files(alloc, &names, is_update, files, out),
         Request::Dump { image } => dump_file(alloc, image, files, out),
-        Request::Explain { number } => print_explanation(alloc, number, out),
+        Request::Explain { what } => print_explanation(alloc, what, out),
     }
 }
 
@@ -377,11 +361,15 @@ pub fn report<W: Write>(alloc: Global, stop: &Stop<'_>, out: &mut W) -> Result<(
             print(alloc, out, format_args!("refused {fault} of {name}"))
         }
         Stop::Device(fault) => print(alloc, out, format_args!("refused {fault}")),
-        Stop::NoRefusal(number) => {
+        Stop::NoRefusal(what) => {
+            let kind = match what.parse::<u32>() {
+                Ok(_) => "number",
+                Err(_) => "name",
+            };
             print(
                 alloc,
                 out,
-                format_args!("error: nothing is refused with the number {number}"),
+                format_args!("error: nothing is refused with the {kind} {what}"),
             )
         }
         Stop::NoLint(name) => {

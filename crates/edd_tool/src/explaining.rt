@@ -1,0 +1,62 @@
+//! What `edd explain` prints of refusals and lints.
+
+use crate::requests::Stop;
+use edd_check::{LINTS, Lint};
+use edd_display::{print, print_text};
+use edd_explanations::{Explanation, all, explain, explain_name};
+use std::alloc::Global;
+use std::io::Write;
+
+fn print_refusal<'a, W: Write>(
+    alloc: Global,
+    explanation: &Explanation,
+    out: &mut W,
+) -> Result<(), Stop<'a>> {
+    let (number, name) = (explanation.number, explanation.name);
+    print(alloc, out, format_args!("{number} {name}\n"))?;
+    print_text(out, explanation.text)?;
+    Ok(())
+}
+
+fn print_lint<'a, W: Write>(alloc: Global, lint: Lint, out: &mut W) -> Result<(), Stop<'a>> {
+    let (name, meaning) = (lint.name(), lint.meaning());
+    print(alloc, out, format_args!("{name}: {meaning}"))?;
+    Ok(())
+}
+
+// The numbers and names of all refusals, and all lints.
+fn print_all<'a, W: Write>(alloc: Global, out: &mut W) -> Result<(), Stop<'a>> {
+    for group in all() {
+        for one in group.iter() {
+            print(alloc, out, format_args!("{} {}", one.number, one.name))?;
+        }
+    }
+    for lint in LINTS {
+        print_lint(alloc, lint, out)?;
+    }
+    Ok(())
+}
+
+// The refusal with a number or a name.
+fn refusal_of(what: &str) -> Option<&'static Explanation> {
+    match what.parse::<u32>() {
+        Ok(number) => explain(number),
+        Err(_) => explain_name(what),
+    }
+}
+
+/// Prints what a refusal means, or what a lint finds; without one, all there are.
+pub fn print_explanation<'a, W: Write>(
+    alloc: Global,
+    what: Option<&'a str>,
+    out: &mut W,
+) -> Result<(), Stop<'a>> {
+    let Some(what) = what else {
+        return print_all(alloc, out);
+    };
+    match (refusal_of(what), Lint::from_name(what)) {
+        (Some(explanation), _) => print_refusal(alloc, explanation, out),
+        (None, Some(lint)) => print_lint(alloc, lint, out),
+        (None, None) => Err(Stop::NoRefusal(what)),
+    }
+}
