@@ -1,6 +1,7 @@
 //! What is said of a text that is accepted.
 
 use crate::choices::{Choices, Level};
+use crate::remarks::Remarks;
 use crate::reports::Reports;
 use edd_compiler::checked_of;
 use edd_lexer::token::Token;
@@ -87,9 +88,10 @@ fn show_warnings(
     choices: &Choices,
     reports: &mut Reports,
 ) -> Result<(), AllocError> {
+    let remarks = Remarks::of(alloc, text, tokens)?;
     for warning in found {
         let level = choices.level(warning.lint);
-        if level != Level::Allow {
+        if level != Level::Allow && !remarks.allow(warning) {
             show_warning(alloc, text, tokens, warning, level, reports)?;
         }
     }

@@ -10,6 +10,7 @@ mod accepted;
 mod choices;
 mod grammar;
 mod refusals;
+mod remarks;
 mod reports;
 mod rules;
 mod sources;

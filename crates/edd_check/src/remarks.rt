@@ -1,0 +1,105 @@
+//! Comments in a source that allow lints: `edd: allow NAME, NAME`, on the line that a warning points
+//! at or on the line before it.
+
+use edd_lexer::token::Token;
+use edd_warnings::{Lint, Warning};
+use std::alloc::{AllocError, Global};
+
+const ALLOW: &str = "edd: allow ";
+
+/// A lint that a comment allows.
+#[derive(Clone, Copy)]
+struct Remark {
+    /// The line of the comment, counted from 1.
+    line: u32,
+    lint: Lint,
+}
+
+/// The lints that the comments of a source allow.
+#[derive(Drop)]
+pub struct Remarks {
+    remarks: Vec<Remark>,
+}
+
+// Whether a token is at a byte: then it is in no comment.
+fn is_in_token(tokens: &[Token], place: usize) -> bool {
+    let mut low: usize = 0;
+    let mut high = tokens.len();
+    for _ in 0..=usize::BITS {
+        let middle = (high.saturating_sub(low) / 2).saturating_add(low);
+        match tokens.get(middle) {
+            Some(token) if low < high && (token.end as usize) <= place => {
+                low = middle.saturating_add(1);
+            }
+            Some(_) if low < high => high = middle,
+            _ => break,
+        }
+    }
+    match tokens.get(low) {
+        Some(token) => (token.start as usize) <= place,
+        None => false,
+    }
+}
+
+impl Remarks {
+    pub fn of(alloc: Global, text: &[u8], tokens: &[Token]) -> Result<Remarks, AllocError> {
+        let mut remarks = Remarks {
+            remarks: Vec::new(alloc),
+        };
+        let mut start: usize = 0;
+        let mut line: u32 = 1;
+        for bytes in text.split(|byte| *byte == b'\n') {
+            if let Some((before, names)) = str::from_utf8(bytes).unwrap_or("").split_once(ALLOW) {
+                if !is_in_token(tokens, start.saturating_add(before.len())) {
+                    remarks.add(line, names)?;
+                }
+            }
+            start = start.saturating_add(bytes.len()).saturating_add(1);
+            line = line.saturating_add(1);
+        }
+        Ok(remarks)
+    }
+
+    // Adds the lints whose names come first, up to a word that is the name of none.
+    fn add(&mut self, line: u32, names: &str) -> Result<(), AllocError> {
+        for name in names.split(',') {
+            let name = name.trim();
+            let word = name.split_once(' ').map(|parts| parts.0).unwrap_or(name);
+            let Some(lint) = Lint::from_name(word) else {
+                break;
+            };
+            self.remarks.push(Remark { line, lint })?;
+        }
+        Ok(())
+    }
+
+    // The number of the first remark on a line or after it.
+    fn first_from(&self, line: u32) -> usize {
+        let mut low: usize = 0;
+        let mut high = self.remarks.len();
+        for _ in 0..=usize::BITS {
+            let middle = (high.saturating_sub(low) / 2).saturating_add(low);
+            match self.remarks.get(middle) {
+                Some(remark) if low < high && remark.line < line => {
+                    low = middle.saturating_add(1);
+                }
+                Some(_) if low < high => high = middle,
+                _ => break,
+            }
+        }
+        low
+    }
+
+    /// Whether a comment on the line of the warning, or on the one before it, allows its lint.
+    pub fn allow(&self, warning: &Warning) -> bool {
+        let first = self.first_from(warning.line.saturating_sub(1));
+        let behind = self.first_from(warning.line.saturating_add(1));
+        for number in first..behind {
+            match self.remarks.get(number) {
+                Some(remark) if remark.lint == warning.lint => return true,
+                _ => {}
+            }
+        }
+        false
+    }
+}
