@@ -14,7 +14,7 @@ mod turn;
 pub use driving::drive;
 pub use fault::{AnswerFault, PlayFault, StartFault};
 pub use host::{Host, Reply};
-pub use laws::sessions_may_be_cut;
+pub use laws::{sessions_may_be_cut, sets_may_be_made_first};
 pub use playing::{Ending, Transcript, play};
 pub use session::Session;
 pub use steps::{execute, go_on};
