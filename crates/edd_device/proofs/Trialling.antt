@@ -21,7 +21,7 @@ use Rattle.edd_port.specs.declared.turn.Turn.TheVariants as turns
 use Rattle.edd_port.specs.Books.{Pair}
 use Rattle.edd_port.specs.Drives.{Executes, Takes, standing}
 use Rattle.edd_port.specs.Faults.{play_refusal}
-use Rattle.edd_port.specs.Refusals.{Refusal, BadSet, refusal}
+use Rattle.edd_port.specs.Refusals.{Refusal, BadSet, CodeFits, refusal}
 use Rattle.edd_port.specs.Runs.{Run, environment}
 use Rattle.edd_port.specs.Turns.{ending_of}
 use Rattle.edd_port.proofs.Accepted.{taken as accepted}
@@ -83,22 +83,22 @@ same_run p q r = cc
 -- a session after its answer
 pub takes : (before after : Run) (q : Request) (a : Answer)
     → before.state.status ≡ status.Asking q
-    → answer_fault (environment before.image).types a ≡ None → after.image ≡ before.image
-    → after.taken ≡ before.taken
+    → answer_fault (environment before.image).types a ≡ None → CodeFits a
+    → after.image ≡ before.image → after.taken ≡ before.taken
     → after.state ≡ (answered_in (contents_in before.image) before.state a).state
     → Takes before (record { request = q; answer = a }) after
-takes before after q a asks valid image taken state =
-    record { asks = asks; valid = valid; is = same_run image state taken }
+takes before after q a asks valid fits image taken state =
+    record { asks = asks; valid = valid; fits = fits; is = same_run image state taken }
 
 -- of an answer that was not refused
 pub takes_unrefused : (before after : Run) (q : Request) (a : Answer)
     → before.state.status ≡ status.Asking q
-    → None ≡ refusal (environment before.image).types before.state.status a
+    → None ≡ refusal (environment before.image).types before.state.status a → CodeFits a
     → after.image ≡ before.image → after.taken ≡ before.taken
     → after.state ≡ (answered_in (contents_in before.image) before.state a).state
     → Takes before (record { request = q; answer = a }) after
-takes_unrefused before after q a asks free image taken state = takes before after q a asks
-    (accepted (environment before.image).types before.state.status a (sym free)).2 image taken
+takes_unrefused before after q a asks free fits image taken state = takes before after q a asks
+    (accepted (environment before.image).types before.state.status a (sym free)).2 fits image taken
     state
 
 -- ---- instructions

@@ -17,7 +17,7 @@ mod turn;
 pub use driving::drive;
 pub use fault::{AnswerFault, PlayFault, StartFault};
 pub use host::{Host, Reply};
-pub use laws::{methods_may_be_suspended, sessions_may_be_cut};
+pub use laws::{methods_may_be_suspended, sessions_may_be_cut, sets_may_be_made_first};
 pub use playing::{Ending, Transcript, play};
 pub use runs::is_run;
 pub use session::Session;

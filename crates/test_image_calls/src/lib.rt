@@ -17,3 +17,5 @@ mod loader;
 mod machine;
 #[cfg(test)]
 mod sessions;
+#[cfg(test)]
+mod suspensions;

@@ -15,6 +15,6 @@ returns-in-Ok-clause-taken c = λ e.
           ∙ ap (λ (a : Answer). answer_of a ∷ drop (c.args.self.now.next + 1)
           (map answer_of c.args.self.now.script.now)) c.index-self-self.is,
       takes_unrefused c.args.session.now c.answer.new.self c.args.request (answer_of next)
-          c.requires c.in-Ok.ensures.refused c.in-Ok.ensures.image c.in-Ok.ensures.taken
-          c.in-Ok.ensures.sound,
+          c.requires c.in-Ok.ensures.refused c.in-Ok.ensures.fits c.in-Ok.ensures.image
+          c.in-Ok.ensures.taken c.in-Ok.ensures.sound,
     )
