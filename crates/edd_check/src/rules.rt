@@ -145,7 +145,13 @@ fn foreign_help(word: &str) -> Option<&'static str> {
         "METHODID" | "VARID" | "ITEM_ID" | "MEMBER_ID" => {
             Some("an item is named by itself, without a function round it")
         }
-        "fgetval" | "igetval" | "lgetval" | "vassign" | "fassign" | "fvar_value" | "dassign"
+        "fgetval"
+        | "igetval"
+        | "lgetval"
+        | "vassign"
+        | "fassign"
+        | "fvar_value"
+        | "dassign"
         | "float_value" => {
             Some("a variable is read by its name and set by =, or by ivar_value and iassign")
         }
@@ -175,7 +181,10 @@ fn help_unknown(
         return found.help(String::from_str(alloc, text)?);
     }
     if let Some(function) = function_of(name) {
-        let text = format!(in alloc; "{} is a function: its arguments stand in ( )", function.name())?;
+        let text = format!(in alloc;
+            "{} is a function: its arguments stand in ( )",
+            function.name()
+        )?;
         return found.help(text);
     }
     let text = match source.nearest(alloc, name)? {

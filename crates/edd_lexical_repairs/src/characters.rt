@@ -49,16 +49,52 @@ const LOOKALIKES: [Lookalike; 62] = [
     of('\u{2013}', "EN DASH", "-"),
     of('\u{2014}', "EM DASH", "-"),
     of('\u{2212}', "MINUS SIGN", "-"),
-    of('\u{2018}', "LEFT SINGLE QUOTATION MARK", "a quote: a text stands between two \""),
-    of('\u{2019}', "RIGHT SINGLE QUOTATION MARK", "a quote: a text stands between two \""),
-    of('\u{201a}', "SINGLE LOW-9 QUOTATION MARK", "a quote: a text stands between two \""),
-    of('\u{201c}', "LEFT DOUBLE QUOTATION MARK", "a quote: a text stands between two \""),
-    of('\u{201d}', "RIGHT DOUBLE QUOTATION MARK", "a quote: a text stands between two \""),
-    of('\u{201e}', "DOUBLE LOW-9 QUOTATION MARK", "a quote: a text stands between two \""),
-    of('\u{ab}', "LEFT-POINTING DOUBLE ANGLE QUOTATION MARK", "a quote: a text stands between two \""),
-    of('\u{bb}', "RIGHT-POINTING DOUBLE ANGLE QUOTATION MARK", "a quote: a text stands between two \""),
+    of(
+        '\u{2018}',
+        "LEFT SINGLE QUOTATION MARK",
+        "a quote: a text stands between two \"",
+    ),
+    of(
+        '\u{2019}',
+        "RIGHT SINGLE QUOTATION MARK",
+        "a quote: a text stands between two \"",
+    ),
+    of(
+        '\u{201a}',
+        "SINGLE LOW-9 QUOTATION MARK",
+        "a quote: a text stands between two \"",
+    ),
+    of(
+        '\u{201c}',
+        "LEFT DOUBLE QUOTATION MARK",
+        "a quote: a text stands between two \"",
+    ),
+    of(
+        '\u{201d}',
+        "RIGHT DOUBLE QUOTATION MARK",
+        "a quote: a text stands between two \"",
+    ),
+    of(
+        '\u{201e}',
+        "DOUBLE LOW-9 QUOTATION MARK",
+        "a quote: a text stands between two \"",
+    ),
+    of(
+        '\u{ab}',
+        "LEFT-POINTING DOUBLE ANGLE QUOTATION MARK",
+        "a quote: a text stands between two \"",
+    ),
+    of(
+        '\u{bb}',
+        "RIGHT-POINTING DOUBLE ANGLE QUOTATION MARK",
+        "a quote: a text stands between two \"",
+    ),
     of('\u{2032}', "PRIME", "a quote: a text stands between two \""),
-    of('\u{2033}', "DOUBLE PRIME", "a quote: a text stands between two \""),
+    of(
+        '\u{2033}',
+        "DOUBLE PRIME",
+        "a quote: a text stands between two \"",
+    ),
     of('\u{d7}', "MULTIPLICATION SIGN", "*"),
     of('\u{22c5}', "DOT OPERATOR", "*"),
     of('\u{f7}', "DIVISION SIGN", "/"),
@@ -128,7 +164,9 @@ pub fn help_of_character(alloc: Global, character: char) -> Result<String, Alloc
         return format!(in alloc; "U+{code:04X} is {sign} of twice the width");
     }
     match alphabet(character) {
-        Some(of) => format!(in alloc; "U+{code:04X} is {of}: words have ASCII letters, digits and _"),
+        Some(of) => format!(in alloc;
+            "U+{code:04X} is {of}: words have ASCII letters, digits and _"
+        ),
         None => format!(in alloc; "U+{code:04X} stands in strings and comments alone"),
     }
 }

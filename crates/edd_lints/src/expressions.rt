@@ -236,7 +236,9 @@ fn check_index(
     match evaluate(index, walk.width) {
         Known::Number(number) if !walk.instrument.has_element(array.0, number) => {
             let alloc = findings.alloc;
-            let message = format!(in alloc; "this always traps: the array has no element {number}")?;
+            let message = format!(in alloc;
+                "this always traps: the array has no element {number}"
+            )?;
             findings.add(Lint::MissingElement, at, message)
         }
         _ => Ok(()),
@@ -254,7 +256,10 @@ fn check_stored(
     let Target::Item(ItemNo::Variable(variable)) = to else {
         return Ok(());
     };
-    match (walk.instrument.range(variable.0), evaluate(value, walk.width)) {
+    match (
+        walk.instrument.range(variable.0),
+        evaluate(value, walk.width),
+    ) {
         (Some(range), Known::Number(number)) if !range.holds(number) => {
             let Range { low, high } = range;
             let alloc = findings.alloc;
@@ -323,8 +328,7 @@ pub fn check_expression(
             }
             check_expression(second, false, walk, findings)
         }
-        Expr::LogicalAnd(first, second)
-        | Expr::LogicalOr(first, second) => {
+        Expr::LogicalAnd(first, second) | Expr::LogicalOr(first, second) => {
             check_expression(first, false, walk, findings)?;
             check_expression(second, false, walk, findings)
         }

@@ -104,10 +104,12 @@ impl Lint {
             Lint::RepeatedCommandNumber => "two commands with one NUMBER",
             Lint::RepeatedResponseCode => "two response codes of a command with one number",
             Lint::RepeatedTransactionNumber => "two transactions of a command with one number",
-            Lint::TrappingExpression => "a division by 0, or a shift by too many bits: it always traps",
+            Lint::TrappingExpression =>
+                "a division by 0, or a shift by too many bits: it always traps",
             Lint::ConstantCondition => "a condition that never changes",
             Lint::RepeatedCase => "a CASE with the label of an earlier one: it is never taken",
-            Lint::MisreadOperators => "operators that bind otherwise than they look: parentheses say what is meant",
+            Lint::MisreadOperators =>
+                "operators that bind otherwise than they look: parentheses say what is meant",
             Lint::MissingElement => "an index that is the number of no element: it always traps",
             Lint::CyclicMenu => "a menu that contains itself",
             Lint::UnknownClass => "a word of CLASS that is none of EDDL's",
@@ -115,10 +117,12 @@ impl Lint {
             Lint::MissingLanguage => "a text that lacks a language which most others have",
             Lint::UnusedItem => "a variable, a collection or an array that nothing refers to",
             Lint::DroppedComparison => "a statement that is a comparison: = is meant",
-            Lint::AssignedCondition => "an assignment as a condition: == is meant, or a second pair of parentheses",
+            Lint::AssignedCondition =>
+                "an assignment as a condition: == is meant, or a second pair of parentheses",
             Lint::AssignedToItself => "a variable or a local that is set to itself",
             Lint::EmptyBranch => "a ; right after the condition of an if",
-            Lint::StoreOutOfRange => "a constant that is assigned to a variable which can't hold it",
+            Lint::StoreOutOfRange =>
+                "a constant that is assigned to a variable which can't hold it",
             Lint::MissingTransaction => "a transaction that the command does not have",
             Lint::UnreachableStatement => "a statement that is never reached",
             Lint::EndlessLoop => "a loop that nothing ends",

@@ -16,8 +16,8 @@ mod trials;
 
 pub use edd_lexical_repairs::Found;
 pub use grammar::{Grammar, TextFault, tokens_of};
-pub use left_out::help_of_left_out;
 pub use later::{LaterFault, explained, later_faults};
+pub use left_out::help_of_left_out;
 use std::alloc::{AllocError, Global};
 
 /// What is said of a fault of a text, which is printed as `refusal`.

@@ -61,17 +61,41 @@ fn help_of_type(word: &str) -> Option<&'static str> {
             Some("a local has a type and a name alone, as in int k = 1;")
         }
         "static" => Some("a local begins anew in each run: what is kept is a VARIABLE"),
-        "int8_t" | "int16_t" | "int32_t" | "int64_t" | "uint8_t" | "uint16_t" | "uint32_t"
-        | "uint64_t" | "size_t" | "bool" | "BOOL" | "boolean" | "byte" | "BYTE" | "word"
-        | "WORD" | "DWORD" | "integer" | "INTEGER" | "UNSIGNED_INTEGER" | "var" | "string"
-        | "String" | "DD_STRING" | "void" => Some("a local is of the type int or long"),
+        "int8_t"
+        | "int16_t"
+        | "int32_t"
+        | "int64_t"
+        | "uint8_t"
+        | "uint16_t"
+        | "uint32_t"
+        | "uint64_t"
+        | "size_t"
+        | "bool"
+        | "BOOL"
+        | "boolean"
+        | "byte"
+        | "BYTE"
+        | "word"
+        | "WORD"
+        | "DWORD"
+        | "integer"
+        | "INTEGER"
+        | "UNSIGNED_INTEGER"
+        | "var"
+        | "string"
+        | "String"
+        | "DD_STRING"
+        | "void" => Some("a local is of the type int or long"),
         _ => None,
     }
 }
 
 /// Words with which a branch goes on in other languages.
 fn is_else_if(word: &str) -> bool {
-    matches!(word, "elseif" | "elsif" | "elif" | "ELSEIF" | "ELSIF" | "ELIF")
+    matches!(
+        word,
+        "elseif" | "elsif" | "elif" | "ELSEIF" | "ELSIF" | "ELIF"
+    )
 }
 
 impl<'a> Around<'a> {
@@ -105,9 +129,7 @@ impl<'a> Around<'a> {
             };
             let ends = matches!(
                 self.at.tokens.get(before).map(|token| token.kind),
-                Some(TokenKind::Symbol(
-                    Symbol::Semicolon | Symbol::OpenBrace | Symbol::CloseBrace
-                ))
+                Some(TokenKind::Symbol(Symbol::Semicolon | Symbol::OpenBrace | Symbol::CloseBrace))
             );
             if ends {
                 break;
@@ -143,9 +165,15 @@ impl<'a> Around<'a> {
             return None;
         }
         let word = self.word(first);
-        let is_call = is_symbol(self.at.tokens.get(number.saturating_add(1))?, Symbol::OpenParenthesis);
+        let is_call = is_symbol(
+            self.at.tokens.get(number.saturating_add(1))?,
+            Symbol::OpenParenthesis,
+        );
         if is_else_if(word) && is_call {
-            return on(first, "another condition is written else if (..), in attributes ELSE IF (..)");
+            return on(
+                first,
+                "another condition is written else if (..), in attributes ELSE IF (..)",
+            );
         }
         if number.saturating_add(1) == self.at.number {
             return on(first, help_of_type(word)?);
@@ -156,17 +184,20 @@ impl<'a> Around<'a> {
     // A second name without a comma before it.
     fn names(&self) -> Option<Slip> {
         let first = self.at.tokens.get(self.statement())?;
-        let declares = matches!(
-            first.kind,
-            TokenKind::Keyword(Keyword::Int | Keyword::Long)
-        );
+        let declares = matches!(first.kind, TokenKind::Keyword(Keyword::Int | Keyword::Long));
         if declares && self.before.kind == TokenKind::Name && self.token.kind == TokenKind::Name {
             return on(self.token, "a comma stands between two locals: int a, b;");
         }
         if declares && is_symbol(self.token, Symbol::OpenBracket) {
-            return on(self.token, "a local is one number: arrays have variables alone");
+            return on(
+                self.token,
+                "a local is one number: arrays have variables alone",
+            );
         }
-        let is_type = matches!(self.token.kind, TokenKind::Keyword(Keyword::Int | Keyword::Long));
+        let is_type = matches!(
+            self.token.kind,
+            TokenKind::Keyword(Keyword::Int | Keyword::Long)
+        );
         if is_type && self.before.kind == TokenKind::Keyword(Keyword::Method) {
             return on(self.token, "a METHOD has a name alone, and no type");
         }
@@ -189,7 +220,10 @@ impl<'a> Around<'a> {
         let sign = self.word(self.token);
         match (self.before.kind, sign) {
             (TokenKind::String, "+" | "&" | ".") => {
-                on(self.token, "texts that stand side by side are one text, without a sign between them")
+                on(
+                    self.token,
+                    "texts that stand side by side are one text, without a sign between them",
+                )
             }
             (TokenKind::Integer(_), ",") => {
                 let next = self.ahead()?;
@@ -208,15 +242,20 @@ impl<'a> Around<'a> {
                             | Symbol::Increment
                             | Symbol::Decrement
                     )
-                ) =>
-            {
-                on(self.token, "an element of an array is read alone: set the variable that it is")
+                ) => {
+                on(
+                    self.token,
+                    "an element of an array is read alone: set the variable that it is",
+                )
             }
             (TokenKind::Keyword(_), _) => None,
             (_, "=") if !self.is_in_method() => on(self.token, "equal is written =="),
             (TokenKind::Name, _) => None,
             (_, "=") => {
-                on(self.token, "before = stands a variable or a local alone; == compares")
+                on(
+                    self.token,
+                    "before = stands a variable or a local alone; == compares",
+                )
             }
             _ => None,
         }
@@ -247,7 +286,10 @@ impl<'a> Around<'a> {
         let is_label = matches!(self.back(2)?.kind, TokenKind::Keyword(Keyword::MethodCase));
         let is_sign = matches!(self.token.kind, TokenKind::Symbol(Symbol::Operator(_)));
         if is_label && is_sign {
-            return on(self.token, "a label of case is one integer, with or without a sign");
+            return on(
+                self.token,
+                "a label of case is one integer, with or without a sign",
+            );
         }
         None
     }
@@ -261,18 +303,26 @@ impl<'a> Around<'a> {
         );
         match self.token.kind {
             TokenKind::Integer(_) if is_type => {
-                on(self.token, "a size stands in parentheses, as in INTEGER (2)")
+                on(
+                    self.token,
+                    "a size stands in parentheses, as in INTEGER (2)",
+                )
             }
             TokenKind::String if self.before.kind == TokenKind::Name && self.is_in_method() => {
-                on(self.token, "what a function takes stands in parentheses, as in PUT_MESSAGE(..)")
+                on(
+                    self.token,
+                    "what a function takes stands in parentheses, as in PUT_MESSAGE(..)",
+                )
             }
             TokenKind::Symbol(Symbol::OpenParenthesis)
                 if self.before.kind == TokenKind::Name
                     && !self.is_in_method()
                     && !is_type
-                    && item_kind(self.back(2)?).is_none() =>
-            {
-                on(self.before, "functions are called in methods alone; an attribute reads a variable by its name")
+                    && item_kind(self.back(2)?).is_none() => {
+                on(
+                    self.before,
+                    "functions are called in methods alone; an attribute reads a variable by its name",
+                )
             }
             _ => None,
         }
@@ -304,14 +354,12 @@ impl<'a> Around<'a> {
                 on(self.token, "a quote inside of a text is written \\\"")
             }
             TokenKind::Name
-                if is_symbol(self.token, Symbol::Operator(Operator::Subtract)) && is_joined =>
-            {
+                if is_symbol(self.token, Symbol::Operator(Operator::Subtract)) && is_joined => {
                 on(self.token, "a name has letters, digits and _ alone")
             }
             TokenKind::Keyword(Keyword::Return)
                 if self.before.line == self.token.line
-                    && !is_symbol(self.token, Symbol::CloseBrace) =>
-            {
+                    && !is_symbol(self.token, Symbol::CloseBrace) => {
                 on(self.token, "a method gives no value: return stands alone")
             }
             _ => None,
@@ -330,8 +378,14 @@ impl<'a> Around<'a> {
         }
         let first = self.at.tokens.get(self.at.line.first)?;
         let line = self.at.text.get(first.start as usize..).unwrap_or(b"");
-        if line.starts_with(b"<<<<<<<") || line.starts_with(b"=======") || line.starts_with(b">>>>>>>") {
-            return on(first, "this is a mark of a merge, of which one side is to be taken");
+        if line.starts_with(b"<<<<<<<")
+            || line.starts_with(b"=======")
+            || line.starts_with(b">>>>>>>")
+        {
+            return on(
+                first,
+                "this is a mark of a merge, of which one side is to be taken",
+            );
         }
         if line.starts_with(b"--") && !self.is_in_method() {
             return on(first, "a comment is written // .. or /* .. */");
@@ -392,7 +446,10 @@ fn end_of_method(at: Misfit<'_>, outline: &Outline) -> Option<Slip> {
             last = Some(item.kind);
         }
     }
-    if !is_statement || !is_symbol(brace, Symbol::CloseBrace) || !matches!(last, Some(Kind::Method)) {
+    if !is_statement
+        || !is_symbol(brace, Symbol::CloseBrace)
+        || !matches!(last, Some(Kind::Method))
+    {
         return None;
     }
     on(
@@ -406,7 +463,10 @@ pub fn early_end(at: Misfit<'_>, outline: &Outline) -> Option<Slip> {
     let Some(open) = outline.opened(at.tokens, at.number) else {
         return end_of_method(at, outline);
     };
-    if !matches!(outline.kind_around(at.tokens, at.number), Some(Kind::Method)) {
+    if !matches!(
+        outline.kind_around(at.tokens, at.number),
+        Some(Kind::Method)
+    ) {
         return None;
     }
     for number in open..at.number {

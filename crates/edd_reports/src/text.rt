@@ -64,10 +64,12 @@ fn print_help<W: Write>(
     if let Some(place) = help.place {
         let at = lines.place(place.start);
         match at.origin {
-            Some(Origin {
-                file: Some(file),
-                line: number,
-            }) => write!(line, " at {file}:{number}:{}", at.column)?,
+            Some(
+                Origin {
+                    file: Some(file),
+                    line: number,
+                },
+            ) => write!(line, " at {file}:{number}:{}", at.column)?,
             Some(origin) => write!(line, " at {}:{}", origin.line, at.column)?,
             None => write!(line, " at {}:{}", at.line, at.column)?,
         }

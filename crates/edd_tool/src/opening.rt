@@ -7,7 +7,7 @@ use crate::input::Lines;
 use crate::keys::{Terminal, converse_by_keys};
 use crate::requests::{Stop, of_file, read, read_device, read_script};
 use crate::script::parse_sets;
-use edd_command_line::{RawTerminal, Opening};
+use edd_command_line::{Opening, RawTerminal};
 use edd_compiler::compile;
 use edd_device::Device;
 use edd_loader::{Image, load};

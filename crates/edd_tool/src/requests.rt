@@ -2,9 +2,9 @@
 
 ghost use Rattle.std.specs.Prelude.{◌≤◌};
 
-use crate::explaining::print_explanation;
 use crate::checking::{check_text, choices_of, push_lints};
 use crate::devices::play_with_device;
+use crate::explaining::print_explanation;
 use crate::files::{FileFault, Files, read_all};
 use crate::opening::open;
 use crate::playing::play_bytes;

@@ -3,8 +3,8 @@
 use crate::repeats::Numbers;
 use crate::variables::check_range;
 use edd_lexer::token::TokenKind;
-use edd_lints::range::Range;
 use edd_lints::lint::Lint;
+use edd_lints::range::Range;
 use edd_lints::tokens_left::TokensLeft;
 use edd_lints::warning::Findings;
 use edd_syntax::cond::{Arm, Cond};

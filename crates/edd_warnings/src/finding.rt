@@ -38,7 +38,13 @@ fn check_item<'a>(
         Item::Command(command) => {
             check_command(&command.attributes, tokens_left, commands, findings)?;
         }
-        Item::Method(method) => check_method(&method.attributes, text, tokens, instrument, findings)?,
+        Item::Method(method) => check_method(
+            &method.attributes,
+            text,
+            tokens,
+            instrument,
+            findings,
+        )?,
         Item::Menu(_) | Item::Collection(_) | Item::Array(_) => {}
     }
     Ok(())
