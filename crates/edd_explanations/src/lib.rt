@@ -49,11 +49,6 @@ pub fn explain_name(name: &str) -> Option<&'static Explanation>
     None
 }
 
-/// The groups of all explanations, by their numbers.
-pub fn all() -> &'static [&'static [Explanation]] {
-    &GROUPS
-}
-
 /// The explanation of a number, or none where nothing is refused with it.
 pub fn explain(number: u32) -> Option<&'static Explanation>
     ensures sound { IfSome result (λ found. found.now.number ≡ number) }

@@ -3,9 +3,12 @@
 use crate::requests::Stop;
 use edd_check::{LINTS, Lint};
 use edd_display::{print, print_text};
-use edd_explanations::{Explanation, all, explain, explain_name};
+use edd_explanations::{Explanation, explain, explain_name};
 use std::alloc::Global;
 use std::io::Write;
+
+/// No refusal has a greater number.
+const LAST: u32 = 399;
 
 fn print_refusal<'a, W: Write>(
     alloc: Global,
@@ -26,9 +29,9 @@ fn print_lint<'a, W: Write>(alloc: Global, lint: Lint, out: &mut W) -> Result<()
 
 // The numbers and names of all refusals, and all lints.
 fn print_all<'a, W: Write>(alloc: Global, out: &mut W) -> Result<(), Stop<'a>> {
-    for group in all() {
-        for one in group.iter() {
-            print(alloc, out, format_args!("{} {}", one.number, one.name))?;
+    for number in 1..=LAST {
+        if let Some(one) = explain(number) {
+            print(alloc, out, format_args!("{number} {}", one.name))?;
         }
     }
     for lint in LINTS {
