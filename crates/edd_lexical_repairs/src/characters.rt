@@ -5,120 +5,95 @@ use std::alloc::{AllocError, Global};
 /// A character that is not what it looks like.
 #[derive(Clone, Copy)]
 struct Lookalike {
-    character: char,
     name: &'static str,
-    /// What it looks like; nothing where it is not seen.
+    /// What it looks like.
     like: &'static str,
 }
 
-const fn of(character: char, name: &'static str, like: &'static str) -> Lookalike {
-    Lookalike {
-        character,
-        name,
-        like,
+const QUOTE: &str = "a quote: a text stands between two \"";
+
+/// Of what is not seen.
+const UNSEEN: &str = "";
+
+fn named(name: &'static str, like: &'static str) -> Option<Lookalike> {
+    Some(Lookalike { name, like })
+}
+
+// Signs and spaces that are not those of the language.
+fn sign(character: char) -> Option<Lookalike> {
+    match character {
+        '\u{a0}' => named("NO-BREAK SPACE", "a space"),
+        '\u{2002}' => named("EN SPACE", "a space"),
+        '\u{2003}' => named("EM SPACE", "a space"),
+        '\u{2009}' => named("THIN SPACE", "a space"),
+        '\u{202f}' => named("NARROW NO-BREAK SPACE", "a space"),
+        '\u{3000}' => named("IDEOGRAPHIC SPACE", "a space"),
+        '\u{200b}' => named("ZERO WIDTH SPACE", UNSEEN),
+        '\u{200c}' => named("ZERO WIDTH NON-JOINER", UNSEEN),
+        '\u{200d}' => named("ZERO WIDTH JOINER", UNSEEN),
+        '\u{2060}' => named("WORD JOINER", UNSEEN),
+        '\u{feff}' => named("ZERO WIDTH NO-BREAK SPACE", UNSEEN),
+        '\u{ad}' => named("SOFT HYPHEN", UNSEEN),
+        '\u{200e}' => named("LEFT-TO-RIGHT MARK", UNSEEN),
+        '\u{200f}' => named("RIGHT-TO-LEFT MARK", UNSEEN),
+        '\u{202a}' => named("LEFT-TO-RIGHT EMBEDDING", UNSEEN),
+        '\u{202b}' => named("RIGHT-TO-LEFT EMBEDDING", UNSEEN),
+        '\u{202c}' => named("POP DIRECTIONAL FORMATTING", UNSEEN),
+        '\u{202d}' => named("LEFT-TO-RIGHT OVERRIDE", UNSEEN),
+        '\u{202e}' => named("RIGHT-TO-LEFT OVERRIDE", UNSEEN),
+        '\u{2066}' => named("LEFT-TO-RIGHT ISOLATE", UNSEEN),
+        '\u{2067}' => named("RIGHT-TO-LEFT ISOLATE", UNSEEN),
+        '\u{2068}' => named("FIRST STRONG ISOLATE", UNSEEN),
+        '\u{2069}' => named("POP DIRECTIONAL ISOLATE", UNSEEN),
+        '\u{37e}' => named("GREEK QUESTION MARK", ";"),
+        '\u{2010}' => named("HYPHEN", "-"),
+        '\u{2011}' => named("NON-BREAKING HYPHEN", "-"),
+        '\u{2013}' => named("EN DASH", "-"),
+        '\u{2014}' => named("EM DASH", "-"),
+        '\u{2212}' => named("MINUS SIGN", "-"),
+        '\u{2018}' => named("LEFT SINGLE QUOTATION MARK", QUOTE),
+        '\u{2019}' => named("RIGHT SINGLE QUOTATION MARK", QUOTE),
+        '\u{201a}' => named("SINGLE LOW-9 QUOTATION MARK", QUOTE),
+        '\u{201c}' => named("LEFT DOUBLE QUOTATION MARK", QUOTE),
+        '\u{201d}' => named("RIGHT DOUBLE QUOTATION MARK", QUOTE),
+        '\u{201e}' => named("DOUBLE LOW-9 QUOTATION MARK", QUOTE),
+        '\u{ab}' => named("LEFT-POINTING DOUBLE ANGLE QUOTATION MARK", QUOTE),
+        '\u{bb}' => named("RIGHT-POINTING DOUBLE ANGLE QUOTATION MARK", QUOTE),
+        '\u{2032}' => named("PRIME", QUOTE),
+        '\u{2033}' => named("DOUBLE PRIME", QUOTE),
+        '\u{d7}' => named("MULTIPLICATION SIGN", "*"),
+        '\u{22c5}' => named("DOT OPERATOR", "*"),
+        '\u{f7}' => named("DIVISION SIGN", "/"),
+        '\u{2260}' => named("NOT EQUAL TO", "!="),
+        '\u{2264}' => named("LESS-THAN OR EQUAL TO", "<="),
+        '\u{2265}' => named("GREATER-THAN OR EQUAL TO", ">="),
+        _ => None,
     }
 }
 
-const LOOKALIKES: [Lookalike; 62] = [
-    of('\u{a0}', "NO-BREAK SPACE", "a space"),
-    of('\u{2002}', "EN SPACE", "a space"),
-    of('\u{2003}', "EM SPACE", "a space"),
-    of('\u{2009}', "THIN SPACE", "a space"),
-    of('\u{202f}', "NARROW NO-BREAK SPACE", "a space"),
-    of('\u{3000}', "IDEOGRAPHIC SPACE", "a space"),
-    of('\u{200b}', "ZERO WIDTH SPACE", ""),
-    of('\u{200c}', "ZERO WIDTH NON-JOINER", ""),
-    of('\u{200d}', "ZERO WIDTH JOINER", ""),
-    of('\u{2060}', "WORD JOINER", ""),
-    of('\u{feff}', "ZERO WIDTH NO-BREAK SPACE", ""),
-    of('\u{ad}', "SOFT HYPHEN", ""),
-    of('\u{200e}', "LEFT-TO-RIGHT MARK", ""),
-    of('\u{200f}', "RIGHT-TO-LEFT MARK", ""),
-    of('\u{202a}', "LEFT-TO-RIGHT EMBEDDING", ""),
-    of('\u{202b}', "RIGHT-TO-LEFT EMBEDDING", ""),
-    of('\u{202c}', "POP DIRECTIONAL FORMATTING", ""),
-    of('\u{202d}', "LEFT-TO-RIGHT OVERRIDE", ""),
-    of('\u{202e}', "RIGHT-TO-LEFT OVERRIDE", ""),
-    of('\u{2066}', "LEFT-TO-RIGHT ISOLATE", ""),
-    of('\u{2067}', "RIGHT-TO-LEFT ISOLATE", ""),
-    of('\u{2068}', "FIRST STRONG ISOLATE", ""),
-    of('\u{2069}', "POP DIRECTIONAL ISOLATE", ""),
-    of('\u{37e}', "GREEK QUESTION MARK", ";"),
-    of('\u{2010}', "HYPHEN", "-"),
-    of('\u{2011}', "NON-BREAKING HYPHEN", "-"),
-    of('\u{2013}', "EN DASH", "-"),
-    of('\u{2014}', "EM DASH", "-"),
-    of('\u{2212}', "MINUS SIGN", "-"),
-    of(
-        '\u{2018}',
-        "LEFT SINGLE QUOTATION MARK",
-        "a quote: a text stands between two \"",
-    ),
-    of(
-        '\u{2019}',
-        "RIGHT SINGLE QUOTATION MARK",
-        "a quote: a text stands between two \"",
-    ),
-    of(
-        '\u{201a}',
-        "SINGLE LOW-9 QUOTATION MARK",
-        "a quote: a text stands between two \"",
-    ),
-    of(
-        '\u{201c}',
-        "LEFT DOUBLE QUOTATION MARK",
-        "a quote: a text stands between two \"",
-    ),
-    of(
-        '\u{201d}',
-        "RIGHT DOUBLE QUOTATION MARK",
-        "a quote: a text stands between two \"",
-    ),
-    of(
-        '\u{201e}',
-        "DOUBLE LOW-9 QUOTATION MARK",
-        "a quote: a text stands between two \"",
-    ),
-    of(
-        '\u{ab}',
-        "LEFT-POINTING DOUBLE ANGLE QUOTATION MARK",
-        "a quote: a text stands between two \"",
-    ),
-    of(
-        '\u{bb}',
-        "RIGHT-POINTING DOUBLE ANGLE QUOTATION MARK",
-        "a quote: a text stands between two \"",
-    ),
-    of('\u{2032}', "PRIME", "a quote: a text stands between two \""),
-    of(
-        '\u{2033}',
-        "DOUBLE PRIME",
-        "a quote: a text stands between two \"",
-    ),
-    of('\u{d7}', "MULTIPLICATION SIGN", "*"),
-    of('\u{22c5}', "DOT OPERATOR", "*"),
-    of('\u{f7}', "DIVISION SIGN", "/"),
-    of('\u{2260}', "NOT EQUAL TO", "!="),
-    of('\u{2264}', "LESS-THAN OR EQUAL TO", "<="),
-    of('\u{2265}', "GREATER-THAN OR EQUAL TO", ">="),
-    of('\u{391}', "GREEK CAPITAL LETTER ALPHA", "A"),
-    of('\u{392}', "GREEK CAPITAL LETTER BETA", "B"),
-    of('\u{395}', "GREEK CAPITAL LETTER EPSILON", "E"),
-    of('\u{39f}', "GREEK CAPITAL LETTER OMICRON", "O"),
-    of('\u{3bf}', "GREEK SMALL LETTER OMICRON", "o"),
-    of('\u{410}', "CYRILLIC CAPITAL LETTER A", "A"),
-    of('\u{412}', "CYRILLIC CAPITAL LETTER VE", "B"),
-    of('\u{415}', "CYRILLIC CAPITAL LETTER IE", "E"),
-    of('\u{41e}', "CYRILLIC CAPITAL LETTER O", "O"),
-    of('\u{421}', "CYRILLIC CAPITAL LETTER ES", "C"),
-    of('\u{422}', "CYRILLIC CAPITAL LETTER TE", "T"),
-    of('\u{430}', "CYRILLIC SMALL LETTER A", "a"),
-    of('\u{435}', "CYRILLIC SMALL LETTER IE", "e"),
-    of('\u{43e}', "CYRILLIC SMALL LETTER O", "o"),
-    of('\u{440}', "CYRILLIC SMALL LETTER ER", "p"),
-    of('\u{441}', "CYRILLIC SMALL LETTER ES", "c"),
-    of('\u{445}', "CYRILLIC SMALL LETTER HA", "x"),
-];
+// Letters that look like those of the language.
+fn letter(character: char) -> Option<Lookalike> {
+    match character {
+        '\u{391}' => named("GREEK CAPITAL LETTER ALPHA", "A"),
+        '\u{392}' => named("GREEK CAPITAL LETTER BETA", "B"),
+        '\u{395}' => named("GREEK CAPITAL LETTER EPSILON", "E"),
+        '\u{39f}' => named("GREEK CAPITAL LETTER OMICRON", "O"),
+        '\u{3bf}' => named("GREEK SMALL LETTER OMICRON", "o"),
+        '\u{410}' => named("CYRILLIC CAPITAL LETTER A", "A"),
+        '\u{412}' => named("CYRILLIC CAPITAL LETTER VE", "B"),
+        '\u{415}' => named("CYRILLIC CAPITAL LETTER IE", "E"),
+        '\u{41e}' => named("CYRILLIC CAPITAL LETTER O", "O"),
+        '\u{421}' => named("CYRILLIC CAPITAL LETTER ES", "C"),
+        '\u{422}' => named("CYRILLIC CAPITAL LETTER TE", "T"),
+        '\u{430}' => named("CYRILLIC SMALL LETTER A", "a"),
+        '\u{435}' => named("CYRILLIC SMALL LETTER IE", "e"),
+        '\u{43e}' => named("CYRILLIC SMALL LETTER O", "o"),
+        '\u{440}' => named("CYRILLIC SMALL LETTER ER", "p"),
+        '\u{441}' => named("CYRILLIC SMALL LETTER ES", "c"),
+        '\u{445}' => named("CYRILLIC SMALL LETTER HA", "x"),
+        _ => None,
+    }
+}
 
 /// The first of the characters that are ASCII at twice the width, and the last.
 const FULL_WIDTH: (u32, u32) = (0xff01, 0xff5e);
@@ -148,13 +123,8 @@ fn alphabet(character: char) -> Option<&'static str> {
 /// like.
 pub fn help_of_character(alloc: Global, character: char) -> Result<String, AllocError> {
     let code = u32::from(character);
-    for one in LOOKALIKES {
-        if one.character != character {
-            continue;
-        }
-        let name = one.name;
-        let like = one.like;
-        return if like.is_empty() {
+    if let Some(Lookalike { name, like }) = sign(character).or(letter(character)) {
+        return if like == UNSEEN {
             format!(in alloc; "U+{code:04X} {name} is not seen: leave it out")
         } else {
             format!(in alloc; "U+{code:04X} {name} looks like {like}")

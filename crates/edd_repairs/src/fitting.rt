@@ -4,74 +4,79 @@ use crate::grammar::Grammar;
 use crate::trials::Misfit;
 use std::alloc::{AllocError, Global};
 
-/// Something that may fit: how it could be written, and what it is called.
-#[derive(Clone, Copy)]
-struct Probe {
-    spelling: &'static str,
-    name: &'static str,
-}
-
-const fn probe(spelling: &'static str, name: &'static str) -> Probe {
-    Probe { spelling, name }
-}
-
-const ITEM: Probe = probe("VARIABLE", "an item such as VARIABLE");
+/// Something that may fit, by how it could be written.
+const ITEM: &str = "VARIABLE";
 
 /// A name, which stands for what has its own word too.
-const NAME: Probe = probe("x", "a name");
+const NAME: &str = "x";
 
-const NUMBER: Probe = probe("1", "a number");
+const NUMBER: &str = "1";
 
-const TEXT: Probe = probe("\"\"", "a text");
+const TEXT: &str = "\"\"";
 
-const SEMICOLON: Probe = probe(";", ";");
+const SEMICOLON: &str = ";";
 
-const OPEN: Probe = probe("{", "{");
-
-/// Where any name fits these are names.
-const WORDS: [Probe; 9] = [
-    probe("TRUE", "TRUE"),
-    probe("FALSE", "FALSE"),
-    probe("READ", "READ"),
-    probe("WRITE", "WRITE"),
-    probe("READ & WRITE", "READ & WRITE"),
-    probe("SUCCESS", "a class such as SUCCESS"),
-    probe("READ_ONLY", "a word such as READ_ONLY"),
-    probe("INFO", "INFO"),
-    probe("INDEX", "INDEX"),
-];
+const OPEN: &str = "{";
 
 /// Before a value alone.
-const SIGN: Probe = probe("!", "!");
+const SIGN: &str = "!";
 
-const OTHERS: [Probe; 23] = [
-    probe("LABEL", "an attribute such as LABEL"),
-    probe("NUMBER", "NUMBER"),
-    probe("TYPE", "TYPE"),
-    probe("DEFINITION", "DEFINITION"),
-    probe("MAX_VALUE", "an option such as MAX_VALUE"),
-    probe("REQUEST", "REQUEST"),
-    probe("REPLY", "REPLY"),
-    probe("RESPONSE_CODES", "RESPONSE_CODES"),
-    probe("OF", "OF"),
-    probe("DEVICE_TYPE", "DEVICE_TYPE"),
-    probe("DEVICE_REVISION", "DEVICE_REVISION"),
-    probe("DD_REVISION", "DD_REVISION"),
-    probe("MANUFACTURER", "MANUFACTURER"),
-    probe("CASE", "CASE"),
-    probe("IF", "IF"),
-    probe("while", "while"),
-    probe("}", "}"),
-    probe("(", "("),
-    probe(")", ")"),
-    probe("]", "]"),
-    probe(",", ","),
-    probe(":", ":"),
-    probe("=", "="),
+/// Where any name fits these are names.
+const WORDS: [&str; 9] = [
+    "TRUE",
+    "FALSE",
+    "READ",
+    "WRITE",
+    "READ & WRITE",
+    "SUCCESS",
+    "READ_ONLY",
+    "INFO",
+    "INDEX",
+];
+
+const OTHERS: [&str; 23] = [
+    "LABEL",
+    "NUMBER",
+    "TYPE",
+    "DEFINITION",
+    "MAX_VALUE",
+    "REQUEST",
+    "REPLY",
+    "RESPONSE_CODES",
+    "OF",
+    "DEVICE_TYPE",
+    "DEVICE_REVISION",
+    "DD_REVISION",
+    "MANUFACTURER",
+    "CASE",
+    "IF",
+    "while",
+    "}",
+    "(",
+    ")",
+    "]",
+    ",",
+    ":",
+    "=",
 ];
 
 /// How many of them are named.
 const MOST: usize = 4;
+
+// What something that fits is called.
+fn called(spelling: &'static str) -> &'static str {
+    match spelling {
+        ITEM => "an item such as VARIABLE",
+        NAME => "a name",
+        NUMBER => "a number",
+        TEXT => "a text",
+        "SUCCESS" => "a class such as SUCCESS",
+        "READ_ONLY" => "a word such as READ_ONLY",
+        "LABEL" => "an attribute such as LABEL",
+        "MAX_VALUE" => "an option such as MAX_VALUE",
+        itself => itself,
+    }
+}
 
 /// What fits in the place of a token.
 #[derive(Drop)]
@@ -80,8 +85,8 @@ struct Fitting {
 }
 
 impl Fitting {
-    fn add(&mut self, probe: Probe) -> Result<(), AllocError> {
-        self.names.push(probe.name)?;
+    fn add(&mut self, spelling: &'static str) -> Result<(), AllocError> {
+        self.names.push(called(spelling))?;
         Ok(())
     }
 
@@ -101,16 +106,16 @@ impl Fitting {
     }
 }
 
-// Adds what fits of some probes.
+// Adds what fits of some words and signs.
 fn look<G: Grammar>(
     alloc: Global,
     at: Misfit<'_>,
-    probes: &[Probe],
+    spellings: &[&'static str],
     fitting: &mut Fitting,
 ) -> Result<(), AllocError> {
-    for probe in probes {
-        if at.takes::<G>(alloc, probe.spelling)? {
-            fitting.add(*probe)?;
+    for spelling in spellings {
+        if at.takes::<G>(alloc, spelling)? {
+            fitting.add(*spelling)?;
         }
     }
     Ok(())
@@ -121,17 +126,17 @@ pub fn fitting<G: Grammar>(alloc: Global, at: Misfit<'_>) -> Result<Option<Strin
     let mut found = Fitting {
         names: Vec::new(alloc),
     };
-    if at.takes::<G>(alloc, ITEM.spelling)? {
-        return Ok(Some(String::from_str(alloc, ITEM.name)?));
+    if at.takes::<G>(alloc, ITEM)? {
+        return Ok(Some(String::from_str(alloc, called(ITEM))?));
     }
-    let has_name = at.takes::<G>(alloc, NAME.spelling)?;
-    let has_number = at.takes::<G>(alloc, NUMBER.spelling)?;
-    let has_end = at.takes::<G>(alloc, SEMICOLON.spelling)?;
-    let has_brace = at.takes::<G>(alloc, OPEN.spelling)?;
+    let has_name = at.takes::<G>(alloc, NAME)?;
+    let has_number = at.takes::<G>(alloc, NUMBER)?;
+    let has_end = at.takes::<G>(alloc, SEMICOLON)?;
+    let has_brace = at.takes::<G>(alloc, OPEN)?;
     if has_name && has_number && has_end && has_brace {
         return Ok(Some(String::from_str(alloc, "a statement")?));
     }
-    if has_name && has_number && at.takes::<G>(alloc, SIGN.spelling)? {
+    if has_name && has_number && at.takes::<G>(alloc, SIGN)? {
         return Ok(Some(String::from_str(alloc, "a value")?));
     }
     if has_name {
