@@ -111,18 +111,18 @@ fn look<G: Grammar>(
     alloc: Global,
     at: Misfit<'_>,
     spellings: &[&'static str],
-    fitting: &mut Fitting,
+    found: &mut Fitting,
 ) -> Result<(), AllocError> {
     for spelling in spellings {
         if at.takes::<G>(alloc, spelling)? {
-            fitting.add(*spelling)?;
+            found.add(*spelling)?;
         }
     }
     Ok(())
 }
 
 /// What fits in the place of a token, in words; nothing where that is too much or not known.
-pub fn fitting<G: Grammar>(alloc: Global, at: Misfit<'_>) -> Result<Option<String>, AllocError> {
+pub fn what_fits<G: Grammar>(alloc: Global, at: Misfit<'_>) -> Result<Option<String>, AllocError> {
     let mut found = Fitting {
         names: Vec::new(alloc),
     };

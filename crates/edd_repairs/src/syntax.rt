@@ -1,6 +1,6 @@
 //! What is said of a text that spells no unit.
 
-use crate::fitting::fitting;
+use crate::fitting::what_fits;
 use crate::grammar::{Grammar, TextFault};
 use crate::left_out::help_of_left_out;
 use crate::located::{Where, located, place_on, tokens_on};
@@ -182,7 +182,7 @@ fn help_misfit<G: Grammar>(
     } else if let Some(text) = help_of_left_out(word) {
         String::from_str(alloc, text)?
     } else {
-        match fitting::<G>(alloc, at)? {
+        match what_fits::<G>(alloc, at)? {
             Some(wanted) => format!(in alloc; "{wanted} fits here, and not {word}")?,
             None => format!(in alloc; "{word} fits nothing here")?,
         }
