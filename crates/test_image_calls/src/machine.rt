@@ -127,14 +127,16 @@ fn labels_and_defaults_are_read(rt: HostRuntime) -> Result<(), Fail> {
     Ok(())
 }
 
-fn go_on(machine: &mut Machine, image: &Image<'_>, values: &mut [i64])
+// Takes at most so many steps, while the method runs.
+fn take_steps(machine: &mut Machine, image: &Image<'_>, values: &mut [i64], steps: u8)
     requires { IsMachine image.now machine.old values.old }
-    ensures { IsMachine image.now machine.new values.new }
 {
-    if machine.status != Status::Running {
-        return;
+    for _ in 0..steps {
+        if machine.status != Status::Running {
+            return;
+        }
+        machine.step(image, values);
     }
-    machine.step(image, values);
 }
 
 // The machine on the one method of an image, and its values, after at most so many steps.
@@ -152,9 +154,7 @@ fn after(
         return Err(Fail::from("no image"));
     }
     let mut machine = Machine::open(unit);
-    for _ in 0..steps {
-        go_on(&mut machine, image, values.numbers.as_mut_slice());
-    }
+    take_steps(&mut machine, image, values.numbers.as_mut_slice(), steps);
     Ok((machine, values))
 }
 
