@@ -26,10 +26,9 @@ returns-then-not-all_fit-2 c = (
 pub returns-then-len-from : goal.returns-then-len-from
 returns-then-len-from c = (
   (λ e. absurd cc),
-  (λ is. absurd (c.if-len-from.true (omega (
-    arith,
-    same_slots c.args.image.now c.args.machine.now c.args.values.now is,
-  )))),
+  (λ is.
+      let same = same_slots c.args.image.now c.args.machine.now c.args.values.now is in
+      absurd (omega (arith, same, c.if-len-from.true))),
 )
 
 pub code_of-requires : goal.code_of-requires
