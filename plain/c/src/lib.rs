@@ -6,10 +6,10 @@
 mod memory;
 
 use core::slice;
-use edd_embed::statuses::{self, DONE, NO_ITEM, OTHER_IMAGE};
+use edd_embed::statuses::{self, DONE, NO_ITEM, NO_SESSION, OTHER_IMAGE};
 use edd_embed::{
     AttributeFault, Given, ImageNumbers, PlainEnding, PlainItem, PlainRecord, PlainRequest,
-    PlainType, Setting,
+    PlainSession, PlainTurn, PlainType, Setting,
 };
 use edd_syntax::numbers::MethNo;
 use std::alloc::Global;
@@ -241,5 +241,82 @@ pub unsafe extern "C" fn edd_play(
             DONE
         }
         Err(why) => statuses::refusal_status(why),
+    }
+}
+
+#[unsafe(no_mangle)]
+pub unsafe extern "C" fn edd_start(
+    bytes: *const u8,
+    length: usize,
+    image: *const ImageNumbers,
+    method: u16,
+    values: *const i64,
+    count: usize,
+    session: *mut PlainSession,
+) -> u32 {
+    let image = with_image!(bytes, length, image);
+    // SAFETY: as the header asks.
+    let (values, session) = unsafe { (list(values, count), &mut *session) };
+    match edd_embed::start_session(&image, MethNo(method), values, session) {
+        Ok(()) => DONE,
+        Err(fault) => statuses::start_status(fault),
+    }
+}
+
+#[unsafe(no_mangle)]
+pub unsafe extern "C" fn edd_advance(
+    bytes: *const u8,
+    length: usize,
+    image: *const ImageNumbers,
+    session: *mut PlainSession,
+    values: *mut i64,
+    count: usize,
+    budget: u32,
+    turn: *mut PlainTurn,
+) -> u32 {
+    let image = with_image!(bytes, length, image);
+    // SAFETY: as the header asks.
+    let (session, values) = unsafe { (&mut *session, room(values, count)) };
+    match edd_embed::advance_session(&image, session, values, budget) {
+        Some(shown) => {
+            // SAFETY: as the header asks.
+            unsafe { turn.write(shown) };
+            DONE
+        }
+        None => NO_SESSION,
+    }
+}
+
+#[unsafe(no_mangle)]
+pub unsafe extern "C" fn edd_reply(
+    bytes: *const u8,
+    length: usize,
+    image: *const ImageNumbers,
+    session: *mut PlainSession,
+    values: *mut i64,
+    count: usize,
+    answer: *const Given,
+    settings: *const Setting,
+    setting_count: usize,
+) -> u32 {
+    let image = with_image!(bytes, length, image);
+    // SAFETY: as the header asks.
+    let (session, values) = unsafe { (&mut *session, room(values, count)) };
+    let (answer, settings) = unsafe { (*answer, list(settings, setting_count)) };
+    match edd_embed::answer_session(&image, session, values, answer, settings) {
+        Ok(()) => DONE,
+        Err(why) => statuses::session_status(why),
+    }
+}
+
+#[unsafe(no_mangle)]
+pub unsafe extern "C" fn edd_where(session: *const PlainSession, turn: *mut PlainTurn) -> u32 {
+    // SAFETY: as the header asks.
+    match edd_embed::turn_session(unsafe { &*session }) {
+        Some(shown) => {
+            unsafe { turn.write(shown) };
+            DONE
+        }
+        None => NO_SESSION,
     }
 }
