@@ -1,9 +1,9 @@
 -- What the numbers of a session stand for, and what makes them one.
-use Rattle.std.proofs.Common.{◌≡◌, ◌≤◌, ℕ, ℤ, Bool, true, cond, List, length, take, Option, Some, None, refl, sym, ap, subst, ◌∙◌}
+use Rattle.std.proofs.Common.{◌≡◌, ◌≤◌, ℕ, ℤ, pos, Bool, true, cond, List, [], length, take, Option, Some, None, refl, sym, ap, subst, ◌∙◌}
 use Rattle.std.specs.Prelude.{reverse}
 use Rattle.std.specs.List.{AllByRecursion}
 use Rattle.std.proofs.lemmas.Bool.{le-leb}
-use Rattle.std.proofs.lemmas.List.{reverse-reverse}
+use Rattle.std.proofs.lemmas.List.{length-replicate, reverse-reverse}
 use Rattle.edd_syntax.specs.declared.numbers.MethNo.{MethNo}
 use Rattle.edd_image.specs.Front.{◌>>=◌}
 use Rattle.edd_image.specs.Contents.{AttributeFields, Contents, contents_in}
@@ -14,7 +14,7 @@ use Rattle.edd_instructions.specs.declared.unit.Context.{Context}
 use Rattle.edd_instructions.specs.declared.unit.Sort.{Sort}
 use Rattle.edd_instructions.specs.declared.unit.Sort.TheVariants.{Method}
 use Rattle.edd_instructions.specs.Reading.{body_of, environment_of}
-use Rattle.edd_instructions.specs.Steps.{Fits, IsState, RunningUnit, State}
+use Rattle.edd_instructions.specs.Steps.{Fits, IsState, RunningUnit, State, opening}
 use Rattle.edd_instructions.specs.Validity.{IsValid, placed_unit, slots_of, sort_of}
 use Rattle.edd_syntax.specs.declared.answer.Trap.TheVariants as trap
 use Rattle.edd_machine.specs.declared.code_unit.CodeUnit.{CodeUnit}
@@ -24,7 +24,7 @@ use Rattle.edd_machine.specs.AbortLists.{methods_of}
 use Rattle.edd_port.specs.Runs.{IsRun}
 use Rattle.edd_port.specs.Turns.{turn_of}
 use Rattle.edd_embed.specs.declared.sessions.PlainSession.{PlainSession}
-use Rattle.edd_embed.specs.Sessions.{IsPlain, IsSession, counts_fit, flag_from, plain_turn, state_at, state_in, status_from}
+use Rattle.edd_embed.specs.Sessions.{IsOpened, IsPlain, IsSession, counts_fit, flag_from, plain_turn, state_at, state_in, status_from}
 use Rattle.edd_port.proofs.MethodBodies.{body_found}
 
 -- ---- the tags
@@ -139,6 +139,18 @@ written b p m values w row found unit =
     ∙ (ap (λ (test : Bool). cond test
     (Some (state_at b p values row m.status m.is_aborting)) None) fit
     ∙ ap (λ (s : State). Some s) state)))
+
+-- a machine that was opened on a unit is at its start
+pub opened_by : (u : CodeUnit) (m : Machine) → m.unit ≡ u
+    → ((b : List ℕ) (values : List ℤ) → state_of b m values
+    ≡ opening (running_unit b u) u.slots values) → IsOpened u m
+opened_by u m unit state = record {
+  unit = unit;
+  operands = ap (λ (s : State). s.operands) (state [] []);
+  slots = ap (λ (s : State). length s.slots) (state [] [])
+      ∙ length-replicate u.slots (pos 0);
+  methods = ap (λ (s : State). s.abort_methods) (state [] []);
+}
 
 module _ (b : List ℕ) (m : Machine) (values : List ℤ) where
   -- a machine's state is one of a run

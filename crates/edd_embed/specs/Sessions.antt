@@ -1,5 +1,5 @@
 -- A session as the plain numbers that a program in C keeps of it.
-use Rattle.std.specs.Prelude.{◌≡◌, ℕ, ◌+◌, ◌==◌, ℤ, Bool, true, false, ◌&&◌, if◌then◌else◌, List, length, take, reverse, Option, Some, None, option_map, nat_le}
+use Rattle.std.specs.Prelude.{◌≡◌, ◌≤◌, ℕ, ◌+◌, ◌==◌, ℤ, Bool, true, false, ◌&&◌, if◌then◌else◌, List, [], length, take, reverse, Option, Some, None, option_map, nat_le}
 use Rattle.std.specs.List.{AllByRecursion}
 use Rattle.edd_syntax.specs.declared.answer.Trap.{Trap}
 use Rattle.edd_syntax.specs.declared.answer.Trap.TheVariants as trap
@@ -14,10 +14,12 @@ use Rattle.edd_instructions.specs.declared.records.Status.TheVariants as status
 use Rattle.edd_instructions.specs.declared.unit.Sort.TheVariants.{Method}
 use Rattle.edd_instructions.specs.AbortMethods.{answered_in}
 use Rattle.edd_instructions.specs.Reading.{body_of}
+use Rattle.edd_instructions.specs.Validity.{IsValid}
 use Rattle.edd_instructions.specs.Steps.{Fits, State}
+use Rattle.edd_machine.specs.declared.code_unit.CodeUnit.{CodeUnit}
 use Rattle.edd_machine.specs.declared.machine.Machine.{Machine}
 use Rattle.edd_machine.specs.AbortLists.{methods_of}
-use Rattle.edd_machine.specs.Running.{running_unit, unit_at}
+use Rattle.edd_machine.specs.Running.{IsUnitOf, running_unit, unit_at}
 use Rattle.edd_machine.specs.Types.{types_in}
 use Rattle.edd_port.specs.declared.turn.Turn.{Turn}
 use Rattle.edd_port.specs.declared.turn.Turn.TheVariants as turn
@@ -28,6 +30,7 @@ use Rattle.edd_port.specs.Turns.{turn_of}
 use Rattle.edd_embed.specs.declared.answers.Given.{Given}
 use Rattle.edd_embed.specs.declared.answers.Setting.{Setting}
 use Rattle.edd_embed.specs.declared.requests.PlainRequest.{PlainRequest}
+use Rattle.edd_embed.specs.declared.sessions.Parts.{Parts}
 use Rattle.edd_embed.specs.declared.sessions.PlainSession.{PlainSession}
 use Rattle.edd_embed.specs.declared.turns.PlainTurn.{PlainTurn}
 use Rattle.edd_embed.specs.declared.turns.SessionRefusal.{SessionRefusal}
@@ -114,6 +117,36 @@ pub record IsSession (b : List ℕ) (p : PlainSession) (values : List ℤ) : Typ
 -- that run
 abbrev pub run_of : List ℕ → PlainSession → State → Run
 run_of b p s = record { image = b; state = s; taken = p.taken }
+
+-- the state by what was read of the tags and the place
+abbrev pub state_of_parts : List ℕ → PlainSession → Parts → (values : List ℤ) → State
+state_of_parts b p parts values = record {
+  unit = running_unit b parts.unit;
+  place = parts.place;
+  operands = reverse (take p.operand_count p.operands);
+  slots = take parts.unit.slots p.slots;
+  values = values;
+  status = parts.status;
+  abort_methods = methods_of (take p.abort_count p.abort_methods);
+  is_aborting = parts.is_aborting;
+}
+
+-- the numbers are those of a method of the image at some state, and this was read of them
+pub record IsRead (b : List ℕ) (p : PlainSession) (parts : Parts) : Type 0 where
+  pub valid : IsValid b
+  pub unit : IsUnitOf b parts.unit
+  pub sort : parts.unit.sort ≡ Method
+  pub slots : parts.unit.slots ≤ 64
+  pub operands : p.operand_count ≤ 128
+  pub methods : p.abort_count ≤ 8
+  pub stands : (values : List ℤ) → state_in b p values ≡ Some (state_of_parts b p parts values)
+
+-- the machine is at the start of the unit
+pub record IsOpened (u : CodeUnit) (m : Machine) : Type 0 where
+  pub unit : m.unit ≡ u
+  pub operands : m.operands ≡ []
+  pub slots : length m.slots.items ≡ u.slots
+  pub methods : m.abort_methods ≡ []
 
 -- what a machine has that is written into a session: numbers of 32 bits, and as many slots as its
 -- unit says

@@ -14,7 +14,7 @@ ghost use Rattle.edd_embed.specs.Sessions.{Advances, Answers, IsSession, IsSessi
 
 use crate::answers::{Given, Setting, cut};
 use crate::keeping::keep;
-use crate::sessions::{PlainSession, resumed};
+use crate::sessions::{PlainSession, parts_of, resume};
 use crate::turns::{PlainTurn, SessionRefusal, plain_turn, status_from};
 use edd_instructions::Status;
 use edd_loader::Image;
@@ -83,7 +83,11 @@ pub fn advance_session(
     ensures refused { IfNone result (¬ IsSession image.now session.old values.old) }
     ensures kept { IfNone result ((session.new ≡ session.old) × (values.new ≡ values.old)) }
 {
-    let mut machine = resumed(image, session, values)?;
+    let parts = parts_of(image, session)?;
+    let mut machine = Machine::open(parts.unit);
+    if !resume(image, session, values, parts, &mut machine) {
+        return None;
+    }
     let count = execute(image, &mut machine, values, budget);
     session.taken = counted(session.taken, count);
     keep(&machine, session);
@@ -171,9 +175,13 @@ pub fn answer_session(
         (answer_given given settings.now)) }
     ensures kept { OnErr result ((session.new ≡ session.old) × (values.new ≡ values.old)) }
 {
-    let Some(mut machine) = resumed(image, session, values) else {
+    let Some(parts) = parts_of(image, session) else {
         return Err(SessionRefusal::NoSession);
     };
+    let mut machine = Machine::open(parts.unit);
+    if !resume(image, session, values, parts, &mut machine) {
+        return Err(SessionRefusal::NoSession);
+    }
     let (own, _) = cut(settings, given.settings);
     if let Some(fault) = fault_of_answer(image, machine.status, given, own) {
         return Err(SessionRefusal::Refused(fault));

@@ -1,17 +1,16 @@
 //! A session as plain numbers, and the machine that they stand for.
 
-ghost use Rattle.std.specs.Prelude.{◌≡◌, ◌≤◌, ℤ, IfNone, IfSome, List, None, Some, length, reverse};
+ghost use Rattle.std.specs.Prelude.{◌≡◌, ◌≤◌, ℕ, ℤ, IfNone, IfSome, IsTrue, List, [], None, Some, length, reverse};
 ghost use Rattle.edd_instructions.specs.declared.unit.Sort.TheVariants.{Method};
-ghost use Rattle.edd_instructions.specs.Validity.{IsValid};
 ghost use Rattle.edd_machine.specs.AbortLists.{methods_of};
-ghost use Rattle.edd_machine.specs.Running.{IsMachine, IsUnitOf, state_of};
-ghost use Rattle.edd_embed.specs.Sessions.{IsSession, flag_from, state_in};
+ghost use Rattle.edd_machine.specs.Running.{IsMachine, state_of};
+ghost use Rattle.edd_embed.specs.Sessions.{IsOpened, IsRead, IsSession, flag_from, state_in, state_of_parts};
 
 use crate::turns::{PlainTurn, status_from};
 use arrayvec::ArrayVec;
-use edd_instructions::Emitted;
+use edd_instructions::Status;
 use edd_loader::Image;
-use edd_machine::{AbortMethods, Machine, Operands, find_body};
+use edd_machine::{AbortMethods, CodeUnit, Machine, Operands, find_body};
 use edd_port::is_run;
 use edd_syntax::numbers::MethNo;
 
@@ -48,52 +47,20 @@ fn flag_from(number: u16) -> Option<bool>
     }
 }
 
-// The operands, given from the lowest.
-fn operands_of(numbers: &[i32]) -> Operands
-    requires { length numbers.now ≤ 128 }
-    ensures { result ≡ reverse numbers.now }
-{
-    let mut operands = Operands::new();
-    for number in numbers {
-        operands.push(i64::from(*number));
-    }
-    operands
+/// What a session says beside its numbers: the unit of its method, the place and the tags.
+#[derive(Clone, Copy)]
+pub(crate) struct Parts {
+    pub unit: CodeUnit,
+    pub place: usize,
+    pub status: Status,
+    pub is_aborting: bool,
 }
 
-fn slots_of(numbers: &[i32]) -> ArrayVec<i64, 64>
-    requires { length numbers.now ≤ 64 }
-    ensures { result.items ≡ numbers.now }
-{
-    let mut slots = ArrayVec::new();
-    for number in numbers {
-        slots.push(i64::from(*number));
-    }
-    slots
-}
-
-fn abort_methods_of(numbers: &[u16]) -> AbortMethods
-    requires { length numbers.now ≤ 8 }
-    ensures { result ≡ methods_of numbers.now }
-{
-    let mut methods = AbortMethods::new();
-    for number in numbers {
-        methods.push(MethNo(*number));
-    }
-    methods
-}
-
-// The machine that the numbers stand for, if there is such a method, the tags are known and the
-// counts have room.
-fn machine_in(image: &Image<'_>, session: &PlainSession) -> Option<Machine>
-    ensures sound { IfSome result (λ machine. (values : List ℤ)
-        → state_in image.now session.now values ≡ Some (state_of image.now machine values)) }
+/// What a session says, if there is such a method, the tags are known and the counts have room.
+pub(crate) fn parts_of(image: &Image<'_>, session: &PlainSession) -> Option<Parts>
+    ensures sound { IfSome result (IsRead image.now session.now) }
     ensures refused { IfNone result ((values : List ℤ)
         → state_in image.now session.now values ≡ None) }
-    ensures valid { IfSome result (λ machine. IsValid image.now) }
-    ensures slots { IfSome result (λ machine.
-        length machine.slots.items ≡ machine.unit.slots) }
-    ensures unit { IfSome result (λ machine. IsUnitOf image.now machine.unit) }
-    ensures sort { IfSome result (λ machine. machine.unit.sort ≡ Method) }
 {
     let unit = find_body(image, MethNo(session.method))?;
     let status = status_from(session.turn)?;
@@ -102,34 +69,95 @@ fn machine_in(image: &Image<'_>, session: &PlainSession) -> Option<Machine>
         return None;
     }
     // Where a place has 32 bits, one that has more is none of a unit.
-    let Ok(place) = usize::try_from(session.place) else {
-        return None;
-    };
-    Some(Machine {
-        unit,
-        place,
-        operands: operands_of(&session.operands[..session.operand_count as usize]),
-        slots: slots_of(&session.slots[..unit.slots as usize]),
-        status,
-        emitted: Emitted::Nothing,
-        abort_methods: abort_methods_of(&session.abort_methods[..session.abort_count as usize]),
-        is_aborting,
-    })
+    match usize::try_from(session.place) {
+        Ok(place) => Some(Parts {
+            unit,
+            place,
+            status,
+            is_aborting,
+        }),
+        Err(_) => None,
+    }
 }
 
-// The machine that goes on, if the numbers are a session of the image under these values.
-pub(crate) fn resumed(image: &Image<'_>, session: &PlainSession, values: &[i64]) -> Option<Machine>
-    ensures machine { IfSome result (λ machine. IsMachine image.now machine values.now) }
-    ensures sort { IfSome result (λ machine. machine.unit.sort ≡ Method) }
-    ensures stands { IfSome result (λ machine. state_in image.now session.now values.now
-        ≡ Some (state_of image.now machine values.now)) }
-    ensures valid { IfSome result (λ machine. IsValid image.now) }
-    ensures refused { IfNone result (¬ IsSession image.now session.now values.now) }
+// Puts the operands on the empty stack, given from the lowest.
+fn push_operands(operands: &mut Operands, numbers: &[i32])
+    requires empty { operands.old ≡ [] }
+    requires room { length numbers.now ≤ 128 }
+    ensures { operands.new ≡ reverse numbers.now }
 {
-    let machine = machine_in(image, session)?;
-    if is_run(image, &machine, values) {
-        Some(machine)
-    } else {
-        None
+    for number in numbers {
+        operands.push(i64::from(*number));
     }
+}
+
+// Sets all slots.
+fn copy_slots(slots: &mut ArrayVec<i64, 64>, numbers: &[i32])
+    requires { length numbers.now ≡ length slots.old.items }
+    ensures { slots.new.items ≡ numbers.now }
+{
+    for (index, number) in numbers.iter().enumerate() {
+        slots[index] = i64::from(*number);
+    }
+}
+
+// Lists the methods where none is listed.
+fn push_methods(methods: &mut AbortMethods, numbers: &[u16])
+    requires empty { methods.old ≡ [] }
+    requires room { length numbers.now ≤ 8 }
+    ensures { methods.new ≡ methods_of numbers.now }
+{
+    for number in numbers {
+        methods.push(MethNo(*number));
+    }
+}
+
+// Writes a session into a machine that was opened on its unit. A machine is large, so it is made
+// once, where it stays.
+fn fill(machine: &mut Machine, session: &PlainSession, parts: Parts)
+    requires opened { IsOpened parts.unit machine.old }
+    requires operands { session.now.operand_count ≤ 128 }
+    requires methods { session.now.abort_count ≤ 8 }
+    requires slots { parts.unit.slots ≤ 64 }
+    ensures unit { machine.new.unit ≡ parts.unit }
+    ensures slots { length machine.new.slots.items ≡ parts.unit.slots }
+    ensures state { (b : List ℕ) (values : List ℤ)
+        → state_of b machine.new values ≡ state_of_parts b session.now parts values }
+{
+    push_operands(
+        &mut machine.operands,
+        &session.operands[..session.operand_count as usize],
+    );
+    copy_slots(
+        &mut machine.slots,
+        &session.slots[..parts.unit.slots as usize],
+    );
+    push_methods(
+        &mut machine.abort_methods,
+        &session.abort_methods[..session.abort_count as usize],
+    );
+    machine.place = parts.place;
+    machine.status = parts.status;
+    machine.is_aborting = parts.is_aborting;
+}
+
+/// Makes the machine that goes on of one that was opened on the session's unit, and says whether
+/// the numbers are a session of the image under these values.
+pub(crate) fn resume(
+    image: &Image<'_>,
+    session: &PlainSession,
+    values: &[i64],
+    parts: Parts,
+    machine: &mut Machine,
+) -> bool
+    requires read { IsRead image.now session.now parts }
+    requires opened { IsOpened parts.unit machine.old }
+    ensures machine { IsTrue result → IsMachine image.now machine.new values.now }
+    ensures sort { machine.new.unit.sort ≡ Method }
+    ensures stands { state_in image.now session.now values.now
+        ≡ Some (state_of image.now machine.new values.now) }
+    ensures refused { ¬ IsTrue result → ¬ IsSession image.now session.now values.now }
+{
+    fill(machine, session, parts);
+    is_run(image, machine, values)
 }
