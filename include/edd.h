@@ -17,10 +17,12 @@
  *    answer EDD_OTHER_IMAGE where they are not. They do not look at all of the bytes again.
  *  - What a call writes to does not lie in what else it is given.
  *  - rattle_alloc, rattle_realloc and rattle_dealloc are there (examples/c/pool.c has them over an
- *    array). Calls that take memory give all of it back before they return.
+ *    array). Calls that take memory give all of it back before they return. edd_load, edd_attribute
+ *    and edd_play take memory, and no other call does.
  *
  * Threads: nothing is shared. Calls may be made by any number of threads at once, on one image as well,
- * if your three functions may.
+ * if your three functions may. What a call writes to, as a session and its values, no other call is given
+ * meanwhile.
  *
  * Values of variables are int64_t; each is in the range of its variable's type and size.
  * Texts are UTF-8 and have no 0 at their end.
@@ -57,6 +59,8 @@ enum {
     EDD_NO_ITEM = 203,
     /* The values are not one for each variable, in its range. */
     EDD_WRONG_VALUES = 204,
+    /* Of edd_reply: no request is pending. */
+    EDD_NOT_ASKING = 205,
     /* An answer sets a variable that does not exist. */
     EDD_BAD_VARIABLE = 206,
     /* An answer sets a value out of the range of its variable. */
@@ -69,7 +73,9 @@ enum {
     /* The edd_image is not that of these bytes. */
     EDD_OTHER_IMAGE = 260,
     /* There is too little room, or for edd_play too much. */
-    EDD_NO_ROOM = 261
+    EDD_NO_ROOM = 261,
+    /* The edd_session is none of this image under these values. */
+    EDD_NO_SESSION = 262
 };
 
 /* ---- an image ---- */
@@ -285,6 +291,7 @@ enum {
     EDD_WAITING = 3, /* the last request has no answer yet */
     EDD_SPENT = 4    /* all steps were taken, and the method goes on */
 };
+/* edd_play gives these numbers in `ending`, and the calls on sessions in `turn`. */
 
 typedef struct edd_ending {
     uint64_t requests; /* how many were made */
@@ -298,7 +305,8 @@ typedef struct edd_ending {
  * left over are ignored.
  *
  * It keeps nothing from call to call: to go on after EDD_WAITING, call it with one more answer and the same
- * values. So a method that a technician answers is a list of answers that grows.
+ * values. So a method that a technician answers is a list of answers that grows. Sessions, below, go on where they
+ * stopped.
  *
  * EDD_OK: `ending` says how it ended; the first requests are in `requests`, as many as there is room for; and
  * `after`, which has room for just as many numbers as there are variables, has the values as the method left
@@ -312,6 +320,85 @@ uint32_t edd_play(const uint8_t *bytes, size_t length, const edd_image *image, u
                   const edd_setting *settings, size_t setting_count, uint64_t steps,
                   edd_request *requests, size_t room, int64_t *after, size_t after_room,
                   edd_ending *ending);
+
+/* ---- sessions: none of these calls takes memory ---- */
+
+/* Where a session is. */
+typedef struct edd_turn {
+    edd_request request; /* the pending one, where it is EDD_WAITING, else one with the tag 0 */
+    uint16_t trap;       /* EDD_DIV_ZERO to EDD_NO_ELEMENT where it is EDD_TRAPPED, else 0 */
+    uint8_t turn;        /* EDD_ENDED, EDD_ABORTED, EDD_TRAPPED, EDD_WAITING, or EDD_SPENT where it goes on */
+} edd_turn;
+
+/*
+ * A method that was started: with an array of values, which are the program's as well, it is all that is kept of it.
+ * The calls below write it. Read what you like of it; copy it, store it with the values, and go on with the copy,
+ * in another run of the program too, over the same image, the same byte order and the same version of this header.
+ *
+ * Two sessions over one array of values are two methods on one device: each sees what the other has stored. Between
+ * two calls the program may change a value within the range of its variable, as where the device reports it.
+ */
+typedef struct edd_session {
+    uint64_t taken;            /* how many instructions were executed so far; it stays at its greatest value */
+    uint64_t place;            /* of the next instruction: bytes from the start of the method's code */
+    int32_t operands[128];     /* the lowest first; those from operand_count on mean nothing */
+    int32_t slots[64];         /* the method's own variables; those past their number mean nothing */
+    uint16_t abort_methods[8]; /* the methods that are to run if it is aborted, in order, or that are left of them;
+                                  those from abort_count on mean nothing */
+    uint16_t method;           /* the one whose code is executed: after an abort an abort method, else that of edd_start */
+    uint16_t operand_count;    /* at most 128 */
+    uint16_t abort_count;      /* at most 8 */
+    uint16_t is_aborting;      /* 1 where it was aborted and its abort methods run, else 0 */
+    edd_turn turn;             /* where it is */
+} edd_session;
+
+/*
+ * Whatever the numbers of an edd_session are, by a wild write or as they lay in memory, every call is safe. Each
+ * looks at all of them first, and unless they are those of a state that the method may have under the values, it
+ * answers EDD_NO_SESSION and writes nothing. (A wild write that leaves such a state behind is not noticed.) It never
+ * answers EDD_NO_SESSION of a session that only these calls have written, over its image and with values in their
+ * ranges.
+ *
+ * `values` are `count` numbers, one for each variable: what the device holds, as far as the program knows. The calls
+ * read and write them in place. The array may lie elsewhere at the next call.
+ */
+
+/*
+ * Starts a method under the values, and executes nothing. EDD_OK: all of `session` is written, and it is EDD_SPENT.
+ * EDD_NO_ITEM: no such method, or it has no body. EDD_WRONG_VALUES.
+ */
+uint32_t edd_start(const uint8_t *bytes, size_t length, const edd_image *image, uint16_t method,
+                   const int64_t *values, size_t count, edd_session *session);
+
+/*
+ * Executes at most `budget` instructions. It stops before where the method makes a request, and where it is over;
+ * a session that is EDD_WAITING or over executes none, so this may be called at any time. In which budgets a run is
+ * cut makes no difference to it.
+ *
+ * EDD_OK: `session` and `values` are as the method left them, and `turn` says where it is: EDD_SPENT only after all
+ * `budget` instructions. EDD_NO_SESSION.
+ */
+uint32_t edd_advance(const uint8_t *bytes, size_t length, const edd_image *image, edd_session *session,
+                     int64_t *values, size_t count, uint32_t budget, edd_turn *turn);
+
+/*
+ * Answers the pending request, and executes nothing. The first settings, as many as the answer says and there are,
+ * are made in their order, and its code is the request's value. An abort sets nothing: the method goes on with its
+ * abort methods, which may run long and ask, or is EDD_ABORTED where it has none. edd_play with these answers makes
+ * the same requests and leaves the same values.
+ *
+ * EDD_OK. In this order else: EDD_NO_SESSION; EDD_NOT_ASKING; for the first setting that can't be made
+ * EDD_BAD_VARIABLE or EDD_OUT_OF_RANGE, and none is made.
+ */
+uint32_t edd_reply(const uint8_t *bytes, size_t length, const edd_image *image, edd_session *session,
+                   int64_t *values, size_t count, const edd_answer *answer,
+                   const edd_setting *settings, size_t setting_count);
+
+/*
+ * Says where a session is, by `session->turn` alone: as the last call left it. EDD_OK, and `turn` is written.
+ * EDD_NO_SESSION where its numbers show no turn.
+ */
+uint32_t edd_where(const edd_session *session, edd_turn *turn);
 
 #ifdef __cplusplus
 }

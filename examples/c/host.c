@@ -16,13 +16,13 @@
 #include <stdlib.h>
 #include <string.h>
 
-enum { VARIABLES = 512, RECORDS = 256, REQUESTS = 512, ANSWERS = 512, STEPS = 1000000 };
+enum { VARIABLES = 512, RECORDS = 256, SETTINGS = 64, BUDGET = 1000, STEPS = 1000000 };
 
 static uint8_t bytes[256 * 1024];
 static size_t length;
 static edd_image image;
 static const char *language = "en";
-static int64_t values[VARIABLES], after[VARIABLES];
+static int64_t values[VARIABLES];
 static edd_record records[RECORDS];
 static char line[512];
 
@@ -197,40 +197,44 @@ static size_t read_answer(edd_answer *answer, edd_setting *settings, size_t room
     return count;
 }
 
-/* Plays the method under the answers so far, and asks for the next one where it waits. */
+/* Answers the pending request: a message needs nobody, and where a line can't be taken it is asked for again. */
+static uint32_t answer(edd_session *session, const edd_request *request)
+{
+    edd_setting settings[SETTINGS];
+    edd_answer given = { 0, 0, 0 };
+    size_t count = 0;
+    uint32_t status;
+    for (;;) {
+        if (request->tag != EDD_ASK_PUT_MESSAGE)
+            count = read_answer(&given, settings, SETTINGS);
+        status = edd_reply(bytes, length, &image, session, values, image.variables, &given, settings, count);
+        if (status != EDD_BAD_VARIABLE && status != EDD_OUT_OF_RANGE)
+            return status;
+        printf("the device can't have set that: %" PRIu32 "\n", status);
+    }
+}
+
+/*
+ * Runs the method in a session, and asks for an answer wherever it waits. It takes a budget of instructions at a
+ * time, between which a firmware would do its other work, and draw its screen from `values`.
+ */
 static void run(uint16_t method)
 {
-    static edd_answer answers[ANSWERS];
-    static edd_setting settings[ANSWERS];
-    static edd_request requests[REQUESTS];
+    static edd_session session;
     static const char *const ends[] = { "ended", "aborted", "trapped", "waiting", "did not end" };
-    size_t answered = 0, set_so_far = 0;
-    uint64_t shown = 0;
-    edd_ending ending;
-    for (;;) {
-        uint32_t status = edd_play(bytes, length, &image, method, values, image.variables, answers, answered, settings,
-                                   set_so_far, STEPS, requests, REQUESTS, after, image.variables, &ending);
-        if (status == EDD_BAD_VARIABLE || status == EDD_OUT_OF_RANGE) {
-            printf("the device can't have set that: %" PRIu32 "\n", status);
-            set_so_far -= answers[--answered].settings;
-            continue;
-        }
-        if (status != EDD_OK) {
-            printf("refused %" PRIu32 "\n", status);
+    edd_turn turn;
+    uint32_t status = edd_start(bytes, length, &image, method, values, image.variables, &session);
+    while (status == EDD_OK) {
+        status = edd_advance(bytes, length, &image, &session, values, image.variables, BUDGET, &turn);
+        if (status == EDD_OK && turn.turn == EDD_WAITING) {
+            print_request(&turn.request);
+            status = answer(&session, &turn.request);
+        } else if (status == EDD_OK && (turn.turn != EDD_SPENT || session.taken >= STEPS)) {
+            printf("%s\n", ends[turn.turn]);
             return;
         }
-        for (; shown < ending.requests && shown < REQUESTS; shown++)
-            print_request(&requests[shown]);
-        if (ending.ending != EDD_WAITING || answered == ANSWERS)
-            break;
-        if (requests[ending.requests - 1].tag == EDD_ASK_PUT_MESSAGE)
-            memset(&answers[answered], 0, sizeof *answers);
-        else
-            set_so_far += read_answer(&answers[answered], settings + set_so_far, ANSWERS - set_so_far);
-        answered++;
     }
-    printf("%s\n", ends[ending.ending]);
-    memcpy(values, after, image.variables * sizeof *values);
+    printf("refused %" PRIu32 "\n", status);
 }
 
 static void start_values(void)

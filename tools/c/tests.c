@@ -1,11 +1,11 @@
 /*
- * Tests of the library for C over the image of examples/valve_positioner.edd and that of
- * examples/temperature_scanner.edd: each call with good and bad arguments, each request for memory refused in
- * turn, and images with a byte changed. Expected values are read off the sources.
+ * Tests of the library for C over the images of examples/valve_positioner.edd, examples/temperature_scanner.edd and
+ * examples/flow_transmitter.edd: each call with good and bad arguments, each request for memory refused in turn, and
+ * images with a byte changed. Expected values are read off the sources. sessions.c has those of the calls on sessions.
  *
- *     tests VALVE_IMAGE SCANNER_IMAGE
+ *     tests VALVE_IMAGE SCANNER_IMAGE FLOW_IMAGE [STEP]
  */
-#include "edd.h"
+#include "tests.h"
 #include "pool.h"
 
 #include <stdio.h>
@@ -14,21 +14,19 @@
 
 static int passed, failed;
 
-#define CHECK(holds) check(holds, #holds, __LINE__)
-
-static void check(int holds, const char *what, int at)
+void check(int holds, const char *what, const char *file, int at)
 {
     if (holds) {
         passed++;
-    } else {
-        failed++;
-        printf("line %d: not so: %s\n", at, what);
+    } else if (failed++ < 50) {
+        printf("%s, line %d: not so: %s\n", file, at, what);
     }
 }
 
 /* ---- memory that is refused from the request of a number on ---- */
 
 static long requests_left = -1, blocks;
+long memory_calls;
 static unsigned char nothing;
 
 static rattle_block answer(void *block)
@@ -42,6 +40,7 @@ static int is_refused(void) { return requests_left >= 0 && requests_left-- == 0 
 rattle_block rattle_alloc(size_t size, size_t alignment)
 {
     (void)alignment;
+    memory_calls++;
     if (is_refused())
         return answer(NULL);
     blocks++;
@@ -52,22 +51,18 @@ rattle_block rattle_realloc(void *block, size_t kept, size_t size, size_t alignm
 {
     (void)kept;
     (void)alignment;
+    memory_calls++;
     return answer(is_refused() ? NULL : realloc(block, size ? size : 1));
 }
 
 void rattle_dealloc(void *block)
 {
+    memory_calls++;
     blocks--;
     free(block);
 }
 
 /* ---- an image ---- */
-
-typedef struct file {
-    uint8_t *bytes;
-    size_t length;
-    edd_image image;
-} file;
 
 static file read_file(const char *name)
 {
@@ -83,7 +78,6 @@ static file read_file(const char *name)
     return it;
 }
 
-#define OF(it) (it)->bytes, (it)->length, &(it)->image
 #define TEXT(words) (const uint8_t *)(words), strlen(words)
 
 static int is(edd_words words, const char *text)
@@ -93,8 +87,7 @@ static int is(edd_words words, const char *text)
 
 /* ---- the calls ---- */
 
-/* A size as the alignment of int64_t makes it: 4 on i386, 8 elsewhere. */
-static size_t rounded(size_t size)
+size_t rounded(size_t size)
 {
     struct probe {
         char first;
@@ -360,6 +353,7 @@ static void try_damage(const file *it, size_t step)
             if (edd_load(bytes, it->length, &image) == EDD_OK) {
                 loaded++;
                 read_all(bytes, it->length, &image);
+                try_damaged_sessions(bytes, it->length, &image, it);
             } else {
                 refused++;
                 CHECK(edd_find(bytes, it->length, &image, TEXT("main"), &item) == EDD_OTHER_IMAGE);
@@ -372,15 +366,16 @@ static void try_damage(const file *it, size_t step)
 
 int main(int count, char **words)
 {
-    file valve, scanner;
+    file valve, scanner, flow;
     size_t step;
-    if (count < 3) {
-        printf("usage: tests VALVE_IMAGE SCANNER_IMAGE [STEP]\n");
+    if (count < 4) {
+        printf("usage: tests VALVE_IMAGE SCANNER_IMAGE FLOW_IMAGE [STEP]\n");
         return 2;
     }
     valve = read_file(words[1]);
     scanner = read_file(words[2]);
-    step = count > 3 ? (size_t)strtoul(words[3], NULL, 10) : 1;
+    flow = read_file(words[3]);
+    step = count > 4 ? (size_t)strtoul(words[4], NULL, 10) : 1;
     try_sizes();
     try_load(&valve);
     try_lookups(&valve);
@@ -389,10 +384,14 @@ int main(int count, char **words)
     try_plays(&valve);
     try_another(&valve, &scanner);
     try_memory(&valve);
+    CHECK(edd_load(flow.bytes, flow.length, &flow.image) == EDD_OK);
+    try_sessions(&valve, &flow, step);
     try_damage(&valve, step);
     try_damage(&scanner, step);
+    try_damage(&flow, step);
     free(valve.bytes);
     free(scanner.bytes);
+    free(flow.bytes);
     printf("%d passed, %d failed\n", passed, failed);
     return failed != 0;
 }

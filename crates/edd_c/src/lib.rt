@@ -9,3 +9,4 @@ mod attributes;
 mod images;
 mod lookups;
 mod plays;
+mod sessions;

@@ -1,2 +1,5 @@
+mod Going
 mod Names
+mod OtherValues
+mod Standing
 mod Writing

@@ -3,4 +3,5 @@ pub mod Lookups
 pub mod Playing
 pub mod Reading
 pub mod Records
+pub mod Sessions
 pub mod Statuses

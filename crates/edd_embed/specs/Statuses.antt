@@ -4,12 +4,18 @@ use Rattle.edd_loader.specs.declared.fault.LoadFault.{LoadFault}
 use Rattle.edd_loader.specs.declared.fault.LoadFault.TheVariants as load_fault
 use Rattle.edd_machine.specs.declared.fault.ReadFault.{ReadFault}
 use Rattle.edd_machine.specs.declared.fault.ReadFault.TheVariants as read_fault
+use Rattle.edd_port.specs.declared.fault.AnswerFault.{AnswerFault}
+use Rattle.edd_port.specs.declared.fault.AnswerFault.TheVariants as answer_fault
 use Rattle.edd_port.specs.declared.fault.PlayFault.{PlayFault}
 use Rattle.edd_port.specs.declared.fault.PlayFault.TheVariants as play_fault
+use Rattle.edd_port.specs.declared.fault.StartFault.{StartFault}
+use Rattle.edd_port.specs.declared.fault.StartFault.TheVariants as start_fault
 use Rattle.edd_embed.specs.declared.playing.PlayRefusal.{PlayRefusal}
 use Rattle.edd_embed.specs.declared.playing.PlayRefusal.TheVariants.{Play, Room}
 use Rattle.edd_embed.specs.declared.reading.AttributeFault.{AttributeFault}
 use Rattle.edd_embed.specs.declared.reading.AttributeFault.TheVariants as attribute_fault
+use Rattle.edd_embed.specs.declared.turns.SessionRefusal.{SessionRefusal}
+use Rattle.edd_embed.specs.declared.turns.SessionRefusal.TheVariants.{NoSession, Refused}
 
 -- the call did what was asked
 abbrev pub done : ℕ
@@ -30,6 +36,10 @@ other_image = 260
 -- there is too little room
 abbrev pub no_room : ℕ
 no_room = 261
+
+-- the numbers are no session of the image under these values
+abbrev pub no_session : ℕ
+no_session = 262
 
 abbrev pub load_status : LoadFault → ℕ
 load_status load_fault.Short = 101
@@ -68,3 +78,16 @@ play_status play_fault.Memory = memory
 abbrev pub refusal_status : PlayRefusal → ℕ
 refusal_status (Play fault) = play_status fault
 refusal_status Room = no_room
+
+abbrev pub start_status : StartFault → ℕ
+start_status start_fault.NoItem = no_item
+start_status start_fault.WrongValues = 204
+
+abbrev pub answer_status : AnswerFault → ℕ
+answer_status answer_fault.NotAsking = 205
+answer_status answer_fault.BadVariable = 206
+answer_status answer_fault.OutOfRange = 207
+
+abbrev pub session_status : SessionRefusal → ℕ
+session_status NoSession = no_session
+session_status (Refused fault) = answer_status fault

@@ -44,7 +44,7 @@ fn answer_with(alloc: Global, given: Given, settings: &[Setting]) -> Result<Answ
 }
 
 // The first settings and those after them; where there are fewer, all of them and none.
-fn cut(settings: &[Setting], count: u32) -> (&[Setting], &[Setting])
+pub(crate) fn cut(settings: &[Setting], count: u32) -> (&[Setting], &[Setting])
     ensures front { result.0.now ≡ take count settings.now }
     ensures behind { result.1.now ≡ drop count settings.now }
 {

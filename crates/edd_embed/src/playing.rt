@@ -32,7 +32,7 @@ pub enum PlayRefusal {
     Room,
 }
 
-fn trap_number(trap: Trap) -> u16
+pub(crate) fn trap_number(trap: Trap) -> u16
     ensures { result ≡ trap_number trap }
 {
     match trap {

@@ -25,7 +25,7 @@ pub struct PlainRequest {
     pub tag: u8,
 }
 
-fn bare(tag: u8) -> PlainRequest
+pub(crate) fn bare(tag: u8) -> PlainRequest
     ensures { result ≡ bare tag }
 {
     PlainRequest {

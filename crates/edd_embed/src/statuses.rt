@@ -1,13 +1,14 @@
 //! The numbers that calls for C answer: 0 where the call did what was asked, else why it didn't.
 
 ghost use Rattle.std.specs.Prelude.{◌≡◌};
-ghost use Rattle.edd_embed.specs.Statuses.{attribute_status, load_status, play_status, read_status, refusal_status};
+ghost use Rattle.edd_embed.specs.Statuses.{answer_status, attribute_status, load_status, play_status, read_status, refusal_status, session_status, start_status};
 
 use crate::playing::PlayRefusal;
 use crate::reading::AttributeFault;
+use crate::turns::SessionRefusal;
 use edd_loader::LoadFault;
 use edd_machine::ReadFault;
-use edd_port::PlayFault;
+use edd_port::{AnswerFault, PlayFault, StartFault};
 
 /// The call did what was asked.
 pub const DONE: u32 = 0;
@@ -23,6 +24,9 @@ pub const OTHER_IMAGE: u32 = 260;
 
 /// There is too little room.
 pub const NO_ROOM: u32 = 261;
+
+/// The numbers are no session of the image under these values.
+pub const NO_SESSION: u32 = 262;
 
 /// The number of the rule that bytes break, or of refused memory.
 pub fn load_status(fault: LoadFault) -> u32
@@ -87,5 +91,35 @@ pub fn refusal_status(why: PlayRefusal) -> u32
     match why {
         PlayRefusal::Play(fault) => play_status(fault),
         PlayRefusal::Room => NO_ROOM,
+    }
+}
+
+/// The number of why a method is not started.
+pub fn start_status(fault: StartFault) -> u32
+    ensures { result ≡ start_status fault }
+{
+    match fault {
+        StartFault::NoItem => NO_ITEM,
+        StartFault::WrongValues => 204,
+    }
+}
+
+fn answer_status(fault: AnswerFault) -> u32
+    ensures { result ≡ answer_status fault }
+{
+    match fault {
+        AnswerFault::NotAsking => 205,
+        AnswerFault::BadVariable => 206,
+        AnswerFault::OutOfRange => 207,
+    }
+}
+
+/// The number of why an answer to a session is not taken.
+pub fn session_status(why: SessionRefusal) -> u32
+    ensures { result ≡ session_status why }
+{
+    match why {
+        SessionRefusal::NoSession => NO_SESSION,
+        SessionRefusal::Refused(fault) => answer_status(fault),
     }
 }

@@ -59,7 +59,8 @@ impl AbortMethods {
 
     /// The numbers of the methods, in order.
     pub fn numbers(&self) -> &[u16]
-        ensures { methods_of result.now ≡ self.now }
+        ensures methods { methods_of result.now ≡ self.now }
+        ensures room { length result.now ≤ 8 }
     {
         self.numbers.as_slice()
     }

@@ -15,7 +15,7 @@ mod suspension;
 mod turn;
 
 pub use driving::drive;
-pub use fault::{AnswerFault, PlayFault, StartFault};
+pub use fault::{AnswerFault, PlayFault, StartFault, fault_of_set};
 pub use host::{Host, Reply};
 pub use laws::{methods_may_be_suspended, sessions_may_be_cut, sets_may_be_made_first};
 pub use playing::{Ending, Transcript, play};

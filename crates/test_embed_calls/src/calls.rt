@@ -22,7 +22,7 @@ const COMMAND: [u8; 16] = [
 
 // The variable has one octet; the kinds 1 and 5 are variables and methods, the attributes 8 and 21
 // MIN_VALUE and DEFINITION.
-fn device(alloc: Global) -> Result<Vec<u8>, AllocError> {
+pub(crate) fn device(alloc: Global) -> Result<Vec<u8>, AllocError> {
     let small = Small {
         variables: &[[INTEGER, 1, 0, 0]],
         methods: 1,
@@ -168,5 +168,7 @@ fn structs_have_the_sizes_of_the_header(rt: HostRuntime) -> Result<(), Fail> {
     assert_eq!(rt; size_of::<Setting>(), 16);
     assert_eq!(rt; size_of::<Given>(), 12);
     assert_eq!(rt; size_of::<PlainEnding>(), 16);
+    assert_eq!(rt; size_of::<edd_embed::PlainTurn>(), 20);
+    assert_eq!(rt; size_of::<edd_embed::PlainSession>(), 832);
     Ok(())
 }

@@ -6,10 +6,10 @@
 mod memory;
 
 use core::slice;
-use edd_embed::statuses::{self, DONE, NO_ITEM, OTHER_IMAGE};
+use edd_embed::statuses::{self, DONE, NO_ITEM, NO_SESSION, OTHER_IMAGE};
 use edd_embed::{
     AttributeFault, Given, ImageNumbers, PlainEnding, PlainItem, PlainRecord, PlainRequest,
-    PlainType, Setting,
+    PlainSession, PlainTurn, PlainType, Setting,
 };
 use edd_syntax::numbers::MethNo;
 use std::alloc::Global;
@@ -25,6 +25,21 @@ fn stop(_: &core::panic::PanicInfo<'_>) -> ! {
 #[cfg(target_arch = "x86")]
 #[unsafe(no_mangle)]
 extern "C" fn rust_eh_personality() {}
+
+/// The places of the fields of a session, as the tests of the header have them.
+const _: () = {
+    use core::mem::{offset_of, size_of};
+    assert!(offset_of!(PlainSession, place) == 8 && offset_of!(PlainSession, operands) == 16);
+    assert!(offset_of!(PlainSession, slots) == 528 && offset_of!(PlainSession, turn) == 808);
+    assert!(
+        offset_of!(PlainSession, abort_methods) == 784 && offset_of!(PlainSession, method) == 800
+    );
+    assert!(offset_of!(PlainSession, operand_count) == 802);
+    assert!(offset_of!(PlainSession, abort_count) == 804);
+    assert!(offset_of!(PlainSession, is_aborting) == 806);
+    assert!(offset_of!(PlainTurn, trap) == 16 && offset_of!(PlainTurn, turn) == 18);
+    assert!(size_of::<PlainTurn>() == 20);
+};
 
 /// A name or a text, as the header has it.
 #[repr(C)]
@@ -129,7 +144,10 @@ pub unsafe extern "C" fn edd_name(
     name: *mut Words,
 ) -> u32 {
     let image = with_image!(bytes, length, image);
-    given!(edd_embed::name_of(&image, kind, number).map(Words::of), name)
+    given!(
+        edd_embed::name_of(&image, kind, number).map(Words::of),
+        name
+    )
 }
 
 #[unsafe(no_mangle)]
@@ -144,7 +162,10 @@ pub unsafe extern "C" fn edd_text(
 ) -> u32 {
     let image = with_image!(bytes, length, image);
     let code = unsafe { list(code, code_length) };
-    given!(edd_embed::text_for(&image, string, code).map(Words::of), text)
+    given!(
+        edd_embed::text_for(&image, string, code).map(Words::of),
+        text
+    )
 }
 
 #[unsafe(no_mangle)]
@@ -241,5 +262,82 @@ pub unsafe extern "C" fn edd_play(
             DONE
         }
         Err(why) => statuses::refusal_status(why),
+    }
+}
+
+#[unsafe(no_mangle)]
+pub unsafe extern "C" fn edd_start(
+    bytes: *const u8,
+    length: usize,
+    image: *const ImageNumbers,
+    method: u16,
+    values: *const i64,
+    count: usize,
+    session: *mut PlainSession,
+) -> u32 {
+    let image = with_image!(bytes, length, image);
+    // SAFETY: as the header asks.
+    let (values, session) = unsafe { (list(values, count), &mut *session) };
+    match edd_embed::start_session(&image, MethNo(method), values, session) {
+        Ok(()) => DONE,
+        Err(fault) => statuses::start_status(fault),
+    }
+}
+
+#[unsafe(no_mangle)]
+pub unsafe extern "C" fn edd_advance(
+    bytes: *const u8,
+    length: usize,
+    image: *const ImageNumbers,
+    session: *mut PlainSession,
+    values: *mut i64,
+    count: usize,
+    budget: u32,
+    turn: *mut PlainTurn,
+) -> u32 {
+    let image = with_image!(bytes, length, image);
+    // SAFETY: as the header asks.
+    let (session, values) = unsafe { (&mut *session, room(values, count)) };
+    match edd_embed::advance_session(&image, session, values, budget) {
+        Some(shown) => {
+            // SAFETY: as the header asks.
+            unsafe { turn.write(shown) };
+            DONE
+        }
+        None => NO_SESSION,
+    }
+}
+
+#[unsafe(no_mangle)]
+pub unsafe extern "C" fn edd_reply(
+    bytes: *const u8,
+    length: usize,
+    image: *const ImageNumbers,
+    session: *mut PlainSession,
+    values: *mut i64,
+    count: usize,
+    answer: *const Given,
+    settings: *const Setting,
+    setting_count: usize,
+) -> u32 {
+    let image = with_image!(bytes, length, image);
+    // SAFETY: as the header asks.
+    let (session, values) = unsafe { (&mut *session, room(values, count)) };
+    let (answer, settings) = unsafe { (*answer, list(settings, setting_count)) };
+    match edd_embed::answer_session(&image, session, values, answer, settings) {
+        Ok(()) => DONE,
+        Err(why) => statuses::session_status(why),
+    }
+}
+
+#[unsafe(no_mangle)]
+pub unsafe extern "C" fn edd_where(session: *const PlainSession, turn: *mut PlainTurn) -> u32 {
+    // SAFETY: as the header asks.
+    match edd_embed::turn_session(unsafe { &*session }) {
+        Some(shown) => {
+            unsafe { turn.write(shown) };
+            DONE
+        }
+        None => NO_SESSION,
     }
 }

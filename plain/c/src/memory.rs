@@ -21,7 +21,11 @@ static MEMORY: Memory = Memory;
 
 impl Block {
     fn place(self) -> *mut u8 {
-        if self.is_given { self.place } else { null_mut() }
+        if self.is_given {
+            self.place
+        } else {
+            null_mut()
+        }
     }
 }
 

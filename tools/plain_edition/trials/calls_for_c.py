@@ -8,7 +8,7 @@ from . import bare
 
 I686 = "i686-unknown-linux-gnu"
 NAME = "edd_plain_c"
-IMAGES = ("valve_positioner", "temperature_scanner")
+IMAGES = ("valve_positioner", "temperature_scanner", "flow_transmitter")
 FLAGS = ["-std=c99", "-Wall", "-Wextra", "-Wpedantic", "-Werror", "-O1", "-g"]
 
 
@@ -19,7 +19,7 @@ def written():
 
 
 def run_tests(score, archive, program, more):
-    """Compiles the tests with the archive, and counts what they see over the images of two examples."""
+    """Compiles the tests with the archive, and counts what they see over the images of three examples."""
     top = repository.TOP
     with tempfile.TemporaryDirectory() as room:
         made = [os.path.join(room, f"{name}.image") for name in IMAGES]
@@ -28,7 +28,8 @@ def run_tests(score, archive, program, more):
             subprocess.run([program, "compile", source, image], stdin=subprocess.DEVNULL, capture_output=True, check=True)
         tests = os.path.join(room, "tests")
         includes = [f"-I{top}/include", f"-I{top}/examples/c"]
-        subprocess.run(["gcc", *FLAGS, *more, *includes, f"{top}/tools/c/tests.c", archive, "-o", tests], check=True)
+        sources = [f"{top}/tools/c/{name}.c" for name in ("tests", "sessions")]
+        subprocess.run(["gcc", *FLAGS, *more, *includes, *sources, archive, "-o", tests], check=True)
         ran = subprocess.run([tests, *made], stdin=subprocess.DEVNULL, capture_output=True, text=True, timeout=300, check=False)
     score.check(ran.returncode == 0, f"the C tests: {ran.stdout[-1500:]}{ran.stderr[-500:]}")
     return ran.stdout.splitlines()[-1] if ran.stdout else "nothing"

@@ -11,7 +11,7 @@ pub returns-then-not-all_fit : goal.returns-then-not-all_fit
 returns-then-not-all_fit c = (
   (λ e. absurd cc),
   (λ is. sym c.if-not-all_fit.true ∙ c.all_fit.ensures.1
-      (rw c.numbers.ensures (all_reversed (Fits Method) c.args.machine.now.operands
+      (rw c.numbers.ensures.numbers (all_reversed (Fits Method) c.args.machine.now.operands
       (operands_fit c.args.image.now c.args.machine.now c.args.values.now is c.requires.sort)))),
 )
 
@@ -64,7 +64,7 @@ returns c =
     let test = c.stands.ensures b c.args.values.now same in (
       (λ e. machine_is b m c.args.values.now c.bytes.ensures.valid c.requires.unit c.requires.sort
           (omega arith)
-          (reversed_all (Fits Method) m.operands (rw c.numbers.ensures at
+          (reversed_all (Fits Method) m.operands (rw c.numbers.ensures.numbers at
           (c.all_fit.ensures.0 c.if-not-all_fit.false)))
           (rw c.as_slice.ensures.value at (c.all_fit-2.ensures.0 c.if-not-all_fit-2.false)) (test.0 c.if-not-stands.false) (c.are_values.ensures.0 e)),
       (λ is. c.are_values.ensures.1 is.state.values),
