@@ -140,8 +140,8 @@ fn limit_help(limit: Limit) -> &'static str {
 // What is said of a word that other languages have, or EDDL elsewhere.
 fn foreign_help(word: &str) -> Option<&'static str> {
     match word {
-        "TRUE" | "true" => Some("a method has numbers alone: write 1"),
-        "FALSE" | "false" | "NULL" | "null" => Some("a method has numbers alone: write 0"),
+        "TRUE" | "true" => Some("an expression has numbers alone: write 1"),
+        "FALSE" | "false" | "NULL" | "null" => Some("an expression has numbers alone: write 0"),
         "METHODID" | "VARID" | "ITEM_ID" | "MEMBER_ID" => {
             Some("an item is named by itself, without a function round it")
         }
@@ -268,7 +268,9 @@ fn plain_help(rule: &Rule<'_>) -> Option<&'static str> {
         Rule::TooMany(limit) => Some(limit_help(*limit)),
         Rule::FloatVariable(_) => Some("numbers are whole: take INTEGER (4) in a smaller unit"),
         Rule::BadSize(_) => Some("a variable has 1 to 4 octets"),
-        Rule::FloatValue(_) => Some("numbers are whole: take a smaller unit"),
+        Rule::FloatValue(_) => Some(
+            "numbers are whole, without a point or an exponent: take a smaller unit",
+        ),
         Rule::ConstRange(_) => Some("a constant is an octet, 0 to 255, and a mask is not 0"),
         _ => None,
     }

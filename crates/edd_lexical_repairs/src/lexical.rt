@@ -63,6 +63,12 @@ fn is_alike(one: &LexFault, other: &LexFault) -> bool {
     }
 }
 
+// Whether a mark of the byte order is at a place that is not the beginning.
+fn is_mark_of_order(text: &[u8], place: usize) -> bool {
+    let at = text.get(place..).unwrap_or(b"");
+    0 < place && at.starts_with(b"\xef\xbb\xbf")
+}
+
 // Whether a piece is where the text has this fault.
 fn is_at(alloc: Global, text: &[u8], piece: Scanned, fault: &LexFault) -> Result<bool, AllocError> {
     let Span { start, end } = piece.span;
@@ -70,6 +76,9 @@ fn is_at(alloc: Global, text: &[u8], piece: Scanned, fault: &LexFault) -> Result
         (LexFault::OpenComment { .. }, Shape::OpenComment)
         | (LexFault::OpenString { .. }, Shape::OpenString) => Ok(true),
         (LexFault::Directive { .. }, Shape::Sign) => Ok(byte_at(text, start) == b'#'),
+        // By itself it would be at the beginning of a text, and of a line.
+        (LexFault::BadCharacter { .. }, Shape::Sign) if byte_at(text, start) == b'#' => Ok(true),
+        (LexFault::BadCharacter { .. }, Shape::Word) if is_mark_of_order(text, start) => Ok(true),
         (LexFault::BadEscape { .. }, Shape::String)
         | (LexFault::BadNumber { .. }, Shape::Word)
         | (LexFault::BadCharacter { .. }, Shape::Word | Shape::Sign) => {
@@ -154,42 +163,75 @@ fn first_bad_escape(text: &[u8], span: Span) -> Span {
     span
 }
 
+// Whether all letters of a word are among some.
+fn is_of(word: &str, allowed: &str) -> bool {
+    for letter in word.chars() {
+        if !allowed.contains(letter) {
+            return false;
+        }
+    }
+    true
+}
+
+const NUMBER: &str = "a number has no 0 in front, unless it is as 0x1F, and is at most 4294967295";
+
 // What helps where a word that begins with a digit is no number.
-fn help_of_number(word: &str) -> &'static str {
-    let is_of = |allowed: &str| word.chars().all(|letter| allowed.contains(letter));
+fn help_of_number(word: &str, before: u8) -> &'static str {
+    let is_based = word.starts_with("0x") || word.starts_with("0X");
+    if before == b'%' {
+        return "a format is a text: it stands between two \"";
+    }
     if word.starts_with("0b") || word.starts_with("0B") {
-        "a number is decimal, or to the base 16 as 0x1F"
-    } else if word.starts_with("0x") || word.starts_with("0X") || word.contains('.') {
-        "a number has no 0 in front, unless it is as 0x1F, and is at most 4294967295"
-    } else if is_of("0123456789uUlL") && !is_of("0123456789") {
-        "a number has no letters behind it"
-    } else if is_of("0123456789_") && word.contains('_') {
-        "the digits of a number stand side by side, without _"
-    } else if word.bytes().any(|byte| byte.is_ascii_alphabetic()) {
+        return "a number is decimal, or to the base 16 as 0x1F";
+    }
+    if word.contains("..") {
+        return "a number is one: a range has a CASE for each";
+    }
+    if is_based || word.contains('.') {
+        return NUMBER;
+    }
+    if is_of(word, "0123456789uUlL") && !is_of(word, "0123456789") {
+        return "a number has no letters behind it";
+    }
+    if is_of(word, "0123456789_") && word.contains('_') {
+        return "the digits of a number stand side by side, without _";
+    }
+    if is_of(word, "0123456789abcdefABCDEFhH") && (word.ends_with('h') || word.ends_with('H')) {
+        return "a number to the base 16 is written as 0x1F";
+    }
+    if word.bytes().any(|byte| byte.is_ascii_alphabetic()) {
         "a name begins with a letter or _"
     } else {
-        "a number has no 0 in front, unless it is as 0x1F, and is at most 4294967295"
+        NUMBER
     }
 }
 
-fn help_of(fault: &LexFault, word: &str) -> &'static str {
+// What helps at a character of ASCII that no token has.
+fn help_of_sign(word: &str, before: u8) -> &'static str {
+    if word.starts_with('\'') && before.is_ascii_digit() {
+        "the digits of a number stand side by side, without a sign"
+    } else if word.starts_with('\'') || word.starts_with('`') {
+        "a text stands between two \", and a character is written as its number"
+    } else if word.starts_with('#') {
+        "a comment is written // .. or /* .. */"
+    } else {
+        "no token has this character outside of strings and comments"
+    }
+}
+
+fn help_of(fault: &LexFault, word: &str, before: u8) -> &'static str {
     match fault {
         LexFault::BadCharacter { .. } if LONGEST_NAME < word.len() => {
             "a name has at most 255 letters, digits and _"
         }
         LexFault::TooLong => "a text has at most 1048576 bytes",
         LexFault::NotUtf8 { .. } => "save the source as UTF-8",
-        LexFault::BadCharacter { .. } if word.starts_with('\'') || word.starts_with('`') => {
-            "a text stands between two \""
-        }
-        LexFault::BadCharacter { .. } => {
-            "no token has this character outside of strings and comments"
-        }
+        LexFault::BadCharacter { .. } => help_of_sign(word, before),
         LexFault::OpenComment { .. } => "the comment that begins here is never closed by */",
         LexFault::OpenString { .. } =>
             "the string that begins here is never closed; a quote may be missing before it",
         LexFault::BadEscape { .. } => "the escapes are \\\" \\\\ \\n \\t and \\|",
-        LexFault::BadNumber { .. } => help_of_number(word),
+        LexFault::BadNumber { .. } => help_of_number(word, before),
         LexFault::Directive { .. } => "run the preprocessor first",
         LexFault::Memory => "",
     }
@@ -327,9 +369,13 @@ pub fn found_in(
         Some(place) => text_in(text, place),
         None => "",
     };
+    let before = match diagnostic.place {
+        Some(place) => byte_at(text, place.start.saturating_sub(1)),
+        None => 0,
+    };
     let help = match named_character(alloc, fault, word)? {
         Some(help) => help,
-        None => String::from_str(alloc, help_of(fault, word))?,
+        None => String::from_str(alloc, help_of(fault, word, before))?,
     };
     diagnostic.help(help)?;
     if may_miss_quote(fault) {

@@ -154,6 +154,8 @@ pub fn missing_before(
     }
 }
 
+const FOR_EQUALS: &[&str] = &[","];
+
 const FOR_EQUAL: &[&str] = &["="];
 
 const FOR_SEMICOLON: &[&str] = &[",", ":"];
@@ -182,6 +184,7 @@ pub fn signs_for(kind: TokenKind) -> &'static [&'static str] {
         return FOR_NOTHING;
     };
     match sign {
+        Symbol::Equals => FOR_EQUALS,
         Symbol::Comparison(Comparison::Equal) => FOR_EQUAL,
         Symbol::Semicolon => FOR_SEMICOLON,
         Symbol::Comma => FOR_COMMA,
@@ -293,6 +296,13 @@ pub fn word_for(word: &str) -> Option<&'static str> {
         "or" | "OR" => Some("||"),
         "not" | "NOT" => Some("!"),
         "then" | "THEN" => Some(""),
+        "MOD" | "mod" => Some("%"),
+        "XOR" | "xor" => Some("^"),
+        "DIV" | "div" => Some("/"),
+        "SWITCH" => Some("SELECT"),
+        "ELIF" | "ELSIF" | "ELSEIF" => Some("ELSE IF"),
+        "ELSE" => Some("DEFAULT"),
+        "EXECUTE" | "RUN" => Some("COMMAND"),
         "bool" | "boolean" | "byte" | "integer" | "var" => Some("int"),
         _ => None,
     }

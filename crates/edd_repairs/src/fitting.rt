@@ -18,6 +18,9 @@ const SEMICOLON: &str = ";";
 
 const OPEN: &str = "{";
 
+/// After a value.
+const OPERATOR: &str = "+";
+
 /// Before a value alone.
 const SIGN: &str = "!";
 
@@ -34,7 +37,7 @@ const WORDS: [&str; 9] = [
     "INDEX",
 ];
 
-const OTHERS: [&str; 23] = [
+const OTHERS: [&str; 24] = [
     "LABEL",
     "NUMBER",
     "TYPE",
@@ -49,6 +52,7 @@ const OTHERS: [&str; 23] = [
     "DD_REVISION",
     "MANUFACTURER",
     "CASE",
+    "COMMAND",
     "IF",
     "while",
     "}",
@@ -70,6 +74,7 @@ fn called(spelling: &'static str) -> &'static str {
         NAME => "a name",
         NUMBER => "a number",
         TEXT => "a text",
+        OPERATOR => "an operator",
         "SUCCESS" => "a class such as SUCCESS",
         "READ_ONLY" => "a word such as READ_ONLY",
         "LABEL" => "an attribute such as LABEL",
@@ -147,7 +152,7 @@ pub fn what_fits<G: Grammar>(alloc: Global, at: Misfit<'_>) -> Result<Option<Str
     if has_number {
         found.add(NUMBER)?;
     }
-    look::<G>(alloc, at, &[TEXT], &mut found)?;
+    look::<G>(alloc, at, &[TEXT, OPERATOR], &mut found)?;
     if has_end {
         found.add(SEMICOLON)?;
     }

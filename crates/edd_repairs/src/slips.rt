@@ -48,6 +48,8 @@ fn help_of_signs(before: &str, sign: &str) -> Option<&'static str> {
         ("=", ">") => Some("greater or equal is written >="),
         ("<", ">") => Some("not equal is written !="),
         ("*", "*") => Some("there is no power: a square is a * a"),
+        (">>", ">") => Some("a shift to the right is written >>"),
+        ("-", ">") | (":", ":") => Some("a member is written c.m"),
         ("=", "!") => Some("not equal is written !="),
         ("==", "=") => Some("equal is written =="),
         _ => None,
@@ -141,8 +143,12 @@ impl<'a> Around<'a> {
 
     // Two signs that other languages join.
     fn signs(&self) -> Option<Slip> {
-        if is_symbol(self.token, Symbol::Colon) && is_symbol(self.ahead()?, Symbol::Equals) {
-            return on(self.token, "a value is assigned by = alone");
+        if is_symbol(self.token, Symbol::Colon) && is_joined(self.token, self.ahead()?) {
+            match self.word(self.ahead()?) {
+                "=" => return on(self.token, "a value is assigned by = alone"),
+                ":" => return on(self.token, "a member is written c.m"),
+                _ => {}
+            }
         }
         if !is_joined(self.before, self.token) {
             return None;
@@ -249,7 +255,18 @@ impl<'a> Around<'a> {
                 )
             }
             (TokenKind::Keyword(_), _) => None,
-            (_, "=") if !self.is_in_method() => on(self.token, "equal is written =="),
+            (TokenKind::String, ",")
+                if self.ahead()?.kind == TokenKind::String
+                    && matches!(self.back(2)?.kind, TokenKind::Keyword(_)) => {
+                on(
+                    self.token,
+                    "one text has all languages, as in \"|en|Level|de|Stand\"",
+                )
+            }
+            (_, "=") if !self.is_in_method() && open_parenthesis(self.at).is_some() => {
+                on(self.token, "equal is written ==")
+            }
+            (_, "=") if !self.is_in_method() => None,
             (TokenKind::Name, _) => None,
             (_, "=") => {
                 on(
@@ -315,6 +332,23 @@ impl<'a> Around<'a> {
                 )
             }
             TokenKind::Symbol(Symbol::OpenParenthesis)
+                if self.before.kind == TokenKind::String && !self.is_in_method() => {
+                on(self.token, "a text has no qualifiers")
+            }
+            TokenKind::Integer(_)
+                if is_symbol(self.before, Symbol::OpenBracket)
+                    && self.back(2)?.kind == TokenKind::Name
+                    && !self.is_in_method() => {
+                on(
+                    self.before,
+                    "a variable is named here, and no element of an array",
+                )
+            }
+            TokenKind::Symbol(Symbol::OpenBracket | Symbol::Operator(Operator::And))
+                if self.before.kind == TokenKind::Name && self.is_in_message() => {
+                on(self.token, "a mask is written as in p <0x0F>")
+            }
+            TokenKind::Symbol(Symbol::OpenParenthesis)
                 if self.before.kind == TokenKind::Name
                     && !self.is_in_method()
                     && !is_type
@@ -326,6 +360,27 @@ impl<'a> Around<'a> {
             }
             _ => None,
         }
+    }
+
+    // Whether the innermost braces around the token are those of a REQUEST or a REPLY.
+    fn is_in_message(&self) -> bool {
+        let mut closed: usize = 0;
+        for count in 1..=self.at.number {
+            let Some(token) = self.back(count) else {
+                return false;
+            };
+            if is_symbol(token, Symbol::CloseBrace) {
+                closed = closed.saturating_add(1);
+            } else if is_symbol(token, Symbol::OpenBrace) {
+                if closed == 0 {
+                    let before = self.at.number.saturating_sub(count).saturating_sub(1);
+                    return is_word(self.at.tokens, before, Keyword::Request)
+                        || is_word(self.at.tokens, before, Keyword::Reply);
+                }
+                closed = closed.saturating_sub(1);
+            }
+        }
+        false
     }
 
     // Whether the token is in the body of a method: the last DEFINITION is after the last word of an
@@ -419,6 +474,24 @@ pub fn slip_at(at: Misfit<'_>) -> Option<Slip> {
         return Some(slip);
     }
     around.parentheses()
+}
+
+/// The last parenthesis of the statement before a token that is not closed.
+pub fn open_parenthesis(at: Misfit<'_>) -> Option<Span> {
+    let around = Around::of(at)?;
+    let mut closed: usize = 0;
+    for count in 1..=at.number.saturating_sub(around.statement()) {
+        let token = around.back(count)?;
+        if is_symbol(token, Symbol::CloseParenthesis) {
+            closed = closed.saturating_add(1);
+        } else if is_symbol(token, Symbol::OpenParenthesis) {
+            if closed == 0 {
+                return Some(span_of(token));
+            }
+            closed = closed.saturating_sub(1);
+        }
+    }
+    None
 }
 
 // The number of the last closing brace before a token.

@@ -5,7 +5,7 @@ use crate::grammar::{Grammar, TextFault};
 use crate::left_out::help_of_left_out;
 use crate::located::{Where, located, place_on, tokens_on};
 use crate::sections::is_item_word;
-use crate::slips::{early_end, slip_at};
+use crate::slips::{early_end, open_parenthesis, slip_at};
 use crate::trials::{Change, Misfit};
 use edd_lexer::token::{Token, TokenKind};
 use edd_lexical_repairs::{Found, help_long_string};
@@ -127,6 +127,10 @@ fn help_change(
             if let Some(place) = at.end_before() {
                 found.place = Some(place);
             }
+            if let (")", Some(open)) = (sign, open_parenthesis(at)) {
+                let text = "a ) is missing, up to here, for the ( that is open";
+                return found.help_at(Some(open), String::from_str(alloc, text)?);
+            }
             format!(in alloc; "a {sign} is missing here")?
         }
         Change::Before(sign) => format!(in alloc; "a {sign} is missing before {word}")?,
@@ -177,7 +181,7 @@ fn help_misfit<G: Grammar>(
     let word = short(at.text, token);
     let text = if at.number == 0 {
         String::from_str(alloc, IDENTIFICATION)?
-    } else if at.wants_text::<G>(alloc)? {
+    } else if at.is_last() && at.wants_text::<G>(alloc)? {
         String::from_str(alloc, "a text belongs here: quotes may be missing")?
     } else if let Some(text) = help_of_left_out(word) {
         String::from_str(alloc, text)?
@@ -213,7 +217,7 @@ fn misfit<G: Grammar>(
     }
     if let Some(kind) = outline.kind_around(at.tokens, at.number) {
         if is_condition(token) {
-            return found.help(String::from_str(alloc, CONDITION)?);
+            return help_condition(alloc, at, found);
         }
         if let Some(attr) = attribute_of(word_of(at.text, token)) {
             if help_attribute(alloc, kind, attr, found)? {
@@ -222,6 +226,17 @@ fn misfit<G: Grammar>(
         }
     }
     help_misfit::<G>(alloc, at, &outline, found)
+}
+
+// Says where a condition stands, or that an attribute has none.
+fn help_condition(alloc: Global, at: Misfit<'_>, found: &mut Diagnostic) -> Result<(), AllocError> {
+    match at.before() {
+        Some(before) if matches!(before.kind, TokenKind::Keyword(_)) => {
+            let word = word_of(at.text, before);
+            found.help(format!(in alloc; "{word} has no condition")?)
+        }
+        _ => found.help(String::from_str(alloc, CONDITION)?),
+    }
 }
 
 const CONDITION: &str =
@@ -310,6 +325,11 @@ fn place_left_out<G: Grammar>(
 
 // The word of a kind of item is left out after ARRAY OF alone.
 fn help_left_out(alloc: Global, word: &str, found: &mut Diagnostic) -> Result<(), AllocError> {
+    if word == Keyword::ResponseCodes.spelling() {
+        let help =
+            "response codes stand in the braces of a COMMAND: a closing brace may be missing before";
+        return found.help(String::from_str(alloc, help)?);
+    }
     if is_item_word(word) {
         let help = "this profile of EDDL has arrays of VARIABLE alone";
         return found.help(String::from_str(alloc, help)?);
@@ -330,7 +350,6 @@ fn help_left_out(alloc: Global, word: &str, found: &mut Diagnostic) -> Result<()
         }
         "LIST" | "RECORD" | "VARIABLE_LIST" => "take a COLLECTION or an ARRAY OF VARIABLE",
         "FLOAT" | "DOUBLE" => "numbers are whole: take INTEGER (4) in a smaller unit",
-        "RESPONSE_CODES" => "response codes stand in the braces of a COMMAND",
         _ => "leave it out",
     };
     let text = format!(in alloc; "this profile of EDDL does not have {word}: {instead}")?;

@@ -205,6 +205,14 @@ impl<'a> Misfit<'a> {
         let Some(token) = self.tokens.get(self.number) else {
             return Ok(());
         };
+        // A value that is put before an operator would be its first operand.
+        let is_operator = matches!(
+            token.kind,
+            TokenKind::Symbol(Symbol::Operator(_) | Symbol::Comparison(_))
+        );
+        if is_operator && matches!(self.kind_before(), Some(TokenKind::Keyword(_))) {
+            return Ok(());
+        }
         let word = word_of(self.text, token);
         for what in missing_before(self.kind_before(), token.kind, word) {
             self.attempt::<G>(alloc, best, Change::Missing(*what))?;
@@ -281,6 +289,15 @@ impl<'a> Misfit<'a> {
             self.attempt_kinds::<G>(alloc, &mut best)?;
         }
         Ok(matches!(best.change, Some(Change::Quoted)))
+    }
+
+    /// Whether a `;` comes after the token.
+    pub fn is_last(&self) -> bool {
+        is_sign(
+            self.tokens,
+            self.number.saturating_add(1),
+            Symbol::Semicolon,
+        )
     }
 
     /// The token before.
