@@ -299,6 +299,8 @@ pub fn word_for(word: &str) -> Option<&'static str> {
         "MOD" | "mod" => Some("%"),
         "XOR" | "xor" => Some("^"),
         "DIV" | "div" => Some("/"),
+        "SHL" | "shl" => Some("<<"),
+        "SHR" | "shr" => Some(">>"),
         "SWITCH" => Some("SELECT"),
         "ELIF" | "ELSIF" | "ELSEIF" => Some("ELSE IF"),
         "ELSE" => Some("DEFAULT"),

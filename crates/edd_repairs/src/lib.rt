@@ -3,6 +3,7 @@
 //! ends.
 #![tactic(auto)]
 
+mod bodies;
 mod candidates;
 mod fitting;
 mod grammar;

@@ -1,10 +1,9 @@
 //! Slips that are known by the tokens around them, each with its own words.
 
+use crate::bodies::statement_slip;
 use crate::trials::Misfit;
 use edd_lexer::token::{Token, TokenKind};
-use edd_reports::outline::Outline;
 use edd_reports::words::{Span, is_sign, is_word, item_kind, span_of, word_of};
-use edd_syntax::numbers::Kind;
 use edd_syntax::operators::Operator;
 use edd_syntax::symbols::{Keyword, Symbol};
 
@@ -20,24 +19,24 @@ const LONGEST: usize = 64;
 
 /// The tokens around the one that does not fit.
 #[derive(Clone, Copy)]
-struct Around<'a> {
-    at: Misfit<'a>,
-    token: &'a Token,
-    before: &'a Token,
+pub struct Around<'a> {
+    pub at: Misfit<'a>,
+    pub token: &'a Token,
+    pub before: &'a Token,
 }
 
-fn on(token: &Token, help: &'static str) -> Option<Slip> {
+pub fn on(token: &Token, help: &'static str) -> Option<Slip> {
     Some(Slip {
         place: span_of(token),
         help,
     })
 }
 
-fn is_symbol(token: &Token, symbol: Symbol) -> bool {
+pub fn is_symbol(token: &Token, symbol: Symbol) -> bool {
     token.kind == TokenKind::Symbol(symbol)
 }
 
-fn is_joined(before: &Token, token: &Token) -> bool {
+pub fn is_joined(before: &Token, token: &Token) -> bool {
     before.end == token.start
 }
 
@@ -49,6 +48,7 @@ fn help_of_signs(before: &str, sign: &str) -> Option<&'static str> {
         ("<", ">") => Some("not equal is written !="),
         ("*", "*") => Some("there is no power: a square is a * a"),
         (">>", ">") => Some("a shift to the right is written >>"),
+        ("^", "^") => Some("there is no ^^: ^ takes bit by bit"),
         ("-", ">") | (":", ":") => Some("a member is written c.m"),
         ("=", "!") => Some("not equal is written !="),
         ("==", "=") => Some("equal is written =="),
@@ -101,7 +101,7 @@ fn is_else_if(word: &str) -> bool {
 }
 
 impl<'a> Around<'a> {
-    fn of(at: Misfit<'a>) -> Option<Around<'a>> {
+    pub fn of(at: Misfit<'a>) -> Option<Around<'a>> {
         Some(Around {
             at,
             token: at.tokens.get(at.number)?,
@@ -109,21 +109,21 @@ impl<'a> Around<'a> {
         })
     }
 
-    fn word(&self, token: &Token) -> &'a str {
+    pub fn word(&self, token: &Token) -> &'a str {
         word_of(self.at.text, token)
     }
 
-    // The token so many places before the one that does not fit.
-    fn back(&self, count: usize) -> Option<&'a Token> {
+    /// The token so many places before the one that does not fit.
+    pub fn back(&self, count: usize) -> Option<&'a Token> {
         self.at.tokens.get(self.at.number.checked_sub(count)?)
     }
 
-    fn ahead(&self) -> Option<&'a Token> {
+    pub fn ahead(&self) -> Option<&'a Token> {
         self.at.tokens.get(self.at.number.saturating_add(1))
     }
 
-    // The number of the token with which the statement begins that holds the one before.
-    fn statement(&self) -> usize {
+    /// The number of the token with which the statement begins that holds the one before.
+    pub fn statement(&self) -> usize {
         let mut first = self.at.number.saturating_sub(1);
         for _ in 0..LONGEST {
             let Some(before) = first.checked_sub(1) else {
@@ -143,6 +143,10 @@ impl<'a> Around<'a> {
 
     // Two signs that other languages join.
     fn signs(&self) -> Option<Slip> {
+        let next = self.ahead();
+        if is_symbol(self.token, Symbol::Tilde) && next.is_some_and(|next| self.word(next) == "=") {
+            return on(self.token, "not equal is written !=");
+        }
         if is_symbol(self.token, Symbol::Colon) && is_joined(self.token, self.ahead()?) {
             match self.word(self.ahead()?) {
                 "=" => return on(self.token, "a value is assigned by = alone"),
@@ -191,7 +195,9 @@ impl<'a> Around<'a> {
     fn names(&self) -> Option<Slip> {
         let first = self.at.tokens.get(self.statement())?;
         let declares = matches!(first.kind, TokenKind::Keyword(Keyword::Int | Keyword::Long));
-        if declares && self.before.kind == TokenKind::Name && self.token.kind == TokenKind::Name {
+        let is_on_line = self.before.line == self.token.line;
+        let are_names = self.before.kind == TokenKind::Name && self.token.kind == TokenKind::Name;
+        if declares && is_on_line && are_names {
             return on(self.token, "a comma stands between two locals: int a, b;");
         }
         if declares && is_symbol(self.token, Symbol::OpenBracket) {
@@ -210,7 +216,6 @@ impl<'a> Around<'a> {
         if is_type && matches!(self.back(2)?.kind, TokenKind::Keyword(Keyword::For)) {
             return on(self.token, "a local is declared before the loop");
         }
-        let are_names = self.before.kind == TokenKind::Name && self.token.kind == TokenKind::Name;
         if are_names && item_kind(self.back(2)?).is_some() {
             return if self.word(self.before) == "void" {
                 on(self.before, "a METHOD has a name alone, and no type")
@@ -383,9 +388,9 @@ impl<'a> Around<'a> {
         false
     }
 
-    // Whether the token is in the body of a method: the last DEFINITION is after the last word of an
-    // item. Words of items stand in no body.
-    fn is_in_method(&self) -> bool {
+    /// Whether the token is in the body of a method: the last DEFINITION is after the last word of an
+    /// item. Words of items stand in no body.
+    pub fn is_in_method(&self) -> bool {
         for count in 1..=self.at.number {
             let Some(token) = self.back(count) else {
                 return false;
@@ -467,6 +472,9 @@ pub fn slip_at(at: Misfit<'_>) -> Option<Slip> {
     if let Some(slip) = around.names() {
         return Some(slip);
     }
+    if let Some(slip) = statement_slip(&around) {
+        return Some(slip);
+    }
     if let Some(slip) = around.value() {
         return Some(slip);
     }
@@ -489,66 +497,6 @@ pub fn open_parenthesis(at: Misfit<'_>) -> Option<Span> {
                 return Some(span_of(token));
             }
             closed = closed.saturating_sub(1);
-        }
-    }
-    None
-}
-
-// The number of the last closing brace before a token.
-fn brace_before(tokens: &[Token], number: usize) -> Option<usize> {
-    for count in 1..=number {
-        let place = number.saturating_sub(count);
-        if is_sign(tokens, place, Symbol::CloseBrace) {
-            return Some(place);
-        }
-    }
-    None
-}
-
-// The brace that ends a method, where a statement comes after it and no item.
-fn end_of_method(at: Misfit<'_>, outline: &Outline) -> Option<Slip> {
-    let brace = at.before()?;
-    let token = at.tokens.get(at.number)?;
-    let is_statement = matches!(
-        token.kind,
-        TokenKind::Name | TokenKind::Keyword(Keyword::MethodIf | Keyword::Return)
-    );
-    let mut last = None;
-    for item in outline.items.iter() {
-        if item.name < at.number {
-            last = Some(item.kind);
-        }
-    }
-    if !is_statement
-        || !is_symbol(brace, Symbol::CloseBrace)
-        || !matches!(last, Some(Kind::Method))
-    {
-        return None;
-    }
-    on(
-        brace,
-        "this brace ends the METHOD: one closing brace may be too many up to here",
-    )
-}
-
-/// The brace that ends the body of a method too early, where statements go on after it.
-pub fn early_end(at: Misfit<'_>, outline: &Outline) -> Option<Slip> {
-    let Some(open) = outline.opened(at.tokens, at.number) else {
-        return end_of_method(at, outline);
-    };
-    if !matches!(
-        outline.kind_around(at.tokens, at.number),
-        Some(Kind::Method)
-    ) {
-        return None;
-    }
-    for number in open..at.number {
-        if is_word(at.tokens, number, Keyword::Definition) {
-            let brace = at.tokens.get(brace_before(at.tokens, at.number)?)?;
-            return on(
-                brace,
-                "this brace ends the body of the method: one closing brace may be too many up to here",
-            );
         }
     }
     None

@@ -6,7 +6,7 @@ use crate::candidates::{
 use crate::grammar::{Grammar, TextFault};
 use crate::located::{Edit, LineTokens, line_of, spread};
 use edd_lexer::token::{Token, TokenKind};
-use edd_reports::words::{Span, is_sign, word_of};
+use edd_reports::words::{Span, is_sign, item_kind, word_of};
 use edd_syntax::operators::{Comparison, Operator};
 use edd_syntax::symbols::{Keyword, Symbol};
 use edd_token_reader::fault::ParseFault;
@@ -168,7 +168,12 @@ impl<'a> Misfit<'a> {
             ) => true,
             // As after the word of an attribute, where other languages have them.
             TokenKind::Symbol(Symbol::Equals | Symbol::Colon) => {
+                let begins = self
+                    .number
+                    .checked_sub(2)
+                    .and_then(|number| self.tokens.get(number));
                 matches!(self.kind_before(), Some(TokenKind::Keyword(_)))
+                    || begins.is_some_and(|token| item_kind(token).is_some())
             }
             _ => false,
         }

@@ -1,0 +1,249 @@
+//! Slips in the bodies of methods that are known by the tokens around them.
+
+use crate::slips::{Around, Slip, is_symbol, on};
+use crate::trials::Misfit;
+use edd_lexer::token::{Token, TokenKind};
+use edd_reports::outline::Outline;
+use edd_reports::words::{is_sign, is_word};
+use edd_syntax::numbers::Kind;
+use edd_syntax::operators::Operator;
+use edd_syntax::symbols::{Keyword, Symbol};
+
+/// How many tokens are looked at for the `for` whose parts these are.
+const LONGEST: usize = 64;
+
+fn is_keyword(token: &Token, word: Keyword) -> bool {
+    token.kind == TokenKind::Keyword(word)
+}
+
+// What is said of a word that begins statements in other languages.
+fn help_of_word(word: &str) -> Option<&'static str> {
+    match word {
+        "begin" | "BEGIN" => Some("statements stand between { and }"),
+        "repeat" | "REPEAT" => Some("such a loop is written do { .. } while (..);"),
+        "try" | "catch" | "throw" => Some("there is no try: a function gives a code"),
+        "print" | "printf" => Some("a text is shown by PUT_MESSAGE(..)"),
+        _ => None,
+    }
+}
+
+// The number of the parenthesis that is open before the token, also across the `;` of a `for`.
+fn open_before(around: &Around<'_>) -> Option<usize> {
+    let mut closed: usize = 0;
+    for count in 1..=LONGEST {
+        let number = around.at.number.checked_sub(count)?;
+        if is_sign(around.at.tokens, number, Symbol::CloseParenthesis) {
+            closed = closed.saturating_add(1);
+        } else if is_sign(around.at.tokens, number, Symbol::OpenParenthesis) {
+            if closed == 0 {
+                return Some(number);
+            }
+            closed = closed.saturating_sub(1);
+        } else if is_sign(around.at.tokens, number, Symbol::OpenBrace) {
+            return None;
+        }
+    }
+    None
+}
+
+// A fourth part of a `for`, or a second expression in one.
+fn part_of_for(around: &Around<'_>) -> Option<Slip> {
+    let help = match around.token.kind {
+        TokenKind::Symbol(Symbol::Semicolon) => "a for has three parts",
+        TokenKind::Symbol(Symbol::Comma) => "one expression stands in each part of a for",
+        _ => return None,
+    };
+    let open = open_before(around)?;
+    if is_word(around.at.tokens, open.checked_sub(1)?, Keyword::For) {
+        return on(around.token, help);
+    }
+    None
+}
+
+// The number of the brace that opened what the one before the token closes.
+fn opened_before(around: &Around<'_>) -> Option<usize> {
+    let mut closed: usize = 0;
+    for count in 1..=around.at.number {
+        let number = around.at.number.saturating_sub(count);
+        if is_sign(around.at.tokens, number, Symbol::CloseBrace) {
+            closed = closed.saturating_add(1);
+        } else if is_sign(around.at.tokens, number, Symbol::OpenBrace) {
+            closed = closed.saturating_sub(1);
+            if closed == 0 {
+                return Some(number);
+            }
+        }
+    }
+    None
+}
+
+// A `do` whose `while` is missing after its braces.
+fn half_of_do(around: &Around<'_>) -> Option<Slip> {
+    if !is_symbol(around.before, Symbol::CloseBrace) {
+        return None;
+    }
+    let word = opened_before(around)?.checked_sub(1)?;
+    if !is_word(around.at.tokens, word, Keyword::Do) {
+        return None;
+    }
+    let token = around.at.tokens.get(word)?;
+    if is_sign(
+        around.at.tokens,
+        word.checked_sub(1)?,
+        Symbol::CloseParenthesis,
+    ) {
+        return on(
+            token,
+            "a loop begins with while (..) or with do, and not with both",
+        );
+    }
+    on(token, "this do ends with while (..); after its braces")
+}
+
+// A statement that does not go on as its word asks.
+fn after_word(around: &Around<'_>) -> Option<Slip> {
+    let is_on_line = around.before.line == around.token.line;
+    match around.before.kind {
+        TokenKind::Keyword(Keyword::Break | Keyword::Continue) if is_on_line => {
+            on(around.token, "break and continue stand alone")
+        }
+        TokenKind::Name if is_symbol(around.token, Symbol::Colon) => {
+            match around.ahead().map(|next| next.kind) {
+                Some(TokenKind::Keyword(Keyword::Int | Keyword::Long)) => {
+                    on(around.before, "a local is declared as in int k;")
+                }
+                _ if around.statement() == around.at.number.saturating_sub(1) => {
+                    on(around.before, "there are no labels, and no goto")
+                }
+                _ => None,
+            }
+        }
+        TokenKind::Name => on(around.before, help_of_word(around.word(around.before))?),
+        _ => None,
+    }
+}
+
+// What may not stand in the place of a statement or of an argument.
+fn in_place(around: &Around<'_>) -> Option<Slip> {
+    let after = around.before.kind;
+    let begins = matches!(
+        after,
+        TokenKind::Symbol(Symbol::CloseParenthesis) | TokenKind::Keyword(Keyword::MethodElse)
+    );
+    match around.token.kind {
+        TokenKind::Keyword(Keyword::MethodElse) => {
+            on(
+                around.token,
+                "this else belongs to no if: one statement, or one block, stands between",
+            )
+        }
+        TokenKind::Keyword(Keyword::Int | Keyword::Long) if begins => {
+            on(
+                around.token,
+                "a local is declared between braces, as in { int k; .. }",
+            )
+        }
+        TokenKind::Symbol(Symbol::Colon)
+            if matches!(after, TokenKind::Symbol(Symbol::CloseParenthesis)) => {
+            on(
+                around.token,
+                "a statement stands right after the parentheses, without a sign",
+            )
+        }
+        TokenKind::Symbol(Symbol::Comma) if is_keyword(around.back(2)?, Keyword::MethodCase) => {
+            on(
+                around.token,
+                "each label has a case of its own, as in case 1: case 2:",
+            )
+        }
+        TokenKind::Symbol(Symbol::Operator(Operator::And))
+            if matches!(
+                after,
+                TokenKind::Symbol(Symbol::OpenParenthesis | Symbol::Comma)
+            ) => {
+            on(
+                around.token,
+                "a variable is named alone, without a sign before it",
+            )
+        }
+        _ => None,
+    }
+}
+
+/// A slip in the body of a method.
+pub fn statement_slip(around: &Around<'_>) -> Option<Slip> {
+    if !around.is_in_method() {
+        return None;
+    }
+    if let Some(slip) = in_place(around) {
+        return Some(slip);
+    }
+    if let Some(slip) = after_word(around) {
+        return Some(slip);
+    }
+    if let Some(slip) = part_of_for(around) {
+        return Some(slip);
+    }
+    half_of_do(around)
+}
+
+// Whether a statement begins with a token.
+fn begins_statement(token: &Token) -> bool {
+    matches!(
+        token.kind,
+        TokenKind::Name
+            | TokenKind::Keyword(
+                Keyword::MethodIf
+                    | Keyword::While
+                    | Keyword::Do
+                    | Keyword::For
+                    | Keyword::Switch
+                    | Keyword::Return
+                    | Keyword::Int
+                    | Keyword::Long
+            )
+    )
+}
+
+// The kind of the last item before a token.
+fn last_item(at: Misfit<'_>, outline: &Outline) -> Option<Kind> {
+    let mut last = None;
+    for item in outline.items.iter() {
+        if item.name < at.number {
+            last = Some(item.kind);
+        }
+    }
+    last
+}
+
+/// The brace that ends a method or its body too early, where statements go on after it.
+pub fn early_end(at: Misfit<'_>, outline: &Outline) -> Option<Slip> {
+    let brace = at.before()?;
+    if !begins_statement(at.tokens.get(at.number)?) || !is_symbol(brace, Symbol::CloseBrace) {
+        return None;
+    }
+    let Some(open) = outline.opened(at.tokens, at.number) else {
+        if !matches!(last_item(at, outline), Some(Kind::Method)) {
+            return None;
+        }
+        return on(
+            brace,
+            "this brace ends the METHOD: one closing brace may be too many up to here",
+        );
+    };
+    if !matches!(
+        outline.kind_around(at.tokens, at.number),
+        Some(Kind::Method)
+    ) {
+        return None;
+    }
+    for number in open..at.number {
+        if is_word(at.tokens, number, Keyword::Definition) {
+            return on(
+                brace,
+                "this brace ends the body of the method: one closing brace may be too many up to here",
+            );
+        }
+    }
+    None
+}
