@@ -173,6 +173,14 @@ fn help_unknown(
     name: &str,
     found: &mut Diagnostic,
 ) -> Result<(), AllocError> {
+    if let Some(item) = source.item(name) {
+        if item.kind == Kind::Method {
+            let text = format!(in alloc;
+                "{name} is a METHOD, which no method calls; it is declared"
+            )?;
+            return found.help_at(source.span(item.name), text);
+        }
+    }
     if let Some(number) = source.declared(name) {
         let text = format!(in alloc; "{name} means nothing here, but is declared")?;
         return found.help_at(source.span(number), text);

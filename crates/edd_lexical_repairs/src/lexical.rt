@@ -199,6 +199,13 @@ fn help_of_number(word: &str, before: u8) -> &'static str {
     if is_of(word, "0123456789abcdefABCDEFhH") && (word.ends_with('h') || word.ends_with('H')) {
         return "a number to the base 16 is written as 0x1F";
     }
+    let letters = word.trim_start_matches(|letter: char| letter.is_ascii_digit());
+    if !letters.is_empty()
+        && letters.len() < 3
+        && letters.bytes().all(|byte| byte.is_ascii_alphabetic())
+    {
+        return "a number has no letters behind it, and a name begins with a letter or _";
+    }
     if word.bytes().any(|byte| byte.is_ascii_alphabetic()) {
         "a name begins with a letter or _"
     } else {

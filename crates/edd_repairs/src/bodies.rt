@@ -50,7 +50,8 @@ fn open_before(around: &Around<'_>) -> Option<usize> {
 fn part_of_for(around: &Around<'_>) -> Option<Slip> {
     let help = match around.token.kind {
         TokenKind::Symbol(Symbol::Semicolon) => "a for has three parts",
-        TokenKind::Symbol(Symbol::Comma) => "one expression stands in each part of a for",
+        TokenKind::Symbol(Symbol::Comma) =>
+            "one expression stands in each part of a for, and ; parts them",
         _ => return None,
     };
     let open = open_before(around)?;
@@ -60,14 +61,14 @@ fn part_of_for(around: &Around<'_>) -> Option<Slip> {
     None
 }
 
-// The number of the brace that opened what the one before the token closes.
-fn opened_before(around: &Around<'_>) -> Option<usize> {
+// The number of the sign that opened what the one before the token closes.
+fn opened_before(around: &Around<'_>, opens: Symbol, closes: Symbol) -> Option<usize> {
     let mut closed: usize = 0;
     for count in 1..=around.at.number {
         let number = around.at.number.saturating_sub(count);
-        if is_sign(around.at.tokens, number, Symbol::CloseBrace) {
+        if is_sign(around.at.tokens, number, closes) {
             closed = closed.saturating_add(1);
-        } else if is_sign(around.at.tokens, number, Symbol::OpenBrace) {
+        } else if is_sign(around.at.tokens, number, opens) {
             closed = closed.saturating_sub(1);
             if closed == 0 {
                 return Some(number);
@@ -77,12 +78,47 @@ fn opened_before(around: &Around<'_>) -> Option<usize> {
     None
 }
 
+// What is missing before a closing brace.
+fn cut_off(around: &Around<'_>) -> Option<Slip> {
+    if !is_symbol(around.token, Symbol::CloseBrace) {
+        return None;
+    }
+    match around.before.kind {
+        TokenKind::Symbol(
+            Symbol::Operator(_)
+            | Symbol::Comparison(_)
+            | Symbol::CompoundAssign(_)
+            | Symbol::Equals
+            | Symbol::LogicalAnd
+            | Symbol::LogicalOr
+            | Symbol::Question
+            | Symbol::OpenParenthesis
+            | Symbol::Comma,
+        ) => on(around.before, "a value is missing after this sign"),
+        TokenKind::Keyword(Keyword::MethodElse) => {
+            on(around.before, "a statement is missing after this else")
+        }
+        TokenKind::Symbol(Symbol::CloseParenthesis) => {
+            let open = opened_before(around, Symbol::OpenParenthesis, Symbol::CloseParenthesis)?;
+            let word = around.at.tokens.get(open.checked_sub(1)?)?;
+            match word.kind {
+                TokenKind::Keyword(
+                    Keyword::MethodIf | Keyword::While | Keyword::For | Keyword::Switch,
+                ) => on(word, "a statement is missing after its parentheses"),
+                _ => None,
+            }
+        }
+        _ => None,
+    }
+}
+
 // A `do` whose `while` is missing after its braces.
 fn half_of_do(around: &Around<'_>) -> Option<Slip> {
     if !is_symbol(around.before, Symbol::CloseBrace) {
         return None;
     }
-    let word = opened_before(around)?.checked_sub(1)?;
+    let open = opened_before(around, Symbol::OpenBrace, Symbol::CloseBrace)?;
+    let word = open.checked_sub(1)?;
     if !is_word(around.at.tokens, word, Keyword::Do) {
         return None;
     }
@@ -98,6 +134,18 @@ fn half_of_do(around: &Around<'_>) -> Option<Slip> {
         );
     }
     on(token, "this do ends with while (..); after its braces")
+}
+
+// Whether two words are the name of a function without the `_` between them.
+fn is_parted(around: &Around<'_>) -> bool {
+    matches!(
+        (around.word(around.before), around.word(around.token)),
+        ("PUT", "MESSAGE")
+            | ("send", "command")
+            | ("save", "values")
+            | ("process", "abort")
+            | ("ivar" | "lvar", "value")
+    )
 }
 
 // A statement that does not go on as its word asks.
@@ -118,6 +166,12 @@ fn after_word(around: &Around<'_>) -> Option<Slip> {
                 _ => None,
             }
         }
+        TokenKind::Name if around.token.kind == TokenKind::Name && is_parted(around) => {
+            on(
+                around.token,
+                "a name of a function is one word, as send_command",
+            )
+        }
         TokenKind::Name => on(around.before, help_of_word(around.word(around.before))?),
         _ => None,
     }
@@ -134,7 +188,7 @@ fn in_place(around: &Around<'_>) -> Option<Slip> {
         TokenKind::Keyword(Keyword::MethodElse) => {
             on(
                 around.token,
-                "this else belongs to no if: one statement, or one block, stands between",
+                "this else belongs to no if: between an if and its else stands one statement, or one block",
             )
         }
         TokenKind::Keyword(Keyword::Int | Keyword::Long) if begins => {
@@ -150,6 +204,22 @@ fn in_place(around: &Around<'_>) -> Option<Slip> {
                 "a statement stands right after the parentheses, without a sign",
             )
         }
+        TokenKind::Symbol(Symbol::CloseParenthesis)
+            if matches!(after, TokenKind::Symbol(Symbol::Comma)) => {
+            on(
+                around.before,
+                "a value is missing after this comma, or the comma is one too many",
+            )
+        }
+        TokenKind::Symbol(Symbol::Comma)
+            if matches!(after, TokenKind::Symbol(Symbol::OpenParenthesis)) => {
+            on(around.token, "a value is missing before ,")
+        }
+        TokenKind::Symbol(Symbol::Operator(Operator::Divide | Operator::Multiply))
+            if matches!(
+                after,
+                TokenKind::Symbol(Symbol::Semicolon | Symbol::OpenBrace | Symbol::CloseBrace)
+            ) => { on(around.token, "a comment is written // .. or /* .. */") }
         TokenKind::Symbol(Symbol::Comma) if is_keyword(around.back(2)?, Keyword::MethodCase) => {
             on(
                 around.token,
@@ -181,28 +251,47 @@ pub fn statement_slip(around: &Around<'_>) -> Option<Slip> {
     if let Some(slip) = after_word(around) {
         return Some(slip);
     }
+    if let Some(slip) = cut_off(around) {
+        return Some(slip);
+    }
     if let Some(slip) = part_of_for(around) {
         return Some(slip);
     }
     half_of_do(around)
 }
 
-// Whether a statement begins with a token.
-fn begins_statement(token: &Token) -> bool {
-    matches!(
-        token.kind,
-        TokenKind::Name
-            | TokenKind::Keyword(
-                Keyword::MethodIf
-                    | Keyword::While
-                    | Keyword::Do
-                    | Keyword::For
-                    | Keyword::Switch
-                    | Keyword::Return
-                    | Keyword::Int
-                    | Keyword::Long
-            )
-    )
+// Whether a statement begins with a token, and no attribute.
+fn begins_statement(at: Misfit<'_>) -> bool {
+    let Some(token) = at.tokens.get(at.number) else {
+        return false;
+    };
+    let next = at.tokens.get(at.number.saturating_add(1));
+    match token.kind {
+        TokenKind::Keyword(
+            Keyword::MethodIf
+            | Keyword::While
+            | Keyword::Do
+            | Keyword::For
+            | Keyword::Switch
+            | Keyword::Return
+            | Keyword::Int
+            | Keyword::Long,
+        ) => true,
+        TokenKind::Name => match next {
+            Some(next) => matches!(
+                next.kind,
+                TokenKind::Symbol(
+                    Symbol::OpenParenthesis
+                        | Symbol::Equals
+                        | Symbol::CompoundAssign(_)
+                        | Symbol::Increment
+                        | Symbol::Decrement
+                )
+            ),
+            None => false,
+        },
+        _ => false,
+    }
 }
 
 // The kind of the last item before a token.
@@ -219,7 +308,7 @@ fn last_item(at: Misfit<'_>, outline: &Outline) -> Option<Kind> {
 /// The brace that ends a method or its body too early, where statements go on after it.
 pub fn early_end(at: Misfit<'_>, outline: &Outline) -> Option<Slip> {
     let brace = at.before()?;
-    if !begins_statement(at.tokens.get(at.number)?) || !is_symbol(brace, Symbol::CloseBrace) {
+    if !begins_statement(at) || !is_symbol(brace, Symbol::CloseBrace) {
         return None;
     }
     let Some(open) = outline.opened(at.tokens, at.number) else {

@@ -303,7 +303,7 @@ pub fn word_for(word: &str) -> Option<&'static str> {
         "SHR" | "shr" => Some(">>"),
         "SWITCH" => Some("SELECT"),
         "ELIF" | "ELSIF" | "ELSEIF" => Some("ELSE IF"),
-        "ELSE" => Some("DEFAULT"),
+        "ELSE" | "OTHERWISE" => Some("DEFAULT"),
         "EXECUTE" | "RUN" => Some("COMMAND"),
         "bool" | "boolean" | "byte" | "integer" | "var" => Some("int"),
         _ => None,

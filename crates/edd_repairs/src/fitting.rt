@@ -37,7 +37,7 @@ const WORDS: [&str; 9] = [
     "INDEX",
 ];
 
-const OTHERS: [&str; 24] = [
+const OTHERS: [&str; 25] = [
     "LABEL",
     "NUMBER",
     "TYPE",
@@ -52,6 +52,7 @@ const OTHERS: [&str; 24] = [
     "DD_REVISION",
     "MANUFACTURER",
     "CASE",
+    "DEFAULT",
     "COMMAND",
     "IF",
     "while",

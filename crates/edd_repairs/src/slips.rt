@@ -239,10 +239,21 @@ impl<'a> Around<'a> {
             (TokenKind::Integer(_), ",") => {
                 let next = self.ahead()?;
                 let is_number = matches!(next.kind, TokenKind::Integer(_));
-                if is_number && is_joined(self.before, self.token) && is_joined(self.token, next) {
-                    return on(self.token, "numbers are whole: take a smaller unit");
+                if !is_number
+                    || !is_joined(self.before, self.token)
+                    || !is_joined(self.token, next)
+                {
+                    return None;
                 }
-                None
+                let is_group = self.word(next).len() == 3;
+                on(
+                    self.token,
+                    if is_group {
+                        "the digits of a number stand side by side, without a sign"
+                    } else {
+                        "numbers are whole: take a smaller unit"
+                    },
+                )
             }
             (TokenKind::Symbol(Symbol::CloseBracket), _)
                 if matches!(
@@ -324,6 +335,22 @@ impl<'a> Around<'a> {
             "INTEGER" | "UNSIGNED_INTEGER" | "ENUMERATED" | "BIT_ENUMERATED"
         );
         match self.token.kind {
+            TokenKind::Keyword(Keyword::Int | Keyword::Long)
+                if self.before.kind == TokenKind::Keyword(Keyword::Type) => {
+                on(
+                    self.token,
+                    "the type of a variable is INTEGER or UNSIGNED_INTEGER",
+                )
+            }
+            TokenKind::Integer(_) if matches!(self.before.kind, TokenKind::Integer(_)) => {
+                on(self.token, "the digits of a number stand side by side")
+            }
+            TokenKind::Symbol(Symbol::CloseBrace)
+                if matches!(self.before.kind, TokenKind::Integer(_))
+                    && is_symbol(self.back(2)?, Symbol::OpenBrace)
+                    && !self.is_in_method() => {
+                on(self.token, "an enumerator has a text, as in { 1, \"one\" }")
+            }
             TokenKind::Integer(_) if is_type => {
                 on(
                     self.token,
@@ -447,7 +474,9 @@ impl<'a> Around<'a> {
                 "this is a mark of a merge, of which one side is to be taken",
             );
         }
-        if line.starts_with(b"--") && !self.is_in_method() {
+        let second = self.at.tokens.get(self.at.line.first.saturating_add(2))?;
+        let are_words = second.kind == TokenKind::Name && second.line == first.line;
+        if line.starts_with(b"--") && (are_words || !self.is_in_method()) {
             return on(first, "a comment is written // .. or /* .. */");
         }
         None

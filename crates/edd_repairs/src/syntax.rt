@@ -350,6 +350,9 @@ fn help_left_out(alloc: Global, word: &str, found: &mut Diagnostic) -> Result<()
             "leave the item out, and show its variables in a menu"
         }
         "LIST" | "RECORD" | "VARIABLE_LIST" => "take a COLLECTION or an ARRAY OF VARIABLE",
+        _ if word.starts_with("MIN_VALUE") || word.starts_with("MAX_VALUE") => {
+            "take MIN_VALUE and MAX_VALUE, with IF where they change"
+        }
         "FLOAT" | "DOUBLE" => "numbers are whole: take INTEGER (4) in a smaller unit",
         _ => "leave it out",
     };
