@@ -1,6 +1,6 @@
 //! Slips in the bodies of methods that are known by the tokens around them.
 
-use crate::slips::{Around, Slip, is_symbol, on};
+use crate::around::{Around, Slip, is_symbol, on};
 use crate::trials::Misfit;
 use edd_lexer::token::{Token, TokenKind};
 use edd_reports::outline::Outline;

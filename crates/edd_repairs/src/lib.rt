@@ -3,6 +3,7 @@
 //! ends.
 #![tactic(auto)]
 
+mod around;
 mod bodies;
 mod candidates;
 mod fitting;

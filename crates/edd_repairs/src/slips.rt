@@ -1,44 +1,12 @@
 //! Slips that are known by the tokens around them, each with its own words.
 
+use crate::around::{Around, Slip, is_joined, is_symbol, on, open_parenthesis};
 use crate::bodies::statement_slip;
 use crate::trials::Misfit;
 use edd_lexer::token::{Token, TokenKind};
-use edd_reports::words::{Span, is_sign, is_word, item_kind, span_of, word_of};
+use edd_reports::words::{Span, is_sign, is_word, item_kind};
 use edd_syntax::operators::Operator;
 use edd_syntax::symbols::{Keyword, Symbol};
-
-/// What is wrong, and where that is.
-#[derive(Clone, Copy)]
-pub struct Slip {
-    pub place: Span,
-    pub help: &'static str,
-}
-
-/// How many tokens are looked at for where a statement begins.
-const LONGEST: usize = 64;
-
-/// The tokens around the one that does not fit.
-#[derive(Clone, Copy)]
-pub struct Around<'a> {
-    pub at: Misfit<'a>,
-    pub token: &'a Token,
-    pub before: &'a Token,
-}
-
-pub fn on(token: &Token, help: &'static str) -> Option<Slip> {
-    Some(Slip {
-        place: span_of(token),
-        help,
-    })
-}
-
-pub fn is_symbol(token: &Token, symbol: Symbol) -> bool {
-    token.kind == TokenKind::Symbol(symbol)
-}
-
-pub fn is_joined(before: &Token, token: &Token) -> bool {
-    before.end == token.start
-}
 
 // What two signs that are joined are meant as.
 fn help_of_signs(before: &str, sign: &str) -> Option<&'static str> {
@@ -101,46 +69,6 @@ fn is_else_if(word: &str) -> bool {
 }
 
 impl<'a> Around<'a> {
-    pub fn of(at: Misfit<'a>) -> Option<Around<'a>> {
-        Some(Around {
-            at,
-            token: at.tokens.get(at.number)?,
-            before: at.before()?,
-        })
-    }
-
-    pub fn word(&self, token: &Token) -> &'a str {
-        word_of(self.at.text, token)
-    }
-
-    /// The token so many places before the one that does not fit.
-    pub fn back(&self, count: usize) -> Option<&'a Token> {
-        self.at.tokens.get(self.at.number.checked_sub(count)?)
-    }
-
-    pub fn ahead(&self) -> Option<&'a Token> {
-        self.at.tokens.get(self.at.number.saturating_add(1))
-    }
-
-    /// The number of the token with which the statement begins that holds the one before.
-    pub fn statement(&self) -> usize {
-        let mut first = self.at.number.saturating_sub(1);
-        for _ in 0..LONGEST {
-            let Some(before) = first.checked_sub(1) else {
-                break;
-            };
-            let ends = matches!(
-                self.at.tokens.get(before).map(|token| token.kind),
-                Some(TokenKind::Symbol(Symbol::Semicolon | Symbol::OpenBrace | Symbol::CloseBrace))
-            );
-            if ends {
-                break;
-            }
-            first = before;
-        }
-        first
-    }
-
     // Two signs that other languages join.
     fn signs(&self) -> Option<Slip> {
         let next = self.ahead();
@@ -415,23 +343,6 @@ impl<'a> Around<'a> {
         false
     }
 
-    /// Whether the token is in the body of a method: the last DEFINITION is after the last word of an
-    /// item. Words of items stand in no body.
-    pub fn is_in_method(&self) -> bool {
-        for count in 1..=self.at.number {
-            let Some(token) = self.back(count) else {
-                return false;
-            };
-            if token.kind == TokenKind::Keyword(Keyword::Definition) {
-                return true;
-            }
-            if item_kind(token).is_some() {
-                return false;
-            }
-        }
-        false
-    }
-
     // What the tokens right before say.
     fn neighbours(&self) -> Option<Slip> {
         let is_word = matches!(self.token.kind, TokenKind::Name | TokenKind::Keyword(_));
@@ -511,22 +422,4 @@ pub fn slip_at(at: Misfit<'_>) -> Option<Slip> {
         return Some(slip);
     }
     around.parentheses()
-}
-
-/// The last parenthesis of the statement before a token that is not closed.
-pub fn open_parenthesis(at: Misfit<'_>) -> Option<Span> {
-    let around = Around::of(at)?;
-    let mut closed: usize = 0;
-    for count in 1..=at.number.saturating_sub(around.statement()) {
-        let token = around.back(count)?;
-        if is_symbol(token, Symbol::CloseParenthesis) {
-            closed = closed.saturating_add(1);
-        } else if is_symbol(token, Symbol::OpenParenthesis) {
-            if closed == 0 {
-                return Some(span_of(token));
-            }
-            closed = closed.saturating_sub(1);
-        }
-    }
-    None
 }

@@ -1,12 +1,13 @@
 //! What is said of a text that spells no unit.
 
+use crate::around::open_parenthesis;
 use crate::bodies::early_end;
 use crate::fitting::what_fits;
 use crate::grammar::{Grammar, TextFault};
 use crate::left_out::help_of_left_out;
 use crate::located::{Where, located, place_on, tokens_on};
 use crate::sections::is_item_word;
-use crate::slips::{open_parenthesis, slip_at};
+use crate::slips::slip_at;
 use crate::trials::{Change, Misfit};
 use edd_lexer::token::{Token, TokenKind};
 use edd_lexical_repairs::{Found, help_long_string};
