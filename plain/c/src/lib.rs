@@ -26,6 +26,20 @@ fn stop(_: &core::panic::PanicInfo<'_>) -> ! {
 #[unsafe(no_mangle)]
 extern "C" fn rust_eh_personality() {}
 
+/// The places of the fields of a session, as the tests of the header have them.
+const _: () = {
+    use core::mem::{offset_of, size_of};
+    assert!(offset_of!(PlainSession, place) == 8 && offset_of!(PlainSession, operands) == 16);
+    assert!(offset_of!(PlainSession, slots) == 528 && offset_of!(PlainSession, turn) == 808);
+    assert!(offset_of!(PlainSession, abort_methods) == 784);
+    assert!(offset_of!(PlainSession, method) == 800);
+    assert!(offset_of!(PlainSession, operand_count) == 802);
+    assert!(offset_of!(PlainSession, abort_count) == 804);
+    assert!(offset_of!(PlainSession, is_aborting) == 806);
+    assert!(offset_of!(PlainTurn, trap) == 16 && offset_of!(PlainTurn, turn) == 18);
+    assert!(size_of::<PlainTurn>() == 20);
+};
+
 /// A name or a text, as the header has it.
 #[repr(C)]
 pub struct Words {
