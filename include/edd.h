@@ -353,11 +353,11 @@ typedef struct edd_session {
 } edd_session;
 
 /*
- * Whatever the numbers of an edd_session are, by a wild write or as they lay in memory, every call is safe. Each
- * looks at all of them first, and unless they are those of a state that the method may have under the values, it
- * answers EDD_NO_SESSION and writes nothing. (A wild write that leaves such a state behind is not noticed.) It never
- * answers EDD_NO_SESSION of a session that only these calls have written, over its image and with values in their
- * ranges.
+ * Whatever the numbers of an edd_session are, by a wild write or as they lay in memory, every call is safe.
+ * edd_advance and edd_reply look at all of them first, and unless they are those of a state that the method may have
+ * under the values, they answer EDD_NO_SESSION and write nothing. (A wild write that leaves such a state behind is
+ * not noticed.) No call answers EDD_NO_SESSION of a session that only these calls have written, over its image and
+ * with values in their ranges.
  *
  * `values` are `count` numbers, one for each variable: what the device holds, as far as the program knows. The calls
  * read and write them in place. The array may lie elsewhere at the next call.

@@ -1,5 +1,5 @@
 -- What the numbers of a session stand for, and what makes them one.
-use Rattle.std.proofs.Common.{◌≡◌, ◌≤◌, ℕ, ℤ, pos, Bool, true, cond, List, [], length, take, Option, Some, None, refl, sym, ap, subst, ◌∙◌}
+use Rattle.std.proofs.Common.{◌≡◌, ◌≤◌, ℕ, ℤ, pos, Bool, true, false, cond, List, [], length, take, replicate, Option, Some, None, refl, sym, ap, subst, ◌∙◌}
 use Rattle.std.specs.Prelude.{reverse}
 use Rattle.std.specs.List.{AllByRecursion}
 use Rattle.std.proofs.lemmas.Bool.{le-leb}
@@ -138,6 +138,32 @@ written b p m values w row found unit =
     ∙ (bound (flag_from p.is_aborting) m.is_aborting _ w.aborting
     ∙ (ap (λ (test : Bool). cond test
     (Some (state_at b p values row m.status m.is_aborting)) None) fit
+    ∙ ap (λ (s : State). Some s) state)))
+
+-- numbers at the start of a unit stand for its opening
+pub begins : (b : List ℕ) (p : PlainSession) (values : List ℤ) (row : AttributeFields)
+    → body_of (contents_in b) (record { 0 = p.method }) ≡ Some row → p.place ≡ 0
+    → p.operand_count ≡ 0 → p.abort_count ≡ 0 → p.is_aborting ≡ 0
+    → p.turn ≡ plain_turn (turn_of status.Running)
+    → take (unit_at b row).slots p.slots ≡ replicate (unit_at b row).slots (pos 0)
+    → state_in b p values
+    ≡ Some (opening (running_unit b (unit_at b row)) (unit_at b row).slots values)
+begins b p values row found place operands methods aborting shown slots =
+    let flag : flag_from p.is_aborting ≡ Some false = ap flag_from aborting in
+    let fit : counts_fit p ≡ true = rw (operands, methods) refl in
+    let state : state_at b p values row status.Running false
+    ≡ opening (running_unit b (unit_at b row)) (unit_at b row).slots values =
+    same_state values status.Running false (running_unit b (unit_at b row))
+    (running_unit b (unit_at b row)) p.place 0 (reverse (take p.operand_count p.operands)) []
+    (take (unit_at b row).slots p.slots) (replicate (unit_at b row).slots (pos 0))
+    (methods_of (take p.abort_count p.abort_methods)) [] refl place
+    (ap (λ (n : ℕ). reverse (take n p.operands)) operands) slots
+    (ap (λ (n : ℕ). methods_of (take n p.abort_methods)) methods) in
+    bound (body_of (contents_in b) (record { 0 = p.method })) row _ found
+    ∙ (bound (status_from p.turn) status.Running _ (ap status_from shown)
+    ∙ (bound (flag_from p.is_aborting) false _ flag
+    ∙ (ap (λ (test : Bool). cond test (Some (state_at b p values row status.Running false)) None)
+    fit
     ∙ ap (λ (s : State). Some s) state)))
 
 -- a machine that was opened on a unit is at its start

@@ -1,16 +1,20 @@
 //! Sessions that a program in C starts, advances, answers and looks at.
 
-ghost use Rattle.std.specs.Prelude.{◌≡◌, ◌+◌, ◌<◌, IfErr, IfNone, IfOk, IfSome, OnErr, OnOk, length, map, option_map};
+ghost use Rattle.std.specs.Prelude.{◌≡◌, ◌+◌, ◌<◌, ◌≤◌, ℕ, ℤ, List, Some, IfErr, IfNone, IfOk, IfSome, OnErr, OnOk, length, map, option_map};
 ghost use Rattle.std.specs.List.{AllByRecursion};
 ghost use Rattle.edd_syntax.specs.Answers.{sets_fault, values_set};
+ghost use Rattle.edd_image.specs.Contents.{AttributeFields, contents_in};
+ghost use Rattle.edd_instructions.specs.Reading.{body_of};
+ghost use Rattle.edd_instructions.specs.Steps.{opening};
 ghost use Rattle.edd_machine.specs.Faults.{set_fault_of};
+ghost use Rattle.edd_machine.specs.Running.{running_unit, unit_at};
 ghost use Rattle.edd_machine.specs.Types.{types_in};
 ghost use Rattle.edd_port.specs.Faults.{IsStartFault, answer_fault_of};
 ghost use Rattle.edd_port.specs.Refusals.{CodeFits, code_of, refusal, sets_of};
 ghost use Rattle.edd_port.specs.Runs.{counted};
 ghost use Rattle.edd_port.specs.Turns.{turn_of};
 ghost use Rattle.edd_embed.specs.Playing.{answer_with, change_of};
-ghost use Rattle.edd_embed.specs.Sessions.{Advances, Answers, IsSession, IsSessionRefusal, Starts, answer_given, plain_turn, status_from};
+ghost use Rattle.edd_embed.specs.Sessions.{Advances, Answers, IsSession, IsSessionRefusal, Starts, answer_given, plain_turn, state_in, status_from};
 
 use crate::answers::{Given, Setting, cut};
 use crate::keeping::keep;
@@ -18,9 +22,32 @@ use crate::sessions::{PlainSession, parts_of, resume};
 use crate::turns::{PlainTurn, SessionRefusal, plain_turn, status_from};
 use edd_instructions::Status;
 use edd_loader::Image;
-use edd_machine::{Machine, SetFault, are_values, find_body, set_fault};
-use edd_port::{AnswerFault, StartFault, execute, fault_of_set, go_on, turn_of};
+use edd_machine::{CodeUnit, Machine, SetFault, are_values, find_body, set_fault};
+use edd_port::{AnswerFault, StartFault, Turn, execute, fault_of_set, go_on, turn_of};
 use edd_syntax::numbers::{MethNo, VarNo};
+
+// A session at the start of the body of a method.
+fn at_start(unit: CodeUnit) -> PlainSession
+    requires { unit.slots ≤ 64 }
+    ensures stands { (b : List ℕ) (values : List ℤ) (row : AttributeFields)
+        → body_of (contents_in b) (record { 0 = unit.item }) ≡ Some row → unit ≡ unit_at b row
+        → state_in b result values
+        ≡ Some (opening (running_unit b unit) unit.slots values) }
+    ensures taken { result.taken ≡ 0 }
+{
+    PlainSession {
+        taken: 0,
+        place: 0,
+        operands: [0; 128],
+        slots: [0; 64],
+        abort_methods: [0; 8],
+        method: unit.item,
+        operand_count: 0,
+        abort_count: 0,
+        is_aborting: 0,
+        turn: plain_turn(Turn::Spent),
+    }
+}
 
 /// Starts a method under these values: writes all of the session.
 ///
@@ -43,20 +70,7 @@ pub fn start_session(
     if !are_values(image, values) {
         return Err(StartFault::WrongValues);
     }
-    let machine = Machine::open(unit);
-    *session = PlainSession {
-        taken: 0,
-        place: 0,
-        operands: [0; 128],
-        slots: [0; 64],
-        abort_methods: [0; 8],
-        method: 0,
-        operand_count: 0,
-        abort_count: 0,
-        is_aborting: 0,
-        turn: plain_turn(turn_of(machine.status)),
-    };
-    keep(&machine, session);
+    *session = at_start(unit);
     Ok(())
 }
 

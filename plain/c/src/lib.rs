@@ -31,9 +31,8 @@ const _: () = {
     use core::mem::{offset_of, size_of};
     assert!(offset_of!(PlainSession, place) == 8 && offset_of!(PlainSession, operands) == 16);
     assert!(offset_of!(PlainSession, slots) == 528 && offset_of!(PlainSession, turn) == 808);
-    assert!(
-        offset_of!(PlainSession, abort_methods) == 784 && offset_of!(PlainSession, method) == 800
-    );
+    assert!(offset_of!(PlainSession, abort_methods) == 784);
+    assert!(offset_of!(PlainSession, method) == 800);
     assert!(offset_of!(PlainSession, operand_count) == 802);
     assert!(offset_of!(PlainSession, abort_count) == 804);
     assert!(offset_of!(PlainSession, is_aborting) == 806);
@@ -144,10 +143,7 @@ pub unsafe extern "C" fn edd_name(
     name: *mut Words,
 ) -> u32 {
     let image = with_image!(bytes, length, image);
-    given!(
-        edd_embed::name_of(&image, kind, number).map(Words::of),
-        name
-    )
+    given!(edd_embed::name_of(&image, kind, number).map(Words::of), name)
 }
 
 #[unsafe(no_mangle)]
@@ -162,10 +158,7 @@ pub unsafe extern "C" fn edd_text(
 ) -> u32 {
     let image = with_image!(bytes, length, image);
     let code = unsafe { list(code, code_length) };
-    given!(
-        edd_embed::text_for(&image, string, code).map(Words::of),
-        text
-    )
+    given!(edd_embed::text_for(&image, string, code).map(Words::of), text)
 }
 
 #[unsafe(no_mangle)]
