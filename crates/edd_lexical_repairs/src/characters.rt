@@ -28,6 +28,8 @@ fn sign(character: char) -> Option<Lookalike> {
         '\u{2009}' => named("THIN SPACE", "a space"),
         '\u{202f}' => named("NARROW NO-BREAK SPACE", "a space"),
         '\u{3000}' => named("IDEOGRAPHIC SPACE", "a space"),
+        '\u{2028}' => named("LINE SEPARATOR", UNSEEN),
+        '\u{2029}' => named("PARAGRAPH SEPARATOR", UNSEEN),
         '\u{200b}' => named("ZERO WIDTH SPACE", UNSEEN),
         '\u{200c}' => named("ZERO WIDTH NON-JOINER", UNSEEN),
         '\u{200d}' => named("ZERO WIDTH JOINER", UNSEEN),
@@ -129,6 +131,9 @@ pub fn help_of_character(alloc: Global, character: char) -> Result<String, Alloc
         } else {
             format!(in alloc; "U+{code:04X} {name} looks like {like}")
         };
+    }
+    if character.is_ascii_control() {
+        return format!(in alloc; "U+{code:04X} is not seen: leave it out");
     }
     if let Some(sign) = narrow(character) {
         return format!(in alloc; "U+{code:04X} is {sign} of twice the width");

@@ -22,7 +22,8 @@ fn named_character(
     word: &str,
 ) -> Result<Option<String>, AllocError> {
     match (fault, word.chars().next()) {
-        (LexFault::BadCharacter { .. }, Some(character)) if !character.is_ascii() => {
+        (LexFault::BadCharacter { .. }, Some(character))
+            if !character.is_ascii() || character.is_ascii_control() => {
             Ok(Some(help_of_character(alloc, character)?))
         }
         _ => Ok(None),
