@@ -3,9 +3,9 @@
 use crate::sources::{BUILTINS, Source};
 use edd_breaches::{Breach, Rule};
 use edd_name_meanings::fault::NameFault;
-use edd_repairs::help_of_left_out;
 use edd_reports::diagnostic::{Diagnostic, Finding};
 use edd_reports::nearest::Nearest;
+use edd_slips::help_of_left_out;
 use edd_syntax::limits::Limit;
 use edd_syntax::numbers::Kind;
 use edd_syntax::operators::{Builtin, Parameter};

@@ -3,23 +3,18 @@
 //! ends.
 #![tactic(auto)]
 
-mod around;
-mod bodies;
 mod candidates;
 mod fitting;
 mod grammar;
 mod later;
-mod left_out;
 mod located;
 mod sections;
-mod slips;
 mod syntax;
 mod trials;
 
 pub use edd_lexical_repairs::Found;
 pub use grammar::{Grammar, TextFault, tokens_of};
 pub use later::{LaterFault, explained, later_faults};
-pub use left_out::help_of_left_out;
 use std::alloc::{AllocError, Global};
 
 /// What is said of a fault of a text, which is printed as `refusal`.

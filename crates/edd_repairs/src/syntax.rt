@@ -1,19 +1,16 @@
 //! What is said of a text that spells no unit.
 
-use crate::around::open_parenthesis;
-use crate::bodies::early_end;
 use crate::fitting::what_fits;
 use crate::grammar::{Grammar, TextFault};
-use crate::left_out::help_of_left_out;
 use crate::located::{Where, located, place_on, tokens_on};
 use crate::sections::is_item_word;
-use crate::slips::slip_at;
 use crate::trials::{Change, Misfit};
 use edd_lexer::token::{Token, TokenKind};
 use edd_lexical_repairs::{Found, help_long_string};
 use edd_reports::diagnostic::{Diagnostic, Finding};
 use edd_reports::outline::Outline;
 use edd_reports::words::{Span, item_kind, kind_word, span_of, word_of};
+use edd_slips::{early_end, help_of_left_out, open_parenthesis, slip_at};
 use edd_syntax::numbers::{ATTRIBUTES, Attr, KINDS, Kind};
 use edd_syntax::symbols::Keyword;
 use edd_token_reader::fault::ParseFault;
@@ -129,7 +126,7 @@ fn help_change(
             if let Some(place) = at.end_before() {
                 found.place = Some(place);
             }
-            if let (")", Some(open)) = (sign, open_parenthesis(at)) {
+            if let (")", Some(open)) = (sign, open_parenthesis(at.place())) {
                 let text = "a ) is missing, up to here, for the ( that is open";
                 return found.help_at(Some(open), String::from_str(alloc, text)?);
             }
@@ -210,11 +207,11 @@ fn misfit<G: Grammar>(
         return help_end(alloc, at.tokens, &outline, found);
     };
     found.place = Some(span_of(token));
-    if let Some(slip) = slip_at(at) {
+    if let Some(slip) = slip_at(at.place()) {
         found.place = Some(slip.place);
         return found.help(String::from_str(alloc, slip.help)?);
     }
-    if let Some(end) = early_end(at, &outline) {
+    if let Some(end) = early_end(at.place(), &outline) {
         return found.help_at(Some(end.place), String::from_str(alloc, end.help)?);
     }
     if let Some(kind) = outline.kind_around(at.tokens, at.number) {

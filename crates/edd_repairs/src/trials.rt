@@ -7,6 +7,7 @@ use crate::grammar::{Grammar, TextFault};
 use crate::located::{Edit, LineTokens, line_of, spread};
 use edd_lexer::token::{Token, TokenKind};
 use edd_reports::words::{Span, is_sign, item_kind, word_of};
+use edd_slips::At;
 use edd_syntax::operators::{Comparison, Operator};
 use edd_syntax::symbols::{Keyword, Symbol};
 use edd_token_reader::fault::ParseFault;
@@ -294,6 +295,16 @@ impl<'a> Misfit<'a> {
             self.attempt_kinds::<G>(alloc, &mut best)?;
         }
         Ok(matches!(best.change, Some(Change::Quoted)))
+    }
+
+    /// The place of the token among the others.
+    pub fn place(&self) -> At<'a> {
+        At {
+            text: self.text,
+            tokens: self.tokens,
+            number: self.number,
+            first: self.line.first,
+        }
     }
 
     /// Whether a `;` comes after the token.

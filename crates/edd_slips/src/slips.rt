@@ -1,8 +1,7 @@
 //! Slips that are known by the tokens around them, each with its own words.
 
-use crate::around::{Around, Slip, is_joined, is_symbol, on, open_parenthesis};
+use crate::around::{Around, At, Slip, is_joined, is_symbol, on, open_parenthesis};
 use crate::bodies::statement_slip;
-use crate::trials::Misfit;
 use edd_lexer::token::{Token, TokenKind};
 use edd_reports::words::{Span, is_sign, is_word, item_kind};
 use edd_syntax::operators::Operator;
@@ -374,7 +373,7 @@ impl<'a> Around<'a> {
                 "no comment is open here: comments do not stand inside of one another",
             );
         }
-        let first = self.at.tokens.get(self.at.line.first)?;
+        let first = self.at.tokens.get(self.at.first)?;
         let line = self.at.text.get(first.start as usize..).unwrap_or(b"");
         if line.starts_with(b"<<<<<<<")
             || line.starts_with(b"=======")
@@ -385,7 +384,7 @@ impl<'a> Around<'a> {
                 "this is a mark of a merge, of which one side is to be taken",
             );
         }
-        let second = self.at.tokens.get(self.at.line.first.saturating_add(2))?;
+        let second = self.at.tokens.get(self.at.first.saturating_add(2))?;
         let are_words = second.kind == TokenKind::Name && second.line == first.line;
         if line.starts_with(b"--") && (are_words || !self.is_in_method()) {
             return on(first, "a comment is written // .. or /* .. */");
@@ -395,7 +394,7 @@ impl<'a> Around<'a> {
 }
 
 /// A slip that is known by the tokens around the one that does not fit.
-pub fn slip_at(at: Misfit<'_>) -> Option<Slip> {
+pub fn slip_at(at: At<'_>) -> Option<Slip> {
     let around = Around::of(at)?;
     if let Some(slip) = around.neighbours() {
         return Some(slip);

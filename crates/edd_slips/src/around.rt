@@ -1,6 +1,5 @@
 //! The tokens around the one that does not fit.
 
-use crate::trials::Misfit;
 use edd_lexer::token::{Token, TokenKind};
 use edd_reports::words::{Span, item_kind, span_of, word_of};
 use edd_syntax::symbols::{Keyword, Symbol};
@@ -15,10 +14,20 @@ pub struct Slip {
 /// How many tokens are looked at for where a statement begins.
 const LONGEST: usize = 64;
 
+/// A text, its tokens, the number of the one that does not fit, and that of the first one of its
+/// line.
+#[derive(Clone, Copy)]
+pub struct At<'a> {
+    pub text: &'a [u8],
+    pub tokens: &'a [Token],
+    pub number: usize,
+    pub first: usize,
+}
+
 /// The tokens around the one that does not fit.
 #[derive(Clone, Copy)]
 pub struct Around<'a> {
-    pub at: Misfit<'a>,
+    pub at: At<'a>,
     pub token: &'a Token,
     pub before: &'a Token,
 }
@@ -39,11 +48,11 @@ pub fn is_joined(before: &Token, token: &Token) -> bool {
 }
 
 impl<'a> Around<'a> {
-    pub fn of(at: Misfit<'a>) -> Option<Around<'a>> {
+    pub fn of(at: At<'a>) -> Option<Around<'a>> {
         Some(Around {
             at,
             token: at.tokens.get(at.number)?,
-            before: at.before()?,
+            before: at.tokens.get(at.number.checked_sub(1)?)?,
         })
     }
 
@@ -98,7 +107,7 @@ impl<'a> Around<'a> {
 }
 
 /// The last parenthesis of the statement before a token that is not closed.
-pub fn open_parenthesis(at: Misfit<'_>) -> Option<Span> {
+pub fn open_parenthesis(at: At<'_>) -> Option<Span> {
     let around = Around::of(at)?;
     let mut closed: usize = 0;
     for count in 1..=at.number.saturating_sub(around.statement()) {

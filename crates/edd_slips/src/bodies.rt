@@ -1,7 +1,6 @@
 //! Slips in the bodies of methods that are known by the tokens around them.
 
-use crate::around::{Around, Slip, is_symbol, on};
-use crate::trials::Misfit;
+use crate::around::{Around, At, Slip, is_symbol, on};
 use edd_lexer::token::{Token, TokenKind};
 use edd_reports::outline::Outline;
 use edd_reports::words::{is_sign, is_word};
@@ -261,7 +260,7 @@ pub fn statement_slip(around: &Around<'_>) -> Option<Slip> {
 }
 
 // Whether a statement begins with a token, and no attribute.
-fn begins_statement(at: Misfit<'_>) -> bool {
+fn begins_statement(at: At<'_>) -> bool {
     let Some(token) = at.tokens.get(at.number) else {
         return false;
     };
@@ -295,7 +294,7 @@ fn begins_statement(at: Misfit<'_>) -> bool {
 }
 
 // The kind of the last item before a token.
-fn last_item(at: Misfit<'_>, outline: &Outline) -> Option<Kind> {
+fn last_item(at: At<'_>, outline: &Outline) -> Option<Kind> {
     let mut last = None;
     for item in outline.items.iter() {
         if item.name < at.number {
@@ -306,8 +305,8 @@ fn last_item(at: Misfit<'_>, outline: &Outline) -> Option<Kind> {
 }
 
 /// The brace that ends a method or its body too early, where statements go on after it.
-pub fn early_end(at: Misfit<'_>, outline: &Outline) -> Option<Slip> {
-    let brace = at.before()?;
+pub fn early_end(at: At<'_>, outline: &Outline) -> Option<Slip> {
+    let brace = at.tokens.get(at.number.checked_sub(1)?)?;
     if !begins_statement(at) || !is_symbol(brace, Symbol::CloseBrace) {
         return None;
     }

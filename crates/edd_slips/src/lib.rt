@@ -1,0 +1,13 @@
+//! Slips that are known by the tokens around the one that does not fit, each in words of its own.
+//! Proved is that they are looked for safely and that it ends.
+#![tactic(auto)]
+
+mod around;
+mod bodies;
+mod left_out;
+mod slips;
+
+pub use around::{At, Slip, open_parenthesis};
+pub use bodies::early_end;
+pub use left_out::help_of_left_out;
+pub use slips::slip_at;
