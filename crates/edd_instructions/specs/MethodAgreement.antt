@@ -93,7 +93,30 @@ module _ (string_numbered : StrNo → Option Words) where
         → (n : ℕ) → (source n values answers).ending ≡ run.OutOfTurns
         → (k : ℕ) × (n ≤ k) × SameOutcome (source n values answers) (machine k values answers)
 
--- ---- the code of one method
+-- ---- the headline: what an image promises of the methods of its description
+
+-- The body of a method in the image: the row of its code, whose runs from its start, with abort
+-- methods after it, are those of the method.
+pub record AgreesOnMethod (unit : Description Target) (c : Contents) (method : MethNo) : Type 0
+  where
+    pub row : AttributeFields
+    pub found : image.body_of c method ≡ Some row
+    pub agrees : AgreesOnRuns (string_numbered c) (environment unit).variables
+        (λ n values answers. run.run n unit method values answers)
+        (λ k values answers. execute_in c k (opening_of c row values) answers)
+
+-- each method that there is
+abbrev pub AgreesOnMethods : Description Target → Contents → Type 0
+AgreesOnMethods unit c = (method : MethNo) → IsTrue (item_exists c.counts (Method method))
+    → AgreesOnMethod unit c method
+
+-- The image says and does what the description does: this is all that a compiled image promises of
+-- its unit.
+pub record Agrees (unit : Description Target) (c : Contents) : Type 0 where
+  pub on_data : AgreesOnData unit c
+  pub on_methods : AgreesOnMethods unit c
+
+-- ---- inside: what the code of each body promises, from which the headline is shown
 
 -- the context of the unit of a method
 abbrev pub method_context : Description Target → (strings : List Words) → (slots : ℕ) → Context
@@ -134,23 +157,6 @@ pub record IsMethodCode (unit : Description Target) (strings : List Words) (meth
       (λ k s. execute (machine_of (environment unit)) k
       (started (record { sort = sort.Method; code = code }) s) s.answers)
 
--- ---- the whole image
-
--- The body of a method in the image: the row of its code, whose runs from its start, with abort
--- methods after it, are those of the method.
-pub record AgreesOnMethod (unit : Description Target) (c : Contents) (method : MethNo) : Type 0
-  where
-    pub row : AttributeFields
-    pub found : image.body_of c method ≡ Some row
-    pub agrees : AgreesOnRuns (string_numbered c) (environment unit).variables
-        (λ n values answers. run.run n unit method values answers)
-        (λ k values answers. execute_in c k (opening_of c row values) answers)
-
--- each method that there is
-abbrev pub AgreesOnMethods : Description Target → Contents → Type 0
-AgreesOnMethods unit c = (method : MethNo) → IsTrue (item_exists c.counts (Method method))
-    → AgreesOnMethod unit c method
-
 -- The code of a method alone does what its body does; a method without code has an empty body.
 abbrev pub IsBodyOf : Description Target → Contents → MethNo → Option Start → Type 0
 IsBodyOf unit c method None = body_of unit method ≡ Nil
@@ -161,9 +167,3 @@ IsBodyOf unit c method (Some start) = (start.slots ≡ slots_in (body_of unit me
 
 abbrev pub EachIsBody : Description Target → Contents → Type 0
 EachIsBody unit c = (method : MethNo) → IsBodyOf unit c method (start_in c method)
-
--- The image says and does what the description does: this is all that a compiled image promises of
--- its unit.
-pub record Agrees (unit : Description Target) (c : Contents) : Type 0 where
-  pub on_data : AgreesOnData unit c
-  pub on_methods : AgreesOnMethods unit c

@@ -11,7 +11,8 @@ pub record Change : Type 0 where
   pub variable : VarNo
   pub value : ℤ
 
--- a code, after variables were set in order, or that the method ends
+-- a code, after variables were set in order, or an abort: the abort methods run first, and then the
+-- method is over
 pub data Answer : Type 0 where
   Go : (code : ℤ) → (sets : List Change) → Answer
   Abort : Answer

@@ -8,7 +8,7 @@ pub enum Answer {
     /// The method goes on with `code` as the request's value, after the variables were set in
     /// order.
     Go { code: i32, sets: Vec<(VarNo, i64)> },
-    /// The method ends.
+    /// The run is aborted: its abort methods run first, and then it is over.
     Abort,
 }
 
