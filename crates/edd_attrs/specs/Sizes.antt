@@ -51,7 +51,7 @@ strings_at unit ref = strings_of_tree (tree_at unit ref)
 
 -- ---- nodes
 
--- the nodes of the enumerators in a part of a type; an option is an attribute of its own
+-- the nodes of the element that a part of a type may be; an option is an attribute of its own
 abbrev pub element_nodes : TypePart Target → ℕ
 element_nodes (item.DefaultValue c) = 0
 element_nodes (item.MinValue c) = 0

@@ -93,7 +93,7 @@ module _ {V : Type 0} (form : Form) (value : ℕ → List Token → Read V) (hei
   abbrev pub braces : List Token → Read (Conds Path V)
   braces = braces_at height_left values branches conds
 
-  -- ELSE with an IF or a branch after it, or neither
+  -- ELSE with an IF or a branch in braces after it, or nothing
   abbrev pub otherwise : List Token → Read (Conds Path V)
   otherwise = else_at height_left values branches conds
 

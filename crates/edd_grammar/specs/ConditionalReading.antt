@@ -46,7 +46,7 @@ module _ {V : Type 0} (height_left : ℕ) (value : List Token → Read V) (branc
     rest ← expect sign.CloseBrace behind
     Some (all, rest)
 
-  -- ELSE with an IF or a branch after it, or neither
+  -- ELSE with an IF or a branch in braces after it, or nothing
   unfoldable pub else_at : List Token → Read (Conds Path V)
   else_at here =
       if at_word word.Else here
