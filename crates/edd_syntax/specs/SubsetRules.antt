@@ -487,7 +487,7 @@ repeated_cases (item.Members members) = []
 repeated_cases (item.Elements elements) = []
 repeated_cases (item.Definition body) = repeated_labels no_labels body
 
--- the breaches of this rule and of that on labels in a description
+-- the breaches of these rules in a description
 abbrev pub duplicate_cases : Description Target → List Refusal
 duplicate_cases unit = flat_map repeated_cases (attributes_of unit)
 
