@@ -34,27 +34,34 @@ pub record Lowered : Type 0 where
 
 -- ---- names, by kind and number
 
+-- the names of the items of a kind, in their order
 abbrev pub names_of_kind : Kind → List (Item Target) → List Name
 names_of_kind k items = map (λ i. i.name) (of_kind k items)
 
+-- the names of the items of these kinds, kind after kind
 abbrev pub names_of_kinds : List (Item Target) → List Kind → List Name
 names_of_kinds items ks = flat_map (λ k. names_of_kind k items) ks
 
+-- the names of all items
 abbrev pub names_of : List (Item Target) → List Name
 names_of items = names_of_kinds items kinds
 
+-- the row of a name whose bytes start there
 abbrev pub name_row_at : (start : ℕ) → Name → NameRow
 name_row_at start n = record { start = start; length = length n }
 
+-- the rows of names whose bytes are one after the other from there on
 abbrev pub name_rows : (start : ℕ) → List Name → List NameRow
 name_rows start [] = []
 name_rows start (n ∷ rest) = name_row_at start n ∷ name_rows (start + length n) rest
 
 -- ---- strings, by number
 
+-- the row of a string whose bytes start there
 abbrev pub string_row_at : (start : ℕ) → Words → StringRow
 string_row_at start w = record { start = start; length = length (string_bytes w) }
 
+-- the rows of strings whose bytes are one after the other from there on
 abbrev pub string_rows : (start : ℕ) → List Words → List StringRow
 string_rows start [] = []
 string_rows start (w ∷ rest) = string_row_at start w ∷ string_rows (start + length (string_bytes w))
@@ -62,6 +69,7 @@ string_rows start (w ∷ rest) = string_row_at start w ∷ string_rows (start + 
 
 -- ---- attributes
 
+-- the row of an attribute whose code starts there
 abbrev pub attribute_row_at : (start : ℕ) → Lowered → AttributeRow
 attribute_row_at start l = record {
   item = l.row.item;
@@ -71,6 +79,7 @@ attribute_row_at start l = record {
   length = length l.code;
 }
 
+-- the rows of attributes whose code is one after the other from there on
 abbrev pub attribute_rows : (start : ℕ) → List Lowered → List AttributeRow
 attribute_rows start [] = []
 attribute_rows start (l ∷ rest) = attribute_row_at start l ∷ attribute_rows (start + length l.code)
@@ -78,9 +87,11 @@ attribute_rows start (l ∷ rest) = attribute_row_at start l ∷ attribute_rows 
 
 -- ---- variables
 
+-- the type of a variable as an image has it
 abbrev pub kind_of_type : VariableType → VarKind
 kind_of_type t = record { var_type = t.type; size = t.size }
 
+-- the type of a variable from its type and its size
 abbrev pub type_of_pair : VarType × ℕ → VariableType
 type_of_pair t = record { type = t.0; size = t.1 }
 
@@ -99,12 +110,14 @@ abbrev pub is_small_variable : Item Target → Bool
 is_small_variable i = option_map_or (λ attributes. is_within 1 4 (written_type attributes).size)
     (variable_attributes i) true
 
+-- the types of all variables, in their order
 abbrev pub variable_kinds : List (Item Target) → List VarKind
 variable_kinds items = map (λ i. kind_of_type (written_type i.attributes))
     (of_kind kind.Variable items)
 
 -- ---- all sections, in the version of the layout that the description needs
 
+-- the sections with these parts
 abbrev pub sections : Version → Counts → List VarKind → List NameRow → List AttributeRow
     → List Element
     → (code : List ℕ) → List StringRow → (name_bytes string_bytes : List ℕ) → Sections
@@ -122,6 +135,7 @@ sections version counts variables names attributes elements code strings name_by
       string_bytes = string_bytes;
     }
 
+-- the sections of the image of a description, from the code of its rows and its strings
 unfoldable pub assembled : Description Target → List Lowered → List Words → Sections
 assembled unit lowered strings = record {
   version = version_for unit;

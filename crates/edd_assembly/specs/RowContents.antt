@@ -21,9 +21,11 @@ use Rattle.edd_attrs.specs.Trees.{tree_at}
 abbrev pub body_at : Description Target → ItemNo → Body Target
 body_at unit i = elim (item_at unit i) [ Some found ↦ body_in found.attributes | None ↦ Nil ]
 
+-- the body of a method as a DEFINITION
 abbrev definition_at : Description Target → AttrRef → Attribute Target
 definition_at unit row = item.Definition (body_at unit row.item)
 
+-- the strings of the body, or of the other attribute, that a row is of
 abbrev pub strings_of_row : Description Target → AttrRef → List Words
 strings_of_row unit row = if same_attr row.attr attr.Definition then attribute_strings
     (definition_at unit row) else strings_at unit row

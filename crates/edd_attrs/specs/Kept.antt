@@ -8,6 +8,7 @@ use Rattle.edd_attrs.specs.Records.{kept_enumerator, kept_entry, kept_data, kept
 use Rattle.edd_attrs.specs.Trees.{Tree, Texts, Class, Handling, Validity, Expressions, Enumerators, Number, Operation, Transaction, Data, ResponseCodes, Items, Members, Elements}
 use Rattle.edd_attrs.specs.TreeBlocks.{elements}
 
+-- lowering can take the tree: all that it needs of it holds
 unfoldable pub is_kept_tree : Tree → Bool
 is_kept_tree (Texts c) = list_all is_text (values_in c)
 is_kept_tree (Class names) = true
@@ -24,6 +25,7 @@ is_kept_tree (Items entries) = list_all kept_entry (values_of entries)
 is_kept_tree (Members members) = list_all kept_member members
 is_kept_tree (Elements all) = list_all kept_array_element all
 
+-- the same of the tree of a row, if the row has one
 abbrev pub is_kept_row : Option Tree → Bool
 is_kept_row None = true
 is_kept_row (Some t) = is_kept_tree t

@@ -20,20 +20,25 @@ use Rattle.edd_syntax.specs.Attributes.{Record, Words, Number, Entry, DataConst,
 
 -- ---- records
 
+-- of a text: its string
 abbrev pub text_record : Text → Record
 text_record t = Words (words_of t)
 
+-- of a word of CLASS: the word as a string
 abbrev pub class_record : Name → Record
 class_record n = Words (name_words n)
 
+-- of HANDLING: the number of READ, WRITE or both
 abbrev pub handling_record : handling.Handling → Record
 handling_record h = Number (pos (handling_number h))
 
+-- of VALIDITY: 1 for TRUE, 0 for FALSE
 abbrev pub validity_record : Bool → Record
 validity_record valid = Number (pos (bit valid))
 
 -- ---- the strings of records
 
+-- the strings that a record names, in their order
 abbrev pub strings_of_record : Record → List words.Words
 strings_of_record (Words w) = w ∷ []
 strings_of_record (Number z) = []
@@ -46,6 +51,7 @@ strings_of_record (Member name item label help) = name
     ∷ (option_to_list label ++ option_to_list help)
 strings_of_record (Element number variable label help) = option_to_list label ++ option_to_list help
 
+-- the strings of records one after the other
 abbrev pub strings_of : List Record → List words.Words
 strings_of rs = flat_map strings_of_record rs
 
@@ -56,9 +62,11 @@ abbrev pub is_number : ℤ → Bool
 is_number (pos n) = nat_lt n (2 ^ 32)
 is_number (negsuc n) = false
 
+-- an integer that is within 32 bits without its sign
 abbrev pub is_label : ℤ → Bool
 is_label z = nat_lt (unsigned_abs z) (2 ^ 32)
 
+-- the counts of a description, with no strings counted
 abbrev pub counts_in : Description Target → Counts
 counts_in unit = counts_of unit.identification unit.items 0
 
@@ -82,22 +90,28 @@ is_fine unit (Element number variable label help) = (nat_lt number (2 ^ 32)
 
 -- ---- what the elements of a checked description keep
 
+-- lowering can take its text, and its help if it has one
 abbrev pub kept_enumerator : item.Enumerator → Bool
 kept_enumerator e = is_text e.text && if_some is_text e.help
 
+-- lowering can take the text that it may be
 abbrev pub kept_entry : MenuEntry Target → Bool
 kept_entry (item.Text text) = is_text text
 kept_entry (item.Reference to qualifiers) = true
 
+-- the constant that it may be is an octet
 abbrev pub kept_data : DataItem Target → Bool
 kept_data (item.Constant n) = nat_lt n 256
 kept_data (item.Variable variable mask qualifiers) = true
 
+-- lowering can take its text
 abbrev pub kept_response : item.ResponseCode → Bool
 kept_response r = is_text r.text
 
+-- lowering can take the label and the help that it may have
 abbrev pub kept_member : item.Member Target → Bool
 kept_member m = if_some is_text m.label && if_some is_text m.help
 
+-- lowering can take the label and the help that it may have
 abbrev pub kept_array_element : item.ArrayElement Target → Bool
 kept_array_element e = if_some is_text e.label && if_some is_text e.help

@@ -6,10 +6,12 @@ use Rattle.edd_syntax.specs.Item as item
 use Rattle.edd_syntax.specs.Item.{TransactionPart, Attribute}
 use Rattle.edd_attrs.specs.Trees.{Named, Transaction, tree_of_transaction_part}
 
+-- the trees of a transaction: its number, then its REQUESTs and REPLYs
 abbrev pub trees_of_transaction : Option ℕ → List (TransactionPart Target) → List Named
 trees_of_transaction number parts = (attr.Transaction, Transaction number)
     ∷ map tree_of_transaction_part parts
 
+-- the trees of an attribute that is a transaction
 abbrev pub transaction_in : Attribute Target → Option (List Named)
 transaction_in (item.Transaction number parts) = Some (trees_of_transaction number parts)
 transaction_in (item.OneText which c) = None
@@ -25,5 +27,6 @@ transaction_in (item.Members members) = None
 transaction_in (item.Elements elements) = None
 transaction_in (item.Definition body) = None
 
+-- the tree of one part of a transaction, as a list
 abbrev pub one_part : TransactionPart Target → List Named
 one_part p = tree_of_transaction_part p ∷ []

@@ -14,6 +14,7 @@ use Rattle.edd_attrs.specs.Trees.{Tree, Texts, Class, Handling, Validity, Expres
 
 -- ---- strings
 
+-- the texts of all enumerators in a part of a type
 abbrev pub element_texts : TypePart Target → List texts.Text
 element_texts (item.DefaultValue c) = []
 element_texts (item.MinValue c) = []
@@ -39,6 +40,7 @@ tree_strings (Items entries) = strings_of_texts (flat_map entry_texts (values_of
 tree_strings (Members members) = flat_map member_strings members
 tree_strings (Elements all) = strings_of_texts (flat_map array_element_texts all)
 
+-- the strings of the tree of a row, if the row has one
 abbrev pub strings_of_tree : Option Tree → List Words
 strings_of_tree None = []
 strings_of_tree (Some t) = tree_strings t
@@ -49,6 +51,7 @@ strings_at unit ref = strings_of_tree (tree_at unit ref)
 
 -- ---- nodes
 
+-- the nodes of the element that a part of a type may be; an option is an attribute of its own
 abbrev pub element_nodes : TypePart Target → ℕ
 element_nodes (item.DefaultValue c) = 0
 element_nodes (item.MinValue c) = 0
@@ -77,6 +80,7 @@ tree_nodes (Elements all) = 1 + length all
 -- ---- the length of code: 32 bytes a node, a transaction's number 30, and 1 for an attribute that
 -- isn't written
 
+-- how many bytes of code the tree of a row may have at most
 unfoldable pub length_limit : Option Tree → ℕ
 length_limit None = 1
 length_limit (Some (Transaction number)) = 30

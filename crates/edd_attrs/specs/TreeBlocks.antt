@@ -28,6 +28,7 @@ straight_line (i ∷ is) = block.Then (block.Straight i) (straight_line is)
 -- ---- conditionals, whose values have the blocks that `of` allows
 
 module _ {V : Type 0} (of : V → Block → Type 0) where
+  -- The block is one of the conditional: it evaluates the condition and goes on with what applies.
   abbrev mutual
     pub IsCondBlock : Cond Target V → Block → Type 0
     IsCondBlock (Value v) b = of v b
@@ -86,6 +87,7 @@ module _ (string_numbered : StrNo → Option Words) where
   abbrev pub Giving : {V : Type 0} → (V → source.Record) → V → Block → Type 0
   Giving gives v b = IsRecordBlock (gives v) b
 
+  -- The block gives the records that the tree gives, with strings by their numbers.
   unfoldable pub IsTreeBlock : Tree → Block → Type 0
   IsTreeBlock (Texts c) b = IsCondBlock (Giving text_record) c b
   IsTreeBlock (Class names) b = IsLineBlock (Giving class_record) names b

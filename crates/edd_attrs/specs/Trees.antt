@@ -15,6 +15,7 @@ use Rattle.edd_syntax.specs.Numbers.{same_attr, text_attr}
 use Rattle.edd_syntax.specs.Device.{item_at}
 use Rattle.edd_syntax.specs.Attributes.{is_of_transaction}
 
+-- what is written for one attribute, in one of the forms that attributes have
 pub data Tree : Type 0 where
   Texts : Cond Target texts.Text → Tree
   Class : List texts.Name → Tree
@@ -36,6 +37,7 @@ pub data Tree : Type 0 where
 abbrev pub Named : Type 0
 Named = Attr × Tree
 
+-- an option of a type; an element has no tree of its own
 abbrev pub trees_of_part : TypePart Target → List Named
 trees_of_part (item.DefaultValue c) = (attr.DefaultValue, Expressions c) ∷ []
 trees_of_part (item.MinValue c) = (attr.MinValue, Expressions c) ∷ []
@@ -44,6 +46,7 @@ trees_of_part (item.DisplayFormat c) = (attr.DisplayFormat, Texts c) ∷ []
 trees_of_part (item.EditFormat c) = (attr.EditFormat, Texts c) ∷ []
 trees_of_part (item.Element c) = []
 
+-- the options of a type
 abbrev pub trees_of_parts : List (TypePart Target) → List Named
 trees_of_parts [] = []
 trees_of_parts (p ∷ rest) = trees_of_part p ++ trees_of_parts rest
@@ -67,10 +70,12 @@ trees_of_attribute (item.Members members) = (attr.Members, Members members) ∷ 
 trees_of_attribute (item.Elements elements) = (attr.Elements, Elements elements) ∷ []
 trees_of_attribute (item.Definition body) = []
 
+-- the trees of all attributes of an item, without those of transactions
 abbrev pub trees_of : List (Attribute Target) → List Named
 trees_of [] = []
 trees_of (a ∷ rest) = trees_of_attribute a ++ trees_of rest
 
+-- a REQUEST or a REPLY
 abbrev pub tree_of_transaction_part : TransactionPart Target → Named
 tree_of_transaction_part (item.Request all) = (attr.Request, Data all)
 tree_of_transaction_part (item.Reply all) = (attr.Reply, Data all)
@@ -88,6 +93,7 @@ abbrev pub first_tree : Attr → List Named → Option Tree
 first_tree a [] = None
 first_tree a (x ∷ rest) = elim (same_attr x.0 a) [ true ↦ Some x.1 | false ↦ first_tree a rest ]
 
+-- the tree of an attribute among those of an item; `sub` is the position of a transaction
 abbrev pub tree_in : List (Attribute Target) → Attr → (sub : ℕ) → Option Tree
 tree_in attributes a sub =
     if is_of_transaction a

@@ -11,6 +11,7 @@ use Rattle.edd_syntax.specs.declared.reference.Target.{Target}
 use Rattle.edd_attrs.specs.Trees as trees
 use Rattle.edd_attrs.specs.Rows.{trees_of_transaction}
 
+-- a tree of the code as the pure tree, with items by number
 abbrev pub tree_of : Tree → trees.Tree
 tree_of (tree.Texts c) = trees.Texts (numbered_cond text_of c.now)
 tree_of (tree.Class names) = trees.Class (map string_bytes names.now)

@@ -30,12 +30,15 @@ WritesRecord old before x new after =
 -- ---- the strings of all branches
 
 module _ {V : Type 0} (strings : V → List Words) where
+  -- of a conditional
   abbrev pub cond_strings : Cond Target V → List Words
   cond_strings c = flat_map strings (values_in c)
 
+  -- of conditionals one after the other
   abbrev pub conds_strings : Conds Target V → List Words
   conds_strings all = flat_map strings (values_of all)
 
+  -- of the arms of a SELECT
   abbrev pub arms_strings : Arms Target V → List Words
   arms_strings arms = flat_map strings (values_under arms)
 
@@ -52,6 +55,7 @@ abbrev pub header : {V : Type 0} → Arm Target V → List ℕ
 header (Case label body) = spelling (instruction.Case label 0)
 header (Default body) = []
 
+-- the headers of all arms, one after the other
 abbrev pub headers : {V : Type 0} → List (Arm Target V) → List ℕ
 headers arms = flat_map header arms
 
@@ -71,6 +75,8 @@ with_body code hole body =
     let opened = closed (code ++ spelling (instruction.Jump 0)) hole in closed
     (opened ++ bytes_at (length opened) body) (length code + 1)
 
+-- The body of a CASE with an open target is written, as a block that `of` allows, and the table
+-- holds its strings.
 pub record WritesBody (old : List Words) (before : List ℕ) (hole : ℕ) (strings : List Words)
     (of : (StrNo → Option Words) → Block → Type 0) (new : List Words) (after : List ℕ) : Type 0
   where
@@ -112,9 +118,11 @@ module _ {V : Type 0} (strings : V → List Words) (is_block : (StrNo → Option
 
 -- ---- the elements of a type's list
 
+-- the strings of an enumerator
 abbrev pub enumerator_strings : Enumerator → List Words
 enumerator_strings e = strings_of_record (enumerator e)
 
+-- the strings of the enumerators in a part of a type
 abbrev pub element_strings : TypePart Target → List Words
 element_strings (item.DefaultValue c) = []
 element_strings (item.MinValue c) = []
@@ -123,6 +131,7 @@ element_strings (item.DisplayFormat c) = []
 element_strings (item.EditFormat c) = []
 element_strings (item.Element c) = cond_strings enumerator_strings c
 
+-- lowering can take the enumerators in a part of a type
 abbrev pub is_kept_part : TypePart Target → Bool
 is_kept_part (item.DefaultValue c) = true
 is_kept_part (item.MinValue c) = true

@@ -14,6 +14,7 @@ texts = map (λ s. s.text.now)
 
 -- ---- the lines that a test expects
 
+-- the text of a line with `=`
 abbrev pub whole : Says → Option (List ℕ)
 whole (says.Whole text) = Some text.now
 whole _ = None
@@ -22,6 +23,7 @@ whole _ = None
 abbrev pub wholes : List Line → List (List ℕ)
 wholes = filter_map (λ line. whole line.says)
 
+-- the text of a line with `~`
 abbrev pub part : Says → Option (List ℕ)
 part (says.Part text) = Some text.now
 part _ = None

@@ -11,6 +11,7 @@ abbrev staying : Says → (raw : List ℕ) → Option (List ℕ)
 staying (says.Whole text) raw = None
 staying _ raw = Some raw
 
+-- a line of a test with its end, if it stays
 abbrev pub stays : Line → Option (List ℕ)
 stays line = staying line.says line.raw.now
 
@@ -18,6 +19,7 @@ stays line = staying line.says line.raw.now
 abbrev pub staying_of : List Line → List (List ℕ)
 staying_of = filter_map stays
 
+-- a piece that is a line of the test
 abbrev pub kept : Piece → Option (List ℕ)
 kept (piece.Kept raw) = Some raw.now
 kept (piece.Seen text) = None

@@ -12,14 +12,17 @@ abbrev pub behind_next : (text : List ℕ) → List (List ℕ) → Option (List 
 behind_next text [] = None
 behind_next text (line ∷ rest) = if bytes_eq line text then Some rest else None
 
+-- what is left after a line with `=`, whose text has to come next; another line takes nothing
 abbrev past_whole : Says → List (List ℕ) → Option (List (List ℕ))
 past_whole (says.Whole text) left = behind_next text.now left
 past_whole _ left = Some left
 
+-- what is left after a line with `~`, whose text has to come; another line takes nothing
 abbrev past_part : Says → List (List ℕ) → Option (List (List ℕ))
 past_part (says.Part text) left = behind text.now left
 past_part _ left = Some left
 
+-- what is left after a line of a test of this form
 abbrev pub past : Form → Says → List (List ℕ) → Option (List (List ℕ))
 past form.Whole = past_whole
 past form.Parts = past_part

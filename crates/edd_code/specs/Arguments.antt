@@ -13,10 +13,12 @@ use Rattle.edd_code.specs.Expressions.{no_value}
 
 -- ---- kinds of one argument
 
+-- a text
 abbrev pub as_text : Argument Target → Option texts.Text
 as_text (Text text) = Some text
 as_text (Value e) = None
 
+-- an expression
 abbrev pub as_value : Argument Target → Option (Expr Target)
 as_value (Text text) = None
 as_value (Value e) = Some e
@@ -44,6 +46,7 @@ only kind Nil = None
 only kind (Cons first Nil) = kind first
 only kind (Cons first (Cons second rest)) = None
 
+-- both, where both are there
 abbrev pub pair : {A B : Type 0} → Option A → Option B → Option (A × B)
 pair None b = None
 pair (Some a) None = None

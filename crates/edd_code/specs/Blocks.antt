@@ -6,6 +6,7 @@ use Rattle.edd_instructions.specs.declared.instruction.Instruction.{Instruction}
 use Rattle.edd_instructions.specs.declared.instruction.Instruction.TheVariants as instruction
 use Rattle.edd_instructions.specs.Spelling.{spelling}
 
+-- a piece of code that is entered at its start and goes on after its end
 pub data Block : Type 0 where
   Nothing : Block
   -- an instruction that goes on to the one after it

@@ -34,6 +34,7 @@ read_block (Function f) = no_value
 abbrev pub no_element : Block
 no_element = Then (Straight instruction.Pop) no_value
 
+-- an element of an array, by the instruction that reads it
 abbrev pub item_element_block : ItemNo → Block
 item_element_block (item_no.Variable v) = no_element
 item_element_block (item_no.Command n) = no_element
@@ -42,6 +43,7 @@ item_element_block (item_no.Collection n) = no_element
 item_element_block (item_no.Method n) = no_element
 item_element_block (item_no.Array n) = Straight (instruction.ReadElement n)
 
+-- an element of what is before the index; only an item can be an array
 abbrev pub element_block : Target → Block
 element_block (Item i) = item_element_block i
 element_block (Local slot) = no_element

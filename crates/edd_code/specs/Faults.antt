@@ -4,6 +4,7 @@ use Rattle.edd_strings.specs.declared.fault.StringFault.TheVariants as string_fa
 use Rattle.edd_code.specs.declared.fault.LowerFault.{LowerFault}
 use Rattle.edd_code.specs.declared.fault.LowerFault.TheVariants.{TooMany, Memory}
 
+-- a fault of strings as one of lowering, which is only given texts without a bad escape
 abbrev pub lower_fault_of : StringFault → LowerFault
 lower_fault_of string_fault.BadEscape = Memory
 lower_fault_of string_fault.TooMany = TooMany

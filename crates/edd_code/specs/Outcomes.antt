@@ -14,6 +14,7 @@ use Rattle.edd_instructions.specs.declared.unit.Sort.TheVariants as sort
 use Rattle.edd_instructions.specs.Steps.{State, Environment, Effect, act}
 use Rattle.edd_code.specs.Blocks.{Block, Nothing, Straight, Then, WhenNotZero, WhenZero, Either, Match}
 
+-- how a block ends: it goes on with the records given and the operands left, traps, or is stuck
 pub data Outcome : Type 0 where
   Goes : (records : List Record) → (operands : List ℤ) → Outcome
   Traps : Trap → Outcome
@@ -26,6 +27,7 @@ behind given (Goes records operands) = Goes (given ++ records) operands
 behind given (Traps why) = Traps why
 behind given Stuck = Stuck
 
+-- goes on with the operands that are left, unless there was a trap or it is stuck
 abbrev pub and_then : Outcome → (List ℤ → Outcome) → Outcome
 and_then (Goes records operands) next = behind records (next operands)
 and_then (Traps why) next = Traps why
@@ -49,11 +51,13 @@ at code place operands values = record {
   is_aborting = false;
 }
 
+-- the record that a step gives, if it gives one
 abbrev pub records_of : Emitted → List Record
 records_of emitted.Nothing = []
 records_of (emitted.Record r) = r ∷ []
 records_of (emitted.Request r) = []
 
+-- the outcome of a step after which this is the status
 abbrev pub outcome_in : Status → List Record → List ℤ → Outcome
 outcome_in Running given operands = Goes given operands
 outcome_in (Asking r) given operands = Stuck
@@ -61,6 +65,7 @@ outcome_in Ended given operands = Stuck
 outcome_in Aborted given operands = Stuck
 outcome_in (Trapped why) given operands = Traps why
 
+-- the outcome of a step, which is stuck where there is none
 abbrev pub outcome_of : Option Effect → Outcome
 outcome_of None = Stuck
 outcome_of (Some e) = outcome_in e.state.status (records_of e.emitted) e.state.operands

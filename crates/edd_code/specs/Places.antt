@@ -29,6 +29,7 @@ ArePlaces k items places = map (attributes_at_place items) places
 abbrev pub with_place : Bool → List ℕ → ℕ → List ℕ
 with_place b places place = if b then places ++ place ∷ [] else places
 
+-- the places that the index has for the items of a kind
 abbrev pub places_of : ItemIndex → Kind → List ℕ
 places_of index kind.Variable = index.variables.items
 places_of index kind.Command = index.commands.items

@@ -22,6 +22,7 @@ pub record GrowsBy (old strings new : List Words) : Type 0 where
 abbrev pub Keeps : (table : List Words) → Words → StrNo → Type 0
 Keeps table w n = (later : List Words) → IsString (string_of_table (table ++ later)) w n
 
+-- Neither is there, or the string has its number in the table and in any that begins with it.
 abbrev pub KeepsOptional : (table : List Words) → Option Words → Option StrNo → Type 0
 KeepsOptional table o n = (later : List Words) → IsOptionalString (string_of_table (table ++ later))
     o n

@@ -32,12 +32,14 @@ of_lex (lex.BadNumber line) = fault.Lex (lex.BadNumber line)
 of_lex (lex.Directive line) = fault.Lex (lex.Directive line)
 of_lex lex.Memory = fault.Memory
 
+-- a refusal by the parser
 abbrev pub of_parse : ParseFault → Fault
 of_parse (parse.Syntax line) = fault.Parse (parse.Syntax line)
 of_parse (parse.TooDeep line) = fault.Parse (parse.TooDeep line)
 of_parse (parse.Unsupported word) = fault.Parse (parse.Unsupported word)
 of_parse parse.Memory = fault.Memory
 
+-- a refusal by the rules on names
 abbrev pub of_name : NameFault → Fault
 of_name (name.TooMany limit) = fault.Name (name.TooMany limit)
 of_name (name.DuplicateName n) = fault.Name (name.DuplicateName n)
@@ -47,6 +49,7 @@ of_name (name.UnknownName n) = fault.Name (name.UnknownName n)
 of_name (name.WrongKind n) = fault.Name (name.WrongKind n)
 of_name name.Memory = fault.Memory
 
+-- a refusal by the rules of the profile
 abbrev pub of_type : TypeFault → Fault
 of_type (type.FloatVariable variable) = fault.Type (type.FloatVariable variable)
 of_type (type.OtherType variable word) = fault.Type (type.OtherType variable word)
@@ -59,6 +62,7 @@ of_type (type.DuplicateCase line) = fault.Type (type.DuplicateCase line)
 of_type (type.DuplicateElement line) = fault.Type (type.DuplicateElement line)
 of_type type.Memory = fault.Memory
 
+-- a refusal by a lowering
 abbrev pub of_lower : LowerFault → Fault
 of_lower lower.TooMany = fault.TooManyStrings
 of_lower lower.Memory = fault.Memory

@@ -9,6 +9,7 @@ use Rattle.edd_device.specs.Trials.{Others}
 abbrev pub script_of : Attendance → List Answer
 script_of user = drop user.next (map answer_of user.script.now)
 
+-- the device and the user, as those who answer in a trial
 abbrev pub others_of : Simulated → Attendance → Others
 others_of device user = record {
   device = device;

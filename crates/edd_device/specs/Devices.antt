@@ -36,6 +36,7 @@ most_steps = 1000000
 abbrev pub done_answer : Answer
 done_answer = Go (pos 0) []
 
+-- the step to these values, with the answer of code 0
 abbrev pub done : (values : List ℤ) → Step
 done values = record { values = values; answer = Some done_answer }
 

@@ -67,10 +67,12 @@ abbrev pub IsFound : (At : ℕ → Option ℤ → Type 0) → (number : ℤ) →
 IsFound At number end (Some place) = IsFirst At number end place
 IsFound At number end None = (k : ℕ) → k < end → IsOther At number k
 
+-- This is the number of the command under the instrument's values, if it has one.
 abbrev pub NumberAt : (b : List ℕ) → (values : List ℤ) → ℕ → Option ℤ → Type 0
 NumberAt b values command n =
     Numbers b values (of_command command attr.Number 0) number_read n
 
+-- This is the number of the command's transaction at a position, if there is one.
 abbrev pub TransactionAt : (b : List ℕ) → (values : List ℤ) → (command : ℕ) → ℕ → Option ℤ → Type 0
 TransactionAt b values command position n =
     Numbers b values (of_command command attr.Transaction position) transaction_number n

@@ -17,6 +17,7 @@ pub record Now : Type 0 where
 
 -- a step that may fail, and the next
 infixl 10 ◌>>=◌
+-- goes on with the result; a fault is passed on
 abbrev pub ◌>>=◌ : {A B : Type 0} → Result A DeviceFault → (A → Result B DeviceFault)
     → Result B DeviceFault
 Ok x >>= f = f x

@@ -22,6 +22,7 @@ abbrev pub unless_bad : ℤ → Option SetFault → ℤ
 unless_bad n None = n
 unless_bad n (Some fault) = pos 0
 
+-- the number, or 0 where there is none or the variable can't have it
 abbrev pub or_zero : (b : List ℕ) → (variable : ℕ) → Option ℤ → ℤ
 or_zero b variable None = pos 0
 or_zero b variable (Some n) = unless_bad n (set_fault (types_in b)

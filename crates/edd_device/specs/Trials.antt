@@ -27,6 +27,7 @@ pub record Others : Type 0 where
   pub script : List Answer
   pub fault : Option DeviceFault
 
+-- the first fault, after one more
 abbrev pub first_fault : Option DeviceFault → DeviceFault → Option DeviceFault
 first_fault None fault = Some fault
 first_fault (Some first) fault = Some first
@@ -49,6 +50,7 @@ InVain s values r a t =
     (fault : DeviceFault) × IsReply s.device values r (Err fault) × (a ≡ Abort)
     × (t ≡ record s { fault = first_fault s.fault fault })
 
+-- The request is answered by the device or by the user, or in vain.
 abbrev pub IsAnswered : Others → (values : List ℤ) → Request → Answer → Others → Type 0
 IsAnswered s values r a t =
     ByDevice s values r a t ⊎ (ByUser s values r a t ⊎ InVain s values r a t)

@@ -11,12 +11,15 @@ use Rattle.edd_embed.specs.declared.lookups.PlainItem.{PlainItem}
 use Rattle.edd_embed.specs.declared.lookups.PlainType.{PlainType}
 use Rattle.edd_embed.specs.declared.lookups.Words.{Words}
 
+-- an item by the number of its kind and its own
 abbrev pub plain_item : ItemNo → PlainItem
 plain_item i = record { number = index_of i; kind = kind_number (kind_of i) }
 
+-- the type of a variable by its number, and its size
 abbrev pub plain_type : VariableType → PlainType
 plain_type t = record { var_type = type_code t.type; size = t.size }
 
+-- 1 for a key, 0 for a text
 abbrev pub key_number : Bool → ℕ
 key_number false = 0
 key_number true = 1

@@ -20,6 +20,7 @@ use Rattle.edd_embed.specs.Records.{no_string, written_over}
 
 -- ---- answers
 
+-- the change that a setting of the program in C stands for
 abbrev pub change_of : Setting → Change
 change_of s = record { variable = record { 0 = s.variable }; value = s.value }
 

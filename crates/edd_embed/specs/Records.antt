@@ -12,6 +12,7 @@ use Rattle.edd_embed.specs.declared.records.PlainRecord.{PlainRecord}
 abbrev pub no_string : ℕ
 no_string = 65535
 
+-- the number of a string that may be missing
 abbrev pub string_or_none : Option StrNo → ℕ
 string_or_none None = no_string
 string_or_none (Some s) = s.0

@@ -75,6 +75,7 @@ status_from t =
     if t.turn == 4 then Some status.Running else
     None
 
+-- 0 is false and 1 is true; no other number is a flag
 abbrev pub flag_from : ℕ → Option Bool
 flag_from n = if n == 0 then Some false else if n == 1 then Some true else None
 

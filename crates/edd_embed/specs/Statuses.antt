@@ -41,6 +41,7 @@ no_room = 261
 abbrev pub no_session : ℕ
 no_session = 262
 
+-- the number of a fault in loading an image
 abbrev pub load_status : LoadFault → ℕ
 load_status load_fault.Short = 101
 load_status load_fault.Magic = 102
@@ -55,6 +56,7 @@ load_status load_fault.Depth = 110
 load_status load_fault.Reference = 111
 load_status load_fault.Memory = memory
 
+-- the number of a fault in reading an attribute
 abbrev pub read_status : ReadFault → ℕ
 read_status read_fault.NoItem = no_item
 read_status read_fault.WrongValues = 204
@@ -64,10 +66,12 @@ read_status read_fault.BadShift = 212
 read_status read_fault.NoElement = 213
 read_status read_fault.Memory = memory
 
+-- the same where there may be too little room for the records
 abbrev pub attribute_status : AttributeFault → ℕ
 attribute_status (attribute_fault.Read fault) = read_status fault
 attribute_status (attribute_fault.Room n) = no_room
 
+-- the number of a fault in playing a method
 abbrev pub play_status : PlayFault → ℕ
 play_status play_fault.NoItem = no_item
 play_status play_fault.WrongValues = 204
@@ -75,19 +79,23 @@ play_status play_fault.BadVariable = 206
 play_status play_fault.OutOfRange = 207
 play_status play_fault.Memory = memory
 
+-- the same where there may be too little room for what the play gives
 abbrev pub refusal_status : PlayRefusal → ℕ
 refusal_status (Play fault) = play_status fault
 refusal_status Room = no_room
 
+-- the number of a fault in starting a session
 abbrev pub start_status : StartFault → ℕ
 start_status start_fault.NoItem = no_item
 start_status start_fault.WrongValues = 204
 
+-- the number of a fault of an answer
 abbrev pub answer_status : AnswerFault → ℕ
 answer_status answer_fault.NotAsking = 205
 answer_status answer_fault.BadVariable = 206
 answer_status answer_fault.OutOfRange = 207
 
+-- the same where the numbers may be no session
 abbrev pub session_status : SessionRefusal → ℕ
 session_status NoSession = no_session
 session_status (Refused fault) = answer_status fault

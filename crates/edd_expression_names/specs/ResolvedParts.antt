@@ -12,6 +12,7 @@ abbrev pub resolved_argument : (at : Meanings) → (plain : Path → Option Targ
 resolved_argument at plain (Text text) = Some (Text text)
 resolved_argument at plain (Value e) = do e' ← resolved_by at plain e; Some (Value e')
 
+-- an arm, where `of` says what a value means
 abbrev pub resolved_arm : {V W : Type 0} → (at : Meanings) → (of : V → Option W)
     → Arm Path V → Option (Arm Target W)
 resolved_arm at of (Case label body) = do body' ← resolved_conds at of body; Some (Case label body')

@@ -20,15 +20,19 @@ use Rattle.edd_expression_parser.specs.declared.cond.Form.TheVariants.{One, Many
 
 -- ---- what the code's conditionals stand for
 
+-- a conditional as the pure tree, with its values by `view`
 abbrev pub cond_view : {V W : Type 0} → (V → W) → code.Cond path.Path V → Cond Path W
 cond_view view c = cond_of path_of view c
 
+-- conditionals as the pure list
 abbrev pub conds_view : {V W : Type 0} → (V → W) → List (code.Cond path.Path V) → Conds Path W
 conds_view view all = cond.conds_from (map (cond_of path_of view) all)
 
+-- an arm as the pure tree
 abbrev pub arm_view : {V W : Type 0} → (V → W) → code_arm.Arm path.Path V → Arm Path W
 arm_view view a = arm_of path_of view a
 
+-- arms as the pure list
 abbrev pub arms_view : {V W : Type 0} → (V → W) → List (code_arm.Arm path.Path V) → Arms Path W
 arms_view view all = cond.arms_from (map (arm_of path_of view) all)
 
@@ -65,27 +69,35 @@ module _ {V : Type 0} (form : Form) (value : ℕ → List Token → Read V) (hei
   abbrev pub values : List Token → Read V
   values = value_in form (value height_left)
 
+  -- a conditional below
   abbrev pub conds : List Token → Read (Cond Path V)
   conds = cond_at form value height_left
 
+  -- what is in a branch
   abbrev pub branches : List Token → Read (Conds Path V)
   branches = branch_in form conds
 
+  -- a conditional, whose conditions, values and branches are these
   abbrev pub layer : List Token → Read (Cond Path V)
   layer = cond_layer height_left values branches conds
 
+  -- after IF
   abbrev pub after_if : List Token → Read (Cond Path V)
   after_if = if_at height_left values branches conds
 
+  -- after SELECT
   abbrev pub after_select : List Token → Read (Cond Path V)
   after_select = select_at height_left values branches conds
 
+  -- a branch in braces
   abbrev pub braces : List Token → Read (Conds Path V)
   braces = braces_at height_left values branches conds
 
+  -- ELSE with an IF or a branch in braces after it, or nothing
   abbrev pub otherwise : List Token → Read (Conds Path V)
   otherwise = else_at height_left values branches conds
 
+  -- the arms up to the closing brace; the number bounds how many there are
   abbrev pub arms : ℕ → List Token → Read (Arms Path V)
   arms = arms_at height_left values branches conds
 

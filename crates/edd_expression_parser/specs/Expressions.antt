@@ -13,9 +13,11 @@ use Rattle.edd_syntax.specs.TreeView.{path_of, expr_of, argument_of}
 use Rattle.edd_grammar.specs.Reading.{◌>>=◌, Read, expect}
 use Rattle.edd_grammar.specs.ExpressionReading.{expr_at}
 
+-- an expression as the pure tree
 abbrev pub expr_view : code.Expr path.Path → pure_tree.Expr Path
 expr_view e = expr_of path_of e
 
+-- an argument as the pure tree
 abbrev pub argument_view : argument.Argument path.Path → pure_tree.Argument Path
 argument_view a = argument_of path_of a
 

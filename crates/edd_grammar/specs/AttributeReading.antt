@@ -37,6 +37,7 @@ class_of name =
     else if bytes_eq name (codes "MISC_ERROR") then Some class.MiscError
     else None
 
+-- a response class, by its name
 unfoldable pub class_at : List Token → Read ResponseClass
 class_at here = name_at here >>= λ n. class_of n.0 >>= λ c. Some (c, n.1)
 

@@ -38,6 +38,7 @@ condition_at p height_left here = do
 -- branches `branch` reads, and the IF after an ELSE `inner`.
 module _ {V : Type 0} (height_left : ℕ) (value : List Token → Read V) (branch : List Token
     → Read (Conds Path V)) (inner : List Token → Read (Cond Path V)) where
+  -- a branch in braces
   unfoldable pub braces_at : List Token → Read (Conds Path V)
   braces_at here = do
     inside ← expect sign.OpenBrace here
@@ -45,6 +46,7 @@ module _ {V : Type 0} (height_left : ℕ) (value : List Token → Read V) (branc
     rest ← expect sign.CloseBrace behind
     Some (all, rest)
 
+  -- ELSE with an IF or a branch in braces after it, or nothing
   unfoldable pub else_at : List Token → Read (Conds Path V)
   else_at here =
       if at_word word.Else here
@@ -94,6 +96,7 @@ module _ {V : Type 0} (height_left : ℕ) (value : List Token → Read V) (branc
     rest ← expect sign.CloseBrace behind
     Some (Select on arms, rest)
 
+  -- an IF, a SELECT or a value
   unfoldable pub cond_layer : List Token → Read (Cond Path V)
   cond_layer here =
       if at_word word.If here then if_at (drop 1 here)
@@ -136,6 +139,7 @@ abbrev pub list_ends : List Token → Bool
 list_ends here = if at sign.CloseBrace here then true else if at_word word.Case here then true else
     at_word word.Default here
 
+-- after a comma, if one is next
 abbrev pub skip_comma : List Token → List Token
 skip_comma here = if at sign.Comma here then drop 1 here else here
 
@@ -149,6 +153,7 @@ elements_at element (suc n) here =
     else (element here >>= λ c. elements_at element n (skip_comma c.1)
     >>= λ more. Some (cond.Cons c.0 more.0, more.1))
 
+-- all elements of a list
 unfoldable pub listed : {V : Type 0} → (List Token → Read (Cond Path V)) → List Token
     → Read (Conds Path V)
 listed element here = elements_at element (suc (length here)) here
@@ -161,6 +166,7 @@ element_at value zero here = None
 element_at value (suc height_left) here = cond_layer height_left (value height_left)
     (listed (element_at value height_left)) (element_at value height_left) here
 
+-- the elements of a list, each of at most this height and with such values
 unfoldable pub list_at : {V : Type 0} → (ℕ → List Token → Read V) → ℕ → List Token
     → Read (Conds Path V)
 list_at value height_left here = listed (element_at value height_left) here

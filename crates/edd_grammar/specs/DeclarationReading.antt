@@ -15,6 +15,7 @@ value_at height_left here =
     if at sign.Equals here then (expr_at InMethod height_left 1 (drop 1 here)
     >>= λ e. Some (Some e.0, e.1)) else Some (None, here)
 
+-- a name, with a value of at most this height or without
 unfoldable pub declarator_at : ℕ → List Token → Read (Declarator Path)
 declarator_at height_left here = do
   (name, behind) ← name_at here
@@ -30,5 +31,6 @@ some_declarators height_left (suc n) here = do
       Some ([], behind)
   Some (first ∷ others, rest)
 
+-- one or more, whose values have at most this height
 unfoldable pub declarators_at : ℕ → List Token → Read (List (Declarator Path))
 declarators_at height_left here = some_declarators height_left (length here) here

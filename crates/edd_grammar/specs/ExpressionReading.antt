@@ -15,6 +15,7 @@ use Rattle.edd_syntax.specs.Size.{height}
 use Rattle.edd_grammar.specs.Signs.{Infix, infix_precedence, infix_tree, infix_of, unary_of, before_of, after_of, same_sign, Assignment, assignment_tree, assignment_of}
 use Rattle.edd_grammar.specs.Reading.{◌>>=◌, on_option, Read, at, expect, path_behind, path_at, is_text, text_at}
 
+-- the site is in a method
 abbrev pub is_method : Site → Bool
 is_method InAttribute = false
 is_method InMethod = true
@@ -25,6 +26,7 @@ operator_at precedence (Sign s ∷ rest) = infix_of s
     >>= λ op. if nat_le precedence (infix_precedence op) then Some (op, rest) else None
 operator_at precedence _ = None
 
+-- `=`, or a compound assignment operator
 abbrev pub assignment_at : List Token → Read Assignment
 assignment_at (Sign s ∷ rest) = assignment_of s >>= λ op. Some (op, rest)
 assignment_at _ = None
@@ -44,6 +46,7 @@ postfix p r here =
 abbrev pub Inner : Type 0
 Inner = ℕ → List Token → Read (Expr Path)
 
+-- the path of an expression that is a reference and nothing else
 abbrev pub as_path : Expr Path → Option Path
 as_path (tree.Reference r) = Some r
 as_path _ = None
@@ -63,6 +66,7 @@ step_before p op here = if is_method p then
     (path_at here >>= λ r. Some (tree.Increment op r.0, r.1)) else None
 
 module _ (p : Site) (inner : Inner) where
+  -- a text or an expression
   unfoldable pub argument_at : List Token → Read (Argument Path)
   argument_at here =
       if is_text here
@@ -79,6 +83,7 @@ module _ (p : Site) (inner : Inner) where
         tree.Nil (expect sign.CloseParenthesis behind)
     Some (tree.Cons first others, rest)
 
+  -- after an opening parenthesis: the arguments, with the closing parenthesis
   unfoldable pub arguments_at : List Token → Read (Arguments Path)
   arguments_at here = if at sign.CloseParenthesis here then Some (tree.Nil, drop 1 here) else
       some_arguments (length here) here
@@ -100,9 +105,11 @@ module _ (p : Site) (inner : Inner) where
       else if at sign.OpenBracket here then index_behind name (drop 1 here)
       else postfix p (path_behind name here).0 (path_behind name here).1
 
+  -- after a unary operator: its operand
   unfoldable pub unary_behind : UnaryOperator → List Token → Read (Expr Path)
   unary_behind op here = inner 13 here >>= λ e. Some (tree.Unary op e.0, e.1)
 
+  -- after an opening parenthesis: the expression inside, with the closing parenthesis
   unfoldable pub parentheses_behind : List Token → Read (Expr Path)
   parentheses_behind here = do
     (e, behind) ← inner (loosest p) here
@@ -153,12 +160,14 @@ module _ (p : Site) (inner : Inner) where
         Some (tree.Conditional c first second, rest)) else None)
       else Some (c, here)
 
+  -- precedence 1, after what may be its left side
   unfoldable pub assign_at : ℕ → Expr Path → List Token → Read (Expr Path)
   assign_at precedence e here =
       on_option (assigned p precedence e) (Some (e, here))
       (λ r. on_option (assignment_at here) (Some (e, here))
       (λ o. inner 1 o.1 >>= λ v. Some (assignment_tree o.0 r v.0, v.1)))
 
+  -- an expression of this precedence or a tighter one, where `inner` reads those inside it
   unfoldable pub layer : ℕ → Inner
   layer height_left precedence here = do
     (first, behind) ← operand_at here

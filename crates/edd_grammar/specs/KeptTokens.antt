@@ -15,5 +15,6 @@ is_kept_token Decimal = true
 is_kept_token (String raw) = has_escapes raw
 is_kept_token (Sign s) = true
 
+-- Each token keeps that.
 abbrev pub Kept : List Token → Type 0
 Kept tokens = IsTrue (list_all is_kept_token tokens)

@@ -11,6 +11,7 @@ use Rattle.edd_syntax.specs.Reference.{Path}
 use Rattle.edd_grammar.specs.Signs.{same_sign, same_word}
 
 infixl 10 ◌>>=◌
+-- goes on with what was read; None where either step gives None
 abbrev pub ◌>>=◌ : {A B : Type 0} → Option A → (A → Option B) → Option B
 (Some x) >>= f = f x
 None >>= f = None
@@ -44,16 +45,19 @@ at_word k _ = false
 unfoldable pub expect_word : Keyword → List Token → Option (List Token)
 expect_word k here = if at_word k here then Some (drop 1 here) else None
 
+-- any sign
 abbrev pub sign_at : List Token → Read Symbol
 sign_at (Sign s ∷ rest) = Some (s, rest)
 sign_at _ = None
 
+-- a name
 abbrev pub name_at : List Token → Read Name
 name_at (Identifier n ∷ rest) = Some (n, rest)
 name_at _ = None
 
 -- ---- paths
 
+-- the dots with a name after each, as many as follow
 abbrev pub members_at : List Token → List Name × List Token
 members_at (Sign sign.Dot ∷ Identifier m ∷ rest) = (m ∷ (members_at rest).0, (members_at rest).1)
 members_at here = ([], here)
@@ -62,6 +66,7 @@ members_at here = ([], here)
 unfoldable pub path_behind : Name → List Token → Path × List Token
 path_behind base here = (record { base = base; members = (members_at here).0 }, (members_at here).1)
 
+-- a name, and the members after it
 unfoldable pub path_at : List Token → Read Path
 path_at here = do
   (base, behind) ← name_at here
@@ -69,10 +74,12 @@ path_at here = do
 
 -- ---- texts
 
+-- whether a string is next
 abbrev pub is_string : List Token → Bool
 is_string (String s ∷ rest) = true
 is_string _ = false
 
+-- the strings one after the other, joined
 abbrev pub strings_at : List Token → List ℕ × List Token
 strings_at (String s ∷ rest) = (s ++ (strings_at rest).0, (strings_at rest).1)
 strings_at here = ([], here)

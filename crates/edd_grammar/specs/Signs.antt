@@ -35,24 +35,28 @@ pub data Infix : Type 0 where
   Both : Infix
   Either : Infix
 
+-- the precedence of an operator between two operands
 abbrev pub infix_precedence : Infix → ℕ
 infix_precedence (Plain op) = precedence_of op
 infix_precedence (Comparing by) = comparison_precedence by
 infix_precedence Both = 4
 infix_precedence Either = 3
 
+-- the sign of an operator between two operands
 abbrev pub infix_sign : Infix → Symbol
 infix_sign (Plain op) = sign.Operator op
 infix_sign (Comparing by) = sign.Comparison by
 infix_sign Both = sign.LogicalAnd
 infix_sign Either = sign.LogicalOr
 
+-- the tree of an operator with its operands
 abbrev pub infix_tree : Infix → Expr Path → Expr Path → Expr Path
 infix_tree (Plain op) left right = Binary op left right
 infix_tree (Comparing by) left right = Compare by left right
 infix_tree Both left right = LogicalAnd left right
 infix_tree Either left right = LogicalOr left right
 
+-- the operator that this sign is between two operands
 abbrev pub infix_of : Symbol → Option Infix
 infix_of (sign.Operator op) = Some (Plain op)
 infix_of (sign.Comparison by) = Some (Comparing by)
@@ -62,6 +66,7 @@ infix_of _ = None
 
 -- ---- operators before an operand, after a reference, and assignments
 
+-- the unary operator that this sign is before an operand
 abbrev pub unary_of : Symbol → Option UnaryOperator
 unary_of (sign.Operator operator.Add) = Some unary_operator.Plus
 unary_of (sign.Operator operator.Subtract) = Some unary_operator.Minus
@@ -69,11 +74,13 @@ unary_of sign.Exclamation = Some unary_operator.Not
 unary_of sign.Tilde = Some unary_operator.Complement
 unary_of _ = None
 
+-- `++` or `--` before a reference
 abbrev pub before_of : Symbol → Option IncrementOperator
 before_of sign.Increment = Some PreIncrement
 before_of sign.Decrement = Some PreDecrement
 before_of _ = None
 
+-- `++` or `--` after a reference
 abbrev pub after_of : Symbol → Option IncrementOperator
 after_of sign.Increment = Some PostIncrement
 after_of sign.Decrement = Some PostDecrement
@@ -84,14 +91,17 @@ pub data Assignment : Type 0 where
   Simple : Assignment
   Compound : Operator → Assignment
 
+-- the sign of an assignment
 abbrev pub assignment_sign : Assignment → Symbol
 assignment_sign Simple = sign.Equals
 assignment_sign (Compound op) = sign.CompoundAssign op
 
+-- the tree of an assignment of a value to a path
 abbrev pub assignment_tree : Assignment → Path → Expr Path → Expr Path
 assignment_tree Simple to value = Assign to value
 assignment_tree (Compound op) to value = CompoundAssign op to value
 
+-- the assignment that has this sign
 abbrev pub assignment_of : Symbol → Option Assignment
 assignment_of sign.Equals = Some Simple
 assignment_of (sign.CompoundAssign op) = Some (Compound op)

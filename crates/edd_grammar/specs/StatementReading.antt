@@ -121,12 +121,14 @@ module _ (height_left : ℕ) (inner : List Token → Read (Stmt Path)) where
     (body, rest) ← body_at true inside
     Some (Switch on body, rest)
 
+  -- an expression as a statement, with its semicolon
   unfoldable pub evaluate_at : List Token → Read (Stmt Path)
   evaluate_at here = do
     (e, behind) ← expr_at InMethod height_left 1 here
     rest ← expect sign.Semicolon behind
     Some (Evaluate e, rest)
 
+  -- a statement, where `inner` reads the statements inside it
   unfoldable pub statement_layer : List Token → Read (Stmt Path)
   statement_layer here =
       if at sign.Semicolon here then Some (Empty, drop 1 here)

@@ -36,12 +36,14 @@ handling_at here =
     (drop 1 here)
     else None
 
+-- TRUE or FALSE
 unfoldable pub truth_at : List Token → Read Bool
 truth_at here =
     if at_name (codes "TRUE") here then Some (true, drop 1 here)
     else if at_name (codes "FALSE") here then Some (false, drop 1 here)
     else None
 
+-- READ, WRITE or COMMAND
 unfoldable pub operation_at : List Token → Read Operation
 operation_at here =
     if at_name (codes "READ") here then Some (operation.Read, drop 1 here)
@@ -104,6 +106,7 @@ mask_at here =
     >>= λ rest. Some (Some m.0, rest))
     else Some (None, here)
 
+-- a variable, its mask or none, and its qualifiers
 unfoldable pub data_variable_at : List Token → Read (item.DataItem Path)
 data_variable_at here = do
   (variable, from) ← path_at here
@@ -111,16 +114,19 @@ data_variable_at here = do
   (names, rest) ← qualifiers_at data_qualifier_names behind
   Some (item.Variable variable mask (data_qualifiers names), rest)
 
+-- an integer as a constant, or a variable
 unfoldable pub data_item_at : List Token → Read (item.DataItem Path)
 data_item_at here = on_option (integer_at here) (data_variable_at here)
     (λ n. Some (item.Constant n.0, n.1))
 
+-- the path of an item, and its qualifiers
 unfoldable pub menu_reference_at : List Token → Read (item.MenuEntry Path)
 menu_reference_at here = do
   (to, behind) ← path_at here
   (names, rest) ← qualifiers_at menu_qualifier_names behind
   Some (item.Reference to (menu_qualifiers names), rest)
 
+-- a text, or an item
 unfoldable pub menu_entry_at : List Token → Read (item.MenuEntry Path)
 menu_entry_at here =
     if is_text here then (text_at here >>= λ t. Some (item.Text t.0, t.1)) else menu_reference_at
@@ -128,17 +134,22 @@ menu_entry_at here =
 
 -- ---- as values of conditionals, where they have no height of their own
 
+-- READ, WRITE or both
 unfoldable pub handling_value : ℕ → List Token → Read Handling
 handling_value height_left here = handling_at here
 
+-- TRUE or FALSE
 unfoldable pub truth_value : ℕ → List Token → Read Bool
 truth_value height_left here = truth_at here
 
+-- an enumerator in its braces
 unfoldable pub enumerator_value : ℕ → List Token → Read item.Enumerator
 enumerator_value height_left here = enumerator_at here
 
+-- a constant or a variable of a REQUEST or a REPLY
 unfoldable pub data_item_value : ℕ → List Token → Read (item.DataItem Path)
 data_item_value height_left here = data_item_at here
 
+-- a text or an item of a menu
 unfoldable pub menu_entry_value : ℕ → List Token → Read (item.MenuEntry Path)
 menu_entry_value height_left here = menu_entry_at here

@@ -10,6 +10,7 @@ use Rattle.edd_grammar.specs.Reading.{◌>>=◌, on_option, Read, at, expect, na
 
 -- ---- single tokens
 
+-- an integer
 abbrev pub integer_at : List Token → Read ℕ
 integer_at (Integer n ∷ rest) = Some (n, rest)
 integer_at _ = None
@@ -35,6 +36,7 @@ more_names_at (Sign (sign.Operator operator.And) ∷ Identifier n ∷ rest) =
     (n ∷ (more_names_at rest).0, (more_names_at rest).1)
 more_names_at here = ([], here)
 
+-- one or more names
 unfoldable pub names_at : List Token → Read (List Name)
 names_at here = name_at here >>= λ n. Some (n.0 ∷ (more_names_at n.1).0, (more_names_at n.1).1)
 

@@ -29,10 +29,12 @@ pub record VariableFields : Type 0 where
   pub size : ℕ
   pub padding : ℕ
 
+-- the row of a name: where its bytes are, and what is there in place of the zeros
 pub record NameFields : Type 0 where
   pub span : Span
   pub padding : ℕ
 
+-- the row of an attribute: whose it is, where its code is, and what is there in place of the zeros
 pub record AttributeFields : Type 0 where
   pub kind : ℕ
   pub attribute : ℕ
@@ -41,6 +43,7 @@ pub record AttributeFields : Type 0 where
   pub padding : ℕ
   pub span : Span
 
+-- the fields of an image, section by section
 pub record Contents : Type 0 where
   pub version : Version
   -- the sum of what the header has where there should be zeros
@@ -70,6 +73,7 @@ type_of n =
     if n == type_code var_type.BitEnumerated then Some var_type.BitEnumerated else
     None
 
+-- the fields of the row of a variable at a place
 abbrev pub variable_fields : List ℕ → ℕ → VariableFields
 variable_fields b row = record {
   type_number = variable_type b row;
@@ -77,12 +81,14 @@ variable_fields b row = record {
   padding = variable_zero b row;
 }
 
+-- the fields of the row of a name at a place
 abbrev pub name_fields : List ℕ → ℕ → NameFields
 name_fields b row = record {
   span = record { start = name_start b row; size = name_length b row };
   padding = name_zero b row;
 }
 
+-- the fields of the row of an attribute at a place
 abbrev pub attribute_fields : List ℕ → ℕ → AttributeFields
 attribute_fields b row = record {
   kind = attribute_kind b row;
@@ -93,6 +99,7 @@ attribute_fields b row = record {
   span = record { start = attribute_start b row; size = attribute_length b row };
 }
 
+-- the element whose row is at a place
 abbrev pub element_fields : List ℕ → ℕ → Element
 element_fields b row = record {
   array = record { 0 = element_array b row };
@@ -100,6 +107,7 @@ element_fields b row = record {
   var = record { 0 = element_variable b row };
 }
 
+-- where a string is, by its row at a place
 abbrev pub string_fields : List ℕ → ℕ → Span
 string_fields b row = record { start = string_start b row; size = string_length b row }
 
@@ -126,12 +134,15 @@ contents_in b = record {
 
 -- ---- as the parts say
 
+-- the row of a variable, by its type and size
 abbrev pub fields_of_variable : VarKind → VariableFields
 fields_of_variable v = record { type_number = type_code v.var_type; size = v.size; padding = 0 }
 
+-- the row of a name, by its place and length
 abbrev pub fields_of_name : NameRow → NameFields
 fields_of_name r = record { span = record { start = r.start; size = r.length }; padding = 0 }
 
+-- the row of an attribute, by its item and the place of its code
 abbrev pub fields_of_attribute : AttributeRow → AttributeFields
 fields_of_attribute r = record {
   kind = kind_number (kind_of r.item);
@@ -142,9 +153,11 @@ fields_of_attribute r = record {
   span = record { start = r.start; size = r.length };
 }
 
+-- where a string is, by its row among the parts
 abbrev pub fields_of_string : StringRow → Span
 fields_of_string r = record { start = r.start; size = r.length }
 
+-- what the image of these sections holds, with zeros as padding
 abbrev pub contents_of : Sections → Contents
 contents_of s = record {
   version = s.version;

@@ -15,6 +15,7 @@ use Rattle.edd_image.specs.Front.{◌>>=◌, byte_from, number_from}
 abbrev pub variant_bytes : Variant → List ℕ
 variant_bytes v = length v.code ∷ (v.code ++ (u32 (length v.text) ++ v.text))
 
+-- the bytes of a string: 0 and its variants, or 1 and its key
 abbrev pub string_bytes : Words → List ℕ
 string_bytes (Variants first rest) = 0 ∷ flat_map variant_bytes (first ∷ rest)
 string_bytes (Key name) = 1 ∷ name
@@ -23,6 +24,7 @@ string_bytes (Key name) = 1 ∷ name
 abbrev pub VariantFits : Variant → Type 0
 VariantFits v = (length v.code < 2 ^ 8) × (length v.text < 2 ^ 32)
 
+-- The lengths of each variant fit their fields; a key has no such fields.
 abbrev pub WordsFit : Words → Type 0
 WordsFit (Variants first rest) = AllByRecursion VariantFits (first ∷ rest)
 WordsFit (Key name) = ⊤
@@ -51,6 +53,7 @@ variants_from (suc n) (b ∷ bytes) = do
   rest ← variants_from n first.1
   Some (first.0 ∷ rest)
 
+-- the string of these variants; None where there are none
 abbrev pub as_words : List Variant → Option Words
 as_words [] = None
 as_words (first ∷ rest) = Some (Variants first rest)
@@ -65,6 +68,7 @@ string_in (tag ∷ bytes) =
 
 -- ---- which strings an image may have
 
+-- its code is a code, and its text UTF-8
 abbrev pub is_variant : Variant → Bool
 is_variant v = is_code v.code && is_utf8 v.text
 
@@ -73,5 +77,6 @@ abbrev pub is_words : Words → Bool
 is_words (Variants first rest) = list_all is_variant (first ∷ rest)
 is_words (Key name) = is_name name
 
+-- the bytes are those of a string that an image may have
 abbrev pub is_string : List ℕ → Bool
 is_string bytes = option_map_or is_words (string_in bytes) false

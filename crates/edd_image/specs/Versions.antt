@@ -3,6 +3,7 @@ use Rattle.std.specs.Prelude.{ℕ}
 use Rattle.edd_image.specs.declared.versions.Version.{Version}
 use Rattle.edd_image.specs.declared.versions.Version.TheVariants.{One, Two}
 
+-- the number that stands for a version in the header
 abbrev pub version_code : Version → ℕ
 version_code One = 1
 version_code Two = 2

@@ -58,9 +58,11 @@ mask_number None = 0
 mask_number (Some mask) = mask
 
 module _ (string_numbered : StrNo → Option Words) where
+  -- The number is that of this string.
   abbrev pub IsString : Words → StrNo → Type 0
   IsString w n = string_numbered n ≡ Some w
 
+  -- Both are missing, or the number is that of the string.
   abbrev pub IsOptionalString : Option Words → Option StrNo → Type 0
   IsOptionalString None None = ⊤
   IsOptionalString None (Some n) = ⊥
@@ -87,6 +89,7 @@ module _ (string_numbered : StrNo → Option Words) where
       (l h : Option StrNo) × (r ≡ records.Element number var l h) × IsOptionalString label l
       × IsOptionalString help h
 
+  -- There are as many records on both sides, and each says the same as its counterpart.
   abbrev pub SameRecords : List source.Record → List Record → Type 0
   SameRecords [] [] = ⊤
   SameRecords [] (r ∷ rs) = ⊥
@@ -193,16 +196,19 @@ place_of_item c (items.Method n) = c.variables + c.commands + c.menus + c.collec
 place_of_item c (items.Array n) = c.variables + c.commands + c.menus + c.collections + c.methods
     + n.0
 
+-- the name that an image has for an item, where the item exists
 abbrev pub name_numbered : Contents → ItemNo → Option Name
 name_numbered c i =
     if item_exists c.counts i then option_map (λ r. part r.span c.name_bytes)
     (slice_get c.names (place_of_item c.counts i)) else None
 
+-- the string of a number in an image; None where there is none or its bytes are no string
 abbrev pub string_numbered : Contents → StrNo → Option Words
 string_numbered c n = slice_get c.strings n.0 >>= λ span. string_in (part span c.string_bytes)
 
 -- ---- the whole image
 
+-- the identification in the header of an image
 abbrev pub identification_in : Contents → Identification
 identification_in c = record {
   manufacturer = c.counts.manufacturer;
@@ -211,6 +217,7 @@ identification_in c = record {
   dd_revision = c.counts.dd_revision;
 }
 
+-- how many items of a kind an image has
 abbrev pub count_in : Counts → Kind → ℕ
 count_in c kind.Variable = c.variables
 count_in c kind.Command = c.commands

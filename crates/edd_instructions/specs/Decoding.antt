@@ -25,15 +25,19 @@ unfoldable pub signed_from : Width → List ℕ → Option (ℤ × List ℕ)
 signed_from w bytes = if nat_lt (length bytes) (byte_len w) then None else Some
     (cast_signed w (from_be_bytes w (take (byte_len w) bytes)), drop (byte_len w) bytes)
 
+-- the variable with this number
 abbrev pub variable : ℕ → VarNo
 variable n = record { 0 = n }
 
+-- the array with this number
 abbrev pub array : ℕ → ArrNo
 array n = record { 0 = n }
 
+-- the method with this number
 abbrev pub method : ℕ → MethNo
 method n = record { 0 = n }
 
+-- the string with this number
 abbrev pub string : ℕ → StrNo
 string n = record { 0 = n }
 
@@ -72,6 +76,7 @@ basic_from code bytes =
     >>= (λ n. Some (instruction.ReadElement (array n.0), n.1)) else
     None
 
+-- the arithmetic or bitwise operator that a code stands for
 unfoldable pub operator_of : ℕ → Option Operator
 operator_of code =
     if code == 0x10 then Some operator.Add else
@@ -86,6 +91,7 @@ operator_of code =
     if code == 0x19 then Some operator.Xor else
     None
 
+-- the comparison that a code stands for
 unfoldable pub comparison_of : ℕ → Option Comparison
 comparison_of code =
     if code == 0x1a then Some comparison.Equal else
@@ -96,6 +102,7 @@ comparison_of code =
     if code == 0x1f then Some comparison.GreaterOrEqual else
     None
 
+-- the instruction of a unary operator that a code stands for
 unfoldable pub unary_of : ℕ → Option Instruction
 unary_of code =
     if code == 0x20 then Some instruction.Negate else
@@ -132,6 +139,7 @@ data_from bytes = do
   if nat_lt quals.0 4 then Some (instruction.DataVar (variable n.0) mask.0 quals.0, quals.1) else
       None
 
+-- value, text and help of an enumerator, whose help may be missing
 unfoldable pub enumerator_from : List ℕ → Option (Instruction × List ℕ)
 enumerator_from bytes = do
   value ← signed_from w64 bytes
@@ -147,6 +155,7 @@ response_from bytes = do
   text ← number_from w16 class.1
   if nat_lt class.0 7 then Some (instruction.Response n.0 class.0 (string text.0), text.1) else None
 
+-- name, item, label and help of a member, whose label and help may be missing
 unfoldable pub member_from : List ℕ → Option (Instruction × List ℕ)
 member_from bytes = do
   name ← number_from w16 bytes
@@ -159,6 +168,7 @@ member_from bytes = do
     help.1,
   )
 
+-- number, variable, label and help of an element, whose label and help may be missing
 unfoldable pub element_from : List ℕ → Option (Instruction × List ℕ)
 element_from bytes = do
   n ← number_from w32 bytes
@@ -200,6 +210,7 @@ ask_of b s t =
     if b == 8 then Some ask.SaveValues else
     None
 
+-- a request: its number and its two operands
 unfoldable pub ask_from : List ℕ → Option (Instruction × List ℕ)
 ask_from bytes = do
   b ← byte_from bytes
@@ -208,6 +219,7 @@ ask_from bytes = do
   request ← ask_of b.0 s.0 t.0
   Some (instruction.Ask request, t.1)
 
+-- the method that is added as an abort method
 unfoldable pub abort_method_from : List ℕ → Option (Instruction × List ℕ)
 abort_method_from bytes = number_from w16 bytes
     >>= (λ n. Some (instruction.AddAbortMethod (method n.0), n.1))

@@ -62,6 +62,7 @@ pub record Meeting : Type 0 where
   pub answers : List Answer
   pub ending : Option Ending
 
+-- no request is met: nothing changes, and all answers are left
 abbrev pub nothing_met : State → List Answer → Option Ending → Meeting
 nothing_met s answers ending =
     record { changes = []; state = s; answers = answers; ending = ending }
@@ -98,10 +99,12 @@ meet_request follow env s (answer ∷ rest) = elim (answer_fault env.types answe
   | None ↦ after_answer follow (answered s answer) rest
 ]
 
+-- a pending request is met by the next answer; else nothing is met, and the run may be over
 abbrev pub meet_by : (follow : State → State) → Environment → Status → State → List Answer → Meeting
 meet_by follow env (status.Asking r) s answers = meet_request follow env s answers
 meet_by follow env st s answers = nothing_met s answers (over_at st)
 
+-- the state and the answers that are left when the pending request, if there is one, has been met
 abbrev pub meet : (follow : State → State) → Environment → State → List Answer → Meeting
 meet follow env s answers = meet_by follow env s.status s answers
 
@@ -116,6 +119,7 @@ closed m ending = record {
   steps = 0;
 }
 
+-- the request that a step emits, if it emits one
 abbrev pub request_in : Emitted → List Request
 request_in emitted.Nothing = []
 request_in (emitted.Record r) = []
@@ -164,6 +168,7 @@ resumed_following follow env n o =
     let rest = execute_following follow env n o.state o.answers in
     record (preceded o.requests o.changes rest) { steps = o.steps + rest.steps }
 
+-- an outcome that is out of steps, resumed for a run of one unit, where nothing follows
 abbrev pub resumed : Environment → (n : ℕ) → Outcome → Outcome
 resumed env n o = let rest = execute env n o.state o.answers in record
     (preceded o.requests o.changes rest) { steps = o.steps + rest.steps }

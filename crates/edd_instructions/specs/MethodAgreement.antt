@@ -58,6 +58,7 @@ module _ (string_numbered : StrNo → Option Words) where
       transaction
   SameRequest source.SaveValues r = r ≡ requests.SaveValues
 
+  -- There are as many requests on both sides, and each asks the same as its counterpart.
   abbrev pub SameRequests : List source.Request → List Request → Type 0
   SameRequests [] [] = ⊤
   SameRequests [] (r ∷ rs) = ⊥
@@ -165,5 +166,6 @@ IsBodyOf unit c method (Some start) = (start.slots ≡ slots_in (body_of unit me
     (λ n s. run.run_body n (environment unit) (body_of unit method) s)
     (λ k s. execute (environment_of c) k (started start.unit s) s.answers)
 
+-- The code of each method alone does what its body does.
 abbrev pub EachIsBody : Description Target → Contents → Type 0
 EachIsBody unit c = (method : MethNo) → IsBodyOf unit c method (start_in c method)

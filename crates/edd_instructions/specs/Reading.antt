@@ -24,6 +24,7 @@ use Rattle.edd_instructions.specs.Steps.{Effect, State, Environment, opening, st
 
 -- ---- the rows of an image
 
+-- the type and the size that a row gives a variable, where the type is known
 abbrev pub variable_type_of : VariableFields → Option VariableType
 variable_type_of r = option_map (λ t. record { type = t; size = r.size }) (type_of r.type_number)
 
@@ -34,6 +35,7 @@ environment_of c = record {
   elements = c.elements;
 }
 
+-- the row is of this attribute of this item, at any position
 abbrev pub is_row_of : ItemNo → Attr → AttributeFields → Bool
 is_row_of item a r = r.kind == kind_number (kind_of item)
     && (r.attribute == attr_number a && r.item == index_of item)
@@ -61,6 +63,7 @@ at_end Ended = Some (Ok [])
 at_end Aborted = None
 at_end (Trapped why) = Some (Err why)
 
+-- what the rest of a unit gives, after the record that a step emits; a trap is passed on
 abbrev pub with_record : Emitted → Result (List Record) Trap → Result (List Record) Trap
 with_record emitted.Nothing given = given
 with_record (emitted.Record r) (Ok rest) = Ok (r ∷ rest)
@@ -81,6 +84,7 @@ given_within (suc n) env s = given_by (step env s) s.status (λ e. given_within 
 
 -- ---- what is read of an attribute
 
+-- what is read of an attribute: no such item, its records, or a trap
 pub data Reading : Type 0 where
   -- there is no such item, or none that has this attribute
   NoItem : Reading

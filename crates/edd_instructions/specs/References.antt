@@ -8,6 +8,7 @@ use Rattle.edd_image.specs.declared.parts.Counts.{Counts}
 use Rattle.edd_image.specs.Existing.{string_exists, optional_string_exists, variable_exists, array_exists, method_exists, item_exists}
 use Rattle.edd_instructions.specs.declared.unit.Context.{Context}
 
+-- the strings and the variable that a request names exist
 abbrev pub request_exists : Counts → Ask → Bool
 request_exists counts (ask.PutMessage s) = string_exists counts s
 request_exists counts (ask.Acknowledge s) = string_exists counts s

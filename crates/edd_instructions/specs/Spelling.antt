@@ -17,6 +17,7 @@ use Rattle.edd_instructions.specs.declared.instruction.Jump.{Jump}
 use Rattle.edd_instructions.specs.declared.instruction.Jump.TheVariants as jump
 use Rattle.edd_image.specs.Layout.{u16, u32}
 
+-- the eight bytes of a signed number, in two's complement
 abbrev pub i64 : ℤ → List ℕ
 i64 z = to_be_bytes w64 (cast_unsigned w64 z)
 
@@ -29,9 +30,11 @@ abbrev pub optional_number : Option StrNo → ℕ
 optional_number None = 0xffff
 optional_number (Some s) = s.0
 
+-- the two bytes of a string number that may be missing
 abbrev pub optional_bytes : Option StrNo → List ℕ
 optional_bytes o = u16 (optional_number o)
 
+-- the code of an arithmetic or bitwise operator
 abbrev pub operator_code : Operator → ℕ
 operator_code operator.Add = 0x10
 operator_code operator.Subtract = 0x11
@@ -44,6 +47,7 @@ operator_code operator.And = 0x17
 operator_code operator.Or = 0x18
 operator_code operator.Xor = 0x19
 
+-- the code of a comparison
 abbrev pub comparison_code : Comparison → ℕ
 comparison_code comparison.Equal = 0x1a
 comparison_code comparison.NotEqual = 0x1b
@@ -52,6 +56,7 @@ comparison_code comparison.LessOrEqual = 0x1d
 comparison_code comparison.Greater = 0x1e
 comparison_code comparison.GreaterOrEqual = 0x1f
 
+-- the number of a request, and its two operands, which are 0 where they are not used
 abbrev pub ask_bytes : Ask → List ℕ
 ask_bytes (ask.PutMessage s) = 1 ∷ (u16 s.0 ++ u16 0)
 ask_bytes (ask.Acknowledge s) = 2 ∷ (u16 s.0 ++ u16 0)
@@ -62,6 +67,7 @@ ask_bytes ask.SendCommand = 6 ∷ (u16 0 ++ u16 0)
 ask_bytes ask.SendCommandTrans = 7 ∷ (u16 0 ++ u16 0)
 ask_bytes ask.SaveValues = 8 ∷ (u16 0 ++ u16 0)
 
+-- the code of an instruction, then its operands
 abbrev pub spelling : Instruction → List ℕ
 spelling instruction.End = 0x00 ∷ []
 spelling (instruction.Push n) = 0x01 ∷ u32 n
@@ -113,9 +119,11 @@ head_length (jump.IfLabel label) = 9
 
 -- ---- the ranges of operands
 
+-- The string is missing, or its number is below FFFF, which stands for a missing one.
 abbrev pub IsOptional : Option StrNo → Type 0
 IsOptional o = IfSome o (λ s. s.0 < 0xffff)
 
+-- Each number that the request names fits its two bytes.
 abbrev pub IsAsk : Ask → Type 0
 IsAsk (ask.PutMessage s) = s.0 < 2 ^ 16
 IsAsk (ask.Acknowledge s) = s.0 < 2 ^ 16

@@ -107,6 +107,7 @@ ask_for s next operands r = Some (record {
   changes = [];
 })
 
+-- stays at its place with this status, and gives nothing
 abbrev pub stop : State → Status → Option Effect
 stop s status = quietly (record s { status = status })
 
@@ -121,6 +122,7 @@ on_two [] f = None
 on_two (b ∷ []) f = None
 on_two (b ∷ a ∷ below) f = f a b below
 
+-- goes on with the result pushed on the operands below, or stops with the trap
 abbrev pub push_or_trap : State → ℕ → List ℤ → Result ℤ Trap → Option Effect
 push_or_trap s next below (Ok z) = go s next (z ∷ below)
 push_or_trap s next below (Err why) = stop (record s { operands = below }) (Trapped why)
@@ -139,6 +141,7 @@ store_in env s next below kept change = Some (record {
 
 -- ---- instructions
 
+-- the effect of a request: it takes its numbers off the operands, if they are there, and waits
 abbrev pub act_ask : Ask → ℕ → State → Option Effect
 act_ask (ask.PutMessage t) next s = ask_for s next s.operands (request.PutMessage t)
 act_ask (ask.Acknowledge t) next s = ask_for s next s.operands (request.Acknowledge t)
@@ -251,6 +254,7 @@ Stands s Ended = ⊤
 Stands s Aborted = ⊤
 Stands s (Trapped why) = ⊤
 
+-- The state keeps what every state of a run in a valid unit of this context keeps.
 pub record IsState (context : Context) (env : Environment) (s : State) : Type 0 where
   pub sort : s.unit.sort ≡ context.sort
   pub stands : Stands s s.status

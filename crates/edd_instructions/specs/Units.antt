@@ -25,6 +25,7 @@ pub record Placed : Type 0 where
   pub instruction : Instruction
   pub next : ℕ
 
+-- what is found at a place, then the others from the place after it on; none if none is found
 abbrev pub before : ℕ → Option (Instruction × ℕ) → (ℕ → List Placed) → List Placed
 before place None others = []
 before place (Some found) others = record { place = place; instruction = found.0; next = found.1 }
@@ -172,15 +173,19 @@ pub record Allowed : Type 0 where
   pub in_attributes : Bool
   pub in_methods : Bool
 
+-- in attributes and in methods
 abbrev pub everywhere : Allowed
 everywhere = record { in_attributes = true; in_methods = true }
 
+-- in attributes, not in methods
 abbrev pub attributes_only : Allowed
 attributes_only = record { in_attributes = true; in_methods = false }
 
+-- in methods, not in attributes
 abbrev pub methods_only : Allowed
 methods_only = record { in_attributes = false; in_methods = true }
 
+-- neither in attributes nor in methods
 abbrev pub nowhere : Allowed
 nowhere = record { in_attributes = false; in_methods = false }
 
@@ -189,6 +194,7 @@ abbrev pub from_version_two : Version → Allowed → Allowed
 from_version_two One a = nowhere
 from_version_two Two a = a
 
+-- where an instruction may be, by the version of the layout
 abbrev pub allowed : Version → Instruction → Allowed
 allowed version instruction.End = everywhere
 allowed version (instruction.Push n) = everywhere
@@ -221,6 +227,7 @@ allowed version (instruction.Ask request) = methods_only
 allowed version instruction.Abort = methods_only
 allowed version (instruction.AddAbortMethod m) = from_version_two version methods_only
 
+-- an instruction may be in a unit of this sort and version
 abbrev pub is_allowed : Version → Sort → Instruction → Bool
 is_allowed version Attribute i = (allowed version i).in_attributes
 is_allowed version Method i = (allowed version i).in_methods
@@ -246,6 +253,7 @@ is_forward Attribute x = option_map_or (λ w. nat_lt x.place w.to) (jump x.instr
 abbrev pub lands : Sort → List Placed → Placed → Bool
 lands sort xs x = is_forward sort x && list_all (λ w. is_start xs w.to) (ways x)
 
+-- the ways from each instruction lead to instructions, and the jumps of an attribute forward
 abbrev pub all_land : Context → List Placed → Bool
 all_land context xs = list_all (lands context.sort xs) xs
 
@@ -273,22 +281,26 @@ pub record AreDepths (xs : List Placed) (depth : ℕ → ℕ) : Type 0 where
   -- an instruction that no earlier one leads to has 0
   pub fresh : AllByRecursion (λ x. IsFresh xs x.place → depth x.place ≡ 0) xs
 
+-- Each instruction has one number of operands before it, which suits it and all ways to it.
 abbrev pub HasDepths : List Placed → Type 0
 HasDepths xs = (depth : ℕ → ℕ) × AreDepths xs depth
 
 -- ---- the fourth rule: what an instruction names exists
 
+-- what each instruction names exists
 abbrev pub all_exist : Context → List Placed → Bool
 all_exist context xs = list_all (λ x. names_exist context x.instruction) xs
 
 -- ---- a valid unit, and the first rule that a unit breaks
 
+-- The code keeps this rule.
 abbrev pub UnitKeeps : Context → List ℕ → UnitRule → Type 0
 UnitKeeps context code Chain = IsTrue (is_chain context code)
 UnitKeeps context code Jump = IsTrue (all_land context (instructions code))
 UnitKeeps context code Depth = HasDepths (instructions code)
 UnitKeeps context code Reference = IsTrue (all_exist context (instructions code))
 
+-- The code keeps all four rules on a unit.
 pub record IsValidUnit (context : Context) (code : List ℕ) : Type 0 where
   pub chain : UnitKeeps context code Chain
   pub jumps : UnitKeeps context code Jump

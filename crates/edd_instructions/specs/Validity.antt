@@ -29,6 +29,7 @@ use Rattle.edd_instructions.specs.Units.{instructions, UnitKeeps, IsValidUnit}
 
 -- ---- the lengths
 
+-- the most bytes that the code of an image may have, 2 to the power of 24
 abbrev pub code_limit : ℕ
 code_limit = 16777216
 
@@ -45,12 +46,15 @@ abbrev pub fills : ℕ → List Span → (end : ℕ) → Bool
 fills place [] end = place == end
 fills place (x ∷ xs) end = x.start == place && fills (place + x.size) xs end
 
+-- the type is known, the size is 1 to 4 bytes, and the padding is zero
 abbrev pub is_variable_row : VariableFields → Bool
 is_variable_row r = is_some (type_of r.type_number) && (is_within 1 4 r.size && r.padding == 0)
 
+-- each row of a variable is valid
 abbrev pub are_variable_rows : Contents → Bool
 are_variable_rows c = list_all is_variable_row c.variables
 
+-- the padding of each row of a name is zero, and the spans fill the bytes of names
 abbrev pub are_name_rows : Contents → Bool
 are_name_rows c = list_all (λ r. r.padding == 0) c.names && fills 0 (map (λ r. r.span) c.names)
     (length c.name_bytes)
@@ -65,6 +69,7 @@ abbrev pub has_attribute : Counts → ItemNo → Attr → ℕ → Bool
 has_attribute counts item a sub = item_exists counts item
     && (has_attr (kind_of item) a && sub_fits a sub)
 
+-- the row names an item that exists and may have the attribute, and its padding is zero
 abbrev pub is_attribute_row : Counts → AttributeFields → Bool
 is_attribute_row counts r =
     option_map_or (λ item. option_map_or (λ a. has_attribute counts item a r.sub)
@@ -79,15 +84,18 @@ rises r next =
     (nat_lt r.item next.item || (r.item == next.item &&
     (nat_lt r.sub next.sub && not (r.attribute == attr_number attr.Definition)))))))
 
+-- each row rises to the next
 abbrev pub rise : List AttributeFields → Bool
 rise [] = true
 rise (r ∷ []) = true
 rise (r ∷ next ∷ rest) = rises r next && rise (next ∷ rest)
 
+-- each row of an attribute is valid, the rows rise, and their spans fill the code
 abbrev pub are_attribute_rows : Contents → Bool
 are_attribute_rows c = list_all (is_attribute_row c.counts) c.attributes
     && (rise c.attributes && fills 0 (map (λ r. r.span) c.attributes) (length c.code))
 
+-- the array and the variable of an element exist
 abbrev pub is_element_row : Counts → Element → Bool
 is_element_row counts e = array_exists counts e.array && variable_exists counts e.var
 
@@ -96,17 +104,21 @@ abbrev pub is_element_before : Element → Element → Bool
 is_element_before e next = nat_lt e.array.0 next.array.0
     || (e.array.0 == next.array.0 && nat_lt e.number next.number)
 
+-- each row of an element is before the next
 abbrev pub elements_rise : List Element → Bool
 elements_rise [] = true
 elements_rise (e ∷ []) = true
 elements_rise (e ∷ next ∷ rest) = is_element_before e next && elements_rise (next ∷ rest)
 
+-- each row of an element names what exists, and the rows rise
 abbrev pub are_element_rows : Contents → Bool
 are_element_rows c = list_all (is_element_row c.counts) c.elements && elements_rise c.elements
 
+-- the spans of the strings fill the bytes of strings
 abbrev pub are_string_rows : Contents → Bool
 are_string_rows c = fills 0 c.strings (length c.string_bytes)
 
+-- the rule on rows: the padding of the header is zero, and the rows of each section are valid
 abbrev pub are_rows : Contents → Bool
 are_rows c = c.padding == 0
     && (are_variable_rows c && (are_name_rows c && (are_attribute_rows c
@@ -114,9 +126,11 @@ are_rows c = c.padding == 0
 
 -- ---- names and strings
 
+-- the rule on names: the bytes of each are a name of the language
 abbrev pub are_names : Contents → Bool
 are_names c = list_all (λ r. is_name (part r.span c.name_bytes)) c.names
 
+-- the rule on strings: the bytes of each are a string that an image may have
 abbrev pub are_strings : Contents → Bool
 are_strings c = list_all (λ span. is_string (part span c.string_bytes)) c.strings
 
@@ -127,9 +141,11 @@ pub record PlacedUnit : Type 0 where
   pub context : Context
   pub code : List ℕ
 
+-- the row is the one of a method's body
 abbrev pub is_body : AttributeFields → Bool
 is_body r = r.attribute == attr_number attr.Definition
 
+-- whether the code of a row is a method's or gives an attribute
 abbrev pub sort_of : AttributeFields → Sort
 sort_of r = if is_body r then Method else Attribute
 
@@ -137,12 +153,14 @@ sort_of r = if is_body r then Method else Attribute
 abbrev pub slots_of : AttributeFields → ℕ
 slots_of r = if is_body r then r.sub else 0
 
+-- the unit of a row: its part of the code, and the context that the rules on it look at
 abbrev pub placed_unit : Contents → AttributeFields → PlacedUnit
 placed_unit c r = record {
   context = record { version = c.version; counts = c.counts; sort = sort_of r; slots = slots_of r };
   code = part r.span c.code;
 }
 
+-- the units of all attribute rows, in their order
 abbrev pub units : Contents → List PlacedUnit
 units c = map (placed_unit c) c.attributes
 
@@ -176,6 +194,7 @@ UnitsKeep c unit_rule.Reference = EachUnitKeeps c unit_rule.Reference
 
 -- ---- the rules, the first that is broken, and valid images
 
+-- The bytes keep this rule.
 abbrev pub Keeps : List ℕ → Rule → Type 0
 Keeps b rule.Short = IsTrue (nat_le header_length (length b))
 Keeps b rule.Magic = IsTrue (has_magic b)
@@ -205,6 +224,7 @@ abbrev pub BreaksFirst : List ℕ → Rule → Type 0
 BreaksFirst b broken = ((earlier : Rule) → fault_number earlier < fault_number broken
     → Keeps b earlier) × (¬ Keeps b broken)
 
+-- The bytes are a valid image: they keep every rule.
 abbrev pub IsValid : List ℕ → Type 0
 IsValid b = (which : Rule) → Keeps b which
 

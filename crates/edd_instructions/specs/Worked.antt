@@ -26,6 +26,7 @@ no_counts = record {
 
 -- ---- nothing but the identification
 
+-- the parts of an image without items
 abbrev pub empty_parts : Sections
 empty_parts = record {
   version = One;
@@ -40,6 +41,7 @@ empty_parts = record {
   string_bytes = [];
 }
 
+-- the bytes of that image
 abbrev pub empty_image : List ℕ
 empty_image =
     0x45 ∷ 0x44 ∷ 0x49 ∷ 0x31 ∷ 0x00 ∷ 0x01 ∷ 0x00 ∷ 0x00 ∷ 0x00 ∷ 0x00 ∷ 0x00 ∷ 0x38 ∷
@@ -51,6 +53,7 @@ empty_image =
 
 -- ---- a method `m` that is an endless loop
 
+-- the parts of the image with the loop
 abbrev pub loop_parts : Sections
 loop_parts = record empty_parts {
   counts = record no_counts { methods = 1 };
@@ -67,6 +70,7 @@ loop_parts = record empty_parts {
   name_bytes = 0x6d ∷ [];
 }
 
+-- its bytes
 abbrev pub loop_image : List ℕ
 loop_image =
     0x45 ∷ 0x44 ∷ 0x49 ∷ 0x31 ∷ 0x00 ∷ 0x01 ∷ 0x00 ∷ 0x00 ∷ 0x00 ∷ 0x00 ∷ 0x00 ∷ 0x56 ∷
@@ -88,6 +92,7 @@ with_code a b c d e = slice_set
 
 -- ---- a variable `p` of type INTEGER (2) with the label "Pressure", in German "Druck"
 
+-- the parts of the image with the label
 abbrev pub label_parts : Sections
 label_parts = record empty_parts {
   counts = record no_counts { variables = 1; strings = 1 };
@@ -110,6 +115,7 @@ label_parts = record empty_parts {
       0x02 ∷ 0x64 ∷ 0x65 ∷ 0x00 ∷ 0x00 ∷ 0x00 ∷ 0x05 ∷ 0x44 ∷ 0x72 ∷ 0x75 ∷ 0x63 ∷ 0x6b ∷ [];
 }
 
+-- its bytes
 abbrev pub label_image : List ℕ
 label_image =
     0x45 ∷ 0x44 ∷ 0x49 ∷ 0x31 ∷ 0x00 ∷ 0x01 ∷ 0x00 ∷ 0x00 ∷ 0x00 ∷ 0x00 ∷ 0x00 ∷ 0x7d ∷
@@ -133,5 +139,6 @@ label_image =
 abbrev pub label_of : ℕ → AttrRef
 label_of n = record { item = items.Variable (record { 0 = n }); attr = attr.Label; sub = 0 }
 
+-- the handling of the variable with this number
 abbrev pub handling_of : ℕ → AttrRef
 handling_of n = record { item = items.Variable (record { 0 = n }); attr = attr.Handling; sub = 0 }

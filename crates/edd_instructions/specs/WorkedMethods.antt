@@ -45,9 +45,11 @@ end_image = with_code 0x00 0x00 0x00 0x00 0x00
 abbrev pub x : VarNo
 x = record { 0 = 0 }
 
+-- the second of them
 abbrev pub y : VarNo
 y = record { 0 = 1 }
 
+-- a variable as what a name stands for
 abbrev pub variable : VarNo → Target
 variable v = target.Item (items.Variable v)
 
@@ -73,6 +75,7 @@ abbrev pub turn : Stmt Target
 turn = Block (Cons (Statement (Evaluate message))
     (Cons (Statement (Evaluate increased)) (Cons (Statement (Evaluate set)) Nil)))
 
+-- a variable of type UNSIGNED_INTEGER with one byte, whose name is this letter
 abbrev pub octet : (name : ℕ) → Item Target
 octet name = record {
   sort = VariableItem;
@@ -122,9 +125,11 @@ asking_code =
     0x01 ∷ 0x00 ∷ 0x00 ∷ 0x00 ∷ 0x02 ∷ 0x03 ∷ 0x00 ∷ 0x01 ∷ 0x06 ∷
     0x30 ∷ 0x00 ∷ 0x00 ∷ 0x00 ∷ 0x00 ∷ 0x00 ∷ []
 
+-- the image with the code of the method that asks and stores
 abbrev pub asking_image : List ℕ
 asking_image = image_with asking_code
 
+-- the parts of that image
 abbrev pub asking_parts : Sections
 asking_parts = record {
   version = One;

@@ -10,6 +10,7 @@ is_blank b = b == 32 || (nat_le 9 b && nat_le b 13)
 abbrev pub is_line_end : ℕ → Bool
 is_line_end b = b == 10
 
+-- any byte but LF, so one that doesn't end its line
 abbrev pub in_line : ℕ → Bool
 in_line b = not (is_line_end b)
 

@@ -21,10 +21,12 @@ use Rattle.edd_lexer.specs.Tokens.{Stands, behind_byte_order_mark, text_limit}
 
 -- ---- what is at a place where nothing begins
 
+-- `/*` is here
 abbrev pub begins_comment : List ℕ → Bool
 begins_comment [] = false
 begins_comment (b ∷ rest) = b == 47 && begins (λ c. c == 42) rest
 
+-- a quote is here
 abbrev pub begins_string : List ℕ → Bool
 begins_string here = begins (λ b. b == quote) here
 
@@ -32,6 +34,7 @@ begins_string here = begins (λ b. b == quote) here
 abbrev pub begins_directive : Bool → List ℕ → Bool
 begins_directive fresh here = fresh && begins (λ b. b == 35) here
 
+-- If nothing begins here, this is the fault. `fresh`: only blanks are before it on its line.
 pub data FaultHere (fresh : Bool) (here : List ℕ) : Fault → Type 0 where
   -- `/*` without an end
   open_comment : begins_comment here ≡ true → FaultHere fresh here OpenComment

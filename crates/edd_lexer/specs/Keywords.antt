@@ -8,6 +8,7 @@ use Rattle.edd_syntax.specs.Token.{spelling}
 unfoldable pub only : (word : List ℕ) → Keyword → Option Keyword
 only word k = if bytes_eq word (spelling k) then Some k else None
 
+-- a reserved word of two letters, by the first
 unfoldable pub of_two : (first : ℕ) → List ℕ → Option Keyword
 of_two first word =
     if first == 79 then only word keyword.Of
@@ -16,12 +17,14 @@ of_two first word =
     else if first == 100 then only word keyword.Do
     else None
 
+-- a reserved word of three letters, by the first
 unfoldable pub of_three : (first : ℕ) → List ℕ → Option Keyword
 of_three first word =
     if first == 105 then only word keyword.Int
     else if first == 102 then only word keyword.For
     else None
 
+-- a reserved word of four letters, by the first and, where two have it, the third
 unfoldable pub of_four : (first : ℕ) → List ℕ → Option Keyword
 of_four first word =
     if first == 77 then only word keyword.Menu
@@ -36,6 +39,7 @@ of_four first word =
     else if first == 103 then only word keyword.Goto
     else None
 
+-- a reserved word of five letters, by the first
 unfoldable pub of_five : (first : ℕ) → List ℕ → Option Keyword
 of_five first word =
     if first == 76 then only word keyword.Label
@@ -49,6 +53,7 @@ of_five first word =
     else if first == 65 then only word keyword.Array
     else None
 
+-- a reserved word of six letters, by the first and, where two have it, the third
 unfoldable pub of_six : (first : ℕ) → List ℕ → Option Keyword
 of_six first word =
     if first == 77 then only word keyword.Method
@@ -60,6 +65,7 @@ of_six first word =
     else if first == 100 then only word keyword.Double
     else None
 
+-- a reserved word of seven letters, by the first
 unfoldable pub of_seven : (first : ℕ) → List ℕ → Option Keyword
 of_seven first word =
     if first == 67 then only word keyword.Command
@@ -69,6 +75,7 @@ of_seven first word =
     else if first == 100 then only word keyword.MethodDefault
     else None
 
+-- a reserved word of eight letters, by the first and, where two have it, the third
 unfoldable pub of_eight : (first : ℕ) → List ℕ → Option Keyword
 of_eight first word =
     if first == 86 then (if slice_index word 2 == 82 then only word keyword.Variable else only word
@@ -79,6 +86,7 @@ of_eight first word =
     else if first == 69 then only word keyword.Elements
     else None
 
+-- a reserved word of nine letters, by the first and, where two have it, the third
 unfoldable pub of_nine : (first : ℕ) → List ℕ → Option Keyword
 of_nine first word =
     if first == 79 then only word keyword.Operation
@@ -86,12 +94,14 @@ of_nine first word =
     word keyword.MaxValue)
     else None
 
+-- a reserved word of ten letters, by the first
 unfoldable pub of_ten : (first : ℕ) → List ℕ → Option Keyword
 of_ten first word =
     if first == 67 then only word keyword.Collection
     else if first == 68 then only word keyword.Definition
     else None
 
+-- a reserved word of eleven letters, by the first and, where two have it, the third
 unfoldable pub of_eleven : (first : ℕ) → List ℕ → Option Keyword
 of_eleven first word =
     if first == 68 then (if slice_index word 2 == 86 then only word keyword.DeviceType else only
@@ -100,23 +110,27 @@ of_eleven first word =
     else if first == 69 then only word keyword.EditFormat
     else None
 
+-- a reserved word of twelve letters, by the first
 unfoldable pub of_twelve : (first : ℕ) → List ℕ → Option Keyword
 of_twelve first word =
     if first == 77 then only word keyword.Manufacturer
     else None
 
+-- a reserved word of thirteen letters, by the first
 unfoldable pub of_thirteen : (first : ℕ) → List ℕ → Option Keyword
 of_thirteen first word =
     if first == 67 then only word keyword.ConstantUnit
     else if first == 68 then only word keyword.DefaultValue
     else None
 
+-- a reserved word of fourteen letters, by the first
 unfoldable pub of_fourteen : (first : ℕ) → List ℕ → Option Keyword
 of_fourteen first word =
     if first == 82 then only word keyword.ResponseCodes
     else if first == 68 then only word keyword.DisplayFormat
     else None
 
+-- a reserved word of fifteen letters, by the first
 unfoldable pub of_fifteen : (first : ℕ) → List ℕ → Option Keyword
 of_fifteen first word =
     if first == 68 then only word keyword.DeviceRevision

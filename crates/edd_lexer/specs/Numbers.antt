@@ -31,9 +31,11 @@ IsHexInteger bytes n =
     × (digits ≢ [])
     × (list_all is_ascii_hexdigit digits ≡ true) × (n ≡ number 16 0 digits)
 
+-- The bytes are a decimal or a hexadecimal integer, and n is its value.
 abbrev pub IsInteger : List ℕ → ℕ → Type 0
 IsInteger bytes n = IsPlainInteger bytes n ⊎ IsHexInteger bytes n
 
+-- one or more decimal digits
 abbrev pub IsDigits : List ℕ → Type 0
 IsDigits bytes = (bytes ≢ []) × (list_all is_ascii_digit bytes ≡ true)
 

@@ -16,24 +16,30 @@ use Rattle.edd_lexer.specs.Faults.{Fault, BadCharacter, BadNumber}
 use Rattle.edd_lexer.specs.Reading as reading
 use Rattle.edd_lexer.specs.Views.{token_of, lexeme_of, fault_of}
 
+-- the bytes of a rest that may be missing
 abbrev pub rest_of : Option (Bor (List ℕ)) → Option (List ℕ)
 rest_of o = option_map (λ s. s.now) o
 
+-- what is read of a number, as a step
 abbrev pub number_of : Number → reading.Step
 number_of (number.Integer n rest) = reading.token (Integer n) rest.now
 number_of (number.Decimal rest) = reading.token Decimal rest.now
 number_of number.Bad = reading.wrong BadNumber
 
+-- the end of a string, if it has one: whether its escapes are good, and the bytes after it
 abbrev pub end_of : Option StringEnd → Option (Bool × List ℕ)
 end_of o = option_map (λ e. (e.good, e.rest.now)) o
 
+-- the bytes after the end of a comment, if it has one
 abbrev pub close_of : Option (ℕ × Bor (List ℕ)) → Option (List ℕ)
 close_of o = option_map (λ e. e.1.now) o
 
+-- a sign as a step, or the fault where there is none
 abbrev pub sign_of : Option (Symbol × Bor (List ℕ)) → reading.Step
 sign_of None = reading.wrong BadCharacter
 sign_of (Some s) = reading.token (Sign s.0) s.1.now
 
+-- a step of the lexer as one of the definition, its token by the bytes that it covers
 abbrev pub step_of : List ℕ → Step → reading.Step
 step_of here (code.Token k lines rest) =
     reading.token (token_of k (take (length here - length rest.now) here)) rest.now

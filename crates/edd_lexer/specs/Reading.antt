@@ -25,6 +25,7 @@ pub data Step : Type 0 where
 
 -- ---- words
 
+-- a name or a reserved word of at most 255 bytes
 unfoldable pub word_at : List ℕ → Step
 word_at here =
     if nat_le (length (front goes_on_name here)) 255 then token
@@ -47,6 +48,7 @@ has_leading_zero [] = false
 has_leading_zero (b ∷ []) = false
 has_leading_zero (b ∷ c ∷ digits) = b == 48
 
+-- an integer with these decimal digits; a leading zero makes it a bad number
 unfoldable pub plain_integer : (digits rest : List ℕ) → Step
 plain_integer digits rest = if has_leading_zero digits then wrong BadNumber else integer_of 10
     digits rest
@@ -56,15 +58,19 @@ abbrev pub is_hex : List ℕ → Bool
 is_hex (b ∷ x ∷ here) = b == 48 && (is_hex_letter x && begins is_ascii_hexdigit here)
 is_hex _ = false
 
+-- an integer from its hexadecimal digits on, after `0x` or `0X`
 unfoldable pub hex_integer : List ℕ → Step
 hex_integer here = integer_of 16 (front is_ascii_hexdigit here) (behind is_ascii_hexdigit here)
 
+-- a decimal that ends before `rest`, or a bad number where it can't end there
 unfoldable pub decimal_to : (rest : List ℕ) → Step
 decimal_to rest = if begins goes_on_number rest then wrong BadNumber else token Decimal rest
 
+-- what comes after one or more digits
 abbrev pub digits_end : List ℕ → Option (List ℕ)
 digits_end here = if begins is_ascii_digit here then Some (behind is_ascii_digit here) else None
 
+-- what comes after digits with a sign or none before them
 abbrev pub signed_end : List ℕ → Option (List ℕ)
 signed_end here = if begins is_sign here then digits_end (drop 1 here) else digits_end here
 
@@ -87,6 +93,7 @@ number_from whole here =
     if begins (λ b. b == 46) here then fraction_to (behind is_ascii_digit (drop 1 here))
     else decimal_or (plain_integer whole here) (exponent_end here)
 
+-- the number at a place where one begins
 unfoldable pub number_at : List ℕ → Step
 number_at here = if is_hex here then hex_integer (drop 2 here) else number_from
     (front is_ascii_digit here) (behind is_ascii_digit here)
@@ -103,6 +110,7 @@ unfoldable mutual
         | false ↦ elim (b == quote) [ true ↦ Some (good, rest) | false ↦ string_end good rest ]
       ]
 
+  -- the same after a backslash, which is good if the next byte makes it an escape
   pub escape_end : (good : Bool) → List ℕ → Option (Bool × List ℕ)
   escape_end good [] = None
   escape_end good (b ∷ rest) = string_end (good && is_escape b) rest
@@ -111,23 +119,28 @@ unfoldable mutual
 abbrev pub inside_before : (here rest : List ℕ) → List ℕ
 inside_before here rest = take (length here - length rest - 1) here
 
+-- the string up to the end that was found, or the fault of it
 abbrev pub string_to : (here : List ℕ) → Option (Bool × List ℕ) → Step
 string_to here None = wrong OpenString
 string_to here (Some end) = if end.0 then token (String (inside_before here end.1)) end.1 else wrong
     BadEscape
 
+-- a string, from the byte after its opening quote on
 unfoldable pub string_at : List ℕ → Step
 string_at here = string_to here (string_end true here)
 
 -- ---- gaps
 
+-- a comment up to the end that was found, or the fault where there is none
 abbrev pub comment_to : Option (List ℕ) → Step
 comment_to None = wrong OpenComment
 comment_to (Some rest) = gap false rest
 
+-- a block comment, from the byte after its opening on
 unfoldable pub block_comment_at : (body : List ℕ) → Step
 block_comment_at body = comment_to (behind_close body)
 
+-- after a `#`: a mark up to the end of its line, or the fault
 unfoldable pub hash_at : (fresh : Bool) → List ℕ → Step
 hash_at fresh here =
     if fresh then (if makes_mark here then gap false (behind in_line here) else wrong Directive)
@@ -135,6 +148,7 @@ hash_at fresh here =
 
 -- ---- signs
 
+-- this byte comes next
 abbrev pub next_is : (byte : ℕ) → List ℕ → Bool
 next_is byte here = begins (λ b. b == byte) here
 
@@ -156,6 +170,7 @@ shifted byte shift with_equals alone here =
     else followed 61 (symbol.Comparison with_equals) (token (Sign (symbol.Comparison alone)) here)
     here
 
+-- the longest operator that begins with the byte `first`, with `here` after that byte
 unfoldable pub operator_at : (first : ℕ) → List ℕ → Step
 operator_at first here =
     if first == 61 then followed 61 (symbol.Comparison comparison.Equal)
@@ -192,6 +207,7 @@ single_symbol b =
     else if b == 126 then Some symbol.Tilde
     else None
 
+-- the sign that begins with the byte `first`, with `here` after that byte
 unfoldable pub symbol_at : (first : ℕ) → List ℕ → Step
 symbol_at first here = elim (single_symbol first) [
   | Some s ↦ token (Sign s) here
@@ -207,6 +223,7 @@ slash_at here =
     else if next_is 42 here then block_comment_at (drop 1 here)
     else assigned operator.Divide here
 
+-- what begins at a place
 unfoldable pub step_at : (fresh : Bool) → List ℕ → Step
 step_at fresh [] = wrong BadCharacter
 step_at fresh (b ∷ here) =
@@ -218,6 +235,7 @@ step_at fresh (b ∷ here) =
     else if b == 35 then hash_at fresh here
     else symbol_at b here
 
+-- the tokens with this one in front; a fault is passed on
 abbrev pub with_first : Lexeme → Result (List Lexeme) Fault → Result (List Lexeme) Fault
 with_first lexeme (Err fault) = Err fault
 with_first lexeme (Ok more) = Ok (lexeme ∷ more)
@@ -239,5 +257,6 @@ tokens_at total (suc steps) fresh (b ∷ here) =
     after_step total (length (b ∷ here)) (step_at fresh (b ∷ here))
     (λ next rest. tokens_at total steps next rest)
 
+-- the tokens of a text, or its first fault
 unfoldable pub tokens_of : List ℕ → Result (List Lexeme) Fault
 tokens_of text = tokens_at (length text) (length text) true (behind_byte_order_mark text)

@@ -8,6 +8,7 @@ use Rattle.edd_syntax.specs.declared.operators.Comparison.TheVariants as compari
 use Rattle.edd_syntax.specs.declared.symbols.Symbol.{Symbol}
 use Rattle.edd_syntax.specs.declared.symbols.Symbol.TheVariants as symbol
 
+-- how an operator is written
 abbrev pub operator_bytes : Operator → List ℕ
 operator_bytes operator.Add = codes "+"
 operator_bytes operator.Subtract = codes "-"
@@ -20,6 +21,7 @@ operator_bytes operator.And = codes "&"
 operator_bytes operator.Or = codes "|"
 operator_bytes operator.Xor = codes "^"
 
+-- how a comparison is written
 abbrev pub comparison_bytes : Comparison → List ℕ
 comparison_bytes comparison.Equal = codes "=="
 comparison_bytes comparison.NotEqual = codes "!="
@@ -28,6 +30,7 @@ comparison_bytes comparison.LessOrEqual = codes "<="
 comparison_bytes comparison.Greater = codes ">"
 comparison_bytes comparison.GreaterOrEqual = codes ">="
 
+-- how a sign is written
 abbrev pub symbol_bytes : Symbol → List ℕ
 symbol_bytes symbol.OpenBrace = codes "{"
 symbol_bytes symbol.CloseBrace = codes "}"
@@ -54,9 +57,11 @@ symbol_bytes (symbol.CompoundAssign o) = operator_bytes o ++ codes "="
 -- ---- what makes something longer of a sign, if it follows directly: another sign, a comment, or
 -- a number
 
+-- the byte is `=`
 abbrev is_equals : ℕ → Bool
 is_equals b = b == 61
 
+-- the byte makes something longer of the operator
 abbrev pub lengthens_operator : Operator → ℕ → Bool
 lengthens_operator operator.Add b = b == 43 || is_equals b
 lengthens_operator operator.Subtract b = b == 45 || is_equals b
@@ -69,6 +74,7 @@ lengthens_operator operator.And b = b == 38 || is_equals b
 lengthens_operator operator.Or b = b == 124 || is_equals b
 lengthens_operator operator.Xor b = is_equals b
 
+-- the byte makes something longer of the comparison
 abbrev pub lengthens_comparison : Comparison → ℕ → Bool
 lengthens_comparison comparison.Equal b = false
 lengthens_comparison comparison.NotEqual b = false
@@ -77,6 +83,7 @@ lengthens_comparison comparison.LessOrEqual b = false
 lengthens_comparison comparison.Greater b = b == 62 || is_equals b
 lengthens_comparison comparison.GreaterOrEqual b = false
 
+-- the byte makes something longer of the sign
 abbrev pub lengthens : Symbol → ℕ → Bool
 lengthens symbol.OpenBrace b = false
 lengthens symbol.CloseBrace b = false

@@ -15,6 +15,7 @@ abbrev mutual
     | false ↦ not (b == quote) && is_inside rest
   ]
 
+  -- the same after a backslash: any one byte, and then the inside goes on
   pub is_taken_along : List ℕ → Bool
   is_taken_along [] = false
   is_taken_along (b ∷ rest) = is_inside rest

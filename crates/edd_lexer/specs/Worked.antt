@@ -26,6 +26,7 @@ EscapeExample = LexicalFault (codes "1.5e3 \"a\\\"\\q\" .") BadEscape
 abbrev pub DirectiveExample : Type 0
 DirectiveExample = LexicalFault (codes "# 1 \"a\"" ++ 10 ∷ codes " #include \"a\"") Directive
 
+-- a token with the places of its start and of its end
 abbrev lexeme : token.Token → (start end : ℕ) → Lexeme
 lexeme t start end = record { token = t; start = start; end = end }
 
@@ -64,5 +65,6 @@ pressure_tokens =
     lexeme (token.Sign sign.CloseBrace) 126 127 ∷
     []
 
+-- These are the tokens of the whole description.
 abbrev pub PressureExample : Type 0
 PressureExample = AreTokens pressure_text pressure_tokens

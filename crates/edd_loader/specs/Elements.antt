@@ -6,5 +6,6 @@ use Rattle.edd_syntax.specs.declared.numbers.Element.{Element}
 abbrev pub element_key : (array number : ℕ) → ℕ
 element_key array number = array * 281474976710656 + number
 
+-- the key of a row, which holds its array and its number
 abbrev pub key_of : Element → ℕ
 key_of e = element_key e.array.0 e.number

@@ -22,9 +22,11 @@ is_settled Unknown = true
 is_settled (Awaited depth) = false
 is_settled (Stands depth) = true
 
+-- the numbers of operands that the marks say, place by place
 abbrev pub depths : List Mark → Table
 depths marks = map depth_known marks
 
+-- whether there is an instruction, place by place
 abbrev pub stood_on : List Mark → List Bool
 stood_on marks = map is_stood_on marks
 

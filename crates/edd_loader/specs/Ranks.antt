@@ -7,6 +7,7 @@ use Rattle.edd_image.specs.Fields.{attribute_rows_start}
 abbrev pub rank : (kind attribute item sub : ℕ) → ℕ
 rank kind attribute item sub = ((kind * 256 + attribute) * 65536 + item) * 65536 + sub
 
+-- the rank of a row
 abbrev pub rank_of : AttributeFields → ℕ
 rank_of r = rank r.kind r.attribute r.item r.sub
 

@@ -39,6 +39,7 @@ module _ (R V : Block → Type 0) where
     Fits Continue = Unit {0}
     Fits Finish = Unit {0}
 
+    -- in the statements of a switch
     pub FitArms : Arms → Type 0
     FitArms Nil = Unit {0}
     FitArms (Statement first rest) = Fits first × FitArms rest

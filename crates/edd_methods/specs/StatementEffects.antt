@@ -153,6 +153,7 @@ module _ (text : StrNo → Option Words) (env : Environment) where
     IsWhole Continue = Unit {0}
     IsWhole Finish = Unit {0}
 
+    -- the statements of a switch
     pub AreWhole : Arms → Type 0
     AreWhole Nil = Unit {0}
     AreWhole (Statement first rest) = IsWhole first × AreWhole rest

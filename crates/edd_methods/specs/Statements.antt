@@ -70,6 +70,7 @@ abbrev mutual
   size Continue = 5
   size Finish = 1
 
+  -- the statements of a switch, without the tests of its labels
   pub arms_size : Arms → ℕ
   arms_size Nil = 0
   arms_size (Statement first rest) = size first + arms_size rest
@@ -140,6 +141,7 @@ unfoldable mutual
   emitted p out back Continue = instruction.Jump (target back) ∷ []
   emitted p out back Finish = instruction.End ∷ []
 
+  -- the statements of a switch; its labels have no instructions here
   pub arms_emitted : (place out back : ℕ) → Arms → List Instruction
   arms_emitted p out back Nil = []
   arms_emitted p out back (Statement first rest) = emitted p out back first
@@ -177,6 +179,7 @@ abbrev mutual
   IsSpelledCode Continue = Unit {0}
   IsSpelledCode Finish = Unit {0}
 
+  -- in the statements of a switch, and in its labels
   pub AreSpelledArms : Arms → Type 0
   AreSpelledArms Nil = Unit {0}
   AreSpelledArms (Statement first rest) = IsSpelledCode first × AreSpelledArms rest

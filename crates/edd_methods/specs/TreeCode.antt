@@ -63,6 +63,7 @@ module _ (given : Blocks) where
     code_of tree.Continue = Continue
     code_of tree.Return = Finish
 
+    -- the code of a body, in which labels have no part
     pub code_in : Body Target → Code
     code_in tree.Nil = Plain blocks.Nothing
     code_in (tree.Cons (tree.Declare declarators) rest) = Then (Plain (declare_block declarators))
@@ -71,6 +72,7 @@ module _ (given : Blocks) where
     code_in (tree.Cons (tree.CaseLabel label) rest) = code_in rest
     code_in (tree.Cons tree.DefaultLabel rest) = code_in rest
 
+    -- the code of the body of a `switch`, with its labels as 32 bits
     pub arms_of : Body Target → Arms
     arms_of tree.Nil = Nil
     arms_of (tree.Cons (tree.Declare declarators) rest) =

@@ -52,6 +52,7 @@ module _ (P : Expr Target → Type 0) where
     Each Continue = Unit {0}
     Each Return = Unit {0}
 
+    -- it holds in a body
     pub EachIn : Body Target → Type 0
     EachIn Nil = Unit {0}
     EachIn (Cons (Declare declarators) rest) = EachDeclared declarators × EachIn rest
@@ -89,6 +90,7 @@ module _ (limit : ℕ) where
     HasSlots Continue = Unit {0}
     HasSlots Return = Unit {0}
 
+    -- in a body
     pub EachSlot : Body Target → Type 0
     EachSlot Nil = Unit {0}
     EachSlot (Cons (Declare declarators) rest) = EachSlotOf declarators × EachSlot rest

@@ -4,6 +4,7 @@ use Rattle.edd_syntax.specs.declared.limits.Limit.{Limit}
 use Rattle.edd_syntax.specs.declared.limits.Limit.TheVariants as limit
 use Rattle.edd_syntax.specs.Text.{Name}
 
+-- the word for what a limit bounds
 abbrev pub limit_word : Limit → Name
 limit_word limit.Items = codes "items"
 limit_word limit.Transactions = codes "transactions"

@@ -18,6 +18,7 @@ abbrev pub member_named : {S : Type 0} → Name
     → HashMap (Bor (List ℕ)) (Bor (code.Member code_path.Path)) S → Option (Member Path)
 member_named q m = option_map (λ r. member_of path_of r.now) (at q m)
 
+-- the member of this name in a collection, with the kind of the collection's members
 abbrev pub found_in : Collection → Name → Option FoundMember
 found_in c q = option_map (λ m. (m, c.of)) (member_named q c.members)
 

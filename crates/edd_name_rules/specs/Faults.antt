@@ -13,6 +13,7 @@ refusal_of (fault.DuplicateAttribute word) = Some (DuplicateAttribute word.now)
 refusal_of (fault.MissingAttribute item word) = Some (MissingAttribute (string_bytes item) word.now)
 refusal_of fault.Memory = None
 
+-- What is told, if anything is, is what was found.
 abbrev pub Agrees : (told found : Option Refusal) → Type 0
 Agrees (Some why) found = found ≡ Some why
 Agrees None found = Unit {0}

@@ -14,6 +14,7 @@ part_repeats b (Statement s) = repeated_inside s
 part_repeats b (CaseLabel label) = []
 part_repeats b DefaultLabel = []
 
+-- the names that a part declares in its block
 abbrev pub names_of_part : Part Path → List Name
 names_of_part (Declare declarators) = names_declared declarators
 names_of_part _ = []
@@ -24,6 +25,7 @@ attribute_repeats b (Members members) = repeated b (map (λ m. m.name) members)
 attribute_repeats b (Definition body) = repeated_locals [] body
 attribute_repeats b _ = []
 
+-- the names of the members that an attribute lists
 abbrev pub names_of_attribute : Attribute Path → List Name
 names_of_attribute (Members members) = map (λ m. m.name) members
 names_of_attribute _ = []

@@ -8,6 +8,7 @@ use Rattle.edd_syntax.specs.Item.{Attribute, Item, Transaction, Description}
 use Rattle.edd_syntax.specs.NameRules.{attribute_word, missing_words, repeated_words_inside}
 use Rattle.edd_syntax.specs.Refusal.{Refusal, MissingAttribute, is_name_in, repeated}
 
+-- the refusal for the missing attribute that was found
 abbrev pub refusal_of_missing : Missing → Refusal
 refusal_of_missing m = MissingAttribute m.item.now m.word.now
 
@@ -22,6 +23,7 @@ missing_among item attributes words =
     map (MissingAttribute item)
     (filter (λ word. not (is_name_in (map attribute_word attributes) word)) words)
 
+-- the attribute is a transaction, of which a command may have more than one
 abbrev pub is_transaction : {R : Type 0} → Attribute R → Bool
 is_transaction (Transaction number parts) = true
 is_transaction _ = false

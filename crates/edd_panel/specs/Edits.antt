@@ -52,6 +52,7 @@ abbrev pub has_write : Option ℤ → Bool
 has_write (Some n) = int_eq n (pos 2) || int_eq n (pos 3)
 has_write None = false
 
+-- by HANDLING: it has no WRITE, or there was a trap
 abbrev pub handling_fault : Reading → Option EditFault
 handling_fault (Records rs) = if has_write (first_number rs) then None else Some fault.ReadOnly
 handling_fault (Fault why) = Some fault.Trapped
@@ -62,20 +63,24 @@ abbrev pub is_above : Option ℤ → ℤ → Bool
 is_above (Some low) n = int_le low n
 is_above None n = true
 
+-- no number is greater than a limit that is not there
 abbrev pub is_below : Option ℤ → ℤ → Bool
 is_below (Some high) n = int_le n high
 is_below None n = true
 
+-- by MIN_VALUE: the number is less, or there was a trap
 abbrev pub lowest_fault : Reading → ℤ → Option EditFault
 lowest_fault (Records rs) n = if is_above (first_number rs) n then None else Some fault.OutOfLimits
 lowest_fault (Fault why) n = Some fault.Trapped
 lowest_fault NoItem n = None
 
+-- by MAX_VALUE: the number is greater, or there was a trap
 abbrev pub highest_fault : Reading → ℤ → Option EditFault
 highest_fault (Records rs) n = if is_below (first_number rs) n then None else Some fault.OutOfLimits
 highest_fault (Fault why) n = Some fault.Trapped
 highest_fault NoItem n = None
 
+-- the record is the enumerator of the number
 abbrev pub is_enumerator : ℤ → Record → Bool
 is_enumerator n (records.Enumerator value text help) = int_eq value n
 is_enumerator n _ = false
@@ -85,6 +90,7 @@ abbrev pub bits_of : ℤ → ℕ
 bits_of (pos n) = n
 bits_of (negsuc n) = 0
 
+-- the bits that an enumerator names; other records name none
 abbrev pub named_bits : Record → ℕ
 named_bits (records.Enumerator value text help) = bits_of value
 named_bits _ = 0
@@ -109,6 +115,7 @@ named_fault var_type.Enumerated rs old new =
 named_fault var_type.BitEnumerated rs old new =
     if changes_named rs old new then None else Some fault.NoBit
 
+-- by the enumerators that are read, if there are any; or there was a trap
 abbrev pub enumerators_fault : Option VariableType → Reading → (old new : ℤ) → Option EditFault
 enumerators_fault (Some t) (Records rs) old new = named_fault t.type rs old new
 enumerators_fault (Some t) (Fault why) old new = Some fault.Trapped
@@ -120,6 +127,7 @@ abbrev pub holds : Option VariableType → ℤ → Bool
 holds (Some t) n = is_in_range t n
 holds None n = false
 
+-- by the type, which has to hold the number
 abbrev pub type_fault : Option VariableType → ℤ → Option EditFault
 type_fault t n = if holds t n then None else Some fault.OutOfType
 

@@ -31,11 +31,13 @@ abbrev pub EditsBy : Standing → Field → ℤ → Option EditFault → Happene
 EditsBy before f n None h after = (h ≡ happened.Edited f.variable n) × Edited before f n after
 EditsBy before f n (Some why) h after = (h ≡ happened.Refused why) × (after ≡ before)
 
+-- An edit of the variable to this number is made or refused, as its rules decide.
 abbrev pub Edits : Standing → Field → ℤ → Happened → Standing → Type 0
 Edits before f n h after = (why : Option EditFault)
     × Decides before.image before.values f.variable f.read_only n why
     × EditsBy before f n why h after
 
+-- What a command does at a variable: a number is an edit, Enter and Back move, Abort is unknown.
 abbrev pub AtVariable : Standing → Field → Command → Happened → Standing → Type 0
 AtVariable before f (command.Number n) h after = Edits before f n h after
 AtVariable before f command.Enter h after = (h ≡ happened.Moved) × OnlyMoves before after

@@ -24,6 +24,7 @@ use Rattle.edd_parser.specs.declared.types.WrittenType as code
 abbrev pub written_view : code.WrittenType → reading.WrittenType
 written_view t = (type_word_of t.word, map (type_part_of path_of) t.parts.items)
 
+-- an attribute as the pure tree
 abbrev pub attribute_view : code_attribute.Attribute path.Path → Attribute Path
 attribute_view a = attribute_of path_of a
 

@@ -15,6 +15,7 @@ use Rattle.edd_token_reader.specs.declared.fault.ParseFault.TheVariants as fault
 use Rattle.edd_parser.specs.declared.items.Sort.{Sort}
 use Rattle.edd_parser.specs.declared.items.Sort.TheVariants as sort
 
+-- what an item is, as in the pure tree
 abbrev pub sort_view : Sort → ItemKind
 sort_view sort.Variable = VariableItem
 sort_view sort.Command = CommandItem
@@ -29,11 +30,13 @@ sort_at here = do
   (k, behind) ← item_kind_at here
   sort_behind k behind
 
+-- an item as the pure tree
 abbrev pub item_view : code.Item path.Path → Item Path
 item_view i = item_of path_of i
 
 -- ---- the unit
 
+-- a unit as the pure description
 abbrev pub unit_view : code_unit.Unit → Description Path
 unit_view u = record {
   identification = identification_of u.identification;

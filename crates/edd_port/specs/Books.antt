@@ -17,12 +17,15 @@ pub record Book : Type 0 where
   pub nothing : ℕ
   pub failed : ℕ
 
+-- the book after the host answered a request
 abbrev pub with_pair : Book → Pair → Book
 with_pair b pair = record b { pairs = b.pairs ++ pair ∷ [] }
 
+-- the book after the host had nothing once more
 abbrev pub with_nothing : Book → Book
 with_nothing b = record b { nothing = counted (b.nothing + 1) }
 
+-- the book after the host failed once more
 abbrev pub with_failure : Book → Book
 with_failure b = record b { failed = counted (b.failed + 1) }
 

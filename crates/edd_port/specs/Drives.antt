@@ -83,6 +83,7 @@ nothing_after Waiting n = counted (n + 1)
 nothing_after (Refused fault) n = n
 nothing_after HostFailed n = n
 
+-- the host's count of failures after a drive
 abbrev pub failed_after : Drive → ℕ → ℕ
 failed_after (Done t) n = n
 failed_after Waiting n = n

@@ -18,12 +18,14 @@ resolved_declarator unit scope next d = do
 
 -- ---- a part of a block, where `next` is the slot of the next declarator
 
+-- the uses of names in it
 abbrev pub part_uses : Scope → (next : ℕ) → Part Path → List Use
 part_uses scope next (Declare declarators) = declarator_uses scope next declarators
 part_uses scope next (Statement s) = stmt_uses s scope next
 part_uses scope next (CaseLabel label) = []
 part_uses scope next DefaultLabel = []
 
+-- the part with the meaning of its names, if each has one
 abbrev pub resolved_part : Description Path → Scope → (next : ℕ) → Part Path → Option (Part Target)
 resolved_part unit scope next (Declare declarators) = do
   declarators' ← resolved_declarators unit scope next declarators

@@ -19,23 +19,29 @@ use Rattle.edd_grammar.specs.StatementReading.{statement_at, optional_at, evalua
 use Rattle.edd_statement_parser.specs.declared.statement_trees.ForHead.{ForHead}
 use Rattle.edd_expression_parser.specs.Expressions.{expr_view}
 
+-- a declarator as the pure tree
 abbrev pub declarator_view : code_declarator.Declarator path.Path → Declarator Path
 declarator_view d = declarator_of path_of d
 
+-- a statement as the pure tree
 abbrev pub stmt_view : code.Stmt path.Path → Stmt Path
 stmt_view s = stmt_of path_of s
 
+-- a part of a body as the pure tree
 abbrev pub part_view : code_part.Part path.Path → Part Path
 part_view p = part_of path_of p
 
+-- the parts of a body as the pure tree
 abbrev pub body_view : List (code_part.Part path.Path) → Body Path
 body_view parts = body_from (map (part_of path_of) parts)
 
 -- ---- the head of a `for`
 
+-- the three expressions of a `for`, each of which may be missing
 abbrev pub Head : Type 0
 Head = Option (Expr Path) × Option (Expr Path) × Option (Expr Path)
 
+-- the three expressions as pure trees
 abbrev pub head_view : ForHead → Head
 head_view h = (
   option_map expr_view h.initial,
@@ -43,6 +49,7 @@ head_view h = (
   option_map expr_view h.update,
 )
 
+-- the condition and the update of a `for` as pure trees
 abbrev pub end_view : (Option (code_expr.Expr path.Path) × Option (code_expr.Expr path.Path))
     → Option (Expr Path) × Option (Expr Path)
 end_view e = (option_map expr_view e.0, option_map expr_view e.1)

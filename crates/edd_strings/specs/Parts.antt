@@ -9,6 +9,7 @@ abbrev pub pieces_from : Option Opened → Pieces
 pieces_from None = record { before = []; variants = [] }
 pieces_from (Some opened) = with_code opened.code.now (pieces 0 opened.behind.now)
 
+-- the pieces of a part and of what comes after it
 abbrev pub pieces_of : Part → Pieces
 pieces_of p = with_text p.text.now (pieces_from p.next)
 

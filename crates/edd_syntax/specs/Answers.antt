@@ -31,6 +31,7 @@ pub data SetFault : Type 0 where
   BadVariable : SetFault
   OutOfRange : SetFault
 
+-- the fault of one set
 abbrev pub set_fault : List VariableType → Change → Option SetFault
 set_fault types set = elim (slice_get types set.variable.0) [
   | None ↦ Some BadVariable
@@ -45,6 +46,7 @@ sets_fault types (set ∷ rest) = elim (set_fault types set) [
   | None ↦ sets_fault types rest
 ]
 
+-- the fault of an answer; an abort has none
 abbrev pub answer_fault : List VariableType → Answer → Option SetFault
 answer_fault types (Go code sets) = sets_fault types sets
 answer_fault types Abort = None

@@ -17,6 +17,7 @@ abbrev pub Trapping : Type 0 → Type 0
 Trapping A = Result A Trap
 
 infixl 10 ◌>>=◌
+-- goes on with the result; a trap is passed on
 abbrev pub ◌>>=◌ : {A B : Type 0} → Trapping A → (A → Trapping B) → Trapping B
 Ok x >>= next = next x
 Err why >>= next = Err why
@@ -93,6 +94,7 @@ module _ (env : Environment) (d : List ℤ) where
       a ← value on
       case_chosen a arms (default_chosen arms)
 
+    -- of a list: what each of its conditionals chooses, in order
     pub all_chosen : {V : Type 0} → Conds Target V → Trapping (List V)
     all_chosen Nil = Ok []
     all_chosen (Cons first rest) = do

@@ -38,16 +38,19 @@ pub data Record : Type 0 where
   Member : (name : words.Words) → ItemNo → (label help : Option words.Words) → Record
   Element : (number : ℕ) → VarNo → (label help : Option words.Words) → Record
 
+-- the number that READ, WRITE or both give
 abbrev pub handling_number : Handling → ℕ
 handling_number handling.Read = 1
 handling_number handling.Write = 2
 handling_number handling.ReadWrite = 3
 
+-- the number that READ, WRITE or COMMAND gives
 abbrev pub operation_number : Operation → ℕ
 operation_number operation.Read = 1
 operation_number operation.Write = 2
 operation_number operation.Command = 3
 
+-- a truth as a number
 abbrev pub bit : Bool → ℕ
 bit true = 1
 bit false = 0
@@ -56,6 +59,7 @@ bit false = 0
 abbrev pub menu_bits : MenuQualifiers → ℕ
 menu_bits q = bit q.display_value + 2 * bit q.read_only + 4 * bit q.hidden + 8 * bit q.review
 
+-- INFO is 1 and INDEX is 2
 abbrev pub data_bits : DataQualifiers → ℕ
 data_bits q = bit q.info + 2 * bit q.index
 
@@ -65,35 +69,44 @@ data_bits q = bit q.info + 2 * bit q.index
 abbrev pub Meaning : Type 0
 Meaning = List ℤ → Trapping (List Record)
 
+-- the record that `f` makes of each value; a trap is passed on
 abbrev pub each : {V : Type 0} → (V → Record) → Trapping (List V) → Trapping (List Record)
 each f (Ok vs) = Ok (map f vs)
 each f (Err why) = Err why
 
+-- these records, whatever the values of the device are
 abbrev pub constant : List Record → Meaning
 constant rs = λ d. Ok rs
 
+-- the record of an entry of a menu
 abbrev pub entry : MenuEntry Target → Record
 entry (item.Text text) = Words (words_of text)
 entry (item.Reference to qualifiers) = Entry (item_of to) qualifiers
 
+-- the record of a data item
 abbrev pub data_item : DataItem Target → Record
 data_item (item.Constant n) = DataConst n
 data_item (item.Variable variable mask qualifiers) = DataVar (variable_of variable) mask qualifiers
 
+-- the record of an enumerator
 abbrev pub enumerator : item.Enumerator → Record
 enumerator e = Enumerator e.value (words_of e.text) (option_map words_of e.help)
 
+-- the record of a response code
 abbrev pub response : item.ResponseCode → Record
 response r = Response r.number r.class (words_of r.text)
 
+-- the record of a member of a collection
 abbrev pub member : item.Member Target → Record
 member m = Member (name_words m.name) (item_of m.item) (option_map words_of m.label)
     (option_map words_of m.help)
 
+-- the record of an element of an array
 abbrev pub element : item.ArrayElement Target → Record
 element e = Element e.number (variable_of e.variable) (option_map words_of e.label)
     (option_map words_of e.help)
 
+-- the record of a number, if one is written
 abbrev pub written_number : Option ℕ → List Record
 written_number (Some n) = Number (pos n) ∷ []
 written_number None = []
@@ -107,12 +120,15 @@ module _ (env : Environment) where
   abbrev pub one : {V : Type 0} → (V → Record) → Cond Target V → Meaning
   one f c = λ d. each f (chosen env d c)
 
+  -- the values of a list of conditionals, each as a record
   abbrev pub list : {V : Type 0} → (V → Record) → Conds Target V → Meaning
   list f all = λ d. each f (all_chosen env d all)
 
+  -- the string of the text that is chosen
   abbrev pub texts : Cond Target Text → Meaning
   texts = one (λ t. Words (words_of t))
 
+  -- the values of expressions, each as a record, or the first trap
   abbrev pub all_values : List ℤ → List (Expr Target) → Trapping (List Record)
   all_values d [] = Ok []
   all_values d (e ∷ rest) = do
@@ -132,6 +148,7 @@ module _ (env : Environment) where
   elements (item.Element first ∷ rest) = Cons first (elements rest)
   elements (_ ∷ rest) = elements rest
 
+  -- the attribute that an option of a type is; an element of its list is none by itself
   abbrev pub of_part : TypePart Target → List Named
   of_part (item.DefaultValue c) = (attr.DefaultValue, expressions c) ∷ []
   of_part (item.MinValue c) = (attr.MinValue, expressions c) ∷ []
@@ -140,6 +157,7 @@ module _ (env : Environment) where
   of_part (item.EditFormat c) = (attr.EditFormat, texts c) ∷ []
   of_part (item.Element c) = []
 
+  -- the attributes that the options of a type are
   abbrev pub of_parts : List (TypePart Target) → List Named
   of_parts [] = []
   of_parts (p ∷ rest) = of_part p ++ of_parts rest
@@ -165,10 +183,12 @@ module _ (env : Environment) where
   of_attribute (item.Elements elements) = (attr.Elements, constant (map element elements)) ∷ []
   of_attribute (item.Definition body) = []
 
+  -- the attributes that all written ones of an item stand for
   abbrev pub of_attributes : List (Attribute Target) → List Named
   of_attributes [] = []
   of_attributes (a ∷ rest) = of_attribute a ++ of_attributes rest
 
+  -- a REQUEST or a REPLY
   abbrev pub of_transaction_part : TransactionPart Target → Named
   of_transaction_part (item.Request all) = (attr.Request, list data_item all)
   of_transaction_part (item.Reply all) = (attr.Reply, list data_item all)
@@ -200,9 +220,11 @@ pub data Reading : Type 0 where
   NoItem : Reading
   Gives : Trapping (List Record) → Reading
 
+-- a read that gives the records of the meaning, or the default of the attribute
 abbrev pub gives : Attr → Meaning → List ℤ → Reading
 gives a meaning d = Gives (meaning d >>= λ rs. Ok (or_default a rs))
 
+-- the same of an attribute of a transaction, if there is such a transaction
 abbrev pub gives_in : Attr → Option (List Named) → List ℤ → Reading
 gives_in a None d = NoItem
 gives_in a (Some transaction) d = gives a (meaning_of a transaction) d
@@ -211,6 +233,7 @@ gives_in a (Some transaction) d = gives a (meaning_of a transaction) d
 abbrev pub is_readable : Kind → Attr → Bool
 is_readable kind a = has_attr kind a && not (same_attr a attr.Definition)
 
+-- each transaction has this attribute for itself
 abbrev pub is_of_transaction : Attr → Bool
 is_of_transaction attr.Transaction = true
 is_of_transaction attr.Request = true

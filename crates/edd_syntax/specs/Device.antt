@@ -18,6 +18,7 @@ use Rattle.edd_syntax.specs.Item.{Item, kind_of_item, Attribute, TypeOf, Known, 
 abbrev pub items_of : {R : Type 0} → Kind → Description R → List (Item R)
 items_of k unit = filter (λ i. same_kind (kind_of_item i.sort) k) unit.items
 
+-- the item of this number
 abbrev pub item_at : {R : Type 0} → Description R → ItemNo → Option (Item R)
 item_at unit i = slice_get (items_of (kind_of i) unit) (index_of i)
 
@@ -41,11 +42,13 @@ pub record Environment : Type 0 where
   -- the elements of the arrays, by array and number
   pub elements : List Element
 
+-- the types of the variables and the elements of the arrays of a description
 abbrev pub environment : Description Target → Environment
 environment unit = record {
   variables = map (λ i. written_type i.attributes) (items_of kind.Variable unit);
   elements = elements_from 0 (items_of kind.Array unit);
 }
 
+-- the type of a variable
 abbrev pub type_of_variable : Environment → VarNo → VariableType
 type_of_variable env v = type_at env.variables v

@@ -24,9 +24,11 @@ greatest var_type.UnsignedInteger size = pos (2 ^ (8 * size)) -ℤ pos 1
 greatest var_type.Enumerated size = pos (2 ^ (8 * size)) -ℤ pos 1
 greatest var_type.BitEnumerated size = pos (2 ^ (8 * size)) -ℤ pos 1
 
+-- the number is in the range of the type and the size
 abbrev pub is_in_range : VariableType → ℤ → Bool
 is_in_range t z = int_le (least t.type t.size) z && int_le z (greatest t.type t.size)
 
+-- The number is in the range of the type and the size.
 abbrev pub IsInRange : VariableType → ℤ → Type 0
 IsInRange t z = IsTrue (is_in_range t z)
 

@@ -18,10 +18,12 @@ use Rattle.edd_syntax.specs.TwosComplement.{wrap}
 
 -- ---- which there are
 
+-- the elements that an attribute lists
 abbrev pub written_elements : {R : Type 0} → Attribute R → List (ArrayElement R)
 written_elements (Elements elements) = elements
 written_elements _ = []
 
+-- an element of an array, by its number and its variable
 abbrev pub element_of : ArrNo → ArrayElement Target → Element
 element_of array e =
     record { array = array; number = e.number; var = variable_of e.variable }
@@ -32,6 +34,7 @@ with_element e [] = e ∷ []
 with_element e (x ∷ rest) =
     if nat_le e.number x.number then e ∷ x ∷ rest else x ∷ with_element e rest
 
+-- elements in the order of their numbers
 abbrev pub by_number : List Element → List Element
 by_number [] = []
 by_number (e ∷ rest) = with_element e (by_number rest)
@@ -57,6 +60,7 @@ abbrev pub value_or_trap : (width : ℕ) → (values : List ℤ) → Option VarN
 value_or_trap width values None = Err NoElement
 value_or_trap width values (Some v) = Ok (wrap width (value_at values v))
 
+-- the value of the element of this number in an array
 abbrev pub element_value : List Element → (width : ℕ) → (values : List ℤ) → ArrNo → ℤ
     → Result ℤ Trap
 element_value elements width values array number = value_or_trap width values
@@ -73,6 +77,7 @@ item_element elements width values (item_no.Menu n) number = Ok (pos 0)
 item_element elements width values (item_no.Collection n) number = Ok (pos 0)
 item_element elements width values (item_no.Method n) number = Ok (pos 0)
 
+-- the value of an element of what is before an index
 abbrev pub indexed_value : List Element → (width : ℕ) → (values : List ℤ) → Target → ℤ
     → Result ℤ Trap
 indexed_value elements width values (Item i) number = item_element elements width values i number

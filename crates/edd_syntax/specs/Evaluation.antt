@@ -121,6 +121,7 @@ module _ (env : Environment) where
     | None ↦ pure (pos 0)
   ]
 
+  -- the effect of a call; no checked unit calls anything but a function
   unfoldable pub call : Target → List Given → Action ℤ
   call (Function f) given = call_builtin f given
   call (Local slot) given = pure (pos 0)
@@ -175,6 +176,7 @@ module _ (env : Environment) where
       given ← evaluate_all arguments
       call function given
 
+    -- the arguments of a call, evaluated from left to right
     pub evaluate_all : Arguments Target → Action (List Given)
     evaluate_all Nil = pure []
     evaluate_all (Cons (expr.Text text) rest) = do

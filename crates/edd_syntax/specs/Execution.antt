@@ -68,6 +68,7 @@ module _ (env : Environment) where
   initial (Some e) = evaluate env e
   initial None = pure (pos 0)
 
+  -- each declarator gets its value, one after the other
   abbrev pub declare : List (Declarator Target) → Action Completion
   declare [] = pure Normal
   declare (d ∷ rest) = do
@@ -140,6 +141,7 @@ pub data Ending : Type 0 where
   Waiting : Ending
   OutOfTurns : Ending
 
+-- what a run asked and changed, what it left, and how it ended
 pub record Transcript : Type 0 where
   pub requests : List Request
   pub changes : List Change
@@ -149,6 +151,7 @@ pub record Transcript : Type 0 where
   pub answers : List Answer
   pub ending : Ending
 
+-- the transcript of a run that has this ending in this state
 abbrev pub transcript : Ending → State → Transcript
 transcript ending s = record {
   requests = s.requests;
@@ -159,12 +162,14 @@ transcript ending s = record {
   ending = ending;
 }
 
+-- the ending of a run that stopped
 abbrev pub ending_of : Stop → Ending
 ending_of (stops.Trapped why) = Trapped why
 ending_of stops.Aborted = Aborted
 ending_of stops.Waiting = Waiting
 ending_of stops.OutOfTurns = OutOfTurns
 
+-- the transcript of a run that came to its end or stopped
 abbrev pub ended : Outcome Completion → Transcript
 ended (Done completion s) = transcript Ended s
 ended (Stopped why s) = transcript (ending_of why) s
@@ -191,6 +196,7 @@ body_in [] = Nil
 body_in (Definition body ∷ rest) = body
 body_in (_ ∷ rest) = body_in rest
 
+-- the body of a method by its number; without such a method it is empty
 abbrev pub body_of : Description Target → MethNo → Body Target
 body_of unit m = elim (item_at unit (item_no.Method m)) [
   | Some i ↦ body_in i.attributes

@@ -7,6 +7,7 @@ use Rattle.edd_syntax.specs.declared.operators.UnaryOperator.{UnaryOperator}
 use Rattle.edd_syntax.specs.declared.operators.IncrementOperator.{IncrementOperator}
 use Rattle.edd_syntax.specs.Text as texts
 
+-- an expression, whose references are of the type R
 mutual
   pub data Expr (R : Type 0) : Type 0 where
     -- an integer literal
@@ -33,6 +34,7 @@ mutual
     Increment : IncrementOperator → (to : R) → Expr R
     Call : (function : R) → (arguments : Arguments R) → Expr R
 
+  -- an argument of a call
   pub data Argument (R : Type 0) : Type 0 where
     Text : texts.Text → Argument R
     Value : Expr R → Argument R
@@ -42,6 +44,7 @@ mutual
     Nil : Arguments R
     Cons : (first : Argument R) → (rest : Arguments R) → Arguments R
 
+-- arguments from a list of them
 abbrev pub arguments_from : {R : Type 0} → List (Argument R) → Arguments R
 arguments_from [] = Nil
 arguments_from (a ∷ rest) = Cons a (arguments_from rest)

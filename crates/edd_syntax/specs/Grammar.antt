@@ -25,9 +25,11 @@ use Rattle.edd_syntax.specs.Expression.{Expr, Literal, Decimal, Reference, Index
 abbrev pub Next : Token → List Token → List Token → Type 0
 Next t here rest = here ≡ t ∷ rest
 
+-- the next token is this sign
 abbrev pub NextSign : Symbol → List Token → List Token → Type 0
 NextSign s here rest = Next (Sign s) here rest
 
+-- the next token is this reserved word
 abbrev pub NextWord : Keyword → List Token → List Token → Type 0
 NextWord k here rest = Next (Reserved k) here rest
 
@@ -68,6 +70,7 @@ StringsHere [] here rest = (here ≡ rest) × ¬ BeginsString rest
 StringsHere (s ∷ ss) here rest = (behind : List Token) × Next (String s) here behind
     × StringsHere ss behind rest
 
+-- the strings as one
 abbrev pub joined : List (List ℕ) → List ℕ
 joined [] = []
 joined (s ∷ ss) = s ++ joined ss
@@ -82,6 +85,7 @@ TextHere (Key name) here rest = here ≡ Sign sign.OpenBracket ∷ Identifier na
 
 -- ---- precedence of operators, from 1, the loosest, to 15
 
+-- the precedence of an arithmetic or bitwise operator
 abbrev pub precedence_of : Operator → ℕ
 precedence_of operator.Or = 5
 precedence_of operator.Xor = 6
@@ -94,6 +98,7 @@ precedence_of operator.Multiply = 12
 precedence_of operator.Divide = 12
 precedence_of operator.Remainder = 12
 
+-- the precedence of a comparison
 abbrev pub comparison_precedence : Comparison → ℕ
 comparison_precedence comparison.Equal = 8
 comparison_precedence comparison.NotEqual = 8
@@ -102,6 +107,7 @@ comparison_precedence comparison.LessOrEqual = 9
 comparison_precedence comparison.Greater = 9
 comparison_precedence comparison.GreaterOrEqual = 9
 
+-- the sign of an operator before its operand
 abbrev pub unary_sign : UnaryOperator → Symbol
 unary_sign unary_operator.Plus = sign.Operator operator.Add
 unary_sign unary_operator.Minus = sign.Operator operator.Subtract
@@ -125,6 +131,7 @@ IsMethod InMethod = Unit {0}
 
 -- ---- expressions, at a site for this precedence or a tighter one
 
+-- an expression whose operator, if it has one, has this precedence or a tighter one
 abbrev mutual
   pub ExprHere : Site → (precedence : ℕ) → Expr Path → List Token → List Token → Type 0
   -- precedence 15

@@ -98,6 +98,7 @@ pub data ItemKind : Type 0 where
   -- an array of variables
   ArrayItem : ItemKind
 
+-- the kind of an item
 abbrev pub kind_of_item : ItemKind → Kind
 kind_of_item VariableItem = kind.Variable
 kind_of_item CommandItem = kind.Command
@@ -106,6 +107,7 @@ kind_of_item (CollectionItem of) = kind.Collection
 kind_of_item MethodItem = kind.Method
 kind_of_item ArrayItem = kind.Array
 
+-- an item, whose references are of the type R
 pub record Item (R : Type 0) : Type 0 where
   pub sort : ItemKind
   pub name : Name
@@ -118,6 +120,7 @@ pub record Identification : Type 0 where
   pub device_revision : ℕ
   pub dd_revision : ℕ
 
+-- a description, whose references are of the type R; the order of its items counts
 pub record Description (R : Type 0) : Type 0 where
   pub identification : Identification
   pub items : List (Item R)

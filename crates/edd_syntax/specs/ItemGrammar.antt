@@ -69,6 +69,7 @@ MoreNamesHere s (n ∷ more) here rest =
     (from behind : List Token) × NextSign s here from × NextName n from behind
     × MoreNamesHere s more behind rest
 
+-- a name, and the further ones
 abbrev pub NamesHere : Symbol → List Name → List Token → List Token → Type 0
 NamesHere s [] here rest = ⊥
 NamesHere s (n ∷ more) here rest = (behind : List Token) × NextName n here behind
@@ -76,6 +77,7 @@ NamesHere s (n ∷ more) here rest = (behind : List Token) × NextName n here be
 
 -- ---- qualifiers: one or more names in parentheses, with a comma between two of them or none
 
+-- the names after the first
 abbrev pub MoreQualifiersHere : List Name → List Token → List Token → Type 0
 MoreQualifiersHere [] here rest = here ≡ rest
 MoreQualifiersHere (n ∷ more) here rest =
@@ -90,10 +92,12 @@ QualifiersHere allowed (n ∷ more) here rest =
     × NextSign sign.OpenParenthesis here inside
     × NextName n inside behind × MoreQualifiersHere more behind (Sign sign.CloseParenthesis ∷ rest)
 
+-- the qualifiers that an entry of a menu may have
 abbrev pub menu_qualifier_names : List Name
 menu_qualifier_names = codes "DISPLAY_VALUE" ∷ codes "READ_ONLY" ∷ codes "HIDDEN" ∷ codes "REVIEW"
     ∷ []
 
+-- which of those are among the names
 abbrev pub menu_qualifiers : List Name → MenuQualifiers
 menu_qualifiers names = record {
   display_value = is_name_in names (codes "DISPLAY_VALUE");
@@ -102,9 +106,11 @@ menu_qualifiers names = record {
   review = is_name_in names (codes "REVIEW");
 }
 
+-- the qualifiers that a variable of a REQUEST or a REPLY may have
 abbrev pub data_qualifier_names : List Name
 data_qualifier_names = codes "INFO" ∷ codes "INDEX" ∷ []
 
+-- which of those are among the names
 abbrev pub data_qualifiers : List Name → DataQualifiers
 data_qualifiers names = record {
   info = is_name_in names (codes "INFO");
@@ -113,6 +119,7 @@ data_qualifiers names = record {
 
 -- ---- values of attributes
 
+-- an expression of an attribute
 abbrev pub ValueExprHere : Expr Path → List Token → List Token → Type 0
 ValueExprHere = ExprHere InAttribute 2
 
@@ -126,15 +133,18 @@ HandlingHere handling.ReadWrite here rest =
     ⊎ (here ≡ Identifier (codes "WRITE") ∷ Sign (sign.Operator operator.And)
     ∷ Identifier (codes "READ") ∷ rest)
 
+-- TRUE or FALSE
 abbrev pub TruthHere : Bool → List Token → List Token → Type 0
 TruthHere true here rest = NextName (codes "TRUE") here rest
 TruthHere false here rest = NextName (codes "FALSE") here rest
 
+-- READ, WRITE or COMMAND
 abbrev pub OperationHere : Operation → List Token → List Token → Type 0
 OperationHere operation.Read here rest = NextName (codes "READ") here rest
 OperationHere operation.Write here rest = NextName (codes "WRITE") here rest
 OperationHere operation.Command here rest = NextWord word.Command here rest
 
+-- a comma and a text, or nothing
 abbrev pub OptionalTextHere : Option texts.Text → List Token → List Token → Type 0
 OptionalTextHere None here rest = here ≡ rest
 OptionalTextHere (Some text) here rest = (behind : List Token) × NextSign sign.Comma here behind
@@ -148,6 +158,7 @@ EnumeratorHere e here rest =
     × NextSign sign.Comma comma from × TextHere e.text from behind
     × OptionalTextHere e.help behind (Sign sign.CloseBrace ∷ rest)
 
+-- `<mask>` or nothing
 abbrev pub MaskHere : Option ℕ → List Token → List Token → Type 0
 MaskHere None here rest = here ≡ rest
 MaskHere (Some mask) here rest =
@@ -170,6 +181,7 @@ MenuEntryHere (item.Reference to qualifiers) here rest =
     × (names : List Name) × (qualifiers ≡ menu_qualifiers names)
     × QualifiersHere menu_qualifier_names names behind rest
 
+-- the name of a response class
 abbrev pub class_name : ResponseClass → Name
 class_name class.Success = codes "SUCCESS"
 class_name class.MiscWarning = codes "MISC_WARNING"
@@ -216,21 +228,25 @@ ArrayElementHere e here rest =
 
 -- ---- types
 
+-- the name of a type of the profile
 abbrev pub type_name : VarType → Name
 type_name var_type.Integer = codes "INTEGER"
 type_name var_type.UnsignedInteger = codes "UNSIGNED_INTEGER"
 type_name var_type.Enumerated = codes "ENUMERATED"
 type_name var_type.BitEnumerated = codes "BIT_ENUMERATED"
 
+-- the names of all types of the profile
 abbrev pub type_names : List Name
 type_names = codes "INTEGER" ∷ codes "UNSIGNED_INTEGER" ∷ codes "ENUMERATED"
     ∷ codes "BIT_ENUMERATED" ∷ []
 
+-- `(size)` or nothing
 abbrev pub SizeHere : Option ℕ → List Token → List Token → Type 0
 SizeHere None here rest = here ≡ rest
 SizeHere (Some size) here rest = here ≡ Sign sign.OpenParenthesis ∷ Integer size
     ∷ Sign sign.CloseParenthesis ∷ rest
 
+-- an option of a type, or an element of its list with a comma after it or none
 abbrev pub TypePartHere : TypePart Path → List Token → List Token → Type 0
 TypePartHere (item.DefaultValue c) here rest = (behind : List Token)
     × NextWord word.DefaultValue here behind × OneHere ValueExprHere c behind rest
@@ -282,10 +298,12 @@ SkippedHere [] here rest = here ≡ rest
 SkippedHere (t ∷ ts) here rest = IsTrue (is_inside_type t) × (behind : List Token)
     × Next t here behind × SkippedHere ts behind rest
 
+-- what comes after a word that is no type of the profile
 abbrev pub OtherTypeHere : List Token → List Token → Type 0
 OtherTypeHere here rest = (skipped from : List Token) × SkippedHere skipped here from
     × OtherEndHere from rest
 
+-- a type of the profile with its size and its parts, or another word
 abbrev pub TypeHere : item.TypeWord → List (TypePart Path) → List Token → List Token → Type 0
 TypeHere (item.Known type size) parts here rest =
     (from behind : List Token) × NextName (type_name type) here from × SizeHere size from behind
@@ -296,6 +314,7 @@ TypeHere (item.Other name) parts here rest =
 
 -- ---- transactions
 
+-- REQUEST or REPLY with data items in braces
 abbrev pub TransactionPartHere : TransactionPart Path → List Token → List Token → Type 0
 TransactionPartHere (item.Request all) here rest =
     (inside : List Token) × (here ≡ Reserved word.Request ∷ Sign sign.OpenBrace ∷ inside)
@@ -304,6 +323,7 @@ TransactionPartHere (item.Reply all) here rest =
     (inside : List Token) × (here ≡ Reserved word.Reply ∷ Sign sign.OpenBrace ∷ inside)
     × ListHere DataItemHere all inside (Sign sign.CloseBrace ∷ rest)
 
+-- a number or nothing
 abbrev pub NumberHere : Option ℕ → List Token → List Token → Type 0
 NumberHere None here rest = here ≡ rest
 NumberHere (Some n) here rest = Next (Integer n) here rest
@@ -314,6 +334,7 @@ NumberHere (Some n) here rest = Next (Integer n) here rest
 abbrev pub TextWordHere : TextAttribute → List Token → List Token → Type 0
 TextWordHere which here rest = (k : Keyword) × (text_of_word k ≡ Some which) × NextWord k here rest
 
+-- an attribute with its word
 abbrev pub AttributeHere : Attribute Path → List Token → List Token → Type 0
 AttributeHere (item.OneText which c) here rest = (behind : List Token)
     × TextWordHere which here behind × OneHere TextHere c behind rest
@@ -379,6 +400,7 @@ ItemWordHere ArrayItem here rest = here ≡ Reserved word.Array ∷ Reserved wor
 abbrev pub OwnAttributeHere : Kind → Attribute Path → List Token → List Token → Type 0
 OwnAttributeHere k a here rest = IsTrue (belongs_to k a) × AttributeHere a here rest
 
+-- an item: its word, its name, and its attributes in braces
 abbrev pub ItemHere : Item Path → List Token → List Token → Type 0
 ItemHere i here rest =
     (from inside : List Token) × ItemWordHere i.sort here from

@@ -35,6 +35,7 @@ use Rattle.edd_syntax.specs.TreeView.{path_of, expr_of, part_of}
 
 -- ---- conditionals: g says what a value stands for
 
+-- a conditional
 unfoldable mutual
   pub cond_of : {R S V W : Type 0} → (R → S) → (V → W) → Cond R V → pure.Cond S W
   cond_of f g (Value v) = pure.Value (g v)
@@ -44,15 +45,18 @@ unfoldable mutual
   cond_of f g (Select' on shape arms) =
       pure.Select (expr_of f on) (pure.arms_from (arms_in f g arms))
 
+  -- an arm
   pub arm_of : {R S V W : Type 0} → (R → S) → (V → W) → Arm R V → pure.Arm S W
   arm_of f g (Case' label shape body) = pure.Case label (pure.conds_from (conds_in f g body))
   arm_of f g (Default' line shape body) = pure.Default (pure.conds_from (conds_in f g body))
 
+  -- the conditionals that a vector holds
   pub conds_in : {R S V W : Type 0} {n : _} → (R → S) → (V → W) → Row_of-Cond R V n
       → List (pure.Cond S W)
   conds_in f g end_of-Cond = []
   conds_in f g (more_of-Cond first rest) = cond_of f g first ∷ conds_in f g rest
 
+  -- the arms that a vector holds
   pub arms_in : {R S V W : Type 0} {n : _} → (R → S) → (V → W) → Row_of-Arm R V n
       → List (pure.Arm S W)
   arms_in f g end_of-Arm = []
@@ -64,6 +68,7 @@ conds_of f g conds = pure.conds_from (map (cond_of f g) conds)
 
 -- ---- attributes
 
+-- an enumerator
 abbrev pub enumerator_of : Enumerator → items.Enumerator
 enumerator_of e = record {
   value = e.value;
@@ -71,18 +76,22 @@ enumerator_of e = record {
   help = option_map text_of e.help;
 }
 
+-- an entry of a menu
 abbrev pub entry_of : {R S : Type 0} → (R → S) → MenuEntry R → items.MenuEntry S
 entry_of f (entry.Text text) = items.Text (text_of text)
 entry_of f (entry.Reference to qualifiers) = items.Reference (f to) qualifiers
 
+-- a data item
 abbrev pub data_item_of : {R S : Type 0} → (R → S) → DataItem R → items.DataItem S
 data_item_of f (data_item.Constant line value) = items.Constant value
 data_item_of f (data_item.Variable line variable mask qualifiers) =
     items.Variable (f variable) mask qualifiers
 
+-- a response code
 abbrev pub response_code_of : ResponseCode → items.ResponseCode
 response_code_of r = record { number = r.number; class = r.class; text = text_of r.text }
 
+-- a member of a collection
 abbrev pub member_of : {R S : Type 0} → (R → S) → Member R → items.Member S
 member_of f m = record {
   name = string_bytes m.name;
@@ -92,6 +101,7 @@ member_of f m = record {
   help = option_map text_of m.help;
 }
 
+-- an element of an array
 abbrev pub array_element_of : {R S : Type 0} → (R → S) → ArrayElement R → items.ArrayElement S
 array_element_of f e = record {
   number = e.number;
@@ -100,10 +110,12 @@ array_element_of f e = record {
   help = option_map text_of e.help;
 }
 
+-- a type as it is written
 abbrev pub type_word_of : TypeWord → items.TypeWord
 type_word_of (word.Known type size) = items.Known type size
 type_word_of (word.Other text) = items.Other (string_bytes text)
 
+-- what is in the braces of a type
 abbrev pub type_part_of : {R S : Type 0} → (R → S) → TypePart R → items.TypePart S
 type_part_of f (part.DefaultValue line value) = items.DefaultValue (cond_of f (expr_of f) value)
 type_part_of f (part.MinValue line value) = items.MinValue (cond_of f (expr_of f) value)
@@ -112,12 +124,14 @@ type_part_of f (part.DisplayFormat line format) = items.DisplayFormat (cond_of f
 type_part_of f (part.EditFormat line format) = items.EditFormat (cond_of f text_of format)
 type_part_of f (part.Element element) = items.Element (cond_of f enumerator_of element)
 
+-- a REQUEST or a REPLY
 abbrev pub transaction_part_of : {R S : Type 0} → (R → S) → TransactionPart R
     → items.TransactionPart S
 transaction_part_of f (transaction.Request all) =
     items.Request (conds_of f (data_item_of f) all.items)
 transaction_part_of f (transaction.Reply all) = items.Reply (conds_of f (data_item_of f) all.items)
 
+-- an attribute
 abbrev pub attribute_of : {R S : Type 0} → (R → S) → Attribute R → items.Attribute S
 attribute_of f (attribute.OneText which c) = items.OneText which (cond_of f text_of c)
 attribute_of f (attribute.Class words) = items.Class (map string_bytes words.items)
@@ -149,6 +163,7 @@ sort_of (item.Collection d) = items.CollectionItem d.of
 sort_of (item.Method d) = items.MethodItem
 sort_of (item.Array d) = items.ArrayItem
 
+-- the name of an item
 abbrev pub name_of : {R : Type 0} → Item R → Name
 name_of (item.Variable d) = string_bytes d.name
 name_of (item.Command d) = string_bytes d.name
@@ -157,6 +172,7 @@ name_of (item.Collection d) = string_bytes d.name
 name_of (item.Method d) = string_bytes d.name
 name_of (item.Array d) = string_bytes d.name
 
+-- the attributes of an item, still as the code has them
 abbrev pub attributes_of : {R : Type 0} → Item R → List (Attribute R)
 attributes_of (item.Variable d) = d.attributes.items
 attributes_of (item.Command d) = d.attributes.items
@@ -165,6 +181,7 @@ attributes_of (item.Collection d) = d.attributes.items
 attributes_of (item.Method d) = d.attributes.items
 attributes_of (item.Array d) = d.attributes.items
 
+-- an item
 abbrev pub item_of : {R S : Type 0} → (R → S) → Item R → items.Item S
 item_of f i = record {
   sort = sort_of i;
@@ -173,6 +190,7 @@ item_of f i = record {
       (attributes_of i);
 }
 
+-- an identification
 abbrev pub identification_of : Identification → items.Identification
 identification_of i = record {
   manufacturer = i.manufacturer;
@@ -187,36 +205,47 @@ named_items all = map (item_of path_of) all
 
 -- ---- trees whose references are numbers already
 
+-- a conditional
 abbrev pub numbered_cond : {V W : Type 0} → (V → W) → Cond Target V → pure.Cond Target W
 numbered_cond = cond_of (λ r. r)
 
+-- an arm
 abbrev pub numbered_arm : {V W : Type 0} → (V → W) → Arm Target V → pure.Arm Target W
 numbered_arm = arm_of (λ r. r)
 
+-- conditionals
 abbrev pub numbered_conds : {V W : Type 0} → (V → W) → List (Cond Target V) → pure.Conds Target W
 numbered_conds = conds_of (λ r. r)
 
+-- an entry of a menu
 abbrev pub numbered_entry : MenuEntry Target → items.MenuEntry Target
 numbered_entry = entry_of (λ r. r)
 
+-- a data item
 abbrev pub numbered_data_item : DataItem Target → items.DataItem Target
 numbered_data_item = data_item_of (λ r. r)
 
+-- a member of a collection
 abbrev pub numbered_member : Member Target → items.Member Target
 numbered_member = member_of (λ r. r)
 
+-- an element of an array
 abbrev pub numbered_array_element : ArrayElement Target → items.ArrayElement Target
 numbered_array_element = array_element_of (λ r. r)
 
+-- what is in the braces of a type
 abbrev pub numbered_type_part : TypePart Target → items.TypePart Target
 numbered_type_part = type_part_of (λ r. r)
 
+-- a REQUEST or a REPLY
 abbrev pub numbered_transaction_part : TransactionPart Target → items.TransactionPart Target
 numbered_transaction_part = transaction_part_of (λ r. r)
 
+-- an attribute
 abbrev pub numbered_attribute : Attribute Target → items.Attribute Target
 numbered_attribute = attribute_of (λ r. r)
 
+-- an item
 abbrev pub numbered_item : Item Target → items.Item Target
 numbered_item = item_of (λ r. r)
 

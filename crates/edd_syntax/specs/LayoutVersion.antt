@@ -37,6 +37,7 @@ abbrev mutual
   names_it (Increment op to) = false
   names_it (Call function arguments) = is_add_abort_method function || argument_names_it arguments
 
+  -- whether one of these arguments does
   pub argument_names_it : Arguments Target → Bool
   argument_names_it expr.Nil = false
   argument_names_it (expr.Cons (expr.Text text) rest) = argument_names_it rest

@@ -25,6 +25,7 @@ pub data Request : Type 0 where
   SendCommandTrans : (number transaction : ℤ) → Request
   SaveValues : Request
 
+-- the state of a method while it runs
 pub record State : Type 0 where
   -- the values of the locals
   pub slots : List ℤ
@@ -53,24 +54,30 @@ pub data Outcome (A : Type 0) : Type 0 where
   Done : A → State → Outcome A
   Stopped : Stop → State → Outcome A
 
+-- something that is done from a state, and has a result of the type A or stops
 abbrev pub Action : Type 0 → Type 0
 Action A = State → Outcome A
 
+-- gives the result and leaves the state as it is
 abbrev pub pure : {A : Type 0} → A → Action A
 pure x = λ s. Done x s
 
+-- stops and leaves the state as it is
 abbrev pub stop : {A : Type 0} → Stop → Action A
 stop why = λ s. Stopped why s
 
+-- goes on with the result and the state; a stop is passed on
 abbrev pub and_then : {A B : Type 0} → Outcome A → (A → Action B) → Outcome B
 and_then (Done x s) next = next x s
 and_then (Stopped why s) next = Stopped why s
 
 -- one action after another
 infixl 10 ◌>>=◌ ◌>>◌
+-- the second action gets the result of the first
 abbrev pub ◌>>=◌ : {A B : Type 0} → Action A → (A → Action B) → Action B
 first >>= next = λ s. and_then (first s) next
 
+-- the result of the first is dropped
 abbrev pub ◌>>◌ : {A B : Type 0} → Action A → Action B → Action B
 first >> next = first >>= λ x. next
 
@@ -90,11 +97,13 @@ item_value values (item_no.Collection n) = pos 0
 item_value values (item_no.Method n) = pos 0
 item_value values (item_no.Array n) = pos 0
 
+-- the number that is read of a target in a state; no checked unit reads a function
 abbrev pub read_from : State → Target → ℤ
 read_from s (Local slot) = slice_index_or s.slots slot (pos 0)
 read_from s (Item i) = item_value s.values i
 read_from s (Function f) = pos 0
 
+-- reads a target
 abbrev pub read : Target → Action ℤ
 read target = λ s. Done (read_from s target) s
 
@@ -119,6 +128,7 @@ assign_item env (item_no.Collection n) z = pure z
 assign_item env (item_no.Method n) z = pure z
 assign_item env (item_no.Array n) z = pure z
 
+-- stores a number in a target, and gives what is then read; no checked unit stores in a function
 abbrev pub assign : Environment → Target → ℤ → Action ℤ
 assign env (Local slot) z = λ s. Done z (record s { slots = slice_set s.slots slot z })
 assign env (Item i) z = assign_item env i z
@@ -150,5 +160,6 @@ answered [] = stop Waiting
 answered (Go code sets ∷ rest) = λ s. Done code (apply_sets sets (record s { answers = rest }))
 answered (Abort ∷ rest) = λ s. Stopped Aborted (record s { answers = rest })
 
+-- makes a request, and takes its answer
 abbrev pub ask : Request → Action ℤ
 ask r = λ s. answered s.answers (record s { requests = s.requests ++ r ∷ [] })

@@ -23,22 +23,28 @@ use Rattle.edd_syntax.specs.Refusal.{Refusal, TooMany, DuplicateName, DuplicateA
 
 -- ---- too many items, transactions, locals or nodes
 
+-- how many items of a kind there may be
 abbrev pub item_limit : ℕ
 item_limit = 4096
 
+-- how many transactions an item may have
 abbrev pub transaction_limit : ℕ
 transaction_limit = 4096
 
+-- how many locals a method may declare
 abbrev pub local_limit : ℕ
 local_limit = 64
 
+-- how many nodes the trees of a description may have
 abbrev pub node_limit : ℕ
 node_limit = 524288
 
+-- the attribute is a transaction
 abbrev pub is_transaction : {R : Type 0} → Attribute R → Bool
 is_transaction (item.Transaction number parts) = true
 is_transaction _ = false
 
+-- the declarators of a DEFINITION; another attribute has none
 abbrev locals_of_attribute : {R : Type 0} → Attribute R → ℕ
 locals_of_attribute (item.Definition body) = slots_in body
 locals_of_attribute _ = 0
@@ -47,13 +53,16 @@ locals_of_attribute _ = 0
 abbrev pub locals_of : {R : Type 0} → Item R → ℕ
 locals_of i = sum (map locals_of_attribute i.attributes)
 
+-- how many transactions an item has
 abbrev pub transaction_count : {R : Type 0} → Item R → ℕ
 transaction_count i = length (filter is_transaction i.attributes)
 
+-- all kinds, by their numbers
 abbrev pub kinds : List Kind
 kinds = kind.Variable ∷ kind.Command ∷ kind.Menu ∷ kind.Collection ∷ kind.Method
     ∷ kind.Array ∷ []
 
+-- a breach for each limit that is exceeded
 abbrev pub too_many : {R : Type 0} → Description R → List Refusal
 too_many unit =
     refused_if (list_any (λ k. nat_lt item_limit (count_of k unit.items)) kinds)
@@ -66,6 +75,7 @@ too_many unit =
 
 -- ---- two items, two members of a collection or two locals of a block with one name
 
+-- the names of the locals that are declared
 abbrev pub names_declared : List (Declarator Path) → List Name
 names_declared = map (λ d. d.place.base)
 
@@ -114,11 +124,13 @@ repeated_in_items before (i ∷ rest) =
     (if is_name_in before i.name then i.name ∷ [] else []) ++
     (repeated_in_attributes [] i.attributes ++ repeated_in_items (i.name ∷ before) rest)
 
+-- a breach for each name that is there already
 abbrev pub duplicate_names : Description Path → List Refusal
 duplicate_names unit = map DuplicateName (repeated_in_items [] unit.items)
 
 -- ---- an attribute of an item, of a transaction or of a type's braces that is there already
 
+-- the word with which the attribute is written
 abbrev pub attribute_word : {R : Type 0} → Attribute R → Name
 attribute_word (item.OneText which c) = attr_word (text_attr which)
 attribute_word (item.Class words) = attr_word attr.Class
@@ -143,6 +155,7 @@ type_part_words (item.DisplayFormat c) = attr_word attr.DisplayFormat ∷ []
 type_part_words (item.EditFormat c) = attr_word attr.EditFormat ∷ []
 type_part_words (item.Element c) = []
 
+-- REQUEST or REPLY
 abbrev pub transaction_part_word : {R : Type 0} → TransactionPart R → Name
 transaction_part_word (item.Request all) = attr_word attr.Request
 transaction_part_word (item.Reply all) = attr_word attr.Reply
@@ -162,12 +175,14 @@ repeated_words before (a ∷ rest) =
     (if is_transaction a then [] else repeated before (word ∷ []))
     ++ (repeated_words_inside a ++ repeated_words (word ∷ before) rest)
 
+-- a breach for each attribute that is there already
 abbrev pub duplicate_attributes : {R : Type 0} → Description R → List Refusal
 duplicate_attributes unit =
     map DuplicateAttribute (flat_map (λ i. repeated_words [] i.attributes) unit.items)
 
 -- ---- a missing attribute
 
+-- the words of the attributes that an item of this kind must have
 abbrev pub required_words : Kind → List Name
 required_words kind.Variable = spelling keyword.Type ∷ []
 required_words kind.Command = attr_word attr.Number ∷ attr_word attr.Operation
@@ -177,15 +192,18 @@ required_words kind.Collection = attr_word attr.Members ∷ []
 required_words kind.Method = attr_word attr.Definition ∷ []
 required_words kind.Array = attr_word attr.Elements ∷ []
 
+-- those of them with which no attribute of the item is written
 abbrev pub missing_words : {R : Type 0} → Item R → List Name
 missing_words i = filter (λ word. not (is_name_in (map attribute_word i.attributes) word))
     (required_words (kind_of_item i.sort))
 
+-- a breach for each of them, item after item
 abbrev pub missing_attributes : {R : Type 0} → Description R → List Refusal
 missing_attributes unit = flat_map (λ i. map (MissingAttribute i.name) (missing_words i)) unit.items
 
 -- ---- a name that nothing has, or an item of a kind that may not be there
 
+-- the kind is one of those that are allowed
 abbrev pub is_kind_among : List Kind → Kind → Bool
 is_kind_among allowed k = list_any (same_kind k) allowed
 
@@ -208,6 +226,7 @@ abbrev pub faults_of_local : Path → (members : List Name) → List Refusal
 faults_of_local path [] = []
 faults_of_local path (m ∷ rest) = WrongKind path.base ∷ []
 
+-- the faults of a path whose first name is not a local's
 abbrev pub faults_of_item : Description Path → (allowed : List Kind) → Path → List Refusal
 faults_of_item unit allowed path =
     elim (item_named unit path.base) [
@@ -215,6 +234,7 @@ faults_of_item unit allowed path =
       | None ↦ UnknownName path.base ∷ []
     ]
 
+-- the faults of one use of a name
 abbrev pub faults_of_use : Description Path → Use → List Refusal
 faults_of_use unit (OfItem scope allowed path) =
     elim (look_up path.base scope) [
@@ -229,5 +249,6 @@ faults_of_use unit (OfArray scope path) =
 faults_of_use unit (OfFunction path) =
     elim (look_up path.base builtins) [ Some f ↦ [] | None ↦ UnknownName path.base ∷ [] ]
 
+-- the faults of all uses of names
 abbrev pub wrong_uses : Description Path → List Refusal
 wrong_uses unit = flat_map (faults_of_use unit) (unit_uses unit)

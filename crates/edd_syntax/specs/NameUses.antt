@@ -50,6 +50,7 @@ abbrev mutual
   uses_among scope kinds (Call function arguments) = OfFunction function
       ∷ argument_uses scope (argument_kinds function) arguments
 
+  -- in arguments, where a plain reference names an item of these kinds
   pub argument_uses : Scope → (kinds : List Kind) → Arguments Path → List Use
   argument_uses scope kinds expr.Nil = []
   argument_uses scope kinds (expr.Cons (Text text) rest) = argument_uses scope kinds rest
@@ -60,17 +61,20 @@ abbrev mutual
 abbrev pub expr_uses : Scope → Expr Path → List Use
 expr_uses scope e = uses_among scope variable_kinds e
 
+-- in an expression that may be missing
 abbrev pub optional_uses : Scope → Option (Expr Path) → List Use
 optional_uses scope None = []
 optional_uses scope (Some e) = expr_uses scope e
 
 -- ---- statements: `next` is the slot of the next declarator of the method
 
+-- in the values of declarators, each of which can be used after itself
 abbrev pub declarator_uses : Scope → (next : ℕ) → List (Declarator Path) → List Use
 declarator_uses scope next [] = []
 declarator_uses scope next (d ∷ rest) = optional_uses scope d.value
     ++ declarator_uses (declared d.place next scope) (next + 1) rest
 
+-- in a statement
 abbrev mutual
   pub stmt_uses : Stmt Path → Scope → (next : ℕ) → List Use
   stmt_uses s.Empty scope next = []
@@ -94,6 +98,7 @@ abbrev mutual
   stmt_uses s.Continue scope next = []
   stmt_uses s.Return scope next = []
 
+  -- in a body
   pub body_uses : Body Path → Scope → (next : ℕ) → List Use
   body_uses Nil scope next = []
   body_uses (Cons (Declare declarators) rest) scope next =
@@ -106,9 +111,11 @@ abbrev mutual
 
 -- ---- attributes, in which no local can be used; `of` gives the uses in a value
 
+-- in an expression of an attribute
 abbrev pub attribute_expr_uses : Expr Path → List Use
 attribute_expr_uses = expr_uses []
 
+-- in a conditional
 abbrev mutual
   pub cond_uses : {V : Type 0} → (of : V → List Use) → Cond Path V → List Use
   cond_uses of (Value v) = of v
@@ -116,26 +123,32 @@ abbrev mutual
       ++ (conds_uses of first ++ conds_uses of otherwise)
   cond_uses of (Select on arms) = attribute_expr_uses on ++ arms_uses of arms
 
+  -- in conditionals one after the other
   pub conds_uses : {V : Type 0} → (of : V → List Use) → Conds Path V → List Use
   conds_uses of cond.Nil = []
   conds_uses of (cond.Cons first rest) = cond_uses of first ++ conds_uses of rest
 
+  -- in the arms of a SELECT
   pub arms_uses : {V : Type 0} → (of : V → List Use) → Arms Path V → List Use
   arms_uses of NoArms = []
   arms_uses of (ConsArm (Case label body) rest) = conds_uses of body ++ arms_uses of rest
   arms_uses of (ConsArm (Default body) rest) = conds_uses of body ++ arms_uses of rest
 
+-- in a value without references
 abbrev pub no_uses : {V : Type 0} → V → List Use
 no_uses v = []
 
+-- in an entry of a menu
 abbrev pub entry_uses : item.MenuEntry Path → List Use
 entry_uses (item.Text text) = []
 entry_uses (item.Reference to qualifiers) = OfItem [] entry_kinds to ∷ []
 
+-- in a data item
 abbrev pub data_uses : item.DataItem Path → List Use
 data_uses (item.Constant n) = []
 data_uses (item.Variable variable mask qualifiers) = OfItem [] variable_kinds variable ∷ []
 
+-- in an option of a type, or in an element of its list
 abbrev pub type_part_uses : TypePart Path → List Use
 type_part_uses (item.DefaultValue c) = cond_uses attribute_expr_uses c
 type_part_uses (item.MinValue c) = cond_uses attribute_expr_uses c
@@ -144,10 +157,12 @@ type_part_uses (item.DisplayFormat c) = cond_uses no_uses c
 type_part_uses (item.EditFormat c) = cond_uses no_uses c
 type_part_uses (item.Element c) = cond_uses no_uses c
 
+-- in a REQUEST or a REPLY
 abbrev pub transaction_part_uses : TransactionPart Path → List Use
 transaction_part_uses (item.Request all) = conds_uses data_uses all
 transaction_part_uses (item.Reply all) = conds_uses data_uses all
 
+-- in an attribute of this kind of item
 abbrev pub attribute_uses : ItemKind → Attribute Path → List Use
 attribute_uses sort (item.OneText which c) = cond_uses no_uses c
 attribute_uses sort (item.Class words) = []
@@ -165,8 +180,10 @@ attribute_uses sort (item.Elements elements) =
     flat_map (λ e. OfItem [] variable_kinds e.variable ∷ []) elements
 attribute_uses sort (item.Definition body) = body_uses body [] 0
 
+-- in an item
 abbrev pub item_uses : item.Item Path → List Use
 item_uses i = flat_map (attribute_uses i.sort) i.attributes
 
+-- in a description
 abbrev pub unit_uses : Description Path → List Use
 unit_uses unit = flat_map item_uses unit.items

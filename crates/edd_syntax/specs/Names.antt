@@ -3,6 +3,7 @@ use Rattle.std.specs.Prelude.{ℕ, Bool, false, ◌&&◌, ◌||◌, nat_le, nat_
 use Rattle.std.specs.List.{list_all}
 use Rattle.edd_syntax.specs.Text.{Name}
 
+-- from `low` to `high`, both included
 abbrev pub is_within : (low high : ℕ) → ℕ → Bool
 is_within low high c = nat_le low c && nat_le c high
 
@@ -14,6 +15,7 @@ begins_name c = is_within 65 90 c || is_within 97 122 c || c == 95
 abbrev pub goes_on_name : ℕ → Bool
 goes_on_name c = begins_name c || is_within 48 57 c
 
+-- these bytes are a name
 abbrev pub is_name : Name → Bool
 is_name [] = false
 is_name (c ∷ rest) = begins_name c && list_all goes_on_name rest && nat_lt (length rest) 255

@@ -16,6 +16,7 @@ use Rattle.edd_syntax.specs.Token.{spelling}
 
 -- ---- kinds
 
+-- the number of a kind
 abbrev pub kind_number : Kind → ℕ
 kind_number Variable = 1
 kind_number Command = 2
@@ -24,6 +25,7 @@ kind_number Collection = 4
 kind_number Method = 5
 kind_number Array = 6
 
+-- the kinds are the same
 abbrev pub same_kind : Kind → Kind → Bool
 same_kind a b = kind_number a == kind_number b
 
@@ -56,6 +58,7 @@ item_from_numbers kind n =
     if kind == 6 then Some (item_no.Array (record { 0 = n })) else
     None
 
+-- the kind of an item
 abbrev pub kind_of : ItemNo → Kind
 kind_of (item_no.Variable n) = Variable
 kind_of (item_no.Command n) = Command
@@ -75,6 +78,7 @@ index_of (item_no.Array n) = n.0
 
 -- ---- attributes
 
+-- the number of an attribute
 abbrev pub attr_number : Attr → ℕ
 attr_number attr.Label = 1
 attr_number attr.Help = 2
@@ -126,6 +130,7 @@ attr_from_number n =
     if n == 22 then Some attr.Elements else
     None
 
+-- the attributes are the same
 abbrev pub same_attr : Attr → Attr → Bool
 same_attr a b = attr_number a == attr_number b
 

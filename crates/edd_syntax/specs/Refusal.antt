@@ -23,10 +23,12 @@ pub data Refusal : Type 0 where
   DuplicateCase : Refusal
   DuplicateElement : Refusal
 
+-- the first of a list
 abbrev pub first_of : {A : Type 0} → List A → Option A
 first_of [] = None
 first_of (x ∷ rest) = Some x
 
+-- the name is one of these
 abbrev pub is_name_in : List Name → Name → Bool
 is_name_in names name = list_any (λ n. bytes_eq n name) names
 

@@ -36,15 +36,18 @@ numbered_names before (i ∷ rest) =
     (i.name, item_number (kind_of_item i.sort) (count_of (kind_of_item i.sort) before))
     ∷ numbered_names (before ++ i ∷ []) rest
 
+-- the first item of this name
 abbrev pub item_named : Description Path → Name → Option ItemNo
 item_named unit name = look_up name (numbered_names [] unit.items)
 
 -- ---- members of collections
 
+-- the members that an attribute lists
 abbrev pub members_in : {R : Type 0} → Attribute R → List (Member R)
 members_in (Members members) = members
 members_in _ = []
 
+-- the members that an item lists
 abbrev pub members_of : {R : Type 0} → item.Item R → List (Member R)
 members_of i = flat_map members_in i.attributes
 
@@ -61,6 +64,7 @@ member_kind ArrayItem = None
 abbrev pub FoundMember : Type 0
 FoundMember = Member Path × Kind
 
+-- the first member of this name in a collection, with the kind after OF
 abbrev pub member_in : item.Item Path → Name → Option FoundMember
 member_in i m =
     elim (member_kind i.sort) [
@@ -68,6 +72,7 @@ member_in i m =
       | None ↦ None
     ]
 
+-- the item, where it is of this kind
 abbrev pub of_kind : Kind → ItemNo → Option ItemNo
 of_kind k i = if same_kind (kind_of i) k then Some i else None
 
@@ -94,6 +99,7 @@ along unit i (m ∷ rest) =
 abbrev pub Scope : Type 0
 Scope = List (Name × ℕ)
 
+-- the item is of one of these kinds
 abbrev pub is_among : List Kind → ItemNo → Bool
 is_among kinds i = list_any (same_kind (kind_of i)) kinds
 
@@ -148,6 +154,7 @@ builtin_name builtin.Abort = codes "abort"
 builtin_name builtin.ProcessAbort = codes "process_abort"
 builtin_name builtin.AddAbortMethod = codes "add_abort_method"
 
+-- each function that a method may call
 abbrev pub all_builtins : List Builtin
 all_builtins =
     builtin.PutMessage ∷ builtin.Acknowledge ∷ builtin.Delay ∷ builtin.GetDevVarValue
@@ -161,6 +168,7 @@ all_builtins =
 abbrev pub builtins : List (Name × Builtin)
 builtins = map (λ f. (builtin_name f, f)) all_builtins
 
+-- the function that a call means, by its name
 abbrev pub function_meant : Path → Option Target
 function_meant path = option_map Function (look_up path.base builtins)
 

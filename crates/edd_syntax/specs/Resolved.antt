@@ -20,5 +20,6 @@ pub record IsChecked (d : Description Target) : Type 0 where
   pub is_resolved : IsResolved d
   pub no_breach : subset_breaches d ≡ []
 
+-- the description with these parts
 abbrev pub description : {R : Type 0} → Identification → List (Item R) → Description R
 description identification items = record { identification = identification; items = items }

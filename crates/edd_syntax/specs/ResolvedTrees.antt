@@ -15,10 +15,12 @@ use Rattle.edd_syntax.specs.Resolution.{Scope, meaning, array_meant, function_me
 
 -- one after another, as long as each has a value
 infixl 10 ◌>>=◌
+-- goes on with the value; None where either step has none
 abbrev pub ◌>>=◌ : {A B : Type 0} → Option A → (A → Option B) → Option B
 Some x >>= next = next x
 None >>= next = None
 
+-- the values of all, if each has one
 abbrev pub each : {A B : Type 0} → (A → Option B) → List A → Option (List B)
 each of [] = Some []
 each of (x ∷ rest) = do y ← of x; others ← each of rest; Some (y ∷ others)
@@ -84,6 +86,7 @@ module _ (at : Meanings) where
       arguments' ← resolved_arguments (at.argument name) arguments
       Some (Call function arguments')
 
+    -- arguments, in the same way
     pub resolved_arguments : (plain : Path → Option Target) → Arguments Path
         → Option (Arguments Target)
     resolved_arguments plain expr.Nil = Some expr.Nil
@@ -95,6 +98,7 @@ module _ (at : Meanings) where
       rest' ← resolved_arguments plain rest
       Some (expr.Cons (expr.Value e') rest')
 
+  -- an expression that is no argument of a function
   abbrev pub resolved_expr : Expr Path → Option (Expr Target)
   resolved_expr e = resolved_by at.reference e
 
@@ -117,6 +121,7 @@ module _ (at : Meanings) where
       arms' ← resolved_arms of arms
       Some (Select on' arms')
 
+    -- conditionals one after the other
     pub resolved_conds : {V W : Type 0} → (of : V → Option W) → Conds Path V
         → Option (Conds Target W)
     resolved_conds of cond.Nil = Some cond.Nil
@@ -125,6 +130,7 @@ module _ (at : Meanings) where
       rest' ← resolved_conds of rest
       Some (cond.Cons first' rest')
 
+    -- the arms of a SELECT
     pub resolved_arms : {V W : Type 0} → (of : V → Option W) → Arms Path V → Option (Arms Target W)
     resolved_arms of NoArms = Some NoArms
     resolved_arms of (ConsArm (Case label body) rest) = do
@@ -143,6 +149,7 @@ unchanged v = Some v
 module _ (unit : Description Path) where
   -- ---- statements: `next` is the slot of the next declarator of the method
 
+  -- what names mean where these locals can be used
   abbrev pub at_scope : Scope → Meanings
   at_scope scope = record {
     reference = meaning unit scope variable_kinds;
@@ -159,6 +166,7 @@ module _ (unit : Description Path) where
     others ← resolved_declarators (declared d.place next scope) (next + 1) rest
     Some (record { place = Local next; value = value } ∷ others)
 
+  -- a statement, in which the locals of `scope` can be used
   unfoldable mutual
     pub resolved_stmt : Stmt Path → Scope → (next : ℕ) → Option (Stmt Target)
     resolved_stmt s.Empty scope next = Some s.Empty
@@ -219,37 +227,45 @@ module _ (unit : Description Path) where
 
   -- ---- attributes, in which no local can be used
 
+  -- what a path means where an item of these kinds may be
   abbrev pub item_among : List Kind → Path → Option Target
   item_among kinds = meaning unit [] kinds
 
+  -- what names mean in an attribute
   abbrev pub at_attribute : Meanings
   at_attribute = at_scope []
 
+  -- an entry of a menu
   abbrev pub resolved_entry : item.MenuEntry Path → Option (item.MenuEntry Target)
   resolved_entry (item.Text text) = Some (item.Text text)
   resolved_entry (item.Reference to qualifiers) = do
     to' ← item_among entry_kinds to
     Some (item.Reference to' qualifiers)
 
+  -- a data item
   abbrev pub resolved_data : item.DataItem Path → Option (item.DataItem Target)
   resolved_data (item.Constant n) = Some (item.Constant n)
   resolved_data (item.Variable variable mask qualifiers) = do
     variable' ← item_among variable_kinds variable
     Some (item.Variable variable' mask qualifiers)
 
+  -- a member of a collection, whose item is of one of these kinds
   abbrev pub resolved_member : (kinds : List Kind) → item.Member Path → Option (item.Member Target)
   resolved_member kinds m = do
     item' ← item_among kinds m.item
     Some (record { name = m.name; item = item'; label = m.label; help = m.help })
 
+  -- an element of an array
   abbrev pub resolved_element : item.ArrayElement Path → Option (item.ArrayElement Target)
   resolved_element e = do
     variable' ← item_among variable_kinds e.variable
     Some (record { number = e.number; variable = variable'; label = e.label; help = e.help })
 
+  -- a conditional whose values have no references
   abbrev resolved_one : {V : Type 0} → Cond Path V → Option (Cond Target V)
   resolved_one = resolved_cond at_attribute unchanged
 
+  -- an option of a type, or an element of its list
   abbrev pub resolved_type_part : TypePart Path → Option (TypePart Target)
   resolved_type_part (item.DefaultValue c) = do
     c' ← resolved_cond at_attribute (resolved_expr at_attribute) c
@@ -264,6 +280,7 @@ module _ (unit : Description Path) where
   resolved_type_part (item.EditFormat c) = do c' ← resolved_one c; Some (item.EditFormat c')
   resolved_type_part (item.Element c) = do c' ← resolved_one c; Some (item.Element c')
 
+  -- a REQUEST or a REPLY
   abbrev pub resolved_transaction_part : TransactionPart Path → Option (TransactionPart Target)
   resolved_transaction_part (item.Request all) = do
     all' ← resolved_conds at_attribute resolved_data all
@@ -272,6 +289,7 @@ module _ (unit : Description Path) where
     all' ← resolved_conds at_attribute resolved_data all
     Some (item.Reply all')
 
+  -- an attribute of this kind of item
   abbrev pub resolved_attribute : ItemKind → Attribute Path → Option (Attribute Target)
   resolved_attribute sort (item.OneText which c) = do
     c' ← resolved_one c
@@ -301,6 +319,7 @@ module _ (unit : Description Path) where
     body' ← resolved_body body [] 0
     Some (item.Definition body')
 
+  -- an item
   abbrev pub resolved_item : item.Item Path → Option (item.Item Target)
   resolved_item i = do
     attributes ← each (resolved_attribute i.sort) i.attributes

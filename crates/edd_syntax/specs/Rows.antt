@@ -14,6 +14,7 @@ use Rattle.edd_syntax.specs.Attributes.{is_of_transaction}
 
 -- ---- what is written
 
+-- the attribute to which a part of a type's braces belongs
 abbrev pub part_attr : {R : Type 0} → TypePart R → Attr
 part_attr (item.DefaultValue c) = attr.DefaultValue
 part_attr (item.MinValue c) = attr.MinValue
@@ -46,6 +47,7 @@ written_attrs (item.Definition body) = attr.Definition ∷ []
 unfoldable pub stands_for : {R : Type 0} → Attr → Attribute R → Bool
 stands_for a w = list_any (same_attr a) (written_attrs w)
 
+-- whether one of these stands for the attribute
 abbrev pub is_written : {R : Type 0} → Attr → List (Attribute R) → Bool
 is_written a attributes = list_any (stands_for a) attributes
 
@@ -65,9 +67,11 @@ positions a attributes =
     if is_of_transaction a then transaction_positions 0 attributes
     else (if is_written a attributes then 0 ∷ [] else [])
 
+-- the rows of an attribute of an item, at these positions
 unfoldable pub rows_at : ItemNo → Attr → List ℕ → List AttrRef
 rows_at number a subs = map (λ sub. record { item = number; attr = a; sub = sub }) subs
 
+-- the rows of an attribute of an item
 abbrev pub item_rows : {R : Type 0} → ItemNo → Attr → List (Attribute R) → List AttrRef
 item_rows number a attributes = rows_at number a (positions a attributes)
 
@@ -89,12 +93,15 @@ attributes_in_order =
     ∷ attr.Request ∷ attr.Reply ∷ attr.ResponseCodes ∷ attr.Items ∷ attr.Members ∷ attr.Definition
     ∷ attr.Elements ∷ []
 
+-- the items of a kind, in their order
 abbrev pub of_kind : {R : Type 0} → Kind → List (Item R) → List (Item R)
 of_kind k items = filter (λ i. same_kind (kind_of_item i.sort) k) items
 
+-- the rows of an attribute of all items of a kind
 abbrev pub rows_of_attr : {R : Type 0} → List (Item R) → Kind → Attr → List AttrRef
 rows_of_attr items k a = rows_from k a 0 (of_kind k items)
 
+-- the rows of all attributes of all items of a kind
 unfoldable pub rows_of_kind : {R : Type 0} → List (Item R) → Kind → List AttrRef
 rows_of_kind items k = flat_map (rows_of_attr items k) attributes_in_order
 

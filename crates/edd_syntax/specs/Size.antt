@@ -13,6 +13,7 @@ use Rattle.edd_syntax.specs.Item.{TypePart, TransactionPart, Attribute, Item, De
 
 -- ---- nodes
 
+-- the nodes of an expression
 abbrev mutual
   pub nodes : {R : Type 0} → Expr R → ℕ
   nodes (Literal value) = 1
@@ -31,6 +32,7 @@ abbrev mutual
   nodes (Increment op to) = 1
   nodes (Call function arguments) = 1 + argument_nodes arguments
 
+  -- of arguments
   pub argument_nodes : {R : Type 0} → Arguments R → ℕ
   argument_nodes expr.Nil = 0
   argument_nodes (expr.Cons (Text text) rest) = argument_nodes rest
@@ -45,15 +47,18 @@ abbrev mutual
       1 + (nodes condition + (conds_nodes of first + conds_nodes of otherwise))
   cond_nodes of (Select on arms) = 1 + (nodes on + arms_nodes of arms)
 
+  -- of conditionals one after the other
   pub conds_nodes : {R V : Type 0} → (of : V → ℕ) → Conds R V → ℕ
   conds_nodes of cond.Nil = 0
   conds_nodes of (cond.Cons first rest) = cond_nodes of first + conds_nodes of rest
 
+  -- of the arms of a SELECT
   pub arms_nodes : {R V : Type 0} → (of : V → ℕ) → Arms R V → ℕ
   arms_nodes of NoArms = 0
   arms_nodes of (ConsArm (Case label body) rest) = 1 + (conds_nodes of body + arms_nodes of rest)
   arms_nodes of (ConsArm (Default body) rest) = 1 + (conds_nodes of body + arms_nodes of rest)
 
+-- of an expression that may be missing
 abbrev pub optional_nodes : {R : Type 0} → Option (Expr R) → ℕ
 optional_nodes None = 0
 optional_nodes (Some e) = nodes e
@@ -63,6 +68,7 @@ abbrev pub declarator_nodes : {R : Type 0} → List (Declarator R) → ℕ
 declarator_nodes [] = 0
 declarator_nodes (d ∷ rest) = 1 + (optional_nodes d.value + declarator_nodes rest)
 
+-- the nodes of a statement
 abbrev mutual
   pub statement_nodes : {R : Type 0} → Stmt R → ℕ
   statement_nodes s.Empty = 1
@@ -103,6 +109,7 @@ type_part_nodes (item.DisplayFormat c) = 1 + cond_nodes leaf c
 type_part_nodes (item.EditFormat c) = 1 + cond_nodes leaf c
 type_part_nodes (item.Element c) = cond_nodes leaf c
 
+-- the part is an element of the type's list
 abbrev pub is_element : {R : Type 0} → TypePart R → Bool
 is_element (item.DefaultValue c) = false
 is_element (item.MinValue c) = false
@@ -111,6 +118,7 @@ is_element (item.DisplayFormat c) = false
 is_element (item.EditFormat c) = false
 is_element (item.Element c) = true
 
+-- the nodes of a REQUEST or a REPLY
 abbrev pub transaction_part_nodes : {R : Type 0} → TransactionPart R → ℕ
 transaction_part_nodes (item.Request all) = 1 + conds_nodes leaf all
 transaction_part_nodes (item.Reply all) = 1 + conds_nodes leaf all
@@ -133,14 +141,17 @@ attribute_nodes (item.Members members) = 1 + length members
 attribute_nodes (item.Elements elements) = 1 + length elements
 attribute_nodes (item.Definition body) = 1 + body_nodes body
 
+-- of an item
 abbrev pub item_nodes : {R : Type 0} → Item R → ℕ
 item_nodes i = sum (map attribute_nodes i.attributes)
 
+-- of a description
 abbrev pub unit_nodes : {R : Type 0} → Description R → ℕ
 unit_nodes unit = sum (map item_nodes unit.items)
 
 -- ---- height: what is counted on the longest way down
 
+-- the height of an expression
 abbrev mutual
   pub height : {R : Type 0} → Expr R → ℕ
   height (Literal value) = 1
@@ -160,6 +171,7 @@ abbrev mutual
   height (Increment op to) = 1
   height (Call function arguments) = 1 + argument_height arguments
 
+  -- of arguments
   pub argument_height : {R : Type 0} → Arguments R → ℕ
   argument_height expr.Nil = 0
   argument_height (expr.Cons (Text text) rest) = argument_height rest
@@ -173,23 +185,28 @@ abbrev mutual
       1 + max (height condition) (max (conds_height of first) (conds_height of otherwise))
   cond_height of (Select on arms) = 1 + max (height on) (arms_height of arms)
 
+  -- of conditionals one after the other
   pub conds_height : {R V : Type 0} → (of : V → ℕ) → Conds R V → ℕ
   conds_height of cond.Nil = 0
   conds_height of (cond.Cons first rest) = max (cond_height of first) (conds_height of rest)
 
+  -- of the arms of a SELECT
   pub arms_height : {R V : Type 0} → (of : V → ℕ) → Arms R V → ℕ
   arms_height of NoArms = 0
   arms_height of (ConsArm (Case label body) rest) = max (conds_height of body) (arms_height of rest)
   arms_height of (ConsArm (Default body) rest) = max (conds_height of body) (arms_height of rest)
 
+-- of an expression that may be missing
 abbrev pub optional_height : {R : Type 0} → Option (Expr R) → ℕ
 optional_height None = 0
 optional_height (Some e) = height e
 
+-- of declarators
 abbrev pub declarator_height : {R : Type 0} → List (Declarator R) → ℕ
 declarator_height [] = 0
 declarator_height (d ∷ rest) = max (1 + optional_height d.value) (declarator_height rest)
 
+-- the height of a statement
 abbrev mutual
   pub statement_height : {R : Type 0} → Stmt R → ℕ
   statement_height s.Empty = 1
@@ -208,6 +225,7 @@ abbrev mutual
   statement_height s.Continue = 1
   statement_height s.Return = 1
 
+  -- of a body
   pub body_height : {R : Type 0} → Body R → ℕ
   body_height Nil = 0
   body_height (Cons (Declare declarators) rest) = max (1 + declarator_height declarators)
@@ -217,6 +235,7 @@ abbrev mutual
   body_height (Cons (CaseLabel label) rest) = body_height rest
   body_height (Cons DefaultLabel rest) = body_height rest
 
+-- of an option of a type, or of an element of its list
 abbrev pub type_part_height : {R : Type 0} → TypePart R → ℕ
 type_part_height (item.DefaultValue c) = cond_height height c
 type_part_height (item.MinValue c) = cond_height height c
@@ -225,6 +244,7 @@ type_part_height (item.DisplayFormat c) = cond_height leaf c
 type_part_height (item.EditFormat c) = cond_height leaf c
 type_part_height (item.Element c) = cond_height leaf c
 
+-- of a REQUEST or a REPLY
 abbrev pub transaction_part_height : {R : Type 0} → TransactionPart R → ℕ
 transaction_part_height (item.Request all) = conds_height leaf all
 transaction_part_height (item.Reply all) = conds_height leaf all
@@ -250,6 +270,7 @@ attribute_height (item.Members members) = 0
 attribute_height (item.Elements elements) = 0
 attribute_height (item.Definition body) = body_height body
 
+-- of an item
 abbrev pub item_height : {R : Type 0} → Item R → ℕ
 item_height i = greatest_of (map attribute_height i.attributes)
 

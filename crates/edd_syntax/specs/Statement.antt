@@ -7,6 +7,7 @@ pub record Declarator (R : Type 0) : Type 0 where
   pub place : R
   pub value : Option (Expr R)
 
+-- a statement, whose references are of the type R
 mutual
   pub data Stmt (R : Type 0) : Type 0 where
     Empty : Stmt R
@@ -34,6 +35,7 @@ mutual
     Nil : Body R
     Cons : (first : Part R) → (rest : Body R) → Body R
 
+-- a body from a list of its parts
 abbrev pub body_from : {R : Type 0} → List (Part R) → Body R
 body_from [] = Nil
 body_from (p ∷ rest) = Cons p (body_from rest)
@@ -54,6 +56,7 @@ unfoldable mutual
   slots_of (For initial condition update body) = slots_of body
   slots_of (Switch on body) = slots_in body
 
+  -- the declarators of a body
   pub slots_in : {R : Type 0} → Body R → ℕ
   slots_in Nil = 0
   slots_in (Cons (Declare declarators) rest) = length declarators + slots_in rest

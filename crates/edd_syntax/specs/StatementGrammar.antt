@@ -31,6 +31,7 @@ CaseHere k label here rest =
 
 -- ---- conditionals, whose values are spelled by `Here`
 
+-- it is an IF
 abbrev pub IsIf : {R V : Type 0} → Cond R V → Type 0
 IsIf (Value v) = ⊥
 IsIf (cond.If condition first otherwise) = Unit {0}
@@ -43,6 +44,7 @@ NoElse here rest = (here ≡ rest) × ¬ BeginsWord word.Else rest
 module _ {V : Type 0} (Here : V → List Token → List Token → Type 0) where
   -- ---- a single value: one in each branch, and a semicolon after it
 
+  -- a value with its semicolon, an IF or a SELECT
   abbrev mutual
     pub OneHere : Cond Path V → List Token → List Token → Type 0
     OneHere (Value v) here rest = Here v here (Sign sign.Semicolon ∷ rest)
@@ -73,6 +75,7 @@ module _ {V : Type 0} (Here : V → List Token → List Token → Type 0) where
         ⊎ (IsIf c × OneHere c from rest))
     ElseHere (cond.Cons c (cond.Cons d more)) here rest = ⊥
 
+    -- the arms of a SELECT, with exactly one value in each
     pub OneArmsHere : Arms Path V → List Token → List Token → Type 0
     OneArmsHere NoArms here rest = here ≡ rest
     OneArmsHere (ConsArm (Case label body) arms) here rest =
@@ -85,6 +88,7 @@ module _ {V : Type 0} (Here : V → List Token → List Token → Type 0) where
 
   -- ---- a list: any number of elements, each with a comma after it or none
 
+  -- the elements, each with a comma after it or none
   abbrev mutual
     pub ListHere : Conds Path V → List Token → List Token → Type 0
     ListHere cond.Nil here rest = here ≡ rest
@@ -92,6 +96,7 @@ module _ {V : Type 0} (Here : V → List Token → List Token → Type 0) where
         (behind from : List Token) × ElementHere c here behind × OptionalSign sign.Comma behind from
         × ListHere more from rest
 
+    -- a value, an IF or a SELECT
     pub ElementHere : Cond Path V → List Token → List Token → Type 0
     ElementHere (Value v) here rest = Here v here rest
     ElementHere (cond.If condition first otherwise) here rest =
@@ -116,6 +121,7 @@ module _ {V : Type 0} (Here : V → List Token → List Token → Type 0) where
     ElseIfHere (cond.Cons c cond.Nil) here rest = IsIf c × ElementHere c here rest
     ElseIfHere (cond.Cons c (cond.Cons d more)) here rest = ⊥
 
+    -- the arms of a SELECT, with a list in each
     pub ListArmsHere : Arms Path V → List Token → List Token → Type 0
     ListArmsHere NoArms here rest = here ≡ rest
     ListArmsHere (ConsArm (Case label body) arms) here rest =
@@ -128,6 +134,7 @@ module _ {V : Type 0} (Here : V → List Token → List Token → Type 0) where
 
 -- ---- declarations
 
+-- `= e` or nothing
 abbrev pub ValueHere : Option (Expr Path) → List Token → List Token → Type 0
 ValueHere None here rest = here ≡ rest
 ValueHere (Some e) here rest = (behind : List Token) × NextSign sign.Equals here behind
@@ -138,6 +145,7 @@ abbrev pub DeclaratorHere : Declarator Path → List Token → List Token → Ty
 DeclaratorHere d here rest = (behind : List Token) × PlainHere d.place here behind
     × ValueHere d.value behind rest
 
+-- the further declarators, each after a comma
 abbrev pub MoreDeclaratorsHere : List (Declarator Path) → List Token → List Token → Type 0
 MoreDeclaratorsHere [] here rest = here ≡ rest
 MoreDeclaratorsHere (d ∷ more) here rest =
@@ -161,6 +169,7 @@ abbrev pub OptionalExprHere : Option (Expr Path) → List Token → List Token �
 OptionalExprHere None here rest = here ≡ rest
 OptionalExprHere (Some e) here rest = ExprHere InMethod 1 e here rest
 
+-- a statement
 abbrev mutual
   pub StmtHere : Stmt Path → List Token → List Token → Type 0
   StmtHere Empty here rest = NextSign sign.Semicolon here rest

@@ -12,6 +12,7 @@ use Rattle.edd_syntax.specs.Item.{TypePart, TransactionPart, Attribute, Descript
 use Rattle.edd_syntax.specs.SubsetRules.{body_expressions, values_in, values_of, attributes_of}
 use Rattle.edd_syntax.specs.Refusal.{Refusal, TooMany, refused_if}
 
+-- a text that may be missing
 abbrev pub optional_text : Option texts.Text → List texts.Text
 optional_text None = []
 optional_text (Some text) = text ∷ []
@@ -36,18 +37,22 @@ abbrev mutual
   expr_texts (Increment op to) = []
   expr_texts (Call function arguments) = argument_texts arguments
 
+  -- the texts among arguments, and among those of the calls in them
   pub argument_texts : {R : Type 0} → Arguments R → List texts.Text
   argument_texts expr.Nil = []
   argument_texts (expr.Cons (expr.Text text) rest) = text ∷ argument_texts rest
   argument_texts (expr.Cons (expr.Value e) rest) = expr_texts e ++ argument_texts rest
 
+-- the texts of an enumerator: its own and its help
 abbrev pub enumerator_texts : item.Enumerator → List texts.Text
 enumerator_texts e = e.text ∷ optional_text e.help
 
+-- the text that an entry of a menu may be
 abbrev pub entry_texts : {R : Type 0} → item.MenuEntry R → List texts.Text
 entry_texts (item.Text text) = text ∷ []
 entry_texts (item.Reference to qualifiers) = []
 
+-- the texts in an option of a type, or in an element of its list
 abbrev pub type_part_texts : {R : Type 0} → TypePart R → List texts.Text
 type_part_texts (item.DefaultValue c) = []
 type_part_texts (item.MinValue c) = []
@@ -56,16 +61,20 @@ type_part_texts (item.DisplayFormat c) = values_in c
 type_part_texts (item.EditFormat c) = values_in c
 type_part_texts (item.Element c) = flat_map enumerator_texts (values_in c)
 
+-- the strings of texts
 abbrev pub strings_of_texts : List texts.Text → List Words
 strings_of_texts = map words_of
 
+-- the strings of a member: its name, its label and its help
 abbrev pub member_strings : {R : Type 0} → item.Member R → List Words
 member_strings m = name_words m.name
     ∷ strings_of_texts (optional_text m.label ++ optional_text m.help)
 
+-- the texts of an element of an array: its label and its help
 abbrev pub array_element_texts : {R : Type 0} → item.ArrayElement R → List texts.Text
 array_element_texts e = optional_text e.label ++ optional_text e.help
 
+-- the strings of an attribute, in all branches
 abbrev pub attribute_strings : {R : Type 0} → Attribute R → List Words
 attribute_strings (item.OneText which c) = strings_of_texts (values_in c)
 attribute_strings (item.Class words) = map name_words words
@@ -83,11 +92,13 @@ attribute_strings (item.Elements elements) =
 attribute_strings (item.Definition body) =
     strings_of_texts (flat_map (λ p. expr_texts p.expression) (body_expressions body))
 
+-- the strings of a description, each as often as it is there
 abbrev pub unit_strings : {R : Type 0} → Description R → List Words
 unit_strings unit = flat_map attribute_strings (attributes_of unit)
 
 -- ---- different strings
 
+-- as many variants, with the same codes and texts in the same order
 abbrev pub same_variants : List Variant → List Variant → Bool
 same_variants [] [] = true
 same_variants [] (w ∷ ws) = false
@@ -107,9 +118,11 @@ abbrev pub different : List Words → List Words
 different [] = []
 different (w ∷ rest) = if list_any (same_words w) rest then different rest else w ∷ different rest
 
+-- how many different strings a description may have
 abbrev pub string_limit : ℕ
 string_limit = 65535
 
+-- the breach of a description that has more
 abbrev pub too_many_strings : {R : Type 0} → Description R → List Refusal
 too_many_strings unit = refused_if (nat_lt string_limit (length (different (unit_strings unit))))
     (TooMany limit.Strings)

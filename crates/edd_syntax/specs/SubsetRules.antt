@@ -26,6 +26,7 @@ use Rattle.edd_syntax.specs.Refusal.{Refusal, FloatVariable, OtherType, BadSize,
 
 -- ---- the types of variables: FLOAT and DOUBLE, other words, sizes other than 1 to 4 octets
 
+-- the breach of a type as it is written for a variable
 abbrev pub type_breaches : (variable : Name) → item.TypeWord → List Refusal
 type_breaches variable (item.Known type None) = []
 type_breaches variable (item.Known type (Some size)) = refused_if (size == 0 || nat_lt 4 size)
@@ -34,10 +35,12 @@ type_breaches variable (item.Other word) =
     if bytes_eq word (codes "FLOAT") || bytes_eq word (codes "DOUBLE") then FloatVariable variable
     ∷ [] else OtherType variable word ∷ []
 
+-- the type that a TYPE writes
 abbrev pub types_in : {R : Type 0} → Attribute R → List item.TypeWord
 types_in (item.TypeOf word parts) = word ∷ []
 types_in _ = []
 
+-- the breaches of this rule in a description
 abbrev pub wrong_types : {R : Type 0} → Description R → List Refusal
 wrong_types unit = flat_map (λ i. flat_map (type_breaches i.name) (flat_map types_in i.attributes))
     unit.items
@@ -49,13 +52,16 @@ pub record Placed (R : Type 0) : Type 0 where
   pub is_statement : Bool
   pub expression : Expr R
 
+-- an expression that is a part of something
 abbrev pub part_of : {R : Type 0} → Expr R → List (Placed R)
 part_of e = record { is_statement = false; expression = e } ∷ []
 
+-- the same where it may be missing
 abbrev pub optional_part : {R : Type 0} → Option (Expr R) → List (Placed R)
 optional_part None = []
 optional_part (Some e) = part_of e
 
+-- the expressions of a statement
 abbrev mutual
   pub stmt_expressions : {R : Type 0} → Stmt R → List (Placed R)
   stmt_expressions s.Empty = []
@@ -74,6 +80,7 @@ abbrev mutual
   stmt_expressions s.Continue = []
   stmt_expressions s.Return = []
 
+  -- of a body
   pub body_expressions : {R : Type 0} → Body R → List (Placed R)
   body_expressions Nil = []
   body_expressions (Cons (Declare declarators) rest) = flat_map (λ d. optional_part d.value)
@@ -90,11 +97,13 @@ abbrev mutual
       ++ (conds_expressions of first ++ conds_expressions of otherwise)
   cond_expressions of (Select on arms) = part_of on ++ arms_expressions of arms
 
+  -- of conditionals one after the other
   pub conds_expressions : {R V : Type 0} → (of : V → List (Placed R)) → Conds R V → List (Placed R)
   conds_expressions of cond.Nil = []
   conds_expressions of (cond.Cons first rest) = cond_expressions of first
       ++ conds_expressions of rest
 
+  -- of the arms of a SELECT
   pub arms_expressions : {R V : Type 0} → (of : V → List (Placed R)) → Arms R V → List (Placed R)
   arms_expressions of NoArms = []
   arms_expressions of (ConsArm (Case label body) rest) = conds_expressions of body
@@ -102,9 +111,11 @@ abbrev mutual
   arms_expressions of (ConsArm (Default body) rest) = conds_expressions of body
       ++ arms_expressions of rest
 
+-- a value in which there are no expressions
 abbrev pub no_expressions : {R V : Type 0} → V → List (Placed R)
 no_expressions v = []
 
+-- of an option of a type, or of an element of its list
 abbrev pub type_part_expressions : {R : Type 0} → TypePart R → List (Placed R)
 type_part_expressions (item.DefaultValue c) = cond_expressions part_of c
 type_part_expressions (item.MinValue c) = cond_expressions part_of c
@@ -113,10 +124,12 @@ type_part_expressions (item.DisplayFormat c) = cond_expressions no_expressions c
 type_part_expressions (item.EditFormat c) = cond_expressions no_expressions c
 type_part_expressions (item.Element c) = cond_expressions no_expressions c
 
+-- of a REQUEST or a REPLY
 abbrev pub transaction_part_expressions : {R : Type 0} → TransactionPart R → List (Placed R)
 transaction_part_expressions (item.Request all) = conds_expressions no_expressions all
 transaction_part_expressions (item.Reply all) = conds_expressions no_expressions all
 
+-- of an attribute
 abbrev pub attribute_expressions : {R : Type 0} → Attribute R → List (Placed R)
 attribute_expressions (item.OneText which c) = cond_expressions no_expressions c
 attribute_expressions (item.Class words) = []
@@ -132,6 +145,7 @@ attribute_expressions (item.Members members) = []
 attribute_expressions (item.Elements elements) = []
 attribute_expressions (item.Definition body) = body_expressions body
 
+-- the attributes of all items
 abbrev pub attributes_of : {R : Type 0} → Description R → List (Attribute R)
 attributes_of unit = flat_map (λ i. i.attributes) unit.items
 
@@ -155,6 +169,7 @@ parameters builtin.Abort = []
 parameters builtin.ProcessAbort = []
 parameters builtin.AddAbortMethod = parameter.Method ∷ []
 
+-- a plain reference to a VARIABLE
 abbrev pub is_device_variable : Argument Target → Bool
 is_device_variable (expr.Value (Reference (Item (item_no.Variable v)))) = true
 is_device_variable _ = false
@@ -164,27 +179,32 @@ abbrev pub is_method : Argument Target → Bool
 is_method (expr.Value (Reference (Item (item_no.Method m)))) = true
 is_method _ = false
 
+-- a text
 abbrev pub is_text : Argument Target → Bool
 is_text (expr.Text text) = true
 is_text (expr.Value e) = false
 
+-- a function may have the argument for this parameter
 abbrev pub fits : Parameter → Argument Target → Bool
 fits parameter.Text argument = is_text argument
 fits parameter.Number argument = not (is_text argument)
 fits parameter.DeviceVariable argument = is_device_variable argument
 fits parameter.Method argument = is_method argument
 
+-- there are as many arguments as parameters, and each fits
 abbrev pub all_fit : List Parameter → Arguments Target → Bool
 all_fit [] expr.Nil = true
 all_fit [] (expr.Cons first rest) = false
 all_fit (p ∷ parameters) expr.Nil = false
 all_fit (p ∷ parameters) (expr.Cons first rest) = fits p first && all_fit parameters rest
 
+-- a function that aborts
 abbrev pub is_abort : Builtin → Bool
 is_abort builtin.Abort = true
 is_abort builtin.ProcessAbort = true
 is_abort _ = false
 
+-- the breach of one call: its arguments, an abort inside an expression, or what is no function
 abbrev pub call_breaches : (is_statement : Bool) → (function : Target) → Arguments Target
     → List Refusal
 call_breaches is_statement (Function f) arguments =
@@ -192,6 +212,7 @@ call_breaches is_statement (Function f) arguments =
 call_breaches is_statement (Local slot) arguments = Mismatch ∷ []
 call_breaches is_statement (Item i) arguments = Mismatch ∷ []
 
+-- the breaches of all calls in an expression, which may be a whole statement
 abbrev mutual
   pub call_mismatches : (is_statement : Bool) → Expr Target → List Refusal
   call_mismatches is_statement (Literal value) = []
@@ -216,6 +237,7 @@ abbrev mutual
   call_mismatches is_statement (Call function arguments) =
       call_breaches is_statement function arguments ++ argument_mismatches arguments
 
+  -- the breaches of all calls in arguments
   pub argument_mismatches : Arguments Target → List Refusal
   argument_mismatches expr.Nil = []
   argument_mismatches (expr.Cons (expr.Text text) rest) = argument_mismatches rest
@@ -224,6 +246,7 @@ abbrev mutual
 
 -- ---- options and enumerators that the type of a variable can't have
 
+-- ENUMERATED or BIT_ENUMERATED
 abbrev pub is_enumerated : VarType → Bool
 is_enumerated var_type.Integer = false
 is_enumerated var_type.UnsignedInteger = false
@@ -237,10 +260,12 @@ abbrev mutual
   values_in (If condition first otherwise) = values_of first ++ values_of otherwise
   values_in (Select on arms) = values_under arms
 
+  -- of conditionals one after the other
   pub values_of : {R V : Type 0} → Conds R V → List V
   values_of cond.Nil = []
   values_of (cond.Cons first rest) = values_in first ++ values_of rest
 
+  -- of the arms of a SELECT
   pub values_under : {R V : Type 0} → Arms R V → List V
   values_under NoArms = []
   values_under (ConsArm (Case label body) rest) = values_of body ++ values_under rest
@@ -256,11 +281,13 @@ part_breaches type (item.EditFormat c) = refused_if (is_enumerated type) Mismatc
 part_breaches type (item.Element c) = if is_enumerated type then [] else map (λ e. Mismatch)
     (values_in c)
 
+-- the breaches in the braces of a TYPE
 abbrev pub type_option_breaches : {R : Type 0} → Attribute R → List Refusal
 type_option_breaches (item.TypeOf (item.Known type size) parts) =
     flat_map (part_breaches type) parts
 type_option_breaches _ = []
 
+-- the breaches of this rule and of the one before in a description, attribute by attribute
 abbrev pub mismatches : Description Target → List Refusal
 mismatches unit =
     flat_map (λ a. type_option_breaches a
@@ -269,6 +296,7 @@ mismatches unit =
 
 -- ---- a decimal in an expression
 
+-- a breach for each decimal in an expression
 abbrev mutual
   pub decimals : {R : Type 0} → Expr R → List Refusal
   decimals (Literal value) = []
@@ -287,17 +315,20 @@ abbrev mutual
   decimals (Increment op to) = []
   decimals (Call function arguments) = argument_decimals arguments
 
+  -- a breach for each decimal in arguments
   pub argument_decimals : {R : Type 0} → Arguments R → List Refusal
   argument_decimals expr.Nil = []
   argument_decimals (expr.Cons (expr.Text text) rest) = argument_decimals rest
   argument_decimals (expr.Cons (expr.Value e) rest) = decimals e ++ argument_decimals rest
 
+-- the breaches of this rule in a description
 abbrev pub float_values : {R : Type 0} → Description R → List Refusal
 float_values unit = flat_map (λ a. flat_map (λ p. decimals p.expression) (attribute_expressions a))
     (attributes_of unit)
 
 -- ---- `break` outside a loop or `switch`, `continue` outside a loop
 
+-- the breaches in a statement, which may be in a loop or in a `switch`
 abbrev mutual
   pub breaks_outside : (in_loop in_switch : Bool) → Stmt Target → List Refusal
   breaks_outside in_loop in_switch s.Empty = []
@@ -315,6 +346,7 @@ abbrev mutual
   breaks_outside in_loop in_switch s.Continue = refused_if (not in_loop) BreakOutside
   breaks_outside in_loop in_switch s.Return = []
 
+  -- the breaches in a body, which may be in a loop or in a `switch`
   pub breaks_outside_in : (in_loop in_switch : Bool) → Body Target → List Refusal
   breaks_outside_in in_loop in_switch Nil = []
   breaks_outside_in in_loop in_switch (Cons (Declare declarators) rest) =
@@ -326,36 +358,44 @@ abbrev mutual
   breaks_outside_in in_loop in_switch (Cons DefaultLabel rest) = breaks_outside_in in_loop in_switch
       rest
 
+-- the body that a DEFINITION is
 abbrev pub bodies_in : {R : Type 0} → Attribute R → List (Body R)
 bodies_in (item.Definition body) = body ∷ []
 bodies_in _ = []
 
+-- the bodies of all methods
 abbrev pub bodies_of : {R : Type 0} → Description R → List (Body R)
 bodies_of unit = flat_map bodies_in (attributes_of unit)
 
+-- the breaches of this rule in a description
 abbrev pub wrong_breaks : Description Target → List Refusal
 wrong_breaks unit = flat_map (breaks_outside_in false false) (bodies_of unit)
 
 -- ---- a data constant over 255, a mask of 0
 
+-- the breach of a data item
 abbrev pub data_breaches : {R : Type 0} → item.DataItem R → List Refusal
 data_breaches (item.Constant n) = refused_if (nat_lt 255 n) ConstRange
 data_breaches (item.Variable variable None qualifiers) = []
 data_breaches (item.Variable variable (Some mask) qualifiers) = refused_if (mask == 0) ConstRange
 
+-- of a REQUEST or a REPLY
 abbrev pub transaction_part_breaches : {R : Type 0} → TransactionPart R → List Refusal
 transaction_part_breaches (item.Request all) = flat_map data_breaches (values_of all)
 transaction_part_breaches (item.Reply all) = flat_map data_breaches (values_of all)
 
+-- the breaches in an attribute; only a transaction has data items
 abbrev pub attribute_data_breaches : {R : Type 0} → Attribute R → List Refusal
 attribute_data_breaches (item.Transaction number parts) = flat_map transaction_part_breaches parts
 attribute_data_breaches _ = []
 
+-- the breaches of this rule in a description
 abbrev pub wrong_constants : {R : Type 0} → Description R → List Refusal
 wrong_constants unit = flat_map attribute_data_breaches (attributes_of unit)
 
 -- ---- two equal labels, as 32 bits, or two `default` in one `switch`; two DEFAULT in one SELECT
 
+-- the label is among these
 abbrev pub is_label_in : List ℤ → ℤ → Bool
 is_label_in labels z = list_any (int_eq z) labels
 
@@ -364,6 +404,7 @@ pub record Labels : Type 0 where
   pub cases : List ℤ
   pub has_default : Bool
 
+-- none so far
 abbrev pub no_labels : Labels
 no_labels = record { cases = []; has_default = false }
 
@@ -381,6 +422,7 @@ abbrev mutual
       refused_if so_far.has_default DuplicateCase
       ++ repeated_labels (record so_far { has_default = true }) rest
 
+  -- the breaches in the bodies inside a statement, each with labels of its own
   pub repeated_labels_inside : Stmt Target → List Refusal
   repeated_labels_inside s.Empty = []
   repeated_labels_inside (s.Evaluate e) = []
@@ -403,16 +445,19 @@ abbrev mutual
   cond_defaults (If condition first otherwise) = conds_defaults first ++ conds_defaults otherwise
   cond_defaults (Select on arms) = arms_defaults false arms
 
+  -- of conditionals one after the other
   pub conds_defaults : {R V : Type 0} → Conds R V → List Refusal
   conds_defaults cond.Nil = []
   conds_defaults (cond.Cons first rest) = cond_defaults first ++ conds_defaults rest
 
+  -- of the arms of a SELECT
   pub arms_defaults : {R V : Type 0} → (had : Bool) → Arms R V → List Refusal
   arms_defaults had NoArms = []
   arms_defaults had (ConsArm (Case label body) rest) = conds_defaults body ++ arms_defaults had rest
   arms_defaults had (ConsArm (Default body) rest) = refused_if had DuplicateCase
       ++ (conds_defaults body ++ arms_defaults true rest)
 
+-- of an option of a type, or of an element of its list
 abbrev pub type_part_defaults : {R : Type 0} → TypePart R → List Refusal
 type_part_defaults (item.DefaultValue c) = cond_defaults c
 type_part_defaults (item.MinValue c) = cond_defaults c
@@ -421,10 +466,12 @@ type_part_defaults (item.DisplayFormat c) = cond_defaults c
 type_part_defaults (item.EditFormat c) = cond_defaults c
 type_part_defaults (item.Element c) = cond_defaults c
 
+-- of a REQUEST or a REPLY
 abbrev pub transaction_part_defaults : {R : Type 0} → TransactionPart R → List Refusal
 transaction_part_defaults (item.Request all) = conds_defaults all
 transaction_part_defaults (item.Reply all) = conds_defaults all
 
+-- the breaches in an attribute: in its conditionals, or in its body
 abbrev pub repeated_cases : Attribute Target → List Refusal
 repeated_cases (item.OneText which c) = cond_defaults c
 repeated_cases (item.Class words) = []
@@ -440,11 +487,13 @@ repeated_cases (item.Members members) = []
 repeated_cases (item.Elements elements) = []
 repeated_cases (item.Definition body) = repeated_labels no_labels body
 
+-- the breaches of these rules in a description
 abbrev pub duplicate_cases : Description Target → List Refusal
 duplicate_cases unit = flat_map repeated_cases (attributes_of unit)
 
 -- ---- two elements of an array with one number
 
+-- the number is among these
 abbrev pub is_number_in : List ℕ → ℕ → Bool
 is_number_in numbers n = list_any (λ m. n == m) numbers
 
@@ -456,15 +505,18 @@ repeated_numbers before (e ∷ rest) =
     refused_if (is_number_in before e.number) DuplicateElement
     ++ repeated_numbers (e.number ∷ before) rest
 
+-- the breaches in an attribute, if it lists the elements of an array
 abbrev pub repeated_elements : {R : Type 0} → Attribute R → List Refusal
 repeated_elements (item.Elements elements) = repeated_numbers [] elements
 repeated_elements _ = []
 
+-- the breaches of this rule in a description
 abbrev pub duplicate_elements : {R : Type 0} → Description R → List Refusal
 duplicate_elements unit = flat_map repeated_elements (attributes_of unit)
 
 -- ---- all rules of this part, in their order
 
+-- the breaches of all rules of the profile, rule after rule
 abbrev pub subset_breaches : Description Target → List Refusal
 subset_breaches unit =
     wrong_types unit ++ (mismatches unit

@@ -6,6 +6,7 @@ use Rattle.edd_syntax.specs.declared.symbols.Keyword.TheVariants as keyword
 use Rattle.edd_syntax.specs.declared.symbols.Symbol.{Symbol}
 use Rattle.edd_syntax.specs.Text.{Name}
 
+-- a token, without its place in the text
 pub data Token : Type 0 where
   Reserved : Keyword → Token
   -- a name that isn't reserved
@@ -94,6 +95,7 @@ all_keywords =
     ∷ keyword.Return ∷ keyword.Char ∷ keyword.Short ∷ keyword.Unsigned ∷ keyword.Signed
     ∷ keyword.Float ∷ keyword.Double ∷ keyword.Goto ∷ []
 
+-- the reserved words by their spelling
 abbrev pub keywords : List (Name × Keyword)
 keywords = map (λ k. (spelling k, k)) all_keywords
 

@@ -17,9 +17,11 @@ use Rattle.edd_syntax.specs.Reference as references
 use Rattle.edd_syntax.specs.Expression as pure
 use Rattle.edd_syntax.specs.Statement as statement
 
+-- a path of names
 abbrev pub path_of : Path → references.Path
 path_of p = record { base = string_bytes p.base; members = map string_bytes p.members.items }
 
+-- an expression
 abbrev mutual
   pub expr_of : {R S : Type 0} → (R → S) → Expr R → pure.Expr S
   expr_of f (Literal value) = pure.Literal value
@@ -45,13 +47,16 @@ abbrev mutual
   arguments_in f end_of-Argument = []
   arguments_in f (more_of-Argument first rest) = argument_of f first ∷ arguments_in f rest
 
+  -- an argument
   pub argument_of : {R S : Type 0} → (R → S) → Argument R → pure.Argument S
   argument_of f (argument.Text text) = pure.Text (text_of text)
   argument_of f (argument.Value e) = pure.Value (expr_of f e)
 
+-- a declarator
 abbrev pub declarator_of : {R S : Type 0} → (R → S) → Declarator R → statement.Declarator S
 declarator_of f d = record { place = f d.place; value = option_map (expr_of f) d.value }
 
+-- a statement
 abbrev mutual
   pub stmt_of : {R S : Type 0} → (R → S) → Stmt R → statement.Stmt S
   stmt_of f Empty = statement.Empty
@@ -76,6 +81,7 @@ abbrev mutual
   parts_in f end_of-Part = []
   parts_in f (more_of-Part first rest) = part_of f first ∷ parts_in f rest
 
+  -- a part of a body
   pub part_of : {R S : Type 0} → (R → S) → Part R → statement.Part S
   part_of f (Declare declarators) = statement.Declare (map (declarator_of f) declarators.items)
   part_of f (Statement s) = statement.Statement (stmt_of f s)
@@ -84,17 +90,22 @@ abbrev mutual
 
 -- ---- trees whose references are numbers already
 
+-- an expression
 abbrev pub numbered_expr : Expr Target → pure.Expr Target
 numbered_expr = expr_of (λ r. r)
 
+-- an argument
 abbrev pub numbered_argument : Argument Target → pure.Argument Target
 numbered_argument = argument_of (λ r. r)
 
+-- a declarator
 abbrev pub numbered_declarator : Declarator Target → statement.Declarator Target
 numbered_declarator = declarator_of (λ r. r)
 
+-- a statement
 abbrev pub numbered_stmt : Stmt Target → statement.Stmt Target
 numbered_stmt = stmt_of (λ r. r)
 
+-- a part of a body
 abbrev pub numbered_part : Part Target → statement.Part Target
 numbered_part = part_of (λ r. r)

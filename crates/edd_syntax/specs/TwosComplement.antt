@@ -37,6 +37,7 @@ store var_type.BitEnumerated size z = pos (residue (8 * size) z)
 abbrev pub truth : Bool → ℤ
 truth b = if b then pos 1 else pos 0
 
+-- the number is 0
 abbrev pub is_zero : ℤ → Bool
 is_zero z = int_eq z (pos 0)
 

@@ -37,17 +37,21 @@ abbrev pub is_text : texts.Text → Bool
 is_text (Quoted raw) = has_escapes raw
 is_text (Key name) = is_name name
 
+-- what passes the test, or is missing
 abbrev pub if_some : {A : Type 0} → (A → Bool) → Option A → Bool
 if_some test None = true
 if_some test (Some x) = test x
 
+-- there is one at least
 abbrev pub is_not_empty : {A : Type 0} → List A → Bool
 is_not_empty [] = false
 is_not_empty (x ∷ rest) = true
 
+-- each part of a path is a name
 abbrev pub is_path : Path → Bool
 is_path p = is_name p.base && list_all is_name p.members
 
+-- a name without members
 abbrev pub is_plain : Path → Bool
 is_plain p = is_name p.base && not (is_not_empty p.members)
 
@@ -79,6 +83,7 @@ may_list _ = true
 -- ---- trees
 
 module _ {R : Type 0} (good plain : R → Bool) where
+  -- an expression of a method
   abbrev mutual
     pub is_expr : Expr R → Bool
     is_expr (Literal value) = is_number value
@@ -97,6 +102,7 @@ module _ {R : Type 0} (good plain : R → Bool) where
     is_expr (Increment op to) = good to
     is_expr (Call function arguments) = plain function && are_arguments arguments
 
+    -- arguments, each a text or an expression of a method
     pub are_arguments : Arguments R → Bool
     are_arguments expr.Nil = true
     are_arguments (expr.Cons (Text text) rest) = is_text text && are_arguments rest
@@ -121,6 +127,7 @@ module _ {R : Type 0} (good plain : R → Bool) where
   is_pure_expr (Increment op to) = false
   is_pure_expr (Call function arguments) = false
 
+  -- a conditional, whose values pass `of`
   abbrev mutual
     pub is_cond : {V : Type 0} → (V → Bool) → Cond R V → Bool
     is_cond of (Value v) = of v
@@ -128,10 +135,12 @@ module _ {R : Type 0} (good plain : R → Bool) where
         && are_conds of otherwise
     is_cond of (Select on arms) = is_pure_expr on && are_arms of arms
 
+    -- conditionals, whose values pass `of`
     pub are_conds : {V : Type 0} → (V → Bool) → Conds R V → Bool
     are_conds of cond.Nil = true
     are_conds of (cond.Cons first rest) = is_cond of first && are_conds of rest
 
+    -- arms, whose values pass `of`
     pub are_arms : {V : Type 0} → (V → Bool) → Arms R V → Bool
     are_arms of NoArms = true
     are_arms of (ConsArm (Case label body) rest) = is_label label && are_conds of body
@@ -145,21 +154,25 @@ module _ {R : Type 0} (good plain : R → Bool) where
     is_single (If condition first otherwise) = is_one first && is_at_most_one otherwise
     is_single (Select on arms) = are_single_arms arms
 
+    -- exactly one, and this is single
     pub is_one : {V : Type 0} → Conds R V → Bool
     is_one cond.Nil = false
     is_one (cond.Cons first cond.Nil) = is_single first
     is_one (cond.Cons first (cond.Cons second rest)) = false
 
+    -- none, or one that is single
     pub is_at_most_one : {V : Type 0} → Conds R V → Bool
     is_at_most_one cond.Nil = true
     is_at_most_one (cond.Cons first cond.Nil) = is_single first
     is_at_most_one (cond.Cons first (cond.Cons second rest)) = false
 
+    -- each arm has exactly one
     pub are_single_arms : {V : Type 0} → Arms R V → Bool
     are_single_arms NoArms = true
     are_single_arms (ConsArm (Case label body) rest) = is_one body && are_single_arms rest
     are_single_arms (ConsArm (Default body) rest) = is_one body && are_single_arms rest
 
+  -- the plain name of a local, with its value if one is written
   abbrev pub is_declarator : Declarator R → Bool
   is_declarator d = plain d.place && if_some is_expr d.value
 
@@ -182,6 +195,7 @@ module _ {R : Type 0} (good plain : R → Bool) where
     is_stmt s.Continue = true
     is_stmt s.Return = true
 
+    -- what is between braces, where `labels` says whether labels may be
     pub is_body : (labels : Bool) → Body R → Bool
     is_body labels Nil = true
     is_body labels (Cons (Declare declarators) rest) = is_not_empty declarators
@@ -196,30 +210,38 @@ module _ {R : Type 0} (good plain : R → Bool) where
   abbrev one : {V : Type 0} → (V → Bool) → Cond R V → Bool
   one of c = is_cond of c && is_single c
 
+  -- each value passes
   abbrev any_value : {V : Type 0} → V → Bool
   any_value v = true
 
+  -- value, text and help of an enumerator
   abbrev pub is_enumerator : item.Enumerator → Bool
   is_enumerator e = is_label e.value && is_text e.text && if_some is_text e.help
 
+  -- an entry of a menu
   abbrev pub is_entry : item.MenuEntry R → Bool
   is_entry (item.Text text) = is_text text
   is_entry (item.Reference to qualifiers) = good to
 
+  -- a data item
   abbrev pub is_data_item : item.DataItem R → Bool
   is_data_item (item.Constant n) = is_number n
   is_data_item (item.Variable variable mask qualifiers) = good variable && if_some is_number mask
 
+  -- a response code
   abbrev pub is_response_code : item.ResponseCode → Bool
   is_response_code r = is_number r.number && is_text r.text
 
+  -- a member of a collection
   abbrev pub is_member : item.Member R → Bool
   is_member m = is_name m.name && plain m.item && if_some is_text m.label && if_some is_text m.help
 
+  -- an element of an array
   abbrev pub is_array_element : item.ArrayElement R → Bool
   is_array_element e = is_number e.number && plain e.variable && if_some is_text e.label
       && if_some is_text e.help
 
+  -- an option of a type with a single value, or an element of its list
   abbrev pub is_type_part : TypePart R → Bool
   is_type_part (item.DefaultValue c) = one is_pure_expr c
   is_type_part (item.MinValue c) = one is_pure_expr c
@@ -233,10 +255,12 @@ module _ {R : Type 0} (good plain : R → Bool) where
   is_type (item.Known type size) parts = if_some is_number size && list_all is_type_part parts
   is_type (item.Other word) parts = is_name word && not (is_not_empty parts)
 
+  -- a REQUEST or a REPLY
   abbrev pub is_transaction_part : TransactionPart R → Bool
   is_transaction_part (item.Request all) = are_conds is_data_item all
   is_transaction_part (item.Reply all) = are_conds is_data_item all
 
+  -- an attribute, of whatever kind of item
   abbrev pub is_attribute : Attribute R → Bool
   is_attribute (item.OneText which c) = one is_text c
   is_attribute (item.Class words) = is_not_empty words && list_all is_name words
@@ -257,6 +281,7 @@ module _ {R : Type 0} (good plain : R → Bool) where
   abbrev pub stands_in : Kind → Attribute R → Bool
   stands_in k a = belongs_to k a && is_attribute a && nat_le (attribute_height a) height_limit
 
+  -- an item with its name and its attributes
   abbrev pub is_item : Item R → Bool
   is_item i = is_name i.name && may_list i.sort
       && list_all (stands_in (kind_of_item i.sort)) i.attributes

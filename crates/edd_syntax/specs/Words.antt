@@ -18,9 +18,11 @@ pub data Words : Type 0 where
 
 -- ---- codes of languages
 
+-- a lower-case letter
 abbrev is_lower : ℕ → Bool
 is_lower = is_within 97 122
 
+-- a digit
 abbrev is_digit : ℕ → Bool
 is_digit = is_within 48 57
 
@@ -31,6 +33,7 @@ is_code (a ∷ b ∷ c ∷ []) = is_digit a && is_digit b && is_digit c
 is_code (a ∷ b ∷ s ∷ c ∷ d ∷ []) = is_lower a && is_lower b && s == 32 && is_lower c && is_lower d
 is_code _ = false
 
+-- its code is a code of a language
 abbrev pub is_variant : Variant → Bool
 is_variant v = is_code v.code
 
@@ -39,9 +42,11 @@ abbrev pub are_words : Words → Bool
 are_words (Variants first rest) = list_all is_variant (first ∷ rest)
 are_words (Key name) = is_name name
 
+-- `\`
 abbrev pub backslash : ℕ
 backslash = 92
 
+-- `|`
 abbrev pub bar : ℕ
 bar = 124
 
@@ -107,6 +112,7 @@ abbrev mutual
     | false ↦ has_escapes rest
   ]
 
+  -- the same after a backslash, where this character has to make an escape
   pub is_escaped : List ℕ → Bool
   is_escaped [] = false
   is_escaped (c ∷ rest) = is_escape c && has_escapes rest
@@ -116,6 +122,7 @@ abbrev mutual
 abbrev pub escaped : ℕ → ℕ
 escaped c = if c == 110 then 10 else (if c == 116 then 9 else c)
 
+-- the text in which each escape is replaced by what it stands for
 unfoldable mutual
   pub unescape : List ℕ → List ℕ
   unescape [] = []
@@ -124,6 +131,7 @@ unfoldable mutual
     | false ↦ c ∷ unescape rest
   ]
 
+  -- the same after a backslash
   pub after_backslash : List ℕ → List ℕ
   after_backslash [] = []
   after_backslash (c ∷ rest) = escaped c ∷ unescape rest
@@ -134,6 +142,7 @@ unescaped v = record v { text = unescape v.text }
 
 -- ---- strings
 
+-- the code of English
 abbrev pub english : List ℕ
 english = codes "en"
 

@@ -8,13 +8,16 @@ use Rattle.edd_syntax.specs.declared.words.Words.TheVariants as words
 use Rattle.edd_syntax.specs.Text as texts
 use Rattle.edd_syntax.specs.Words as strings
 
+-- a text of the source
 abbrev pub text_of : Text → texts.Text
 text_of (written.Quoted raw) = texts.Quoted (string_bytes raw)
 text_of (written.Key name) = texts.Key (string_bytes name)
 
+-- a variant of a string
 abbrev pub variant_of : Variant → strings.Variant
 variant_of v = record { code = string_bytes v.code; text = string_bytes v.text }
 
+-- a string
 abbrev pub string_of : Words → strings.Words
 string_of (words.Variants first rest) = strings.Variants (variant_of first)
     (map variant_of rest.items)

@@ -15,12 +15,15 @@ use Rattle.edd_token_reader.specs.declared.qualifiers.Qualified.TheVariants.{Men
 abbrev pub texts_of : List (Bor (List ℕ)) → List Name
 texts_of all = map (λ n. n.now) all
 
+-- the names of the qualifiers that an entry of a menu, or a data item, may have
 abbrev pub allowed_names : Qualified → List Name
 allowed_names Menu = menu_qualifier_names
 allowed_names Data = data_qualifier_names
 
+-- the qualifiers of an entry of a menu, in parentheses, or none
 unfoldable pub menu_at : List Token → Read MenuQualifiers
 menu_at here = qualifiers_at menu_qualifier_names here >>= λ n. Some (menu_qualifiers n.0, n.1)
 
+-- the qualifiers of a data item, in parentheses, or none
 unfoldable pub data_at : List Token → Read DataQualifiers
 data_at here = qualifiers_at data_qualifier_names here >>= λ n. Some (data_qualifiers n.0, n.1)

@@ -6,6 +6,7 @@ use Rattle.edd_syntax.specs.Text.{Name}
 use Rattle.edd_syntax.specs.Token.{Token, Identifier, String, Sign}
 use Rattle.edd_grammar.specs.Reading.{Read}
 
+-- a string
 abbrev pub string_at : List Token → Read (List ℕ)
 string_at (String s ∷ rest) = Some (s, rest)
 string_at _ = None

@@ -10,6 +10,7 @@ use Rattle.edd_lexer.specs.Views.{token_of}
 abbrev pub token_in : List ℕ → code.Token → Token
 token_in text t = token_of t.kind (slice_range text t.start t.end)
 
+-- all tokens of this text, as the grammar sees them
 abbrev pub tokens_in : List ℕ → List code.Token → List Token
 tokens_in text tokens = map (token_in text) tokens
 

@@ -13,16 +13,19 @@ use Rattle.edd_token_reader.specs.declared.operators.Assignment.TheVariants as a
 use Rattle.edd_token_reader.specs.declared.fault.ParseFault.{ParseFault}
 use Rattle.edd_token_reader.specs.declared.fault.ParseFault.TheVariants as fault
 
+-- a site, as the grammar's
 abbrev pub site_view : Site → grammar.Site
 site_view site.Attribute = grammar.InAttribute
 site_view site.Method = grammar.InMethod
 
+-- an operator between two operands, as the grammar's
 abbrev pub infix_view : Infix → signs.Infix
 infix_view (between.Plain op) = signs.Plain op
 infix_view (between.Comparing by) = signs.Comparing by
 infix_view between.Both = signs.Both
 infix_view between.Either = signs.Either
 
+-- an assignment, as the grammar's
 abbrev pub assignment_view : Assignment → signs.Assignment
 assignment_view assignment.Simple = signs.Simple
 assignment_view (assignment.Compound op) = signs.Compound op

@@ -34,14 +34,17 @@ in_placed breach.Default p = []
 abbrev pub in_part : Breach → Expr Target → List Refusal
 in_part b e = in_placed b (record { is_statement = false; expression = e })
 
+-- in several expressions, one after the other
 unfoldable pub in_expressions : Breach → List (Placed Target) → List Refusal
 in_expressions b parts = flat_map (in_placed b) parts
 
 -- ---- values under conditions
 
+-- in a value that can have no breach
 abbrev pub in_nothing : {V : Type 0} → Breach → V → List Refusal
 in_nothing b v = []
 
+-- an enumerator is itself the breach, where enumerators are looked for
 abbrev pub in_enumerator : {V : Type 0} → Breach → V → List Refusal
 in_enumerator breach.Enumerator e = Mismatch ∷ []
 in_enumerator breach.Call e = []
@@ -49,6 +52,7 @@ in_enumerator breach.Decimal e = []
 in_enumerator breach.Constant e = []
 in_enumerator breach.Default e = []
 
+-- a constant or a mask that is out of its range, where constants are looked for
 abbrev pub in_data_item : {R : Type 0} → Breach → item.DataItem R → List Refusal
 in_data_item breach.Enumerator d = []
 in_data_item breach.Call d = []
@@ -79,10 +83,12 @@ abbrev mutual
       ++ (in_conds b of first ++ in_conds b of otherwise)
   in_cond b of (Select on arms) = in_part b on ++ in_arms b of false arms
 
+  -- in conditionals one after the other
   pub in_conds : {V : Type 0} → Breach → (of : V → List Refusal) → Conds Target V → List Refusal
   in_conds b of cond.Nil = []
   in_conds b of (cond.Cons first rest) = in_cond b of first ++ in_conds b of rest
 
+  -- in the arms of a SELECT that had a DEFAULT before them or not
   pub in_arms : {V : Type 0} → Breach → (of : V → List Refusal) → (had : Bool) → Arms Target V
       → List Refusal
   in_arms b of had NoArms = []
@@ -98,12 +104,15 @@ in_arm b of had (Default body) = in_default b had ++ in_conds b of body
 
 -- ---- statements
 
+-- in the expressions of a statement
 unfoldable pub in_statement : Breach → Stmt Target → List Refusal
 in_statement b s = in_expressions b (stmt_expressions s)
 
+-- in the expressions of a body
 unfoldable pub in_body : Breach → Body Target → List Refusal
 in_body b body = in_expressions b (body_expressions body)
 
+-- in an expression that may be missing
 unfoldable pub in_optional : Breach → Option (Expr Target) → List Refusal
 in_optional b e = in_expressions b (optional_part e)
 
@@ -118,6 +127,7 @@ in_declarators b declarators = in_expressions b (flat_map (λ d. optional_part d
 
 -- ---- attributes
 
+-- in an option of a type, or in an element of its list
 abbrev pub in_type_part : Breach → item.TypePart Target → List Refusal
 in_type_part b (item.DefaultValue c) = in_cond b (in_part b) c
 in_type_part b (item.MinValue c) = in_cond b (in_part b) c
@@ -126,10 +136,12 @@ in_type_part b (item.DisplayFormat c) = in_cond b (in_nothing b) c
 in_type_part b (item.EditFormat c) = in_cond b (in_nothing b) c
 in_type_part b (item.Element c) = in_cond b (in_enumerator b) c
 
+-- in a REQUEST or a REPLY
 abbrev pub in_transaction_part : Breach → item.TransactionPart Target → List Refusal
 in_transaction_part b (item.Request all) = in_conds b (in_data_item b) all
 in_transaction_part b (item.Reply all) = in_conds b (in_data_item b) all
 
+-- in an attribute of an item
 abbrev pub in_attribute : Breach → item.Attribute Target → List Refusal
 in_attribute b (item.OneText which c) = in_cond b (in_nothing b) c
 in_attribute b (item.Class words) = []

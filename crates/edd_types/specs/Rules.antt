@@ -11,6 +11,7 @@ use Rattle.edd_types.specs.declared.rules.Rule.{Rule}
 use Rattle.edd_types.specs.declared.rules.Rule.TheVariants as rule
 use Rattle.edd_types.specs.WrongTypes.{in_items}
 
+-- the refusal for a breach of the rule
 abbrev pub why : Rule → Refusal
 why rule.Mismatch = refusal.Mismatch
 why rule.FloatValue = refusal.FloatValue

@@ -50,11 +50,13 @@ with_array m = of_items (number 0x78 []
 abbrev pub reads : (m : List (Part Target)) → List Answer → Transcript
 reads m answers = run 1 (with_array m) (record { 0 = 0 }) (pos 90 ∷ pos 50 ∷ pos 0 ∷ []) answers
 
+-- an attribute of an item that has no position
 abbrev pub of_item : ItemNo → Attr → AttrRef
 of_item i a = record { item = i; attr = a; sub = 0 }
 
 -- ---- the source of the array
 
+-- a name without members
 abbrev pub named : Name → Path
 named n = record { base = n; members = [] }
 
@@ -68,6 +70,7 @@ array_tokens =
     ∷ Sign sign.Comma ∷ String (codes "h") ∷ Sign sign.Semicolon
     ∷ Sign sign.CloseBrace ∷ Sign sign.CloseBrace ∷ []
 
+-- the item that those tokens spell
 abbrev pub array_item : item.Item Path
 array_item = record {
   sort = ArrayItem;

@@ -24,24 +24,31 @@ use Rattle.edd_syntax.specs.Execution.{Ending, Transcript, opening, run_body}
 abbrev pub variable : ℕ → Target
 variable n = Item (item_no.Variable (record { 0 = n }))
 
+-- the first variable
 abbrev pub x : Target
 x = variable 0
 
+-- the second variable
 abbrev pub y : Target
 y = variable 1
 
+-- the first local
 abbrev pub i : Target
 i = Local 0
 
+-- the second local
 abbrev pub k : Target
 k = Local 1
 
+-- a reference as an expression
 abbrev pub value_of : Target → Expr Target
 value_of t = Reference t
 
+-- `-n`
 abbrev pub minus : ℕ → Expr Target
 minus n = Unary Minus (Literal n)
 
+-- a call of this function
 abbrev pub calls : Builtin → List (Argument Target) → Expr Target
 calls b arguments = Call (Function b) (arguments_from arguments)
 
@@ -49,9 +56,11 @@ calls b arguments = Call (Function b) (arguments_from arguments)
 abbrev pub acknowledge : List ℕ → Expr Target
 acknowledge text = calls builtin.Acknowledge (Text (Quoted text) ∷ [])
 
+-- a statement in a body
 abbrev pub does : Stmt Target → Part Target
 does s = Statement s
 
+-- an expression as a statement in a body
 abbrev pub evaluates : Expr Target → Part Target
 evaluates e = Statement (Evaluate e)
 
@@ -63,25 +72,31 @@ send e = evaluates (calls builtin.SendCommand (Value e ∷ []))
 abbrev pub declares : (slot : ℕ) → Part Target
 declares slot = Declare (record { place = Local slot; value = None } ∷ [])
 
+-- `int i = e;` of a local
 abbrev pub declares_as : (slot : ℕ) → Expr Target → Part Target
 declares_as slot e = Declare (record { place = Local slot; value = Some e } ∷ [])
 
 -- ---- devices
 
+-- INTEGER of this size
 abbrev pub integer : (size : ℕ) → VariableType
 integer size = record { type = var_type.Integer; size = size }
 
+-- UNSIGNED_INTEGER of this size
 abbrev pub unsigned : (size : ℕ) → VariableType
 unsigned size = record { type = var_type.UnsignedInteger; size = size }
 
+-- variables of these types, and no arrays
 abbrev pub of_types : List VariableType → Environment
 of_types types = record { variables = types; elements = [] }
 
 -- ---- answers and runs
 
+-- the variable of this number got the value
 abbrev pub changed : (variable : ℕ) → ℤ → Change
 changed variable value = record { variable = record { 0 = variable }; value = value }
 
+-- the answer with the code 0, which sets nothing
 abbrev pub ok : Answer
 ok = Go (pos 0) []
 
@@ -89,6 +104,7 @@ ok = Go (pos 0) []
 abbrev pub sent : ℤ → Request
 sent n = asks.SendCommand n
 
+-- the request of `acknowledge`, with its text in English
 abbrev pub acknowledges : List ℕ → Request
 acknowledges text = asks.Acknowledge (Variants (record { code = english; text = text }) [])
 

@@ -6,26 +6,33 @@ use Rattle.edd_syntax.specs.Words.{Words, Variants, english}
 
 -- ---- languages
 
+-- the code of German
 abbrev pub german : List ℕ
 german = codes "de"
 
+-- the code of French
 abbrev pub french : List ℕ
 french = codes "fr"
 
 -- ---- letters, and the string of a text in English alone
 
+-- `a`
 abbrev pub a : List ℕ
 a = codes "a"
 
+-- `b`
 abbrev pub b : List ℕ
 b = codes "b"
 
+-- `l`
 abbrev pub l : List ℕ
 l = codes "l"
 
+-- `h`
 abbrev pub h : List ℕ
 h = codes "h"
 
+-- the string of this text in English alone
 abbrev pub says : List ℕ → Words
 says text = Variants (record { code = english; text = text }) []
 
@@ -51,6 +58,7 @@ twice_german = Quoted (codes "|de|b|de|c")
 abbrev pub key : Text
 key = texts.Key (codes "k")
 
+-- the name in that key
 abbrev pub name_of_key : List ℕ
 name_of_key = codes "k"
 

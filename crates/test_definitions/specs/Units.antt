@@ -14,6 +14,7 @@ use Rattle.edd_syntax.specs.Answers.{Answer}
 use Rattle.edd_syntax.specs.Execution.{Transcript, run}
 use Rattle.test_definitions.specs.Methods.{calls}
 
+-- a description of these items
 abbrev pub of_items : List (item.Item Target) → Description Target
 of_items items = record {
   identification = record {
@@ -33,6 +34,7 @@ number name attributes = record {
   attributes = TypeOf (Known Integer (Some 4)) [] ∷ attributes;
 }
 
+-- a method of this name with these parts in its body
 abbrev pub method : (name : ℕ) → List (Part Target) → item.Item Target
 method name parts = record {
   sort = MethodItem;
@@ -46,6 +48,7 @@ method name parts = record {
 abbrev pub with_methods : (u v m : List (Part Target)) → Description Target
 with_methods u v m = of_items (number 0x78 [] ∷ method 0x75 u ∷ method 0x76 v ∷ method 0x6d m ∷ [])
 
+-- the method of this number
 abbrev pub no : ℕ → MethNo
 no n = record { 0 = n }
 
