@@ -13,18 +13,20 @@
  *  - A pointer is to as many elements as its length says. With a length of 0 it may be any pointer but
  *    a null one. The other pointers are to a struct of the type that is named.
  *  - The bytes stay as they are from edd_load on, as long as you use the edd_image that it wrote; each
- *    call is given both. The calls look whether the numbers of the edd_image are those of the bytes and
- *    answer EDD_OTHER_IMAGE where they are not. They do not look at all of the bytes again.
+ *    call is given both. The calls look whether the numbers of the edd_image are those of the bytes' header and
+ *    whether the length is that of the image, and answer EDD_OTHER_IMAGE where they are not. They do not look at
+ *    all of the bytes again.
  *  - What a call writes to does not lie in what else it is given.
- *  - rattle_alloc, rattle_realloc and rattle_dealloc are there (examples/c/pool.c has them over an
- *    array). Calls that take memory give all of it back before they return. edd_load, edd_attribute
+ *  - rattle_alloc, rattle_realloc and rattle_dealloc are there (examples/c/pool.h says what they do, and pool.c
+ *    has them over an array). Calls that take memory give all of it back before they return. edd_load, edd_attribute
  *    and edd_play take memory, and no other call does.
  *
  * Threads: nothing is shared. Calls may be made by any number of threads at once, on one image as well,
  * if your three functions may. What a call writes to, as a session and its values, no other call is given
  * meanwhile.
  *
- * Values of variables are int64_t; each is in the range of its variable's type and size.
+ * Values of variables are int64_t; each is in the range of its variable's type and size. Its MIN_VALUE and MAX_VALUE
+ * are not looked at: which values a user may enter is the program's to say, by those attributes.
  * Texts are UTF-8 and have no 0 at their end.
  */
 #ifndef EDD_H
@@ -247,16 +249,20 @@ uint32_t edd_attribute(const uint8_t *bytes, size_t length, const edd_image *ima
 
 /* ---- methods ---- */
 
-/* Which request it is, and so which fields it has. */
+/*
+ * Which request it is, and so which fields it has; the numbers of texts in it are EDD_NO_STRING where it has none. What
+ * its answer says, of which the settings are the same for each: the variables that have other values now.
+ */
 enum {
-    EDD_ASK_PUT_MESSAGE = 1,        /* text */
-    EDD_ASK_ACKNOWLEDGE = 2,        /* text */
-    EDD_ASK_DELAY = 3,              /* first (seconds), text */
-    EDD_ASK_GET_DEV_VAR_VALUE = 4,  /* text, variable */
-    EDD_ASK_SELECT_FROM_LIST = 5,   /* text, choices */
-    EDD_ASK_SEND_COMMAND = 6,       /* first (the command's number) */
-    EDD_ASK_SEND_COMMAND_TRANS = 7, /* first, second (the transaction's number) */
-    EDD_ASK_SAVE_VALUES = 8
+    EDD_ASK_PUT_MESSAGE = 1,        /* text; the code is 0 */
+    EDD_ASK_ACKNOWLEDGE = 2,        /* text; the code is 0 */
+    EDD_ASK_DELAY = 3,              /* first (seconds), text; the code is 0 */
+    EDD_ASK_GET_DEV_VAR_VALUE = 4,  /* text, variable; a setting of that variable, and the code is 0 */
+    EDD_ASK_SELECT_FROM_LIST = 5,   /* text, choices (parted by ;); the code is the choice's number, from 0 */
+    EDD_ASK_SEND_COMMAND = 6,       /* first (the command's number); settings of what the reply holds, and the code
+                                       is the device's response code */
+    EDD_ASK_SEND_COMMAND_TRANS = 7, /* first, second (the transaction's number); the same */
+    EDD_ASK_SAVE_VALUES = 8         /* the code is 0 */
 };
 
 typedef struct edd_request {
@@ -276,7 +282,8 @@ typedef struct edd_setting {
 
 /*
  * An answer to a request: the code, which is the request's value, after `settings` variables were set in their
- * order; or an abort, after which the method's abort methods run.
+ * order; or an abort, after which the method's abort methods run. The library takes any code; what the codes of
+ * requests mean, as they stand above, is between descriptions and programs, as `edd open` has it too.
  */
 typedef struct edd_answer {
     int32_t code;
@@ -334,9 +341,10 @@ typedef struct edd_turn {
  * A method that was started: with an array of values, which are the program's as well, it is all that is kept of it.
  * The calls below write it. Read what you like of it; copy it, store it with the values, and go on with the copy,
  * in another run of the program too, over the same image, the same byte order and the same version of this header.
+ * Whether the image is the same is not looked at: store what identifies it, and a checksum of all, with the copy.
  *
  * Two sessions over one array of values are two methods on one device: each sees what the other has stored. Between
- * two calls the program may change a value within the range of its variable, as where the device reports it.
+ * two calls the program may change a value within the range of its type, as where the device reports it.
  */
 typedef struct edd_session {
     uint64_t taken;            /* how many instructions were executed so far; it stays at its greatest value */
@@ -355,9 +363,9 @@ typedef struct edd_session {
 /*
  * Whatever the numbers of an edd_session are, by a wild write or as they lay in memory, every call is safe.
  * edd_advance and edd_reply look at all of them first, and unless they are those of a state that the method may have
- * under the values, they answer EDD_NO_SESSION and write nothing. (A wild write that leaves such a state behind is
- * not noticed.) No call answers EDD_NO_SESSION of a session that only these calls have written, over its image and
- * with values in their ranges.
+ * under the values, they answer EDD_NO_SESSION and write nothing. A wild write that leaves such a state behind is
+ * not noticed: another pending request, say, or all bytes 0, which is a session that ended. No call answers
+ * EDD_NO_SESSION of a session that only these calls have written, over its image and with values in their ranges.
  *
  * `values` are `count` numbers, one for each variable: what the device holds, as far as the program knows. The calls
  * read and write them in place. The array may lie elsewhere at the next call.
@@ -372,8 +380,8 @@ uint32_t edd_start(const uint8_t *bytes, size_t length, const edd_image *image, 
 
 /*
  * Executes at most `budget` instructions. It stops before where the method makes a request, and where it is over;
- * a session that is EDD_WAITING or over executes none, so this may be called at any time. In which budgets a run is
- * cut makes no difference to it.
+ * a session that is EDD_WAITING or over executes none, so this may be called at any time, and with a budget of 0 to
+ * have a session looked at that was stored. In which budgets a run is cut makes no difference to it.
  *
  * EDD_OK: `session` and `values` are as the method left them, and `turn` says where it is: EDD_SPENT only after all
  * `budget` instructions. EDD_NO_SESSION.
@@ -385,7 +393,8 @@ uint32_t edd_advance(const uint8_t *bytes, size_t length, const edd_image *image
  * Answers the pending request, and executes nothing. The first settings, as many as the answer says and there are,
  * are made in their order, and its code is the request's value. An abort sets nothing: the method goes on with its
  * abort methods, which may run long and ask, or is EDD_ABORTED where it has none. edd_play with these answers makes
- * the same requests and leaves the same values.
+ * the same requests and leaves the same values. A method that asks nothing can't be aborted: a program that gives it
+ * up leaves the session, and none of its abort methods run.
  *
  * EDD_OK. In this order else: EDD_NO_SESSION; EDD_NOT_ASKING; for the first setting that can't be made
  * EDD_BAD_VARIABLE or EDD_OUT_OF_RANGE, and none is made.
@@ -396,7 +405,7 @@ uint32_t edd_reply(const uint8_t *bytes, size_t length, const edd_image *image, 
 
 /*
  * Says where a session is, by `session->turn` alone: as the last call left it. EDD_OK, and `turn` is written.
- * EDD_NO_SESSION where its numbers show no turn.
+ * EDD_NO_SESSION where its numbers show no turn. The rest is not looked at: after a loss of power call edd_advance.
  */
 uint32_t edd_where(const edd_session *session, edd_turn *turn);
 

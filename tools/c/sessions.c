@@ -167,6 +167,7 @@ static void try_replies(const file *it, const file *other)
     memcpy(were, values, sizeof values);
     CHECK(edd_reply(OF(it), &session, values, 5, &answer, settings, 1) == EDD_NOT_ASKING);
     CHECK(edd_advance(it->bytes, it->length, &other->image, &session, values, 5, 10, &turn) == EDD_OTHER_IMAGE);
+    CHECK(edd_advance(it->bytes, it->length - 1, &it->image, &session, values, 5, 10, &turn) == EDD_OTHER_IMAGE);
     CHECK(edd_reply(it->bytes, 3, &it->image, &session, values, 5, &answer, settings, 1) == EDD_OTHER_IMAGE);
     CHECK(edd_advance(OF(it), &session, values, 4, 10, &turn) == EDD_NO_SESSION && turn.turn == 9);
     CHECK(!memcmp(&session, &was, sizeof session) && !memcmp(values, were, sizeof values));

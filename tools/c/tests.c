@@ -262,6 +262,11 @@ static void try_another(file *it, file *other)
                        (edd_setting *)values, 0, 10, &request, 1, after, 5, &ending) == EDD_OTHER_IMAGE && ending.ending == 9);
     }
     CHECK(edd_find(it->bytes, 3, &it->image, TEXT("main"), &item) == EDD_OTHER_IMAGE);
+    /* A length that is not that of the image, as where a word of flash was lost. */
+    CHECK(edd_find(it->bytes, it->length - 1, &it->image, TEXT("main"), &item) == EDD_OTHER_IMAGE);
+    CHECK(edd_text(it->bytes, 100, &it->image, 0, TEXT("de"), &words) == EDD_OTHER_IMAGE && words.length == 0);
+    CHECK(edd_attribute(it->bytes, 56, &it->image, 1, 0, EDD_LABEL, 0, values, 5, &record, 1, &given)
+          == EDD_OTHER_IMAGE && given == 42);
 }
 
 /* ---- memory ---- */

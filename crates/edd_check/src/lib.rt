@@ -38,11 +38,13 @@ pub fn diagnose(alloc: Global, text: &[u8], choices: &Choices) -> Result<Reports
 
 fn print_all<W: Write>(
     alloc: Global,
-    source: Source<'_>,
+    name: &str,
+    lines: &Lines<'_>,
     reports: &Reports,
     format: Format,
     out: &mut W,
 ) -> Result<(), ReportFault> {
+    let source = Source { name, lines };
     for found in &reports.shown {
         print_diagnostic(alloc, source, found, format, out)?;
     }
@@ -64,10 +66,6 @@ pub fn check<W: Write>(
 ) -> Result<bool, ReportFault> {
     let reports = diagnose(alloc, text, choices)?;
     let lines = Lines::of(alloc, text)?;
-    let source = Source {
-        name,
-        lines: &lines,
-    };
-    print_all(alloc, source, &reports, format, out)?;
+    print_all(alloc, name, &lines, &reports, format, out)?;
     Ok(reports.is_refused)
 }

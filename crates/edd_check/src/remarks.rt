@@ -1,5 +1,5 @@
 //! Comments in a source that allow lints: `edd: allow NAME, NAME`, on the line that a warning points
-//! at or on the line before it.
+//! at or on the line before it. `all` stands for every lint.
 
 use edd_lexer::token::Token;
 use edd_warnings::{Lint, Warning};
@@ -12,7 +12,8 @@ const ALLOW: &str = "edd: allow ";
 struct Remark {
     /// The line of the comment, counted from 1.
     line: u32,
-    lint: Lint,
+    /// None where it allows every one.
+    lint: Option<Lint>,
 }
 
 /// The lints that the comments of a source allow.
@@ -65,9 +66,10 @@ impl Remarks {
         for name in names.split(',') {
             let name = name.trim();
             let word = name.split_once(' ').map(|parts| parts.0).unwrap_or(name);
-            let Some(lint) = Lint::from_name(word) else {
+            let lint = Lint::from_name(word);
+            if lint.is_none() && word != "all" {
                 break;
-            };
+            }
             self.remarks.push(Remark { line, lint })?;
         }
         Ok(())
@@ -96,7 +98,8 @@ impl Remarks {
         let behind = self.first_from(warning.line.saturating_add(1));
         for number in first..behind {
             match self.remarks.get(number) {
-                Some(remark) if remark.lint == warning.lint => return true,
+                Some(remark) if remark.lint.is_none() || remark.lint == Some(warning.lint) =>
+                    return true,
                 _ => {}
             }
         }

@@ -26,7 +26,8 @@ numbers_in b = record {
   strings = (counts_in b).strings;
 }
 
--- the bytes have a header, and these are its numbers
+-- the bytes have a header, are as many as it says, and these are its numbers
 pub record AreOf (n : ImageNumbers) (b : List ℕ) : Type 0 where
   pub header : header_length ≤ length b
+  pub whole : total_length b ≡ length b
   pub same : n ≡ numbers_in b

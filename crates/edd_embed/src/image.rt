@@ -68,11 +68,13 @@ fn numbers_in(bytes: &[u8]) -> ImageNumbers
 }
 
 impl ImageNumbers {
-    /// Whether the bytes have a header, and these are its numbers.
+    /// Whether the bytes have a header, are as many as it says, and these are its numbers.
     pub fn are_of(&self, bytes: &[u8]) -> bool
         ensures { IsTrue result ↔ AreOf self.now bytes.now }
     {
-        bytes.len() >= HEADER_LENGTH && *self == numbers_in(bytes)
+        bytes.len() >= HEADER_LENGTH
+            && total_length(bytes) as usize == bytes.len()
+            && *self == numbers_in(bytes)
     }
 
     /// The image that `load_numbers` has accepted, if these are its numbers. It takes no memory.

@@ -215,11 +215,13 @@ fn help_of_number(word: &str, before: u8) -> &'static str {
 }
 
 // What helps at a character of ASCII that no token has.
-fn help_of_sign(word: &str, before: u8) -> &'static str {
+fn help_of_sign(word: &str, before: u8, after: u8) -> &'static str {
     if word.starts_with('\'') && before.is_ascii_digit() {
         "the digits of a number stand side by side, without a sign"
     } else if word.starts_with('\'') || word.starts_with('`') {
         "a text stands between two \", and a character is written as its number"
+    } else if word.starts_with('#') && after.is_ascii_digit() {
+        "a number has no sign such as # before it"
     } else if word.starts_with('#') {
         "a comment is written // .. or /* .. */"
     } else {
@@ -227,14 +229,14 @@ fn help_of_sign(word: &str, before: u8) -> &'static str {
     }
 }
 
-fn help_of(fault: &LexFault, word: &str, before: u8) -> &'static str {
+fn help_of(fault: &LexFault, word: &str, before: u8, after: u8) -> &'static str {
     match fault {
         LexFault::BadCharacter { .. } if LONGEST_NAME < word.len() => {
             "a name has at most 255 letters, digits and _"
         }
         LexFault::TooLong => "a text has at most 1048576 bytes",
         LexFault::NotUtf8 { .. } => "save the source as UTF-8",
-        LexFault::BadCharacter { .. } => help_of_sign(word, before),
+        LexFault::BadCharacter { .. } => help_of_sign(word, before, after),
         LexFault::OpenComment { .. } => "the comment that begins here is never closed by */",
         LexFault::OpenString { .. } =>
             "the string that begins here is never closed; a quote may be missing before it",
@@ -381,9 +383,13 @@ pub fn found_in(
         Some(place) => byte_at(text, place.start.saturating_sub(1)),
         None => 0,
     };
+    let after = match diagnostic.place {
+        Some(place) => byte_at(text, place.start.saturating_add(1)),
+        None => 0,
+    };
     let help = match named_character(alloc, fault, word)? {
         Some(help) => help,
-        None => String::from_str(alloc, help_of(fault, word, before))?,
+        None => String::from_str(alloc, help_of(fault, word, before, after))?,
     };
     diagnostic.help(help)?;
     if may_miss_quote(fault) {

@@ -130,7 +130,8 @@ fn is_bare_comparison(e: &Expr<Target>) -> bool {
     matches!(e, Expr::Compare(_, _, _))
 }
 
-// Bits of a comparison, as in `a & 2 == 2`, which is `a & (2 == 2)`.
+// Bits of a comparison, as in `a & 2 == 2`, which is `a & (2 == 2)`. Two comparisons, as in
+// `a == 1 | a == 2`, bind as they look.
 fn check_bits(
     operator: Operator,
     first: &Expr<Target>,
@@ -143,7 +144,7 @@ fn check_bits(
     }
     let sign = Symbol::Operator(operator);
     let at = walk.tokens_left.to(TokenKind::Symbol(sign));
-    if !is_bare_comparison(first) && !is_bare_comparison(second) {
+    if is_bare_comparison(first) == is_bare_comparison(second) {
         return Ok(());
     }
     let message = String::from_str(
@@ -245,7 +246,8 @@ fn check_index(
     }
 }
 
-// A constant that a variable can't hold, so that another number is kept.
+// A constant that a variable can't hold, so that another number is kept. `~` says that as many bits
+// are meant as the variable has.
 fn check_stored(
     to: Target,
     value: &Expr<Target>,
@@ -256,6 +258,9 @@ fn check_stored(
     let Target::Item(ItemNo::Variable(variable)) = to else {
         return Ok(());
     };
+    if let Expr::Unary(UnaryOperator::Complement, _) = value {
+        return Ok(());
+    }
     match (
         walk.instrument.range(variable.0),
         evaluate(value, walk.width),
@@ -272,6 +277,14 @@ fn check_stored(
     }
 }
 
+// An expression without the parentheses around it.
+fn without_parentheses(e: &Expr<Target>) -> &Expr<Target> {
+    match e {
+        Expr::Parentheses(inner) => inner,
+        _ => e,
+    }
+}
+
 // An assignment of a variable or a local to itself.
 fn check_assigned(
     to: Target,
@@ -279,7 +292,7 @@ fn check_assigned(
     at: Mark<'_>,
     findings: &mut Findings,
 ) -> Result<(), AllocError> {
-    match value {
+    match without_parentheses(value) {
         Expr::Reference(from) if *from == to => {
             let message = String::from_str(findings.alloc, "this assigns a value to itself")?;
             findings.add(Lint::AssignedToItself, at, message)
@@ -288,7 +301,7 @@ fn check_assigned(
     }
 }
 
-/// An expression. The value of a statement's is not used.
+/// An expression. The value of a statement's is not used, in parentheses or not.
 #[cycle(expressions)]
 pub fn check_expression(
     e: &Expr<Target>,
@@ -305,9 +318,8 @@ pub fn check_expression(
             check_index(*array, index, at, walk, findings)?;
             check_expression(index, false, walk, findings)
         }
-        Expr::Parentheses(inner) | Expr::Unary(_, inner) => {
-            check_expression(inner, false, walk, findings)
-        }
+        Expr::Parentheses(inner) => check_expression(inner, is_statement, walk, findings),
+        Expr::Unary(_, inner) => check_expression(inner, false, walk, findings),
         Expr::Binary(operator, first, second) => {
             check_expression(first, false, walk, findings)?;
             check_bits(*operator, first, second, walk, findings)?;

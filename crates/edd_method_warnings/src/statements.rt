@@ -154,10 +154,10 @@ fn check_loop<'a>(
 }
 
 // Whether a statement that is never reached is worth a warning. A `break` after a `return` is a
-// habit.
+// habit, and so is a `return` after an abort.
 fn counts(s: &Stmt<Target>) -> bool {
     match s {
-        Stmt::Empty | Stmt::Break { .. } => false,
+        Stmt::Empty | Stmt::Break { .. } | Stmt::Return => false,
         Stmt::Block(parts) => !parts.is_empty(),
         _ => true,
     }

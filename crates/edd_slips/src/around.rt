@@ -1,7 +1,7 @@
 //! The tokens around the one that does not fit.
 
 use edd_lexer::token::{Token, TokenKind};
-use edd_reports::words::{Span, item_kind, span_of, word_of};
+use edd_reports::words::{Span, is_sign, item_kind, span_of, word_of};
 use edd_syntax::symbols::{Keyword, Symbol};
 
 /// What is wrong, and where that is.
@@ -35,6 +35,15 @@ pub struct Around<'a> {
 pub fn on(token: &Token, help: &'static str) -> Option<Slip> {
     Some(Slip {
         place: span_of(token),
+        help,
+    })
+}
+
+/// A slip right after a token.
+pub fn behind(token: &Token, help: &'static str) -> Option<Slip> {
+    let end = token.end as usize;
+    Some(Slip {
+        place: Span { start: end, end },
         help,
     })
 }
@@ -104,6 +113,54 @@ impl<'a> Around<'a> {
         }
         false
     }
+}
+
+/// The number of the sign that opened what the token of a number closes.
+pub fn opener(tokens: &[Token], closing: usize, opens: Symbol, closes: Symbol) -> Option<usize> {
+    let mut closed: usize = 0;
+    for count in 0..=closing {
+        let number = closing.saturating_sub(count);
+        if is_sign(tokens, number, closes) {
+            closed = closed.saturating_add(1);
+        } else if is_sign(tokens, number, opens) {
+            closed = closed.saturating_sub(1);
+            if closed == 0 {
+                return Some(number);
+            }
+        }
+    }
+    None
+}
+
+/// The word before the parentheses that the token of a number closes.
+pub fn word_before(tokens: &[Token], closing: usize) -> Option<&Token> {
+    if !is_sign(tokens, closing, Symbol::CloseParenthesis) {
+        return None;
+    }
+    let open = opener(
+        tokens,
+        closing,
+        Symbol::OpenParenthesis,
+        Symbol::CloseParenthesis,
+    )?;
+    tokens.get(open.checked_sub(1)?)
+}
+
+/// The number of the innermost brace that is open before the token of a number.
+pub fn open_brace(tokens: &[Token], number: usize) -> Option<usize> {
+    let mut closed: usize = 0;
+    for count in 1..=number {
+        let place = number.saturating_sub(count);
+        if is_sign(tokens, place, Symbol::CloseBrace) {
+            closed = closed.saturating_add(1);
+        } else if is_sign(tokens, place, Symbol::OpenBrace) {
+            if closed == 0 {
+                return Some(place);
+            }
+            closed = closed.saturating_sub(1);
+        }
+    }
+    None
 }
 
 /// The last parenthesis of the statement before a token that is not closed.

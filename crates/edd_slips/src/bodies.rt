@@ -1,6 +1,9 @@
 //! Slips in the bodies of methods that are known by the tokens around them.
 
-use crate::around::{Around, At, Slip, is_symbol, on};
+use crate::around::{
+    Around, At, Slip, behind, is_joined, is_symbol, on, open_brace, opener, word_before,
+};
+use crate::values::value_slip;
 use edd_lexer::token::{Token, TokenKind};
 use edd_reports::outline::Outline;
 use edd_reports::words::{is_sign, is_word};
@@ -18,10 +21,21 @@ fn is_keyword(token: &Token, word: Keyword) -> bool {
 // What is said of a word that begins statements in other languages.
 fn help_of_word(word: &str) -> Option<&'static str> {
     match word {
-        "begin" | "BEGIN" => Some("statements stand between { and }"),
+        "begin" | "BEGIN" | "end" | "END" => Some("statements stand between { and }"),
         "repeat" | "REPEAT" => Some("such a loop is written do { .. } while (..);"),
         "try" | "catch" | "throw" => Some("there is no try: a function gives a code"),
         "print" | "printf" => Some("a text is shown by PUT_MESSAGE(..)"),
+        "unless" => Some("there is no unless: the opposite is written if (!(..))"),
+        "foreach" | "loop" => Some("a loop is written for (..; ..; ..) or while (..)"),
+        "set" | "let" | "call" => Some("this word may be left out"),
+        "this" | "self" => Some("a variable or a function is named alone"),
+        "enum" | "struct" | "union" | "typedef" => Some(
+            "a method declares numbers alone, as in int k = 1;",
+        ),
+        "goto" => Some("there are no labels, and no goto"),
+        "function" | "def" | "sub" => Some(
+            "there are no functions of one's own: what is done again stands in a loop",
+        ),
         _ => None,
     }
 }
@@ -45,10 +59,14 @@ fn open_before(around: &Around<'_>) -> Option<usize> {
     None
 }
 
-// A fourth part of a `for`, or a second expression in one.
+// A fourth part of a `for`, a second expression in one, or one part alone.
 fn part_of_for(around: &Around<'_>) -> Option<Slip> {
     let help = match around.token.kind {
         TokenKind::Symbol(Symbol::Semicolon) => "a for has three parts",
+        TokenKind::Symbol(Symbol::Colon) => "a for has three parts, as in for (i = 0; i < 3; i++)",
+        TokenKind::Symbol(Symbol::CloseParenthesis)
+            if is_symbol(around.before, Symbol::OpenParenthesis) =>
+            "a for has three parts, as in for (i = 0; i < 3; i++)",
         TokenKind::Symbol(Symbol::Comma) =>
             "one expression stands in each part of a for, and ; parts them",
         _ => return None,
@@ -60,21 +78,27 @@ fn part_of_for(around: &Around<'_>) -> Option<Slip> {
     None
 }
 
-// The number of the sign that opened what the one before the token closes.
-fn opened_before(around: &Around<'_>, opens: Symbol, closes: Symbol) -> Option<usize> {
-    let mut closed: usize = 0;
-    for count in 1..=around.at.number {
+// Whether the parentheses before the token are those of the `while` that ends a `do`.
+fn ends_do(around: &Around<'_>) -> bool {
+    let tokens = around.at.tokens;
+    for count in 2..=around.at.number {
         let number = around.at.number.saturating_sub(count);
-        if is_sign(around.at.tokens, number, closes) {
-            closed = closed.saturating_add(1);
-        } else if is_sign(around.at.tokens, number, opens) {
-            closed = closed.saturating_sub(1);
-            if closed == 0 {
-                return Some(number);
-            }
+        if !is_word(tokens, number, Keyword::While) {
+            continue;
         }
+        let Some(brace) = number.checked_sub(1) else {
+            return false;
+        };
+        return match opener(tokens, brace, Symbol::OpenBrace, Symbol::CloseBrace) {
+            Some(open) if is_sign(tokens, brace, Symbol::CloseBrace) => is_word(
+                tokens,
+                open.saturating_sub(1),
+                Keyword::Do,
+            ),
+            _ => false,
+        };
     }
-    None
+    false
 }
 
 // What is missing before a closing brace.
@@ -98,9 +122,11 @@ fn cut_off(around: &Around<'_>) -> Option<Slip> {
             on(around.before, "a statement is missing after this else")
         }
         TokenKind::Symbol(Symbol::CloseParenthesis) => {
-            let open = opened_before(around, Symbol::OpenParenthesis, Symbol::CloseParenthesis)?;
-            let word = around.at.tokens.get(open.checked_sub(1)?)?;
+            let word = word_before(around.at.tokens, around.at.number.checked_sub(1)?)?;
             match word.kind {
+                TokenKind::Keyword(Keyword::While) if ends_do(around) => {
+                    behind(around.before, "a ; is missing here")
+                }
                 TokenKind::Keyword(
                     Keyword::MethodIf | Keyword::While | Keyword::For | Keyword::Switch,
                 ) => on(word, "a statement is missing after its parentheses"),
@@ -116,7 +142,12 @@ fn half_of_do(around: &Around<'_>) -> Option<Slip> {
     if !is_symbol(around.before, Symbol::CloseBrace) {
         return None;
     }
-    let open = opened_before(around, Symbol::OpenBrace, Symbol::CloseBrace)?;
+    let open = opener(
+        around.at.tokens,
+        around.at.number.checked_sub(1)?,
+        Symbol::OpenBrace,
+        Symbol::CloseBrace,
+    )?;
     let word = open.checked_sub(1)?;
     if !is_word(around.at.tokens, word, Keyword::Do) {
         return None;
@@ -147,6 +178,14 @@ fn is_parted(around: &Around<'_>) -> bool {
     )
 }
 
+// Whether a statement begins with the token before.
+fn begins(around: &Around<'_>) -> bool {
+    let is_branch = around.back(2).is_some_and(|token| {
+        is_symbol(token, Symbol::CloseParenthesis) || is_keyword(token, Keyword::MethodElse)
+    });
+    is_branch || around.statement() == around.at.number.saturating_sub(1)
+}
+
 // A statement that does not go on as its word asks.
 fn after_word(around: &Around<'_>) -> Option<Slip> {
     let is_on_line = around.before.line == around.token.line;
@@ -171,7 +210,59 @@ fn after_word(around: &Around<'_>) -> Option<Slip> {
                 "a name of a function is one word, as send_command",
             )
         }
-        TokenKind::Name => on(around.before, help_of_word(around.word(around.before))?),
+        TokenKind::Name if begins(around) => {
+            on(around.before, help_of_word(around.word(around.before))?)
+        }
+        _ => None,
+    }
+}
+
+// Whether the innermost braces around the token are those of an `if`.
+fn is_in_if(around: &Around<'_>) -> bool {
+    let tokens = around.at.tokens;
+    let Some(brace) = open_brace(tokens, around.at.number) else {
+        return false;
+    };
+    match word_before(tokens, brace.saturating_sub(1)) {
+        Some(word) => is_keyword(word, Keyword::MethodIf),
+        None => false,
+    }
+}
+
+// What is said of an `else` that belongs to no `if`.
+fn help_of_else(around: &Around<'_>) -> &'static str {
+    let is_label = around
+        .ahead()
+        .is_some_and(|next| is_symbol(next, Symbol::Colon));
+    if is_label {
+        return "default may be meant in place of else";
+    }
+    if is_in_if(around) && !is_symbol(around.before, Symbol::CloseBrace) {
+        return "a } is missing before this else, for the { of its if";
+    }
+    let ends_two = is_symbol(around.before, Symbol::CloseBrace)
+        && around
+            .back(2)
+            .is_some_and(|token| is_symbol(token, Symbol::CloseBrace));
+    if ends_two {
+        return "this else belongs to no if: one closing brace may be too many before it";
+    }
+    "this else belongs to no if: between an if and its else stands one statement, or one block"
+}
+
+// What is said where a statement follows parentheses.
+fn after_parentheses(around: &Around<'_>) -> Option<Slip> {
+    let word = word_before(around.at.tokens, around.at.number.checked_sub(1)?)?;
+    match word.kind {
+        TokenKind::Keyword(Keyword::MethodElse) => on(word, "an if is missing after this else"),
+        TokenKind::Name => on(word, help_of_word(around.word(word))?),
+        TokenKind::Keyword(Keyword::MethodIf | Keyword::While | Keyword::For | Keyword::Switch)
+            if is_symbol(around.token, Symbol::Colon) => {
+            on(
+                around.token,
+                "a statement stands right after the parentheses, without a sign",
+            )
+        }
         _ => None,
     }
 }
@@ -184,23 +275,11 @@ fn in_place(around: &Around<'_>) -> Option<Slip> {
         TokenKind::Symbol(Symbol::CloseParenthesis) | TokenKind::Keyword(Keyword::MethodElse)
     );
     match around.token.kind {
-        TokenKind::Keyword(Keyword::MethodElse) => {
-            on(
-                around.token,
-                "this else belongs to no if: between an if and its else stands one statement, or one block",
-            )
-        }
+        TokenKind::Keyword(Keyword::MethodElse) => on(around.token, help_of_else(around)),
         TokenKind::Keyword(Keyword::Int | Keyword::Long) if begins => {
             on(
                 around.token,
                 "a local is declared between braces, as in { int k; .. }",
-            )
-        }
-        TokenKind::Symbol(Symbol::Colon)
-            if matches!(after, TokenKind::Symbol(Symbol::CloseParenthesis)) => {
-            on(
-                around.token,
-                "a statement stands right after the parentheses, without a sign",
             )
         }
         TokenKind::Symbol(Symbol::CloseParenthesis)
@@ -225,11 +304,11 @@ fn in_place(around: &Around<'_>) -> Option<Slip> {
                 "each label has a case of its own, as in case 1: case 2:",
             )
         }
-        TokenKind::Symbol(Symbol::Operator(Operator::And))
+        TokenKind::Symbol(Symbol::Operator(Operator::And | Operator::Multiply))
             if matches!(
                 after,
-                TokenKind::Symbol(Symbol::OpenParenthesis | Symbol::Comma)
-            ) => {
+                TokenKind::Symbol(Symbol::OpenParenthesis | Symbol::Comma | Symbol::Equals)
+            ) && is_joined(around.token, around.ahead()?) => {
             on(
                 around.token,
                 "a variable is named alone, without a sign before it",
@@ -247,6 +326,9 @@ pub fn statement_slip(around: &Around<'_>) -> Option<Slip> {
     if let Some(slip) = in_place(around) {
         return Some(slip);
     }
+    if let Some(slip) = after_parentheses(around) {
+        return Some(slip);
+    }
     if let Some(slip) = after_word(around) {
         return Some(slip);
     }
@@ -256,7 +338,10 @@ pub fn statement_slip(around: &Around<'_>) -> Option<Slip> {
     if let Some(slip) = part_of_for(around) {
         return Some(slip);
     }
-    half_of_do(around)
+    if let Some(slip) = half_of_do(around) {
+        return Some(slip);
+    }
+    value_slip(around)
 }
 
 // Whether a statement begins with a token, and no attribute.

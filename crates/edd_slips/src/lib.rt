@@ -6,6 +6,7 @@ mod around;
 mod bodies;
 mod left_out;
 mod slips;
+mod values;
 
 pub use around::{At, Slip, open_parenthesis};
 pub use bodies::early_end;

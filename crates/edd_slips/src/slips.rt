@@ -1,6 +1,6 @@
 //! Slips that are known by the tokens around them, each with its own words.
 
-use crate::around::{Around, At, Slip, is_joined, is_symbol, on, open_parenthesis};
+use crate::around::{Around, At, Slip, is_joined, is_symbol, on, open_brace, open_parenthesis};
 use crate::bodies::statement_slip;
 use edd_lexer::token::{Token, TokenKind};
 use edd_reports::words::{Span, is_sign, is_word, item_kind};
@@ -19,8 +19,23 @@ fn help_of_signs(before: &str, sign: &str) -> Option<&'static str> {
         ("-", ">") | (":", ":") => Some("a member is written c.m"),
         ("=", "!") => Some("not equal is written !="),
         ("==", "=") => Some("equal is written =="),
+        ("<<", "<") => Some("a shift to the left is written <<"),
+        ("&&", "&") => Some("both conditions are written &&"),
+        ("||", "|") => Some("one of two conditions is written ||"),
         _ => None,
     }
+}
+
+// Whether two signs with a space between them are meant as one.
+fn are_one_sign(before: &str, sign: &str) -> bool {
+    matches!(
+        (before, sign),
+        ("&", "&")
+            | ("|", "|")
+            | ("<", "<" | "=")
+            | (">", ">" | "=")
+            | ("=" | "!" | "+" | "-" | "*" | "/", "=")
+    )
 }
 
 /// Words before a name that other languages have there.
@@ -68,6 +83,15 @@ fn is_else_if(word: &str) -> bool {
 }
 
 impl<'a> Around<'a> {
+    // Whether the two tokens after this one begin a call.
+    fn is_call_ahead(&self) -> bool {
+        is_sign(
+            self.at.tokens,
+            self.at.number.saturating_add(2),
+            Symbol::OpenParenthesis,
+        )
+    }
+
     // Two signs that other languages join.
     fn signs(&self) -> Option<Slip> {
         let next = self.ahead();
@@ -82,7 +106,16 @@ impl<'a> Around<'a> {
             }
         }
         if !is_joined(self.before, self.token) {
-            return None;
+            if !are_one_sign(self.word(self.before), self.word(self.token)) {
+                return None;
+            }
+            return on(
+                self.token,
+                "a sign such as && or >= is written without a space in it",
+            );
+        }
+        if self.word(self.before) == "-" && self.is_call_ahead() {
+            return on(self.before, "a function is called by its name alone");
         }
         let help = help_of_signs(self.word(self.before), self.word(self.token))?;
         Some(Slip {
@@ -124,6 +157,12 @@ impl<'a> Around<'a> {
         let declares = matches!(first.kind, TokenKind::Keyword(Keyword::Int | Keyword::Long));
         let is_on_line = self.before.line == self.token.line;
         let are_names = self.before.kind == TokenKind::Name && self.token.kind == TokenKind::Name;
+        if declares && are_names && help_of_type(self.word(self.before)).is_some() {
+            return on(
+                self.before,
+                "a local has a type and a name alone, as in int k = 1;",
+            );
+        }
         if declares && is_on_line && are_names {
             return on(self.token, "a comma stands between two locals: int a, b;");
         }
@@ -157,6 +196,13 @@ impl<'a> Around<'a> {
     fn operand(&self) -> Option<Slip> {
         let sign = self.word(self.token);
         match (self.before.kind, sign) {
+            (TokenKind::String, "+" | "&" | "." | "%")
+                if self.is_in_method() && self.ahead()?.kind != TokenKind::String => {
+                on(
+                    self.token,
+                    "a text shows no values: PUT_MESSAGE(..) takes one text",
+                )
+            }
             (TokenKind::String, "+" | "&" | ".") => {
                 on(
                     self.token,
@@ -269,7 +315,9 @@ impl<'a> Around<'a> {
                     "the type of a variable is INTEGER or UNSIGNED_INTEGER",
                 )
             }
-            TokenKind::Integer(_) if matches!(self.before.kind, TokenKind::Integer(_)) => {
+            TokenKind::Integer(_)
+                if matches!(self.before.kind, TokenKind::Integer(_))
+                    && self.word(self.token).len() == 3 => {
                 on(self.token, "the digits of a number stand side by side")
             }
             TokenKind::Symbol(Symbol::CloseBrace)
@@ -303,9 +351,29 @@ impl<'a> Around<'a> {
                     "a variable is named here, and no element of an array",
                 )
             }
-            TokenKind::Symbol(Symbol::OpenBracket | Symbol::Operator(Operator::And))
+            TokenKind::Symbol(Symbol::OpenBracket)
+                if self.before.kind == TokenKind::Name && self.is_in_message() => {
+                on(
+                    self.token,
+                    "a mask is written as in p <0x0F>; no message has an element of an array",
+                )
+            }
+            TokenKind::Symbol(Symbol::Operator(Operator::And) | Symbol::Colon | Symbol::OpenBrace)
                 if self.before.kind == TokenKind::Name && self.is_in_message() => {
                 on(self.token, "a mask is written as in p <0x0F>")
+            }
+            TokenKind::Symbol(Symbol::Semicolon)
+                if self.before.kind == TokenKind::Name && self.begins_member() => {
+                on(
+                    self.token,
+                    "a member has a name of its own, as in value, p;",
+                )
+            }
+            TokenKind::Symbol(Symbol::CloseParenthesis)
+                if is_symbol(self.before, Symbol::OpenParenthesis)
+                    && self.back(2)?.kind == TokenKind::Name
+                    && !self.is_in_method() => {
+                on(self.before, "a name stands here alone, without parentheses")
             }
             TokenKind::Symbol(Symbol::OpenParenthesis)
                 if self.before.kind == TokenKind::Name
@@ -321,25 +389,30 @@ impl<'a> Around<'a> {
         }
     }
 
+    // The word before the innermost braces around the token.
+    fn word_of_braces(&self) -> Option<TokenKind> {
+        let brace = open_brace(self.at.tokens, self.at.number)?;
+        Some(self.at.tokens.get(brace.checked_sub(1)?)?.kind)
+    }
+
     // Whether the innermost braces around the token are those of a REQUEST or a REPLY.
     fn is_in_message(&self) -> bool {
-        let mut closed: usize = 0;
-        for count in 1..=self.at.number {
-            let Some(token) = self.back(count) else {
-                return false;
-            };
-            if is_symbol(token, Symbol::CloseBrace) {
-                closed = closed.saturating_add(1);
-            } else if is_symbol(token, Symbol::OpenBrace) {
-                if closed == 0 {
-                    let before = self.at.number.saturating_sub(count).saturating_sub(1);
-                    return is_word(self.at.tokens, before, Keyword::Request)
-                        || is_word(self.at.tokens, before, Keyword::Reply);
-                }
-                closed = closed.saturating_sub(1);
-            }
-        }
-        false
+        matches!(
+            self.word_of_braces(),
+            Some(TokenKind::Keyword(Keyword::Request | Keyword::Reply))
+        )
+    }
+
+    // Whether the token before is the first of a member.
+    fn begins_member(&self) -> bool {
+        let is_first = self.back(2).is_some_and(|token| {
+            is_symbol(token, Symbol::OpenBrace) || is_symbol(token, Symbol::Semicolon)
+        });
+        is_first
+            && matches!(
+                self.word_of_braces(),
+                Some(TokenKind::Keyword(Keyword::Members))
+            )
     }
 
     // What the tokens right before say.

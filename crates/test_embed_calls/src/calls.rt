@@ -43,6 +43,8 @@ fn an_image_is_known_by_its_numbers(rt: HostRuntime) -> Result<(), Fail> {
     assert!(rt; numbers.are_of(&bytes));
     let (front, _) = bytes.as_slice().split_at(40);
     assert!(rt; !numbers.are_of(front));
+    let (shorter, _) = bytes.as_slice().split_at(bytes.len() - 1);
+    assert!(rt; !numbers.are_of(shorter));
     assert_eq!(rt; load_numbers(alloc, front), Err(LoadFault::Short));
     Ok(())
 }

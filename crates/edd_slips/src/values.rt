@@ -1,0 +1,134 @@
+//! Slips in the values of methods, and in what functions take.
+
+use crate::around::{Around, Slip, behind, is_symbol, on, open_parenthesis};
+use edd_lexer::token::TokenKind;
+use edd_reports::words::is_sign;
+use edd_syntax::symbols::Symbol;
+
+// Whether a sign stands in the statement before the token.
+fn has_sign(around: &Around<'_>, sign: Symbol) -> bool {
+    for number in around.statement()..around.at.number {
+        if is_sign(around.at.tokens, number, sign) {
+            return true;
+        }
+    }
+    false
+}
+
+// Whether something is compared in the statement before the token.
+fn compares(around: &Around<'_>) -> bool {
+    for number in around.statement()..around.at.number {
+        let is_comparison = matches!(
+            around.at.tokens.get(number).map(|token| token.kind),
+            Some(TokenKind::Symbol(Symbol::Comparison(_) | Symbol::LogicalAnd | Symbol::LogicalOr))
+        );
+        if is_comparison {
+            return true;
+        }
+    }
+    false
+}
+
+// A parenthesis or a bracket that is open at a closing brace.
+fn unclosed(around: &Around<'_>) -> Option<Slip> {
+    if !is_symbol(around.token, Symbol::CloseBrace)
+        || is_symbol(around.ahead()?, Symbol::OpenBrace)
+    {
+        return None;
+    }
+    if is_symbol(around.back(2)?, Symbol::OpenBracket) {
+        return behind(around.before, "a ] is missing here");
+    }
+    open_parenthesis(around.at)?;
+    behind(around.before, "a ) is missing here")
+}
+
+// A `:` that belongs to no `?`, or a `=` in a condition.
+fn signs(around: &Around<'_>) -> Option<Slip> {
+    match around.token.kind {
+        TokenKind::Symbol(Symbol::Colon)
+            if has_sign(around, Symbol::Equals)
+                && !has_sign(around, Symbol::Question)
+                && around.ahead()?.line == around.token.line => {
+            on(
+                around.token,
+                "a ? is missing: a choice is written a ? b : c",
+            )
+        }
+        TokenKind::Symbol(Symbol::Equals)
+            if compares(around) && open_parenthesis(around.at).is_some() => {
+            on(around.token, "equal is written ==")
+        }
+        _ => None,
+    }
+}
+
+fn is_unit(word: &str) -> bool {
+    matches!(
+        word,
+        "s" | "ms" | "sec" | "seconds" | "min" | "minutes" | "mm" | "mA" | "mV" | "bar" | "Hz"
+    )
+}
+
+// A value right after a value, or after a name that begins a statement.
+fn side_by_side(around: &Around<'_>) -> Option<Slip> {
+    let is_number = matches!(around.token.kind, TokenKind::Integer(_));
+    let is_first = around.statement() == around.at.number.saturating_sub(1);
+    match around.before.kind {
+        TokenKind::Integer(_)
+            if around.token.kind == TokenKind::Name && is_unit(around.word(around.token)) => {
+            on(around.token, "a number stands alone, without its unit")
+        }
+        TokenKind::Name if is_first && is_number => {
+            on(
+                around.token,
+                "what a function takes stands in parentheses, as in send_command(1)",
+            )
+        }
+        TokenKind::Name
+            if is_first
+                && is_symbol(around.token, Symbol::OpenBrace)
+                && matches!(around.ahead()?.kind, TokenKind::Integer(_)) => {
+            on(
+                around.token,
+                "what a function takes stands in parentheses, as in send_command(1)",
+            )
+        }
+        TokenKind::Name | TokenKind::Integer(_) if !is_first => {
+            let is_value = is_number || around.token.kind == TokenKind::Name;
+            let goes_on = matches!(
+                around.ahead()?.kind,
+                TokenKind::Name
+                    | TokenKind::Integer(_)
+                    | TokenKind::Symbol(
+                        Symbol::OpenParenthesis
+                            | Symbol::CloseBracket
+                            | Symbol::Equals
+                            | Symbol::CompoundAssign(_)
+                            | Symbol::Increment
+                            | Symbol::Decrement
+                    )
+            );
+            if !is_value
+                || goes_on
+                || around.before.line != around.token.line
+                || open_parenthesis(around.at).is_some()
+            {
+                return None;
+            }
+            on(around.token, "an operator or a ; is missing before this")
+        }
+        _ => None,
+    }
+}
+
+/// A slip in a value of a method.
+pub fn value_slip(around: &Around<'_>) -> Option<Slip> {
+    if let Some(slip) = unclosed(around) {
+        return Some(slip);
+    }
+    if let Some(slip) = signs(around) {
+        return Some(slip);
+    }
+    side_by_side(around)
+}
