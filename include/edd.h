@@ -59,7 +59,7 @@ enum {
     EDD_MEMORY = 150,
     /* There is no such item, string or element, or the item has no such attribute. */
     EDD_NO_ITEM = 203,
-    /* The values are not one for each variable, in its range. */
+    /* The values are not one for each variable, in its range. (edd_advance and edd_reply say EDD_NO_SESSION.) */
     EDD_WRONG_VALUES = 204,
     /* Of edd_reply: no request is pending. */
     EDD_NOT_ASKING = 205,
@@ -72,7 +72,7 @@ enum {
     EDD_DIV_OVERFLOW = 211,
     EDD_BAD_SHIFT = 212,
     EDD_NO_ELEMENT = 213,
-    /* The edd_image is not that of these bytes. */
+    /* Of each call but edd_load and edd_where: the edd_image is not that of these bytes. */
     EDD_OTHER_IMAGE = 260,
     /* There is too little room, or for edd_play too much. */
     EDD_NO_ROOM = 261,
@@ -199,7 +199,7 @@ enum {
     EDD_RESPONSE_CODES = 18,
     EDD_ITEMS = 19,
     EDD_MEMBERS = 20,
-    EDD_DEFINITION = 21,
+    EDD_DEFINITION = 21, /* the body of a method, which has no records: EDD_NO_ITEM; edd_start runs it */
     EDD_ELEMENTS = 22
 };
 
@@ -259,10 +259,10 @@ enum {
     EDD_ASK_DELAY = 3,              /* first (seconds), text; the code is 0 */
     EDD_ASK_GET_DEV_VAR_VALUE = 4,  /* text, variable; a setting of that variable, and the code is 0 */
     EDD_ASK_SELECT_FROM_LIST = 5,   /* text, choices (parted by ;); the code is the choice's number, from 0 */
-    EDD_ASK_SEND_COMMAND = 6,       /* first (the command's number); settings of what the reply holds, and the code
+    EDD_ASK_SEND_COMMAND = 6,       /* first (the command's EDD_NUMBER); settings of what the reply holds, and the code
                                        is the device's response code */
-    EDD_ASK_SEND_COMMAND_TRANS = 7, /* first, second (the transaction's number); the same */
-    EDD_ASK_SAVE_VALUES = 8         /* the code is 0 */
+    EDD_ASK_SEND_COMMAND_TRANS = 7, /* first, second (the EDD_TRANSACTION of one of its transactions); the same */
+    EDD_ASK_SAVE_VALUES = 8         /* the code is 0 where the device has stored them */
 };
 
 typedef struct edd_request {

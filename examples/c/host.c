@@ -5,8 +5,9 @@
  *     host IMAGE [LANGUAGE]
  *
  * Its commands, one a line: menu [NAME], show NAME, set NAME NUMBER, run NAME, quit. Where a method asks, a
- * line is the answer: a number, `abort`, or nothing for 0; for a command of the device it may be followed
- * by what the device has set, as in `0 position=240`.
+ * line is the answer: `abort`, the value of the variable that is asked for, or else a number, which is the
+ * answer's code; nothing is 0. For a command of the device it may be followed by what the device has set, as in
+ * `0 position=240`.
  */
 #include "edd.h"
 #include "pool.h"
@@ -123,41 +124,65 @@ static int find(const char *name, uint8_t kind, uint16_t *number)
     return 1;
 }
 
-/* Whether a variable may be set to a number, by its rights, its type and its limits. */
-static int may_be(uint16_t number, int64_t wanted)
+/* Puts a limit into `limit`, which stays where there is none. 0 where it can't be read. */
+static int read_limit(uint16_t number, uint8_t attribute, int64_t *limit)
+{
+    size_t given;
+    if (edd_attribute(bytes, length, &image, EDD_KIND_VARIABLE, number, attribute, 0, values, image.variables,
+                      records, RECORDS, &given) != EDD_OK)
+        return 0;
+    if (given > 0 && records[0].tag == EDD_RECORD_NUMBER)
+        *limit = records[0].value;
+    return 1;
+}
+
+/* Whether a number is one for a variable, by its type and its limits; where these can't be read, none is. */
+static int is_value(uint16_t number, int64_t wanted)
 {
     edd_type type;
-    int64_t span, least;
-    if (!(read_number(EDD_KIND_VARIABLE, number, EDD_HANDLING, 3) & 2))
-        return 0;
+    int64_t span, least, from, to;
     if (edd_variable(bytes, length, &image, number, &type) != EDD_OK)
         return 0;
     span = (int64_t)1 << 8 * type.size;
-    least = type.type == EDD_TYPE_INTEGER ? -span / 2 : 0;
-    return wanted >= least && wanted < least + span
-        && wanted >= read_number(EDD_KIND_VARIABLE, number, EDD_MIN_VALUE, least)
-        && wanted <= read_number(EDD_KIND_VARIABLE, number, EDD_MAX_VALUE, least + span - 1);
+    least = from = type.type == EDD_TYPE_INTEGER ? -span / 2 : 0;
+    to = least + span - 1;
+    return wanted >= from && wanted <= to && read_limit(number, EDD_MIN_VALUE, &from)
+        && read_limit(number, EDD_MAX_VALUE, &to) && wanted >= from && wanted <= to;
+}
+
+static int is_writable(uint16_t number) { return (read_number(EDD_KIND_VARIABLE, number, EDD_HANDLING, 3) & 2) != 0; }
+
+static int is_number(const char *word, int64_t *number)
+{
+    char *end;
+    *number = strtoll(word, &end, 10);
+    return end != word && *end == 0;
 }
 
 static void set(const char *name, const char *number)
 {
     uint16_t variable;
-    int64_t wanted = strtoll(number, NULL, 10);
+    int64_t wanted;
     if (!find(name, EDD_KIND_VARIABLE, &variable))
         return;
-    if (may_be(variable, wanted))
-        values[variable] = wanted;
+    if (!is_writable(variable))
+        printf("refused: it is read only\n");
+    else if (!is_number(number, &wanted) || !is_value(variable, wanted))
+        printf("refused: it can't be %s\n", number);
     else
-        printf("refused: it can't be %" PRId64 "\n", wanted);
+        values[variable] = wanted;
     show_entry(EDD_KIND_VARIABLE, variable);
 }
 
 static void print_request(const edd_request *request)
 {
-    static const char *const words[] = { "", "", "acknowledge", "wait", "enter", "choose", "command", "command", "save" };
-    printf("%s ", words[request->tag <= 8 ? request->tag : 0]);
+    static const char *const words[] = { "",        "",         "acknowledge ", "wait ", "enter ",
+                                         "choose ", "command ", "command ",     "save" };
+    printf("%s", words[request->tag <= 8 ? request->tag : 0]);
     if (request->tag == EDD_ASK_SEND_COMMAND || request->tag == EDD_ASK_SEND_COMMAND_TRANS)
-        printf("%" PRId32 " %" PRId32, request->first, request->second);
+        printf("%" PRId32, request->first);
+    if (request->tag == EDD_ASK_SEND_COMMAND_TRANS)
+        printf(" %" PRId32, request->second);
     if (request->tag == EDD_ASK_DELAY)
         printf("%" PRId32 " s ", request->first);
     if (request->text != EDD_NO_STRING)
@@ -173,50 +198,78 @@ static void print_request(const edd_request *request)
     putchar('\n');
 }
 
-/* One answer, read from a line: at the end of the input, and for `abort`, an abort. */
-static size_t read_answer(edd_answer *answer, edd_setting *settings, size_t room)
+/* Whether a number is that of a choice: they are parted by ; and counted from 0. */
+static int is_choice(uint16_t choices, int64_t number)
 {
-    size_t count = 0;
-    char *word;
-    memset(answer, 0, sizeof *answer);
-    if (!fgets(line, sizeof line, stdin) || !strncmp(line, "abort", 5)) {
-        answer->aborts = 1;
+    edd_words text = EDD_NO_WORDS;
+    int64_t last = 0;
+    size_t k;
+    if (edd_text(bytes, length, &image, choices, (const uint8_t *)language, strlen(language), &text) != EDD_OK)
         return 0;
+    for (k = 0; k < text.length; k++)
+        last += text.bytes[k] == ';';
+    return number >= 0 && number <= last;
+}
+
+/* Takes one word of an answer. 0 where it is none. */
+static int take_word(const edd_request *request, char *word, edd_answer *answer, edd_setting *settings)
+{
+    edd_setting *next = &settings[answer->settings];
+    char *value = strchr(word, '=');
+    int64_t number;
+    if (value)
+        *value++ = 0;
+    if (answer->settings == SETTINGS || !is_number(value ? value : word, &number))
+        return 0;
+    if (value) {
+        next->value = number;
+        answer->settings++;
+        return find(word, EDD_KIND_VARIABLE, &next->variable);
     }
-    for (word = strtok(line, " \r\n"); word; word = strtok(NULL, " \r\n")) {
-        char *value = strchr(word, '=');
-        if (!value) {
-            answer->code = (int32_t)strtol(word, NULL, 10);
-        } else if (count < room) {
-            *value = 0;
-            if (find(word, EDD_KIND_VARIABLE, &settings[count].variable))
-                settings[count++].value = strtoll(value + 1, NULL, 10);
-        }
+    if (request->tag == EDD_ASK_GET_DEV_VAR_VALUE) {
+        next->value = number;
+        next->variable = request->variable;
+        answer->settings++;
+        return is_value(request->variable, number);
     }
-    answer->settings = (uint32_t)count;
-    return count;
+    answer->code = (int32_t)number;
+    return number == answer->code && (request->tag != EDD_ASK_SELECT_FROM_LIST || is_choice(request->choices, number));
+}
+
+/* Reads an answer from a line: an abort at the end of the input. 0 where the line is none. */
+static int read_answer(const edd_request *request, edd_answer *answer, edd_setting *settings)
+{
+    int is_read = fgets(line, sizeof line, stdin) != NULL;
+    char *word = is_read ? strtok(line, " \t\r\n") : NULL;
+    memset(answer, 0, sizeof *answer);
+    answer->aborts = !is_read || (word && !strcmp(word, "abort"));
+    for (; word && !answer->aborts; word = strtok(NULL, " \t\r\n"))
+        if (!take_word(request, word, answer, settings))
+            return 0;
+    return 1;
 }
 
 /* Answers the pending request: a message needs nobody, and where a line can't be taken it is asked for again. */
 static uint32_t answer(edd_session *session, const edd_request *request)
 {
-    edd_setting settings[SETTINGS];
+    edd_setting settings[SETTINGS + 1];
     edd_answer given = { 0, 0, 0 };
-    size_t count = 0;
     uint32_t status;
     for (;;) {
-        if (request->tag != EDD_ASK_PUT_MESSAGE)
-            count = read_answer(&given, settings, SETTINGS);
-        status = edd_reply(bytes, length, &image, session, values, image.variables, &given, settings, count);
-        if (status != EDD_BAD_VARIABLE && status != EDD_OUT_OF_RANGE)
-            return status;
-        printf("the device can't have set that: %" PRIu32 "\n", status);
+        if (request->tag == EDD_ASK_PUT_MESSAGE || read_answer(request, &given, settings)) {
+            status = edd_reply(bytes, length, &image, session, values, image.variables, &given, settings, given.settings);
+            if (status != EDD_BAD_VARIABLE && status != EDD_OUT_OF_RANGE)
+                return status;
+        }
+        printf("that can't be; once more\n");
+        print_request(request);
     }
 }
 
 /*
  * Runs the method in a session, and asks for an answer wherever it waits. It takes a budget of instructions at a
- * time, between which a firmware would do its other work, and draw its screen from `values`.
+ * time, between which a firmware would do its other work, and draw its screen from `values`. One that executes a
+ * million instructions is given up, and then its abort methods don't run: only a request can be aborted.
  */
 static void run(uint16_t method)
 {
@@ -230,7 +283,10 @@ static void run(uint16_t method)
             print_request(&turn.request);
             status = answer(&session, &turn.request);
         } else if (status == EDD_OK && (turn.turn != EDD_SPENT || session.taken >= STEPS)) {
-            printf("%s\n", ends[turn.turn]);
+            printf("%s", ends[turn.turn]);
+            if (turn.turn == EDD_TRAPPED)
+                printf(": %u", (unsigned)turn.trap);
+            putchar('\n');
             return;
         }
     }
@@ -244,7 +300,7 @@ static void start_values(void)
         values[number] = 0;
     for (number = 0; number < image.variables; number++) {
         int64_t start = read_number(EDD_KIND_VARIABLE, number, EDD_DEFAULT_VALUE, 0);
-        values[number] = may_be(number, start) ? start : 0;
+        values[number] = is_value(number, start) ? start : 0;
     }
 }
 
@@ -259,17 +315,19 @@ static int load(const char *name)
     length = fread(bytes, 1, sizeof bytes, file);
     fclose(file);
     status = edd_load(bytes, length, &image);
-    if (status != EDD_OK || image.variables > VARIABLES) {
+    if (status != EDD_OK)
         fprintf(stderr, "%s is refused: %" PRIu32 "\n", name, status);
-        return 0;
-    }
-    return 1;
+    else if (image.variables > VARIABLES)
+        fprintf(stderr, "%s has more variables than this program has room for\n", name);
+    return status == EDD_OK && image.variables <= VARIABLES;
 }
 
 int main(int count, char **words)
 {
     char name[256], number[32];
     uint16_t found = 0;
+    if (count < 2)
+        fprintf(stderr, "host IMAGE [LANGUAGE]\n");
     if (count < 2 || !load(words[1]))
         return 1;
     if (count > 2)
@@ -287,6 +345,8 @@ int main(int count, char **words)
         else if (!strncmp(line, "menu", 4) && line[4] < ' ')
             for (found = 0; found < image.menus; found++)
                 show_entry(EDD_KIND_MENU, found);
+        else if (line[0] > ' ')
+            printf("a line is menu [NAME], show NAME, set NAME NUMBER, run NAME, or quit\n");
     }
     printf("memory: %zu bytes at most, %zu now\n", pool_most(), pool_in_use());
     return 0;

@@ -145,7 +145,7 @@ fn give_up<'a, W: Write>(
 }
 
 /// Gives the pending request its answer, and says whether it needed no user.
-pub fn reply<'a, W: Write>(
+pub fn meet<'a, W: Write>(
     alloc: Global,
     panel: &mut Panel<'_, '_>,
     device: &mut Option<Device<'_, '_>>,
@@ -182,7 +182,7 @@ pub fn settle<'a, W: Write>(
             show_end(alloc, turn, out)?;
             return Ok(panel.turn());
         }
-        if !reply(alloc, panel, device, holds_delays, out, noted)? {
+        if !meet(alloc, panel, device, holds_delays, out, noted)? {
             return Ok(Some(turn));
         }
     }

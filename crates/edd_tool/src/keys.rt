@@ -2,7 +2,7 @@
 
 ghost use Rattle.std.specs.Prelude.{◌≡◌, ℤ, Ok, Some};
 
-use crate::conversation::{Next, follow, leave, reply, settle};
+use crate::conversation::{Next, follow, leave, meet, settle};
 use crate::files::FileFault;
 use crate::input::Bytes;
 use crate::opening::INPUT;
@@ -298,7 +298,7 @@ impl Desk {
         let holds = self.has_seconds;
         let is_over = matches!(line, Line::Command(Command::Enter))
             && seconds_of(panel).is_some()
-            && reply(alloc, panel, device, false, &mut self.told, noted)?;
+            && meet(alloc, panel, device, false, &mut self.told, noted)?;
         let next = if is_over {
             Next::View
         } else {

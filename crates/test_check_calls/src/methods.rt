@@ -60,6 +60,17 @@ a = 2;
 @
 process_abort(); ;
 @
+abort();
+return;
+@ 4 == dropped-comparison
+(a == 1);
+@ 4 = assigned-to-itself
+a = (a);
+@
+if (a == 1 & a == 2) a = 3;
+@ 4 & misread-operators
+if (a & a == 2) a = 3;
+@
 switch (a) { case 1: return; break; case 2: a = 1; }
 @ 4 break unreachable-statement
 switch (a) { case 1: break; a = 2; default: a = 1; }
