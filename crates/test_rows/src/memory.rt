@@ -79,18 +79,15 @@ pub struct MemoryReader<'a> {
 }
 
 impl MemoryReader<'_> {
-    // What is typed up to the next pause; at a pause nothing.
-    fn typed(&mut self, buf: &mut [u8]) -> usize {
-        let mut count = 0;
-        for (place, byte) in buf.iter_mut().zip(self.rest.iter()) {
+    // How many bytes are before the next pause, at most as many as there is room for.
+    fn ahead(&self, room: &[u8]) -> usize {
+        let mut count: usize = 0;
+        for (byte, _) in self.rest.iter().zip(room.iter()) {
             if *byte == PAUSE {
                 break;
             }
-            *place = *byte;
-            count += 1;
+            count = count.saturating_add(1);
         }
-        let passed = if count == 0 { 1 } else { count };
-        self.rest = self.rest.get(passed..).unwrap_or(&[]);
         count
     }
 }
@@ -104,10 +101,15 @@ impl Read for MemoryReader<'_> {
             return Err(io::Error::from(io::ErrorKind::Other));
         }
         let room = buf.len().min(self.most);
-        if self.has_pauses {
-            return Ok(self.typed(&mut buf[..room]));
+        if !self.has_pauses {
+            return self.rest.read(&mut buf[..room]);
         }
-        self.rest.read(&mut buf[..room])
+        let ahead = self.ahead(buf);
+        if ahead == 0 {
+            self.rest = self.rest.get(1..).unwrap_or(&[]);
+            return Ok(0);
+        }
+        self.rest.read(&mut buf[..room.min(ahead)])
     }
 }
 
