@@ -22,6 +22,7 @@ use edd_loader::{LoadFault, load};
 use pages::{print_refused, print_whole};
 use std::alloc::Global;
 use std::io::Write;
+pub use strings::push_string;
 
 /// Prints what the bytes hold, and where their fault is, if they are no image. Answers that fault.
 pub fn dump<W: Write>(

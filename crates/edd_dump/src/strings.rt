@@ -22,7 +22,8 @@ fn push_variants(line: &mut String, bytes: &[u8]) -> Result<(), ShowFault> {
     Ok(())
 }
 
-fn push_string(line: &mut String, bytes: &[u8]) -> Result<(), ShowFault> {
+/// Appends the texts of a string with their languages, or its key, each after a blank.
+pub fn push_string(line: &mut String, bytes: &[u8]) -> Result<(), ShowFault> {
     match bytes {
         [0, rest @ ..] => push_variants(line, rest),
         [1, rest @ ..] => {

@@ -94,12 +94,12 @@ fn show_trial<'a, W: Write>(
     }
 }
 
-/// The image of the source of a device.
+/// The image of a source of this name.
 pub fn compiled<'a>(alloc: Global, name: &'a str, text: &[u8]) -> Result<Vec<u8>, Stop<'a>> {
     match compile(alloc, text) {
         Ok(bytes) => Ok(bytes),
         Err(Fault::Memory) => Err(Stop::Memory),
-        Err(fault) => Err(Stop::NoDevice(name, fault)),
+        Err(fault) => Err(Stop::NoSource(name, fault)),
     }
 }
 

@@ -7,6 +7,7 @@ ghost use Rattle.std.specs.Prelude.{◌≤◌};
 mod checking;
 mod conversation;
 mod devices;
+mod differing;
 mod explaining;
 mod files;
 mod input;

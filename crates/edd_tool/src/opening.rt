@@ -31,9 +31,14 @@ pub struct Manner<'l> {
     pub keys: Option<RawTerminal>,
 }
 
+/// Whether a file holds an image or what was one, and no source.
+pub fn is_image(bytes: &[u8]) -> bool {
+    bytes.starts_with(MAGIC)
+}
+
 // The image in the bytes of a file: of a source what it is compiled to.
 fn image_of<'a>(alloc: Global, bytes: Vec<u8>) -> Result<Vec<u8>, Stop<'a>> {
-    if bytes.starts_with(MAGIC) {
+    if is_image(&bytes) {
         return Ok(bytes);
     }
     Ok(compile(alloc, &bytes)?)

@@ -4,6 +4,7 @@ ghost use Rattle.std.specs.Prelude.{◌≤◌};
 
 use crate::checking::{check_text, choices_of, push_lints};
 use crate::devices::play_with_device;
+use crate::differing::diff_files;
 use crate::explaining::print_explanation;
 use crate::files::{FileFault, Files, read_all};
 use crate::opening::open;
@@ -36,16 +37,17 @@ pub enum Stop<'a> {
     /// The image has no method of this name.
     NoMethod(&'a str),
     Play(PlayFault),
-    /// The source of a device of this name is refused.
-    NoDevice(&'a str, Fault),
+    /// The source of this name, one of several, is refused.
+    NoSource(&'a str, Fault),
+    /// The image of this name, one of several, is refused.
+    NoImage(&'a str, LoadFault),
     /// A simulated device had no answer, which is this fault of its own.
     Device(String),
-    /// Nothing is refused with this number.
     /// No refusal has the number, and neither a refusal nor a lint the name.
     NoRefusal(&'a str),
     /// No lint has this name.
     NoLint(&'a str),
-    /// A refusal that is printed already.
+    /// A refusal or differences that are printed already.
     Shown,
     /// The output could not be written.
     Output,
@@ -339,8 +341,10 @@ pub fn answer<'a, F: Files, W: Write>(
         } => check_source(alloc, source, &lints, form, files, out),
         Request::Open(opening) => open(alloc, opening, files, out),
         Request::Test { names, is_update } => test_files(alloc, &names, is_update, files, out),
+        Request::Diff { old, new, form } => diff_files(alloc, old, new, form, files, out),
         Request::Dump { image } => dump_file(alloc, image, files, out),
         Request::Explain { what } => print_explanation(alloc, what, out),
+        Request::Format { .. } | Request::Serve => Ok(()),
     }
 }
 
@@ -357,7 +361,10 @@ pub fn report<W: Write>(alloc: Global, stop: &Stop<'_>, out: &mut W) -> Result<(
         Stop::Values(fault) => print(alloc, out, format_args!("refused {fault}")),
         Stop::NoMethod(name) => print(alloc, out, format_args!("refused 301 NO_METHOD {name}")),
         Stop::Play(fault) => print(alloc, out, format_args!("refused {fault}")),
-        Stop::NoDevice(name, fault) => {
+        Stop::NoSource(name, fault) => {
+            print(alloc, out, format_args!("refused {fault} of {name}"))
+        }
+        Stop::NoImage(name, fault) => {
             print(alloc, out, format_args!("refused {fault} of {name}"))
         }
         Stop::Device(fault) => print(alloc, out, format_args!("refused {fault}")),
@@ -396,7 +403,8 @@ pub fn status(stop: &Stop<'_>) -> u8
         | Stop::Values(_)
         | Stop::NoMethod(_)
         | Stop::Play(_)
-        | Stop::NoDevice(_, _)
+        | Stop::NoSource(_, _)
+        | Stop::NoImage(_, _)
         | Stop::Device(_) => REFUSED,
         Stop::File(_) | Stop::Named(_) | Stop::Output => FILE,
         Stop::Memory => MEMORY,

@@ -1,0 +1,177 @@
+//! What an attribute gives, in words that can be compared.
+
+use crate::reader::{Given, Reading, Unread, read};
+use crate::records::Words;
+use edd_display::ShowFault;
+use edd_fault_places::sections::{RowFields, Sections, part};
+use edd_instructions::Instruction;
+use edd_syntax::numbers::{Attr, StrNo};
+use std::alloc::Global;
+
+/// How the content of an attribute is compared.
+#[derive(Clone, Copy, PartialEq, Eq, Debug)]
+pub enum Shape {
+    /// One value, or one for each condition.
+    Value,
+    /// Entries.
+    List,
+    /// Entries whose places count.
+    Message,
+}
+
+pub fn shape_of(attribute: Attr) -> Shape {
+    match attribute {
+        Attr::Class
+        | Attr::Enumerators
+        | Attr::ResponseCodes
+        | Attr::Items
+        | Attr::Members
+        | Attr::Elements => Shape::List,
+        Attr::Request | Attr::Reply => Shape::Message,
+        _ => Shape::Value,
+    }
+}
+
+/// One record of an attribute, and when it is given.
+#[derive(Drop)]
+pub struct Line {
+    /// The number of its condition.
+    pub condition: usize,
+    /// The condition, and by what an entry is found again.
+    pub key: String,
+    pub text: String,
+    pub constant: Option<i64>,
+    /// Whether it is a number that depends on the values of the device.
+    pub is_expression: bool,
+    pub string: Option<StrNo>,
+}
+
+/// What an attribute gives, in order. Condition 0 is empty, and what is under it is always given.
+#[derive(Drop)]
+pub struct Content {
+    pub conditions: Vec<String>,
+    pub lines: Vec<Line>,
+}
+
+impl Content {
+    pub fn condition(&self, line: &Line) -> &str {
+        match self.conditions.get(line.condition) {
+            Some(condition) => condition.as_str(),
+            None => "",
+        }
+    }
+
+    /// The only line, if there is one and it has no condition.
+    pub fn only(&self) -> Option<&Line> {
+        match self.lines.as_slice() {
+            [line] if self.condition(line).is_empty() => Some(line),
+            _ => None,
+        }
+    }
+}
+
+// A line without its key.
+fn line_of(
+    alloc: Global,
+    words: Words<'_, '_>,
+    condition: usize,
+    given: &Given,
+) -> Result<Line, ShowFault> {
+    let mut text = String::new(alloc);
+    words.push_given(&mut text, given)?;
+    let constant = match &given.value {
+        Some(value) => value.constant,
+        None => None,
+    };
+    Ok(Line {
+        condition,
+        key: String::new(alloc),
+        text,
+        constant,
+        is_expression: given.value.is_some() && constant.is_none(),
+        string: match given.instruction {
+            Instruction::Text(string) => Some(string),
+            _ => None,
+        },
+    })
+}
+
+fn content_of(
+    alloc: Global,
+    words: Words<'_, '_>,
+    reading: Reading,
+) -> Result<Content, ShowFault> {
+    let mut lines = Vec::with_capacity(alloc, reading.given.len())?;
+    let has_nothing = shape_of(words.attribute) == Shape::Value;
+    for given in &reading.given {
+        if given.instruction == Instruction::End && !has_nothing {
+            continue;
+        }
+        let mut line = line_of(alloc, words, given.condition, given)?;
+        if let Some(condition) = reading.conditions.get(given.condition) {
+            line.key.push_str(condition)?;
+        }
+        line.key.push('\n')?;
+        words.push_key(&mut line.key, given)?;
+        lines.push(line)?;
+    }
+    // The code of a DEFAULT comes before those of the cases.
+    if has_nothing {
+        lines.sort_by_key(|line| line.condition)?;
+    }
+    Ok(Content {
+        conditions: reading.conditions,
+        lines,
+    })
+}
+
+// What an attribute gives that isn't written.
+fn default_of(alloc: Global, text: &str, number: i64) -> Result<Content, ShowFault> {
+    let mut conditions = Vec::new(alloc);
+    conditions.push(String::new(alloc))?;
+    let mut lines = Vec::new(alloc);
+    lines.push(Line {
+        condition: 0,
+        key: String::from_str(alloc, "\n")?,
+        text: String::from_str(alloc, text)?,
+        constant: Some(number),
+        is_expression: false,
+        string: None,
+    })?;
+    Ok(Content { conditions, lines })
+}
+
+/// What an attribute gives that isn't written, if that is anything.
+pub fn unwritten(alloc: Global, attribute: Attr) -> Result<Option<Content>, ShowFault> {
+    match attribute {
+        Attr::Handling => Ok(Some(default_of(alloc, "READ & WRITE", 3)?)),
+        Attr::Validity => Ok(Some(default_of(alloc, "TRUE", 1)?)),
+        _ => Ok(None),
+    }
+}
+
+/// The code of a row.
+pub fn code_of<'a>(sections: &Sections<'a>, row: RowFields) -> &'a [u8] {
+    part(sections.code, row.unit).unwrap_or(&[])
+}
+
+/// What the attribute of a row gives, or nothing where its code is of no known form.
+pub fn written(
+    alloc: Global,
+    sections: &Sections<'_>,
+    attribute: Attr,
+    row: RowFields,
+) -> Result<Option<Content>, ShowFault> {
+    match read(alloc, sections, code_of(sections, row)) {
+        Ok(reading) => {
+            let words = Words {
+                alloc,
+                sections,
+                attribute,
+            };
+            Ok(Some(content_of(alloc, words, reading)?))
+        }
+        Err(Unread::Strange) => Ok(None),
+        Err(Unread::Memory) => Err(ShowFault::Memory),
+    }
+}

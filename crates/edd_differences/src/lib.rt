@@ -1,0 +1,21 @@
+//! What differs between two images, as a technician or a host would notice it: items that came,
+//! went or moved, attributes that read otherwise and under which condition, texts by language,
+//! methods whose code differs, and messages that changed on the wire. Only safety is proved.
+#![tactic(auto)]
+
+mod attributes;
+mod code;
+mod contents;
+mod difference;
+mod items;
+mod json;
+mod lines;
+mod lists;
+mod reader;
+mod records;
+mod values;
+
+pub use difference::{Difference, Item, Note, What};
+pub use items::differences;
+pub use json::print_objects;
+pub use lines::print_lines;

@@ -1,0 +1,109 @@
+//! The entries of two lists, found again by their keys.
+
+use crate::contents::{Content, Line};
+use indexmap::IndexMap;
+use std::alloc::{AllocError, Global};
+
+/// The lines of a list by their keys. Lines of one key are found one after the other.
+#[derive(Drop)]
+pub struct Chain<'c> {
+    /// For each key the first line that was not found yet.
+    first: IndexMap<&'c str, usize>,
+    /// For each line the next one of its key, or a number beyond all lines.
+    next: Vec<usize>,
+    /// Whether a line was found.
+    found: Vec<bool>,
+}
+
+fn none_found(alloc: Global, count: usize) -> Result<Vec<bool>, AllocError> {
+    let mut found = Vec::with_capacity(alloc, count)?;
+    for _ in 0..count {
+        found.push(false)?;
+    }
+    Ok(found)
+}
+
+impl<'c> Chain<'c> {
+    pub fn of(alloc: Global, lines: &'c [Line]) -> Result<Chain<'c>, AllocError> {
+        let mut first: IndexMap<&'c str, usize> = IndexMap::new(alloc);
+        let mut last: IndexMap<&'c str, usize> = IndexMap::new(alloc);
+        let mut next: Vec<usize> = Vec::with_capacity(alloc, lines.len())?;
+        for (number, line) in lines.iter().enumerate() {
+            let key = line.key.as_str();
+            next.push(lines.len())?;
+            match last.insert(key, number)? {
+                Some(before) => {
+                    if let Some(link) = next.get_mut(before) {
+                        *link = number;
+                    }
+                }
+                None => {
+                    first.insert(key, number)?;
+                }
+            }
+        }
+        let found = none_found(alloc, lines.len())?;
+        Ok(Chain { first, next, found })
+    }
+
+    /// The first line of a key that was not found yet.
+    pub fn take(&mut self, key: &'c str) -> Result<Option<usize>, AllocError> {
+        let Some(number) = self.first.get(key).copied() else {
+            return Ok(None);
+        };
+        let Some(found) = self.found.get_mut(number) else {
+            return Ok(None);
+        };
+        *found = true;
+        let next = self.next.get(number).copied().unwrap_or(number);
+        self.first.insert(key, next)?;
+        Ok(Some(number))
+    }
+
+    pub fn was_found(&self, number: usize) -> bool {
+        self.found.get(number).copied().unwrap_or(false)
+    }
+}
+
+/// Whether a condition of one list may be one of the other in another form.
+pub fn may_be_among(condition: &str, others: &Content) -> bool {
+    if condition.is_empty() || others.conditions.len() <= 1 {
+        return false;
+    }
+    for other in &others.conditions {
+        if other.as_str() == condition {
+            return false;
+        }
+    }
+    true
+}
+
+/// All that a list gives, in one text.
+pub fn joined(alloc: Global, content: &Content) -> Result<String, AllocError> {
+    let mut text = String::new(alloc);
+    for line in &content.lines {
+        if !text.is_empty() {
+            text.push_str(", ")?;
+        }
+        text.push_str(&line.text)?;
+        let condition = content.condition(line);
+        if !condition.is_empty() {
+            text.push_str(" where ")?;
+            text.push_str(condition)?;
+        }
+    }
+    Ok(text)
+}
+
+/// Whether the lines of both stand under the same conditions, one by one.
+pub fn have_same_conditions(old: &Content, new: &Content) -> bool {
+    if old.lines.len() != new.lines.len() {
+        return false;
+    }
+    for (line, other) in old.lines.iter().zip(new.lines.iter()) {
+        if old.condition(line) != new.condition(other) {
+            return false;
+        }
+    }
+    true
+}

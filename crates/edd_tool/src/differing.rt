@@ -1,0 +1,54 @@
+//! What the program does to say what differs between two descriptions.
+
+use crate::devices::compiled;
+use crate::files::Files;
+use crate::opening::is_image;
+use crate::requests::{Stop, read};
+use edd_command_line::Form;
+use edd_differences::{differences, print_lines, print_objects};
+use edd_loader::{Image, LoadFault, load};
+use std::alloc::Global;
+use std::io::Write;
+
+// The image in the bytes of a file: of a source what it is compiled to.
+fn image_bytes<'a>(alloc: Global, name: &'a str, bytes: Vec<u8>) -> Result<Vec<u8>, Stop<'a>> {
+    if is_image(&bytes) {
+        return Ok(bytes);
+    }
+    compiled(alloc, name, &bytes)
+}
+
+fn loaded<'a, 'b>(alloc: Global, name: &'a str, bytes: &'b [u8]) -> Result<Image<'b>, Stop<'a>> {
+    match load(alloc, bytes) {
+        Ok(image) => Ok(image),
+        Err(LoadFault::Memory) => Err(Stop::Memory),
+        Err(fault) => Err(Stop::NoImage(name, fault)),
+    }
+}
+
+/// Prints what differs between two sources or images.
+pub fn diff_files<'a, F: Files, W: Write>(
+    alloc: Global,
+    old: &'a str,
+    new: &'a str,
+    form: Form,
+    files: &mut F,
+    out: &mut W,
+) -> Result<(), Stop<'a>> {
+    let old_bytes = read(alloc, files, old)?;
+    let new_bytes = read(alloc, files, new)?;
+    let old_bytes = image_bytes(alloc, old, old_bytes)?;
+    let new_bytes = image_bytes(alloc, new, new_bytes)?;
+    let old_image = loaded(alloc, old, &old_bytes)?;
+    let new_image = loaded(alloc, new, &new_bytes)?;
+    let found = differences(alloc, &old_image, &new_image)?;
+    match form {
+        Form::Text => print_lines(alloc, &found, out)?,
+        Form::Json => print_objects(alloc, &found, out)?,
+    }
+    if found.is_empty() {
+        Ok(())
+    } else {
+        Err(Stop::Shown)
+    }
+}
