@@ -137,7 +137,14 @@ impl<'a> Comparison<'_, 'a> {
                 self.tell_of(what, condition, Some(of.text), None, Note::Nothing, false)
             }
             (Some(new), false) if new != of.text => {
-                self.tell_of(what, condition, Some(of.text), Some(new), Note::Nothing, false)
+                self.tell_of(
+                    what,
+                    condition,
+                    Some(of.text),
+                    Some(new),
+                    Note::Nothing,
+                    false,
+                )
             }
             _ => Ok(()),
         }
@@ -183,12 +190,7 @@ impl<'a> Comparison<'_, 'a> {
         }
     }
 
-    fn compare_lines(
-        &mut self,
-        condition: &str,
-        old: &Line,
-        new: &Line,
-    ) -> Result<(), ShowFault> {
+    fn compare_lines(&mut self, condition: &str, old: &Line, new: &Line) -> Result<(), ShowFault> {
         if old.text.as_str() == new.text.as_str() {
             return Ok(());
         }
@@ -223,12 +225,7 @@ impl<'a> Comparison<'_, 'a> {
         Ok(())
     }
 
-    fn compare_whole(
-        &mut self,
-        old: &Content,
-        new: &Content,
-        note: Note,
-    ) -> Result<(), ShowFault> {
+    fn compare_whole(&mut self, old: &Content, new: &Content, note: Note) -> Result<(), ShowFault> {
         let first = joined(self.alloc, old)?;
         let second = joined(self.alloc, new)?;
         if first.as_str() == second.as_str() {

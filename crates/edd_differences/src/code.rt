@@ -71,9 +71,10 @@ impl Pair<'_, '_> {
         }
         let mut place = 0;
         while place < old.len() {
-            let (Some((first, behind)), Some((second, other))) =
-                (decode(old, place), decode(new, place))
-            else {
+            let Some((first, behind)) = decode(old, place) else {
+                return false;
+            };
+            let Some((second, other)) = decode(new, place) else {
                 return false;
             };
             if behind != other || !self.is_same_instruction(first, second) {

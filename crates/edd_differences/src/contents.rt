@@ -96,11 +96,7 @@ fn line_of(
     })
 }
 
-fn content_of(
-    alloc: Global,
-    words: Words<'_, '_>,
-    reading: Reading,
-) -> Result<Content, ShowFault> {
+fn content_of(alloc: Global, words: Words<'_, '_>, reading: Reading) -> Result<Content, ShowFault> {
     let mut lines = Vec::with_capacity(alloc, reading.given.len())?;
     let has_nothing = shape_of(words.attribute) == Shape::Value;
     for given in &reading.given {

@@ -38,7 +38,11 @@ fn names_of<'a>(
     Ok(names)
 }
 
-fn no_rows(alloc: Global, sections: &Sections<'_>, kind: Kind) -> Result<Vec<Vec<RowFields>>, AllocError> {
+fn no_rows(
+    alloc: Global,
+    sections: &Sections<'_>,
+    kind: Kind,
+) -> Result<Vec<Vec<RowFields>>, AllocError> {
     let mut rows = Vec::new(alloc);
     for number in 0..u16::MAX {
         if !sections.counts.has_item(kind.item(number)) {
@@ -150,7 +154,13 @@ impl<'c, 'a> Comparing<'c, 'a> {
         write!(first, "{old}")?;
         let mut second = String::new(self.alloc);
         write!(second, "{new}")?;
-        self.tell(None, What::Identification(word), Some(first), Some(second), false)
+        self.tell(
+            None,
+            What::Identification(word),
+            Some(first),
+            Some(second),
+            false,
+        )
     }
 
     fn compare_identification(&mut self) -> Result<(), ShowFault> {
@@ -309,12 +319,7 @@ impl<'c, 'a> Comparing<'c, 'a> {
     }
 
     // An attribute that only one of the images has.
-    fn tell_row(
-        &mut self,
-        item: Item<'a>,
-        row: &RowFields,
-        is_new: bool,
-    ) -> Result<(), ShowFault> {
+    fn tell_row(&mut self, item: Item<'a>, row: &RowFields, is_new: bool) -> Result<(), ShowFault> {
         let (alloc, images) = (self.alloc, self.images);
         let Some(mut comparison) = self.comparison(item, row) else {
             return Ok(());
@@ -341,7 +346,7 @@ impl<'c, 'a> Comparing<'c, 'a> {
         new: &[RowFields],
     ) -> Result<(), ShowFault> {
         let (mut old, mut new) = (old, new);
-        loop {
+        for _ in 0..old.len().saturating_add(new.len()) {
             match (old, new) {
                 ([first, more @ ..], [second, others @ ..]) if rank(first) == rank(second) => {
                     self.compare_rows(item, first, second)?;
@@ -362,6 +367,7 @@ impl<'c, 'a> Comparing<'c, 'a> {
                 ([], []) => return Ok(()),
             }
         }
+        Ok(())
     }
 
     fn compare_items(

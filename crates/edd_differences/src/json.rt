@@ -52,7 +52,11 @@ fn object_of<'d>(of: &'d Difference<'_>) -> Object<'d> {
             What::Text(_, code) => Some(code),
             _ => None,
         },
-        condition: if condition.is_empty() { None } else { Some(condition) },
+        condition: if condition.is_empty() {
+            None
+        } else {
+            Some(condition)
+        },
         old: of.old.as_ref().map(|text| text.as_str()),
         new: of.new.as_ref().map(|text| text.as_str()),
         note: note_word(of.note),

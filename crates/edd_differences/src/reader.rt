@@ -181,11 +181,13 @@ impl Reader<'_, '_> {
     // The condition around all cases of which this is the next one.
     fn around_cases(&self, height: usize) -> usize {
         match self.open.last() {
-            Some(Open {
-                region: Region::Rest { select, .. },
-                height: before,
-                ..
-            }) if *before == height => *select,
+            Some(
+                Open {
+                    region: Region::Rest { select, .. },
+                    height: before,
+                    ..
+                },
+            ) if *before == height => *select,
             _ => self.condition,
         }
     }
@@ -225,13 +227,15 @@ impl Reader<'_, '_> {
 
     // A jump ends the first part of a region, and the other begins behind it.
     fn switch(&mut self, behind: usize, target: u32) -> Result<(), Unread> {
-        let Some(Open {
-            region,
-            end,
-            height,
-            given,
-            around,
-        }) = self.open.pop()
+        let Some(
+            Open {
+                region,
+                end,
+                height,
+                given,
+                around,
+            },
+        ) = self.open.pop()
         else {
             return Err(Unread::Strange);
         };
@@ -255,41 +259,78 @@ impl Reader<'_, '_> {
         }
     }
 
+    // The end of a conditional: of an expression where both parts left a value.
+    fn close_conditional(
+        &mut self,
+        test: Value,
+        first: Option<Value>,
+        second: Option<Value>,
+    ) -> Result<(), Unread> {
+        let Some(first) = first else {
+            return if second.is_none() {
+                Ok(())
+            } else {
+                Err(Unread::Strange)
+            };
+        };
+        let Some(second) = second else {
+            return Err(Unread::Strange);
+        };
+        let chosen = choice(self.alloc, &test, &first, &second)?;
+        self.push(chosen)
+    }
+
+    fn close_right(
+        &mut self,
+        left: Value,
+        sign: &'static str,
+        right: Option<Value>,
+    ) -> Result<(), Unread> {
+        let Some(right) = right else {
+            return Err(Unread::Strange);
+        };
+        let right = without_truth(self.alloc, right)?;
+        let both = binary(self.alloc, sign, &left, &right)?;
+        self.push(both)
+    }
+
     fn close(&mut self, of: Open) -> Result<(), Unread> {
-        let last = self.value_above(of.height)?;
+        let Open {
+            region,
+            height,
+            given,
+            around,
+            ..
+        } = of;
+        let last = self.value_above(height)?;
         if last.is_none() {
-            self.note_nothing(of.given)?;
+            self.note_nothing(given)?;
         }
-        self.condition = of.around;
-        match (of.region, last) {
-            (Region::Right { left, sign }, Some(right)) => {
-                let right = without_truth(self.alloc, right)?;
-                let both = binary(self.alloc, sign, &left, &right)?;
-                self.push(both)
-            }
-            (
-                Region::Otherwise {
-                    test,
-                    first: Some(first),
-                },
-                Some(second),
-            ) => {
-                let chosen = choice(self.alloc, &test, &first, &second)?;
-                self.push(chosen)
-            }
-            (Region::Otherwise { first: None, .. }, None) | (Region::Body, None) => Ok(()),
+        self.condition = around;
+        match region {
+            Region::Right { left, sign } => self.close_right(left, sign, last),
+            Region::Otherwise { test, first } => self.close_conditional(test, first, last),
+            Region::Body if last.is_none() => Ok(()),
             _ => Err(Unread::Strange),
+        }
+    }
+
+    fn ends_at(&self, place: usize) -> bool {
+        match self.open.last() {
+            Some(of) => of.end == place,
+            None => false,
         }
     }
 
     // Closes the regions that end at a place.
     fn close_at(&mut self, place: usize) -> Result<(), Unread> {
-        while let Some(of) = self.open.pop() {
-            if of.end != place {
-                self.open.push(of)?;
+        for _ in 0..self.open.len() {
+            if !self.ends_at(place) {
                 return Ok(());
             }
-            self.close(of)?;
+            if let Some(of) = self.open.pop() {
+                self.close(of)?;
+            }
         }
         Ok(())
     }

@@ -1,9 +1,7 @@
 //! The words of what an attribute gives, with its texts in all languages.
 
 use crate::reader::Given;
-use edd_display::{
-    DATA_QUALIFIERS, MENU_QUALIFIERS, ShowFault, class_word, push_qualifiers,
-};
+use edd_display::{DATA_QUALIFIERS, MENU_QUALIFIERS, ShowFault, class_word, push_qualifiers};
 use edd_dump::push_string;
 use edd_fault_places::sections::Sections;
 use edd_fault_places::variants::first_variant;
@@ -63,11 +61,7 @@ impl Words<'_, '_> {
         Ok(())
     }
 
-    fn push_texts(
-        &self,
-        line: &mut String,
-        texts: [Option<StrNo>; 2],
-    ) -> Result<(), ShowFault> {
+    fn push_texts(&self, line: &mut String, texts: [Option<StrNo>; 2]) -> Result<(), ShowFault> {
         for text in texts {
             if let Some(text) = text {
                 line.push(' ')?;
@@ -155,14 +149,20 @@ impl Words<'_, '_> {
                 self.push_texts(line, [Some(text), None])
             }
             Instruction::Element {
-                var, label, help, ..
+                var,
+                label,
+                help,
+                ..
             } => {
                 line.push(' ')?;
                 self.push_name(line, ItemNo::Variable(var))?;
                 self.push_texts(line, [label, help])
             }
             Instruction::Member {
-                item, label, help, ..
+                item,
+                label,
+                help,
+                ..
             } => {
                 line.push(' ')?;
                 self.push_name(line, item)?;
