@@ -1,9 +1,9 @@
 //! One attribute of two images.
 
 use crate::code::Pair;
-use crate::contents::{Content, Line, Shape, shape_of};
 use crate::difference::{Difference, Item, Note, What};
 use crate::lists::{Chain, have_same_conditions, joined, may_be_among};
+use edd_contents::{Content, Line, Shape, shape_of};
 use edd_display::ShowFault;
 use edd_fault_places::variants::{Variant, first_variant};
 use edd_syntax::numbers::{Attr, StrNo};

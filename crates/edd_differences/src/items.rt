@@ -2,8 +2,8 @@
 
 use crate::attributes::Comparison;
 use crate::code::Pair;
-use crate::contents::{Content, code_of, unwritten, written};
 use crate::difference::{Difference, Item, Note, What};
+use edd_contents::{Content, code_of, unwritten, written};
 use edd_display::{ShowFault, type_word};
 use edd_fault_places::sections::{RowFields, Sections};
 use edd_image::VarKind;

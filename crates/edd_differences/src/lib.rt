@@ -5,15 +5,11 @@
 
 mod attributes;
 mod code;
-mod contents;
 mod difference;
 mod items;
 mod json;
 mod lines;
 mod lists;
-mod reader;
-mod records;
-mod values;
 
 pub use difference::{Difference, Item, Note, What};
 pub use items::differences;

@@ -1,6 +1,6 @@
 //! The entries of two lists, found again by their keys.
 
-use crate::contents::{Content, Line};
+use edd_contents::{Content, Line};
 use indexmap::IndexMap;
 use std::alloc::{AllocError, Global};
 

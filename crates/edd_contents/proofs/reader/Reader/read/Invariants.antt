@@ -1,5 +1,5 @@
 use Rattle.std.proofs.Common.{◌-◌, ◌≤◌, length}
-use Rattle.edd_differences.proofs.reader.Reader.read.Given as goal
+use Rattle.edd_contents.proofs.reader.Reader.read.Given as goal
 
 abbrev pub invariant-loop-place : goal.invariant-loop-place
 invariant-loop-place l = l.place ≤ length l.code

@@ -1,0 +1,11 @@
+//! The code of attributes read back: what an attribute of an image gives, in words, and under which
+//! conditions, as expressions of the language. Code that is valid and of another form than that of
+//! descriptions is not read. Only safety is proved.
+#![tactic(auto)]
+
+mod contents;
+mod reader;
+mod records;
+mod values;
+
+pub use contents::{Content, Line, Shape, code_of, shape_of, unwritten, written};
