@@ -1,6 +1,7 @@
 //! What the program does to check a source.
 
-use crate::requests::Stop;
+use crate::files::Files;
+use crate::requests::{Stop, read_each};
 use edd_check::{Choices, Format, LINTS, Lint, ReportFault, check};
 use edd_command_line::{Form, Lints};
 use std::alloc::{AllocError, Global};
@@ -49,8 +50,8 @@ fn deny<'a>(choices: &mut Choices, name: &'a str) -> Result<(), Stop<'a>> {
     Ok(())
 }
 
-/// What is to be done where lints find something.
-pub fn choices_of<'a>(alloc: Global, lints: &Lints<'a>) -> Result<Choices, Stop<'a>> {
+// What is to be done where lints find something.
+fn choices_of<'a>(alloc: Global, lints: &Lints<'a>) -> Result<Choices, Stop<'a>> {
     let mut choices = Choices::new(alloc);
     for name in &lints.allowed {
         allow(&mut choices, *name)?;
@@ -79,16 +80,36 @@ fn format_of(form: Form) -> Format {
     }
 }
 
-/// Prints what is said of a source.
-pub fn check_text<'a, W: Write>(
+// Prints what is said of a source, and answers whether it is refused.
+fn check_text<'a, W: Write>(
     alloc: Global,
     source: &'a str,
     text: &[u8],
     choices: &Choices,
     form: Form,
     out: &mut W,
+) -> Result<bool, Stop<'a>> {
+    Ok(check(alloc, source, text, choices, format_of(form), out)?)
+}
+
+/// Prints what is said of sources, one after the other. All are read first.
+pub fn check_sources<'a, F: Files, W: Write>(
+    alloc: Global,
+    names: &[&'a str],
+    lints: &Lints<'a>,
+    form: Form,
+    files: &mut F,
+    out: &mut W,
 ) -> Result<(), Stop<'a>> {
-    if check(alloc, source, text, choices, format_of(form), out)? {
+    let choices = choices_of(alloc, lints)?;
+    let texts = read_each(alloc, files, names)?;
+    let mut is_refused = false;
+    for (name, text) in names.iter().zip(texts.iter()) {
+        if check_text(alloc, *name, text, &choices, form, out)? {
+            is_refused = true;
+        }
+    }
+    if is_refused {
         Err(Stop::Shown)
     } else {
         Ok(())

@@ -10,12 +10,14 @@ mod devices;
 mod differing;
 mod explaining;
 mod files;
+mod formatting;
 mod input;
 mod keys;
 mod opening;
 mod playing;
 mod requests;
 mod script;
+mod serving;
 mod system;
 mod testing;
 

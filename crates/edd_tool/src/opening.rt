@@ -20,6 +20,9 @@ use std::io::{Read, Write};
 /// The name of the file that has the user's lines.
 pub const INPUT: &str = "/dev/stdin";
 
+/// The name of the standard output as a file.
+pub const OUTPUT: &str = "/dev/stdout";
+
 /// What an image begins with, and no source does.
 const MAGIC: &[u8] = b"EDI1";
 

@@ -2,24 +2,26 @@
 
 ghost use Rattle.std.specs.Prelude.{◌≤◌};
 
-use crate::checking::{check_text, choices_of, push_lints};
+use crate::checking::{check_sources, push_lints};
 use crate::devices::play_with_device;
 use crate::differing::diff_files;
 use crate::explaining::print_explanation;
 use crate::files::{FileFault, Files, read_all};
-use crate::opening::open;
+use crate::formatting::format_files;
+use crate::opening::{INPUT, OUTPUT, open};
 use crate::playing::play_bytes;
 use crate::script::{self, ScriptFault};
+use crate::serving::serve;
 use crate::testing::test_files;
 use crate::{COMMAND_LINE, DONE, FILE, MEMORY, REFUSED};
-use edd_command_line::{Form, Lints, NoRequest, Request, Run};
+use edd_command_line::{NoRequest, Request, Run};
 use edd_compiler::{Fault, compile};
 use edd_display::{ShowFault, print, print_text, show};
 use edd_dump::dump;
 use edd_loader::{Image, LoadFault, load};
 use edd_machine::{Values, ValuesFault};
 use edd_port::PlayFault;
-use std::alloc::{AllocError, Global};
+use std::alloc::{AllocError, AllocFailed, Global};
 use std::io::Write;
 
 /// Why the program stops before its end.
@@ -125,6 +127,12 @@ impl From<AllocError> for Stop<'_> {
     }
 }
 
+impl<T: Drop> From<AllocFailed<T>> for Stop<'_> {
+    fn from(_error: AllocFailed<T>) -> Self {
+        Stop::Memory
+    }
+}
+
 /// The end of a program whose file failed.
 pub fn of_file<'a>(name: &'a str, fault: FileFault) -> Stop<'a> {
     match fault {
@@ -133,12 +141,17 @@ pub fn of_file<'a>(name: &'a str, fault: FileFault) -> Stop<'a> {
     }
 }
 
+/// What stands for the standard input where a file is read, and for the output where one is
+/// written.
+pub const STANDARD: &str = "-";
+
 /// The bytes of a file, or why there are none.
 pub fn read_bytes<F: Files>(
     alloc: Global,
     files: &mut F,
     name: &str,
 ) -> Result<Vec<u8>, FileFault> {
+    let name = if name == STANDARD { INPUT } else { name };
     let mut reader = files.open(name)?;
     read_all(alloc, &mut reader)
 }
@@ -150,6 +163,19 @@ pub fn read<'a, F: Files>(
     name: &'a str,
 ) -> Result<Vec<u8>, Stop<'a>> {
     read_bytes(alloc, files, name).map_err(|fault| of_file(name, fault))
+}
+
+/// The bytes of several files.
+pub fn read_each<'a, F: Files>(
+    alloc: Global,
+    files: &mut F,
+    names: &[&'a str],
+) -> Result<Vec<Vec<u8>>, Stop<'a>> {
+    let mut texts = Vec::with_capacity(alloc, names.len())?;
+    for name in names {
+        texts.push(read(alloc, files, *name)?)?;
+    }
+    Ok(texts)
 }
 
 /// The bytes of a script. No script is an empty one.
@@ -168,15 +194,19 @@ fn write_image<'a, F: Files, W: Write>(
     alloc: Global,
     source: &'a str,
     image: &'a str,
+    is_quiet: bool,
     files: &mut F,
     out: &mut W,
 ) -> Result<(), Stop<'a>> {
     let text = read(alloc, files, source)?;
     let bytes = compile(alloc, &text)?;
+    let file = if image == STANDARD { OUTPUT } else { image };
     files
-        .save(image, &bytes)
+        .save(file, &bytes)
         .map_err(|fault| of_file(image, fault))?;
-    print(alloc, out, format_args!("image {}", bytes.len()))?;
+    if !is_quiet {
+        print(alloc, out, format_args!("image {}", bytes.len()))?;
+    }
     Ok(())
 }
 
@@ -286,19 +316,6 @@ fn try_source<'a, F: Files, W: Write>(
     run_method(alloc, &bytes, device, &script, run, out)
 }
 
-fn check_source<'a, F: Files, W: Write>(
-    alloc: Global,
-    source: &'a str,
-    lints: &Lints<'a>,
-    form: Form,
-    files: &mut F,
-    out: &mut W,
-) -> Result<(), Stop<'a>> {
-    let choices = choices_of(alloc, lints)?;
-    let text = read(alloc, files, source)?;
-    check_text(alloc, source, &text, &choices, form, out)
-}
-
 fn dump_file<'a, F: Files, W: Write>(
     alloc: Global,
     image: &'a str,
@@ -321,7 +338,11 @@ pub fn answer<'a, F: Files, W: Write>(
     out: &mut W,
 ) -> Result<(), Stop<'a>> {
     match edd_command_line::parse(alloc, words)? {
-        Request::Compile { source, image } => write_image(alloc, source, image, files, out),
+        Request::Compile {
+            source,
+            image,
+            is_quiet,
+        } => write_image(alloc, source, image, is_quiet, files, out),
         Request::View {
             source,
             script,
@@ -334,17 +355,16 @@ pub fn answer<'a, F: Files, W: Write>(
         } => show_file(alloc, image, script, language, files, out),
         Request::Play { image, run } => play_file(alloc, image, run, files, out),
         Request::Try { source, run } => try_source(alloc, source, run, files, out),
-        Request::Check {
-            source,
-            lints,
-            form,
-        } => check_source(alloc, source, &lints, form, files, out),
+        Request::Check { names, lints, form } => {
+            check_sources(alloc, &names, &lints, form, files, out)
+        }
         Request::Open(opening) => open(alloc, opening, files, out),
         Request::Test { names, is_update } => test_files(alloc, &names, is_update, files, out),
+        Request::Format { names, is_check } => format_files(alloc, &names, is_check, files, out),
         Request::Diff { old, new, form } => diff_files(alloc, old, new, form, files, out),
         Request::Dump { image } => dump_file(alloc, image, files, out),
         Request::Explain { what } => print_explanation(alloc, what, out),
-        Request::Format { .. } | Request::Serve => Ok(()),
+        Request::Serve => serve(alloc, files, out),
     }
 }
 

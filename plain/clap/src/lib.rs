@@ -100,6 +100,10 @@ impl<'a> Arg<'a> {
         self.with(|arg| arg.help(keep(text)))
     }
 
+    pub fn short(self, letter: char) -> Self {
+        self.with(|arg| arg.short(letter))
+    }
+
     pub fn long(self, name: &str) -> Self {
         self.with(|arg| arg.long(keep(name)))
     }
