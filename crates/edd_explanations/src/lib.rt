@@ -7,6 +7,7 @@ mod devices;
 mod edits;
 mod grammar;
 mod image;
+mod library;
 mod rules;
 mod testing;
 mod text;
@@ -24,7 +25,7 @@ pub struct Explanation {
 }
 
 /// All explanations, by their numbers, in the groups in which they are told.
-const GROUPS: [&[Explanation]; 8] = [
+const GROUPS: [&[Explanation]; 9] = [
     &text::EXPLANATIONS,
     &grammar::EXPLANATIONS,
     &rules::EXPLANATIONS,
@@ -33,6 +34,7 @@ const GROUPS: [&[Explanation]; 8] = [
     &devices::EXPLANATIONS,
     &edits::EXPLANATIONS,
     &testing::EXPLANATIONS,
+    &library::EXPLANATIONS,
 ];
 
 /// The explanation of a name, or none where no refusal has it.

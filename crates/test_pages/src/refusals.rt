@@ -11,7 +11,7 @@ const TITLE: &str = "# What each refusal means
 ";
 
 /// What is on the page before the section of a number.
-const PARTS: [(u32, &str); 8] = [
+const PARTS: [(u32, &str); 10] = [
     (1, "## A text that has no tokens\n"),
     (10, "## A text that the grammar has no tree for\n"),
     (20, "## A description that breaks a rule\n"),
@@ -24,7 +24,9 @@ none of them, so one that does was changed after, or comes from elsewhere: copy 
 it again.
 ",
     ),
+    (150, "## Memory that is refused\n"),
     (201, "## Values, answers and scripts\n"),
+    (260, "## A call of the library for C\n"),
     (
         270,
         "## A simulated device without an answer
