@@ -1,0 +1,90 @@
+//! The call around a place.
+
+use crate::answers::Signature;
+use crate::comments::is_unread;
+use crate::document::Document;
+use crate::functions::Function;
+use crate::spots::Place;
+use edd_lexer::token::TokenKind;
+use edd_syntax::symbols::Symbol;
+use std::alloc::{AllocError, Global};
+
+/// A call that is not closed before a token.
+#[derive(Clone, Copy)]
+pub struct Call {
+    pub function: Function,
+    /// How many commas of its own come before the token.
+    pub argument: usize,
+}
+
+// How far one is on the way back from a token.
+#[derive(Clone, Copy)]
+struct Way {
+    closed: usize,
+    commas: usize,
+}
+
+// The function whose parentheses a token opens.
+fn called(document: &Document<'_>, open: usize) -> Option<Function> {
+    let name = open.checked_sub(1)?;
+    if document.kind(name) != Some(TokenKind::Name) {
+        return None;
+    }
+    Function::named(document.word(name))
+}
+
+/// The innermost call of a function whose parentheses are open before a token.
+pub fn call_before(document: &Document<'_>, token: usize) -> Option<Call> {
+    let mut way = Way {
+        closed: 0,
+        commas: 0,
+    };
+    for count in 1..=token {
+        let number = token.saturating_sub(count);
+        let Some(TokenKind::Symbol(sign)) = document.kind(number) else {
+            continue;
+        };
+        match sign {
+            Symbol::CloseParenthesis | Symbol::CloseBracket => {
+                way.closed = way.closed.saturating_add(1);
+            }
+            Symbol::OpenParenthesis | Symbol::OpenBracket if way.closed != 0 => {
+                way.closed = way.closed.saturating_sub(1);
+            }
+            Symbol::OpenParenthesis | Symbol::OpenBracket => {
+                if let Some(function) = called(document, number) {
+                    return Some(Call {
+                        function,
+                        argument: way.commas,
+                    });
+                }
+                way.commas = 0;
+            }
+            Symbol::Comma if way.closed == 0 => way.commas = way.commas.saturating_add(1),
+            Symbol::Semicolon | Symbol::OpenBrace | Symbol::CloseBrace => return None,
+            _ => {}
+        }
+    }
+    None
+}
+
+/// How the function is called in whose parentheses a byte is, and at which parameter the byte is.
+pub fn signature(
+    alloc: Global,
+    document: &Document<'_>,
+    byte: usize,
+) -> Result<Option<Signature>, AllocError> {
+    let token = document.token_from(byte);
+    if document.spot(token).place != Place::Body || is_unread(document, byte) {
+        return Ok(None);
+    }
+    let Some(call) = call_before(document, token) else {
+        return Ok(None);
+    };
+    let written = call.function.written(alloc)?;
+    Ok(Some(Signature {
+        label: written.label,
+        parameters: written.parameters,
+        active: call.argument,
+    }))
+}

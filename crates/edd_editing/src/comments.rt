@@ -1,0 +1,87 @@
+//! Comments, which are between tokens.
+
+use crate::document::Document;
+use edd_reports::words::Span;
+
+/// A comment, and whether it is a block.
+#[derive(Clone, Copy)]
+pub struct Comment {
+    pub place: Span,
+    pub is_block: bool,
+}
+
+// How many bytes a comment has that a text begins with, and whether it is a block.
+fn length_at(text: &[u8]) -> Option<(usize, bool)> {
+    let (marks, ends): (&[u8], &[u8]) = match text {
+        [b'/', b'/', ..] => (b"//", b"\n"),
+        [b'/', b'*', ..] => (b"/*", b"*/"),
+        _ => return None,
+    };
+    let is_block = ends.len() == 2;
+    let inside = text.get(marks.len()..)?;
+    for (index, window) in inside.windows(ends.len()).enumerate() {
+        if window == ends {
+            let behind = if is_block { ends.len() } else { 0 };
+            return Some((
+                index.saturating_add(marks.len()).saturating_add(behind),
+                is_block,
+            ));
+        }
+    }
+    Some((text.len(), is_block))
+}
+
+/// The first comment from a byte on, before another one.
+pub fn comment_from(text: &[u8], start: usize, end: usize) -> Option<Comment> {
+    let gap = text.get(start..end)?;
+    for index in 0..gap.len() {
+        if let Some((length, is_block)) = length_at(gap.get(index..).unwrap_or(b"")) {
+            let start = start.saturating_add(index);
+            return Some(Comment {
+                place: Span {
+                    start,
+                    end: start.saturating_add(length),
+                },
+                is_block,
+            });
+        }
+    }
+    None
+}
+
+// Whether something else than blanks is on a line before its end.
+fn has_signs(text: &[u8]) -> bool {
+    let mut has_signs = false;
+    for byte in text {
+        has_signs = *byte != b'\n' && (has_signs || b' ' < *byte);
+    }
+    has_signs
+}
+
+/// Whether a byte is in a comment, past its first sign, or in the part of a line behind a lexical
+/// fault.
+pub fn is_unread(document: &Document<'_>, byte: usize) -> bool {
+    let next = document.token_from(byte);
+    let mut start = match next.checked_sub(1) {
+        Some(before) => document.span(before).map_or(0, |span| span.end),
+        None => 0,
+    };
+    let end = document
+        .span(next)
+        .map_or(document.text.len(), |span| span.start);
+    for _ in start..end {
+        let Some(comment) = comment_from(document.text, start, end) else {
+            break;
+        };
+        // A line comment goes on up to the end of its line.
+        let last = if comment.is_block { 0 } else { 1 };
+        if byte <= comment.place.start {
+            break;
+        }
+        if byte < comment.place.end.saturating_add(last) {
+            return true;
+        }
+        start = comment.place.end;
+    }
+    has_signs(document.text.get(start..byte.min(end)).unwrap_or(b""))
+}

@@ -1,0 +1,358 @@
+//! What may be written at a place.
+
+use crate::answers::{CompletionKind, Completions};
+use crate::call::call_before;
+use crate::comments::is_unread;
+use crate::document::Document;
+use crate::meanings::collection_of;
+use crate::offers::Offers;
+use crate::place_terms::role_at;
+use crate::spots::{ATTRIBUTE_WORDS, Braces, Place, is_number_word};
+use edd_lexer::token::TokenKind;
+use edd_reports::words::Span;
+use edd_syntax::numbers::{KINDS, Kind};
+use edd_syntax::operators::Parameter;
+use edd_syntax::symbols::{Keyword, Symbol};
+use std::alloc::{AllocError, Global};
+
+/// The words with which statements begin, and those between their parts.
+const STATEMENTS: [Keyword; 13] = [
+    Keyword::Int,
+    Keyword::Long,
+    Keyword::MethodIf,
+    Keyword::MethodElse,
+    Keyword::While,
+    Keyword::Do,
+    Keyword::For,
+    Keyword::Switch,
+    Keyword::MethodCase,
+    Keyword::MethodDefault,
+    Keyword::Break,
+    Keyword::Continue,
+    Keyword::Return,
+];
+
+/// The parts of TYPE. An enumerated type has the first alone.
+const TYPE_PARTS: [Keyword; 5] = [
+    Keyword::DefaultValue,
+    Keyword::MinValue,
+    Keyword::MaxValue,
+    Keyword::DisplayFormat,
+    Keyword::EditFormat,
+];
+
+const TRANSACTION_PARTS: [Keyword; 2] = [Keyword::Request, Keyword::Reply];
+
+/// The words of conditions.
+const CONDITIONS: [Keyword; 2] = [Keyword::If, Keyword::Select];
+
+/// The kinds of a menu's entries.
+const ENTRIES: [Kind; 4] = [Kind::Variable, Kind::Menu, Kind::Collection, Kind::Method];
+
+/// The kinds of which a collection's members are.
+const KINDS_OF_MEMBERS: [Kind; 5] = [
+    Kind::Variable,
+    Kind::Command,
+    Kind::Menu,
+    Kind::Collection,
+    Kind::Method,
+];
+
+/// The kinds whose items have values, in an expression.
+const VALUES: [Kind; 3] = [Kind::Variable, Kind::Collection, Kind::Array];
+
+// Where something is to be written.
+#[derive(Clone, Copy)]
+struct Cursor {
+    /// The word that is being written, or else the next token.
+    token: usize,
+    is_written: bool,
+    replaced: Span,
+}
+
+// Where something is to be written at a byte; nothing in a number or a string.
+fn cursor_at(document: &Document<'_>, byte: usize) -> Option<Cursor> {
+    let token = document.token_from(byte);
+    let next = Cursor {
+        token,
+        is_written: false,
+        replaced: Span {
+            start: byte,
+            end: byte,
+        },
+    };
+    let Some(touched) = document.token_at(byte) else {
+        return Some(next);
+    };
+    let span = document.span(touched)?;
+    if span.start == byte {
+        return Some(next);
+    }
+    match document.kind(touched)? {
+        TokenKind::Name | TokenKind::Keyword(_) => Some(Cursor {
+            token: touched,
+            is_written: true,
+            replaced: Span {
+                start: span.start,
+                end: byte,
+            },
+        }),
+        TokenKind::Integer(_) | TokenKind::Decimal => None,
+        TokenKind::String if byte < span.end => None,
+        TokenKind::String | TokenKind::Symbol(_) => Some(next),
+    }
+}
+
+// Whether the braces around a cursor have a word among their attributes, besides the one that is
+// being written.
+fn has_word(document: &Document<'_>, cursor: Cursor, word: Keyword) -> bool {
+    let here = document.spot(cursor.token);
+    let Some(open) = here.open else {
+        return false;
+    };
+    for other in open.saturating_add(1)..document.tokens.len() {
+        let spot = document.spot(other);
+        let is_here = spot.open == Some(open);
+        let is_last = is_here && document.is_sign(other, Symbol::CloseBrace);
+        if is_last || spot.open.is_none() {
+            return false;
+        }
+        let is_own = cursor.is_written && other == cursor.token;
+        if is_here && !is_own && spot.place == here.place && document.is_keyword(other, word) {
+            return true;
+        }
+    }
+    false
+}
+
+// Whether braces are those of an enumerated type: its word comes before them, and maybe its size.
+fn is_enumerated(document: &Document<'_>, open: usize) -> bool {
+    let word = if document.is_sign(open.saturating_sub(1), Symbol::CloseParenthesis) {
+        document.word(open.saturating_sub(4))
+    } else {
+        document.word(open.saturating_sub(1))
+    };
+    word == "ENUMERATED" || word == "BIT_ENUMERATED"
+}
+
+// Whether a value is still to be written before a token.
+fn wants_value(document: &Document<'_>, token: usize) -> bool {
+    let before = token
+        .checked_sub(1)
+        .and_then(|before| document.kind(before));
+    !matches!(
+        before,
+        Some(TokenKind::Name | TokenKind::Integer(_) | TokenKind::Decimal | TokenKind::String)
+    )
+}
+
+// Whether a statement may begin at a token.
+fn begins_statement(document: &Document<'_>, token: usize) -> bool {
+    let before = token
+        .checked_sub(1)
+        .and_then(|before| document.kind(before));
+    match before {
+        Some(TokenKind::Symbol(sign)) => matches!(
+            sign,
+            Symbol::Semicolon
+                | Symbol::OpenBrace
+                | Symbol::CloseBrace
+                | Symbol::CloseParenthesis
+                | Symbol::Colon
+        ),
+        Some(TokenKind::Keyword(word)) => matches!(word, Keyword::MethodElse | Keyword::Do),
+        _ => false,
+    }
+}
+
+// The collection whose member a token is to be, by its place among the items.
+fn owner(document: &Document<'_>, token: usize) -> Option<usize> {
+    let owner = document.meaning(token.checked_sub(2)?)?;
+    collection_of(
+        document.words(),
+        &document.map.items,
+        &document.meanings.declarations,
+        owner,
+    )
+}
+
+impl Offers<'_, '_> {
+    // The words that the braces around a cursor don't have yet.
+    fn add_missing(&mut self, cursor: Cursor, words: &[Keyword]) -> Result<(), AllocError> {
+        for word in words {
+            if !has_word(self.document, cursor, *word) {
+                self.add_words(&[*word], CompletionKind::Attribute)?;
+            }
+        }
+        Ok(())
+    }
+
+    // The attributes that an item doesn't have yet. TRANSACTION may be there several times.
+    fn add_attributes(&mut self, cursor: Cursor, kind: Kind) -> Result<(), AllocError> {
+        for (word, attribute) in ATTRIBUTE_WORDS {
+            let may_be_again = word == Keyword::Transaction;
+            if attribute.may_belong_to(kind)
+                && (may_be_again || !has_word(self.document, cursor, word))
+            {
+                self.add_words(&[word], CompletionKind::Attribute)?;
+            }
+        }
+        Ok(())
+    }
+
+    // The parts that these braces don't have yet.
+    fn add_parts(&mut self, cursor: Cursor, braces: Braces) -> Result<(), AllocError> {
+        match braces {
+            Braces::Item(kind) => self.add_attributes(cursor, kind),
+            Braces::Transaction => self.add_missing(cursor, &TRANSACTION_PARTS),
+            Braces::Type => {
+                let open = self.document.spot(cursor.token).open.unwrap_or(0);
+                if is_enumerated(self.document, open) {
+                    self.add_missing(cursor, &[Keyword::DefaultValue])
+                } else {
+                    self.add_missing(cursor, &TYPE_PARTS)
+                }
+            }
+            _ => Ok(()),
+        }
+    }
+
+    fn add_items_of(&mut self, kinds: &[Kind]) -> Result<(), AllocError> {
+        for kind in kinds {
+            self.add_items(*kind)?;
+        }
+        Ok(())
+    }
+
+    // What may come before the braces of an item.
+    fn add_head(&mut self, token: usize) -> Result<(), AllocError> {
+        let before = token.saturating_sub(1);
+        let document = self.document;
+        if document.is_keyword(before, Keyword::Of) {
+            let is_array = document.is_keyword(before.saturating_sub(1), Keyword::Array);
+            return self.add_kinds(if is_array {
+                &[Kind::Variable]
+            } else {
+                &KINDS_OF_MEMBERS
+            });
+        }
+        if document.is_keyword(before, Keyword::Collection)
+            || document.is_keyword(before, Keyword::Array)
+        {
+            return self.add_words(&[Keyword::Of], CompletionKind::Keyword);
+        }
+        Ok(())
+    }
+
+    // The value of an attribute.
+    fn add_value(&mut self, token: usize, word: Keyword) -> Result<(), AllocError> {
+        if !wants_value(self.document, token) {
+            return Ok(());
+        }
+        if is_number_word(word) {
+            self.add_items_of(&VALUES)?;
+        } else if let Some(role) = role_at(Place::Value(word)) {
+            self.add_values(role)?;
+        }
+        let is_first = self.document.is_keyword(token.saturating_sub(1), word);
+        if is_first && may_be_conditional(word) {
+            self.add_words(&CONDITIONS, CompletionKind::Keyword)?;
+        }
+        Ok(())
+    }
+
+    // An element of a list.
+    fn add_entry(&mut self, word: Keyword) -> Result<(), AllocError> {
+        if word == Keyword::Items {
+            self.add_items_of(&ENTRIES)?;
+        } else {
+            self.add_items_of(&[Kind::Variable, Kind::Collection])?;
+        }
+        self.add_words(&CONDITIONS, CompletionKind::Keyword)
+    }
+
+    // The names of an expression in a method, and the words of a statement where one may begin.
+    fn add_body(&mut self, token: usize) -> Result<(), AllocError> {
+        let call = call_before(self.document, token);
+        match call.and_then(|call| call.function.parameter(call.argument)) {
+            Some(Parameter::Text) => return Ok(()),
+            Some(Parameter::Method) => return self.add_items(Kind::Method),
+            Some(Parameter::DeviceVariable) => {
+                return self.add_items_of(&[Kind::Variable, Kind::Collection]);
+            }
+            Some(Parameter::Number) | None => {}
+        }
+        self.add_locals(token)?;
+        self.add_items_of(&VALUES)?;
+        self.add_functions()?;
+        if begins_statement(self.document, token) {
+            self.add_words(&STATEMENTS, CompletionKind::Keyword)?;
+        }
+        Ok(())
+    }
+
+    // What may stand at a cursor that is behind no dot.
+    fn add_at(&mut self, cursor: Cursor) -> Result<(), AllocError> {
+        let token = cursor.token;
+        match self.document.spot(token).place {
+            Place::Top => self.add_kinds(&KINDS),
+            Place::Head(_) => self.add_head(token),
+            Place::Start(braces) => self.add_parts(cursor, braces),
+            Place::Value(word) => self.add_value(token, word),
+            Place::Expression => self.add_items_of(&VALUES),
+            Place::Entry(word) => self.add_entry(word),
+            Place::MemberItem(Some(kind)) => self.add_items(kind),
+            Place::MemberItem(None) => self.add_items_of(&KINDS_OF_MEMBERS),
+            Place::ElementVariable => self.add_items(Kind::Variable),
+            Place::Body => self.add_body(token),
+            place => match role_at(place) {
+                Some(role) => self.add_values(role),
+                None => Ok(()),
+            },
+        }
+    }
+}
+
+// Whether the value of an attribute may depend on conditions.
+fn may_be_conditional(word: Keyword) -> bool {
+    !matches!(
+        word,
+        Keyword::Class | Keyword::Type | Keyword::Number | Keyword::Operation
+    )
+}
+
+/// What may be written at a byte, and the part of a word before it that it replaces. In comments,
+/// numbers and strings, and on a line behind a lexical fault, there is nothing.
+pub fn completions<'a>(
+    alloc: Global,
+    document: &Document<'a>,
+    byte: usize,
+) -> Result<Completions<'a>, AllocError> {
+    let byte = byte.min(document.text.len());
+    let here = Span {
+        start: byte,
+        end: byte,
+    };
+    let mut offers = Offers::new(alloc, document);
+    let cursor = match cursor_at(document, byte) {
+        Some(cursor) if !is_unread(document, byte) => cursor,
+        _ => {
+            return Ok(Completions {
+                replaced: here,
+                entries: Vec::new(alloc),
+            });
+        }
+    };
+    let before = cursor.token.checked_sub(1);
+    if before.is_some_and(|before| document.is_sign(before, Symbol::Dot)) {
+        if let Some(collection) = owner(document, cursor.token) {
+            offers.add_members(collection)?;
+        }
+    } else {
+        offers.add_at(cursor)?;
+    }
+    Ok(Completions {
+        replaced: cursor.replaced,
+        entries: offers.entries,
+    })
+}

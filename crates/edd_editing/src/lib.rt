@@ -1,0 +1,38 @@
+//! What an editor asks about the text of a description: what a name means, where it is declared and
+//! used, what may be written at a place, and what folds. All of it works on tokens, so a text may be
+//! unfinished or refused. Proved is that every answer is found safely and in bounded time.
+#![tactic(auto)]
+
+mod answers;
+mod call;
+mod comments;
+mod completing;
+mod constant;
+mod declarations;
+mod described;
+mod document;
+mod functions;
+mod hovering;
+mod keyword_terms;
+mod lexing;
+mod listing;
+mod markdown;
+mod meanings;
+mod naming;
+mod offers;
+mod place_terms;
+mod scopes;
+mod spots;
+mod walk;
+
+pub use answers::{
+    Completion, CompletionKind, Completions, Fold, Hover, RenameFault, Signature, Symbol,
+};
+pub use call::signature;
+pub use completing::completions;
+pub use document::Document;
+pub use edd_reports::words::Span;
+pub use edd_syntax::numbers::Kind;
+pub use hovering::hover;
+pub use listing::{folds, symbols};
+pub use naming::{declaration, references, rename, renameable};

@@ -1,0 +1,127 @@
+//! What may stand at a place, as far as the braces and words before it say.
+
+use edd_syntax::numbers::{Attr, Kind};
+use edd_syntax::symbols::Keyword;
+
+/// What braces hold.
+#[derive(Clone, Copy, PartialEq, Eq, Debug)]
+pub enum Braces {
+    /// The attributes of an item.
+    Item(Kind),
+    /// The parts of a TRANSACTION.
+    Transaction,
+    /// The parts of a TYPE.
+    Type,
+    Enumerator,
+    /// The elements of ITEMS, REQUEST or REPLY, also under a condition.
+    List(Keyword),
+    /// A branch of an attribute that has one value.
+    Branch(Keyword),
+    Members,
+    Elements,
+    ResponseCodes,
+    /// The body of a method, or a block in it.
+    Body,
+    Other,
+}
+
+/// What may stand at a place.
+#[derive(Clone, Copy, PartialEq, Eq, Debug)]
+pub enum Place {
+    /// An item.
+    Top,
+    /// What comes between an item's word and its braces.
+    Head(Kind),
+    /// The word of an attribute or a part in these braces.
+    Start(Braces),
+    /// The value of an attribute.
+    Value(Keyword),
+    /// An expression in an attribute.
+    Expression,
+    /// An element of ITEMS, REQUEST or REPLY.
+    Entry(Keyword),
+    /// A qualifier of such an element.
+    Qualifier(Keyword),
+    /// The name of a member of a collection.
+    MemberName,
+    /// The item of a member, which has this kind.
+    MemberItem(Option<Kind>),
+    /// The number of an element of an array.
+    ElementNumber,
+    /// The variable of an element.
+    ElementVariable,
+    /// The class of a response code.
+    ResponseClass,
+    /// The name of a local that is declared.
+    Declarator,
+    /// A statement or an expression of a method.
+    Body,
+    Other,
+}
+
+impl Place {
+    /// Whether a name there refers to what is declared elsewhere.
+    pub fn refers(self) -> bool {
+        match self {
+            Place::Value(word) => is_number_word(word),
+            Place::Expression
+            | Place::Entry(_)
+            | Place::MemberItem(_)
+            | Place::ElementVariable
+            | Place::Body => true,
+            _ => false,
+        }
+    }
+
+    pub fn is_in_body(self) -> bool {
+        matches!(self, Place::Body | Place::Declarator)
+    }
+}
+
+/// What is known of a place.
+#[derive(Clone, Copy)]
+pub struct Spot {
+    pub place: Place,
+    /// The token that opened the innermost braces around it.
+    pub open: Option<usize>,
+    /// Whether it is in parentheses inside of these.
+    pub is_in_parentheses: bool,
+}
+
+/// Whether an attribute of this word has an expression as its value.
+pub fn is_number_word(word: Keyword) -> bool {
+    matches!(
+        word,
+        Keyword::DefaultValue | Keyword::MinValue | Keyword::MaxValue
+    )
+}
+
+/// Whether a word begins a part in the braces of TYPE.
+pub fn is_type_part(word: Keyword) -> bool {
+    is_number_word(word) || matches!(word, Keyword::DisplayFormat | Keyword::EditFormat)
+}
+
+/// The words that begin attributes of items, and for which attribute each stands. TYPE has none of
+/// its own; its enumerators belong to the same items.
+pub const ATTRIBUTE_WORDS: [(Keyword, Attr); 15] = [
+    (Keyword::Label, Attr::Label),
+    (Keyword::Help, Attr::Help),
+    (Keyword::Class, Attr::Class),
+    (Keyword::Handling, Attr::Handling),
+    (Keyword::ConstantUnit, Attr::ConstantUnit),
+    (Keyword::Validity, Attr::Validity),
+    (Keyword::Type, Attr::Enumerators),
+    (Keyword::Number, Attr::Number),
+    (Keyword::Operation, Attr::Operation),
+    (Keyword::Transaction, Attr::Transaction),
+    (Keyword::ResponseCodes, Attr::ResponseCodes),
+    (Keyword::Items, Attr::Items),
+    (Keyword::Members, Attr::Members),
+    (Keyword::Definition, Attr::Definition),
+    (Keyword::Elements, Attr::Elements),
+];
+
+/// Whether a word begins an attribute of an item.
+pub fn is_attribute(word: Keyword) -> bool {
+    ATTRIBUTE_WORDS.iter().any(|entry| entry.0 == word)
+}
