@@ -2,9 +2,9 @@
 
 use crate::answers::Signature;
 use crate::comments::is_unread;
-use crate::document::Document;
 use crate::functions::Function;
-use crate::spots::Place;
+use edd_document::Document;
+use edd_document::spots::Place;
 use edd_lexer::token::TokenKind;
 use edd_syntax::symbols::Symbol;
 use std::alloc::{AllocError, Global};

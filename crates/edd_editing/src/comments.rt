@@ -1,6 +1,6 @@
 //! Comments, which are between tokens.
 
-use crate::document::Document;
+use edd_document::Document;
 use edd_reports::words::Span;
 
 /// A comment, and whether it is a block.
@@ -10,25 +10,36 @@ pub struct Comment {
     pub is_block: bool,
 }
 
-// How many bytes a comment has that a text begins with, and whether it is a block.
-fn length_at(text: &[u8]) -> Option<(usize, bool)> {
-    let (marks, ends): (&[u8], &[u8]) = match text {
-        [b'/', b'/', ..] => (b"//", b"\n"),
-        [b'/', b'*', ..] => (b"/*", b"*/"),
-        _ => return None,
-    };
-    let is_block = ends.len() == 2;
-    let inside = text.get(marks.len()..)?;
-    for (index, window) in inside.windows(ends.len()).enumerate() {
-        if window == ends {
-            let behind = if is_block { ends.len() } else { 0 };
-            return Some((
-                index.saturating_add(marks.len()).saturating_add(behind),
-                is_block,
-            ));
+// How many bytes a block comment has whose inside is this: up to the end of the text where it is not
+// closed.
+fn block_length(inside: &[u8]) -> usize {
+    let mut is_behind_star = false;
+    for (index, byte) in inside.iter().enumerate() {
+        if is_behind_star && *byte == b'/' {
+            return index.saturating_add(3);
+        }
+        is_behind_star = *byte == b'*';
+    }
+    inside.len().saturating_add(2)
+}
+
+// How many bytes a line comment has whose inside is this, without the end of the line.
+fn line_length(inside: &[u8]) -> usize {
+    for (index, byte) in inside.iter().enumerate() {
+        if *byte == b'\n' {
+            return index.saturating_add(2);
         }
     }
-    Some((text.len(), is_block))
+    inside.len().saturating_add(2)
+}
+
+// How many bytes a comment has that a text begins with, and whether it is a block.
+fn length_at(text: &[u8]) -> Option<(usize, bool)> {
+    match text {
+        [b'/', b'/', inside @ ..] => Some((line_length(inside), false)),
+        [b'/', b'*', inside @ ..] => Some((block_length(inside), true)),
+        _ => None,
+    }
 }
 
 /// The first comment from a byte on, before another one.
@@ -68,9 +79,9 @@ pub fn is_unread(document: &Document<'_>, byte: usize) -> bool {
     };
     let end = document
         .span(next)
-        .map_or(document.text.len(), |span| span.start);
+        .map_or(document.text().len(), |span| span.start);
     for _ in start..end {
-        let Some(comment) = comment_from(document.text, start, end) else {
+        let Some(comment) = comment_from(document.text(), start, end) else {
             break;
         };
         // A line comment goes on up to the end of its line.
@@ -83,5 +94,5 @@ pub fn is_unread(document: &Document<'_>, byte: usize) -> bool {
         }
         start = comment.place.end;
     }
-    has_signs(document.text.get(start..byte.min(end)).unwrap_or(b""))
+    has_signs(document.text().get(start..byte.min(end)).unwrap_or(b""))
 }

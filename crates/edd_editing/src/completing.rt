@@ -3,11 +3,10 @@
 use crate::answers::{CompletionKind, Completions};
 use crate::call::call_before;
 use crate::comments::is_unread;
-use crate::document::Document;
-use crate::meanings::collection_of;
 use crate::offers::Offers;
 use crate::place_terms::role_at;
-use crate::spots::{ATTRIBUTE_WORDS, Braces, Place, is_number_word};
+use edd_document::Document;
+use edd_document::spots::{ATTRIBUTE_WORDS, Braces, Place, is_number_word};
 use edd_lexer::token::TokenKind;
 use edd_reports::words::Span;
 use edd_syntax::numbers::{KINDS, Kind};
@@ -110,7 +109,7 @@ fn has_word(document: &Document<'_>, cursor: Cursor, word: Keyword) -> bool {
     let Some(open) = here.open else {
         return false;
     };
-    for other in open.saturating_add(1)..document.tokens.len() {
+    for other in open.saturating_add(1)..document.tokens().len() {
         let spot = document.spot(other);
         let is_here = spot.open == Some(open);
         let is_last = is_here && document.is_sign(other, Symbol::CloseBrace);
@@ -163,17 +162,6 @@ fn begins_statement(document: &Document<'_>, token: usize) -> bool {
         Some(TokenKind::Keyword(word)) => matches!(word, Keyword::MethodElse | Keyword::Do),
         _ => false,
     }
-}
-
-// The collection whose member a token is to be, by its place among the items.
-fn owner(document: &Document<'_>, token: usize) -> Option<usize> {
-    let owner = document.meaning(token.checked_sub(2)?)?;
-    collection_of(
-        document.words(),
-        &document.map.items,
-        &document.meanings.declarations,
-        owner,
-    )
 }
 
 impl Offers<'_, '_> {
@@ -328,7 +316,7 @@ pub fn completions<'a>(
     document: &Document<'a>,
     byte: usize,
 ) -> Result<Completions<'a>, AllocError> {
-    let byte = byte.min(document.text.len());
+    let byte = byte.min(document.text().len());
     let here = Span {
         start: byte,
         end: byte,
@@ -345,7 +333,8 @@ pub fn completions<'a>(
     };
     let before = cursor.token.checked_sub(1);
     if before.is_some_and(|before| document.is_sign(before, Symbol::Dot)) {
-        if let Some(collection) = owner(document, cursor.token) {
+        let owner = cursor.token.checked_sub(2);
+        if let Some(collection) = owner.and_then(|owner| document.collection_at(owner)) {
             offers.add_members(collection)?;
         }
     } else {

@@ -1,6 +1,6 @@
 //! The value of an expression of numbers alone.
 
-use crate::document::Document;
+use edd_document::Document;
 use edd_lexer::fault::LexFault;
 use edd_lexer::lex;
 use edd_lexer::token::TokenKind;
@@ -115,12 +115,13 @@ fn value_of(items: &[Item<Target>], width: Width) -> Known {
 // What the source of an expression gives.
 fn value_in(alloc: Global, source: &str, width: Width) -> Result<Known, AllocError> {
     let text = format!(in alloc; "{BEFORE}{source}{BEHIND}")?;
-    let tokens = match lex(alloc, text.as_bytes()) {
+    let bytes = text.as_bytes();
+    let tokens = match lex(alloc, bytes) {
         Ok(tokens) => tokens,
         Err(LexFault::Memory) => return Err(AllocError),
         Err(_) => return Ok(Known::Nothing),
     };
-    let unit = match parse(alloc, text.as_bytes(), &tokens) {
+    let unit = match parse(alloc, bytes, &tokens) {
         Ok(unit) => unit,
         Err(ParseFault::Memory) => return Err(AllocError),
         Err(_) => return Ok(Known::Nothing),
@@ -159,7 +160,7 @@ pub fn told(
     place: Span,
     width: Width,
 ) -> Result<Option<String>, AllocError> {
-    let source = text_in(document.text, place);
+    let source = text_in(document.text(), place);
     match value_in(alloc, source, width)? {
         Known::Number(value) => {
             let value = format!(in alloc; "{value}")?;

@@ -1,10 +1,9 @@
 //! What the text says of an item, a member, an element or a local.
 
-use crate::declarations::Sort;
-use crate::document::Document;
 use crate::markdown::{push_code, push_escaped, push_paragraph};
-use crate::spots::Place;
-use crate::walk::Item;
+use edd_document::declarations::Sort;
+use edd_document::spots::Place;
+use edd_document::{Document, Item};
 use edd_lexer::token::TokenKind;
 use edd_reports::words::{Span, kind_word, text_in};
 use edd_strings::{StringFault, choose, split};
@@ -36,7 +35,7 @@ fn strings_behind(
     if document.kind(first) != Some(TokenKind::String) {
         return Ok(None);
     }
-    for next in first..document.tokens.len() {
+    for next in first..document.tokens().len() {
         let Some(place) = document.span(next) else {
             break;
         };
@@ -47,7 +46,7 @@ fn strings_behind(
             start: place.start.saturating_add(1),
             end: place.end.saturating_sub(1),
         };
-        raw.push_str(text_in(document.text, inside))?;
+        raw.push_str(text_in(document.text(), inside))?;
     }
     Ok(Some(raw))
 }
@@ -161,7 +160,7 @@ fn push_type(
         return Ok(());
     };
     push_paragraph(markdown)?;
-    push_code(markdown, text_in(document.text, source))?;
+    push_code(markdown, text_in(document.text(), source))?;
     for word in [Keyword::MinValue, Keyword::MaxValue] {
         let Some(token) = attribute(document, item, word) else {
             continue;
@@ -170,7 +169,7 @@ fn push_type(
             markdown.push_str(", ")?;
             push_escaped(markdown, word.spelling())?;
             markdown.push(' ')?;
-            push_code(markdown, text_in(document.text, value))?;
+            push_code(markdown, text_in(document.text(), value))?;
         }
     }
     Ok(())
@@ -205,7 +204,7 @@ fn push_inner(
     markdown: &mut String,
 ) -> Result<(), AllocError> {
     push_code(markdown, line.as_str())?;
-    match document.item_named(names) {
+    match names.and_then(|token| document.item_named(token)) {
         Some(item) => push_item(alloc, document, &item, markdown),
         None => Ok(()),
     }
@@ -224,10 +223,10 @@ pub fn described(
     let word = document.word(declared.token);
     match declared.sort {
         Sort::Item(item) => {
-            let Some(item) = document.item(item) else {
+            let Some(item) = document.items().get(item) else {
                 return Ok(None);
             };
-            push_item(alloc, document, &item, &mut markdown)?;
+            push_item(alloc, document, item, &mut markdown)?;
         }
         Sort::Member { collection, names } => {
             let owner = document.item_name(collection);

@@ -8,29 +8,22 @@ mod call;
 mod comments;
 mod completing;
 mod constant;
-mod declarations;
 mod described;
-mod document;
 mod functions;
 mod hovering;
 mod keyword_terms;
-mod lexing;
 mod listing;
 mod markdown;
-mod meanings;
 mod naming;
 mod offers;
 mod place_terms;
-mod scopes;
-mod spots;
-mod walk;
 
 pub use answers::{
     Completion, CompletionKind, Completions, Fold, Hover, RenameFault, Signature, Symbol,
 };
 pub use call::signature;
 pub use completing::completions;
-pub use document::Document;
+pub use edd_document::Document;
 pub use edd_reports::words::Span;
 pub use edd_syntax::numbers::Kind;
 pub use hovering::hover;

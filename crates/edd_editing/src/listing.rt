@@ -2,7 +2,7 @@
 
 use crate::answers::{Fold, Symbol};
 use crate::comments::comment_from;
-use crate::document::Document;
+use edd_document::Document;
 use edd_lexer::token::TokenKind;
 use edd_reports::words::Span;
 use edd_syntax::symbols::Symbol as Sign;
@@ -10,8 +10,8 @@ use std::alloc::{AllocError, Global};
 
 /// The items of a text, in their order.
 pub fn symbols<'a>(alloc: Global, document: &Document<'a>) -> Result<Vec<Symbol<'a>>, AllocError> {
-    let mut symbols = Vec::with_capacity(alloc, document.map.items.len())?;
-    for item in &document.map.items {
+    let mut symbols = Vec::with_capacity(alloc, document.items().len())?;
+    for item in document.items() {
         let places = (
             document.span(item.first),
             document.span(item.name),
@@ -41,7 +41,7 @@ fn add_comments(
 ) -> Result<(), AllocError> {
     let mut from = start;
     for _ in start..end {
-        let Some(comment) = comment_from(document.text, from, end) else {
+        let Some(comment) = comment_from(document.text(), from, end) else {
             break;
         };
         let Span { start, end } = comment.place;
@@ -67,7 +67,7 @@ fn add_comments(
 pub fn folds(alloc: Global, document: &Document<'_>) -> Result<Vec<Fold>, AllocError> {
     let mut folds = Vec::new(alloc);
     let mut end = 0;
-    for (number, token) in document.tokens.iter().enumerate() {
+    for (number, token) in document.tokens().iter().enumerate() {
         let Some(place) = document.span(number) else {
             continue;
         };
@@ -85,7 +85,7 @@ pub fn folds(alloc: Global, document: &Document<'_>) -> Result<Vec<Fold>, AllocE
             })?;
         }
     }
-    add_comments(document, end, document.text.len(), &mut folds)?;
+    add_comments(document, end, document.text().len(), &mut folds)?;
     folds.sort_by_key(|fold| fold.start.start)?;
     Ok(folds)
 }

@@ -1,12 +1,12 @@
 //! Where a name is declared and used, and what another name in its place would do.
 
 use crate::answers::RenameFault;
-use crate::declarations::{Declaration, Sort, Words};
-use crate::document::Document;
-use crate::lexing::{Spelling, spelling_of};
-use crate::meanings::{Meanings, meanings_of};
+use edd_document::Document;
+use edd_document::declarations::Sort;
+use edd_lexer::fault::LexFault;
+use edd_lexer::lex;
 use edd_lexer::token::TokenKind;
-use edd_reports::words::Span;
+use edd_reports::words::{Span, span_of};
 use std::alloc::{AllocError, Global};
 
 /// The longest name, in bytes.
@@ -28,7 +28,7 @@ fn places_of(
 ) -> Result<Vec<Span>, AllocError> {
     let mut places = Vec::new(alloc);
     let own = document.declared(declaration).map(|found| found.token);
-    for (token, meaning) in document.meanings.of_tokens.iter().enumerate() {
+    for (token, meaning) in document.meanings().iter().enumerate() {
         if *meaning != Some(declaration) || (own == Some(token) && !declared) {
             continue;
         }
@@ -72,6 +72,33 @@ pub fn renameable(document: &Document<'_>, byte: usize) -> Option<Span> {
     document.span(renamed_token(document, byte)?)
 }
 
+// What a word is to the lexer.
+enum Spelling {
+    Name,
+    Reserved,
+    Other,
+}
+
+fn spelling_of(alloc: Global, word: &str) -> Result<Spelling, AllocError> {
+    let tokens = match lex(alloc, word.as_bytes()) {
+        Ok(tokens) => tokens,
+        Err(LexFault::Memory) => return Err(AllocError),
+        Err(_) => return Ok(Spelling::Other),
+    };
+    let [token] = tokens.as_slice() else {
+        return Ok(Spelling::Other);
+    };
+    let place = span_of(token);
+    if place.start != 0 || place.end != word.len() {
+        return Ok(Spelling::Other);
+    }
+    match token.kind {
+        TokenKind::Name => Ok(Spelling::Name),
+        TokenKind::Keyword(_) => Ok(Spelling::Reserved),
+        _ => Ok(Spelling::Other),
+    }
+}
+
 // Whether two declarations may not have one name.
 fn exclude(first: Sort, second: Sort) -> bool {
     match (first, second) {
@@ -88,12 +115,11 @@ fn exclude(first: Sort, second: Sort) -> bool {
     }
 }
 
-// Another declaration that has a name where one may not be.
-fn taken(document: &Document<'_>, declaration: usize, name: usize) -> Option<usize> {
+// Another declaration that has a name where a declaration may not have it too.
+fn taken(document: &Document<'_>, declaration: usize, name: &str) -> Option<usize> {
     let sort = document.declared(declaration)?.sort;
-    let words = document.words();
-    for (index, other) in document.meanings.declarations.all.iter().enumerate() {
-        let has_name = words.number(other.token) == Some(name);
+    for (index, other) in document.declarations().iter().enumerate() {
+        let has_name = document.word(other.token) == name;
         if index != declaration && has_name && exclude(sort, other.sort) {
             return Some(other.token);
         }
@@ -101,40 +127,15 @@ fn taken(document: &Document<'_>, declaration: usize, name: usize) -> Option<usi
     None
 }
 
-// The numbers of the names where a declaration has another one.
-fn renumbered(
-    alloc: Global,
-    document: &Document<'_>,
-    declaration: usize,
-    name: usize,
-) -> Result<Vec<Option<usize>>, AllocError> {
-    let words = document.words();
-    let mut numbers = Vec::with_capacity(alloc, words.numbers.len())?;
-    for (token, number) in words.numbers.iter().enumerate() {
-        if document.meaning(token) == Some(declaration) {
-            numbers.push(Some(name))?;
-        } else {
-            numbers.push(*number)?;
-        }
-    }
-    Ok(numbers)
-}
-
 // The first token that would mean something else: what it would mean, or it, where that is what is
 // renamed.
-fn changed(document: &Document<'_>, declaration: usize, after: &Meanings) -> Option<usize> {
-    for (token, meaning) in after.of_tokens.iter().enumerate() {
+fn changed(document: &Document<'_>, declaration: usize, after: &[Option<usize>]) -> Option<usize> {
+    for (token, meaning) in after.iter().enumerate() {
         if *meaning == document.meaning(token) {
             continue;
         }
         return match meaning {
-            Some(other) if *other != declaration => {
-                after
-                    .declarations
-                    .all
-                    .get(*other)
-                    .map(|found: &Declaration| found.token)
-            }
+            Some(other) if *other != declaration => document.declared(*other).map(|it| it.token),
             _ => Some(token),
         };
     }
@@ -149,18 +150,10 @@ fn clash(
     declaration: usize,
     name: &str,
 ) -> Result<Option<usize>, AllocError> {
-    let words = document.words();
-    let number = document.name_number(name).unwrap_or(words.count);
-    if let Some(token) = taken(document, declaration, number) {
+    if let Some(token) = taken(document, declaration, name) {
         return Ok(Some(token));
     }
-    let numbers = renumbered(alloc, document, declaration, number)?;
-    let renamed = Words {
-        tokens: words.tokens,
-        numbers: &numbers,
-        count: words.count.saturating_add(1),
-    };
-    let after = meanings_of(alloc, renamed, &document.map)?;
+    let after = document.meanings_if_named(alloc, declaration, name)?;
     Ok(changed(document, declaration, &after))
 }
 

@@ -1,12 +1,12 @@
 //! The words that are offered at a place, as they are gathered.
 
 use crate::answers::{Completion, CompletionKind};
-use crate::declarations::Sort;
 use crate::described::label_of;
-use crate::document::Document;
 use crate::functions::FUNCTIONS;
 use crate::keyword_terms::meaning_of;
 use crate::place_terms::{CLASS_MEANING, CLASSES, Role, TERMS};
+use edd_document::Document;
+use edd_document::declarations::Sort;
 use edd_reports::words::kind_word;
 use edd_syntax::numbers::Kind;
 use edd_syntax::symbols::Keyword;
@@ -106,14 +106,9 @@ impl<'d, 'a> Offers<'d, 'a> {
     /// The items of a kind.
     pub fn add_items(&mut self, kind: Kind) -> Result<(), AllocError> {
         let document = self.document;
-        let words = document.words();
-        for (index, item) in document.map.items.iter().enumerate() {
+        for (index, item) in document.items().iter().enumerate() {
             // Of two items with one name the first is meant.
-            let first = match words.number(item.name) {
-                Some(name) => document.meanings.declarations.item(name),
-                None => None,
-            };
-            if item.kind == kind && first == Some(index) {
+            if item.kind == kind && document.first_item(item.name) == Some(index) {
                 let label = label_of(self.alloc, document, item)?;
                 self.add(document.word(item.name), CompletionKind::Item(kind), label)?;
             }
@@ -124,7 +119,7 @@ impl<'d, 'a> Offers<'d, 'a> {
     /// The members of a collection, by its place among the items.
     pub fn add_members(&mut self, item: usize) -> Result<(), AllocError> {
         let document = self.document;
-        for declared in &document.meanings.declarations.all {
+        for declared in document.declarations() {
             let Sort::Member { collection, names } = declared.sort else {
                 continue;
             };
@@ -144,22 +139,18 @@ impl<'d, 'a> Offers<'d, 'a> {
     /// The locals that can be used at a token.
     pub fn add_locals(&mut self, token: usize) -> Result<(), AllocError> {
         let document = self.document;
-        let words = document.words();
         // Of two locals with one name the inner one, which comes later, takes the place.
-        let mut locals: IndexMap<usize, usize> = IndexMap::new(self.alloc);
-        for declared in &document.meanings.declarations.all {
-            let Sort::Local { from, until, .. } = declared.sort else {
-                continue;
-            };
-            if let (true, Some(name)) = (
-                from < token && token <= until,
-                words.number(declared.token),
-            ) {
-                locals.insert(name, declared.token)?;
+        let mut locals = IndexMap::new(self.alloc);
+        for declared in document.declarations() {
+            if let Sort::Local { from, until, .. } = declared.sort {
+                if from < token && token <= until {
+                    let name = document.word(declared.token);
+                    locals.insert(name, declared.token)?;
+                }
             }
         }
-        for local in locals.values() {
-            self.add_term(document.word(*local), CompletionKind::Local, "a local")?;
+        for name in locals.keys() {
+            self.add_term(*name, CompletionKind::Local, "a local")?;
         }
         Ok(())
     }

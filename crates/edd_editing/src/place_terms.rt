@@ -1,6 +1,6 @@
 //! Words that are names to the lexer, and mean something in their places.
 
-use crate::spots::Place;
+use edd_document::spots::Place;
 use edd_syntax::symbols::Keyword;
 
 /// Where a word means something.

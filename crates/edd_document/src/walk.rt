@@ -11,8 +11,10 @@ use std::alloc::{AllocError, Global};
 #[derive(Clone, Copy)]
 pub struct Item {
     pub kind: Kind,
+    /// Its first word.
     pub first: usize,
     pub name: usize,
+    /// Its last brace; of an unfinished item its last token.
     pub last: usize,
 }
 
@@ -49,6 +51,7 @@ struct Head {
     is_named: bool,
 }
 
+#[derive(Drop)]
 struct Walk<'t> {
     tokens: &'t [Token],
     levels: Vec<Level>,

@@ -2,7 +2,7 @@
 
 use crate::declarations::{Declaration, Sort, Words};
 use crate::lexing::tokens_of;
-use crate::meanings::{Meanings, meanings_of};
+use crate::meanings::{Meanings, collection_of, meanings_of};
 use crate::spots::{Place, Spot};
 use crate::walk::{Item, Map, map_of};
 use edd_lexer::token::{Token, TokenKind};
@@ -11,18 +11,20 @@ use edd_syntax::symbols::{Keyword, Symbol};
 use indexmap::IndexMap;
 use std::alloc::{AllocError, Global};
 
-/// A text with what queries need of it: its tokens, what stands where, and what its names mean. It is
-/// made once for each version of the text, in time near to linear. Of a line with a lexical fault what
-/// is before it is read; of a text of more than 1,048,576 bytes nothing.
+/// A text with its tokens, what may stand where, and what its names mean. It is made once for each
+/// version of the text, in time near to linear. Of a line with a lexical fault what is before the
+/// fault is read; of a text of more than 1,048,576 bytes nothing.
+///
+/// Tokens, declarations and items are meant by their places in their lists, counted from 0.
 #[derive(Drop)]
 pub struct Document<'a> {
-    pub(crate) text: &'a [u8],
-    pub(crate) tokens: Vec<Token>,
-    pub(crate) map: Map,
+    text: &'a [u8],
+    tokens: Vec<Token>,
+    map: Map,
     /// The number of each token that is a name: names alike have one number.
     numbers: Vec<Option<usize>>,
     names: IndexMap<&'a str, usize>,
-    pub(crate) meanings: Meanings,
+    meanings: Meanings,
 }
 
 // The number of each name, by the names and by the tokens.
@@ -74,33 +76,66 @@ impl<'a> Document<'a> {
         })
     }
 
-    pub(crate) fn words(&self) -> Words<'_> {
-        Words {
-            tokens: &self.tokens,
-            numbers: &self.numbers,
-            count: self.names.len(),
-        }
+    pub fn text(&self) -> &'a [u8] {
+        self.text
     }
 
-    /// The number of a name, if it is in the text.
-    pub(crate) fn name_number(&self, name: &str) -> Option<usize> {
-        self.names.get(name).copied()
+    pub fn tokens(&self) -> &[Token] {
+        &self.tokens
+    }
+
+    /// The items, in their order.
+    pub fn items(&self) -> &[Item] {
+        &self.map.items
+    }
+
+    /// All that is declared: the items first, in their order.
+    pub fn declarations(&self) -> &[Declaration] {
+        &self.meanings.declarations.all
+    }
+
+    /// Of each token the declaration that it names or makes, by its place among the declarations.
+    pub fn meanings(&self) -> &[Option<usize>] {
+        &self.meanings.of_tokens
+    }
+
+    /// What the tokens would name if a declaration had another name wherever it is named.
+    pub fn meanings_if_named(
+        &self,
+        alloc: Global,
+        declaration: usize,
+        name: &str,
+    ) -> Result<Vec<Option<usize>>, AllocError> {
+        let count = self.names.len();
+        let number = self.names.get(name).copied().unwrap_or(count);
+        let mut numbers = Vec::with_capacity(alloc, self.numbers.len())?;
+        for (token, old) in self.numbers.iter().enumerate() {
+            let is_named = self.meaning(token) == Some(declaration);
+            numbers.push(if is_named { Some(number) } else { *old })?;
+        }
+        let words = Words {
+            tokens: &self.tokens,
+            numbers: &numbers,
+            count: count.saturating_add(1),
+        };
+        Ok(meanings_of(alloc, words, &self.map)?.of_tokens)
     }
 
     /// A token as it is written.
-    pub(crate) fn word(&self, token: usize) -> &'a str {
+    pub fn word(&self, token: usize) -> &'a str {
         match self.tokens.get(token) {
             Some(token) => word_of(self.text, token),
             None => "",
         }
     }
 
-    pub(crate) fn kind(&self, token: usize) -> Option<TokenKind> {
+    /// What sort of token it is.
+    pub fn kind(&self, token: usize) -> Option<TokenKind> {
         Some(self.tokens.get(token)?.kind)
     }
 
     /// The place of a token.
-    pub(crate) fn span(&self, token: usize) -> Option<Span> {
+    pub fn span(&self, token: usize) -> Option<Span> {
         let span = span_of(self.tokens.get(token)?);
         if span.start <= span.end && span.end <= self.text.len() {
             return Some(span);
@@ -108,7 +143,8 @@ impl<'a> Document<'a> {
         None
     }
 
-    pub(crate) fn spot(&self, token: usize) -> Spot {
+    /// What may stand at a token; past the last one at the end of the text.
+    pub fn spot(&self, token: usize) -> Spot {
         match self.map.spots.get(token) {
             Some(spot) => *spot,
             None => Spot {
@@ -120,7 +156,7 @@ impl<'a> Document<'a> {
     }
 
     /// The first token that ends behind a byte.
-    pub(crate) fn token_from(&self, byte: usize) -> usize {
+    pub fn token_from(&self, byte: usize) -> usize {
         let mut low: usize = 0;
         let mut high = self.tokens.len();
         for _ in 0..=usize::BITS {
@@ -139,9 +175,9 @@ impl<'a> Document<'a> {
         low
     }
 
-    /// The token at a byte, or else the one that ends there; a word that ends there comes before one
-    /// that is none.
-    pub(crate) fn token_at(&self, byte: usize) -> Option<usize> {
+    /// The token at a byte, or else the one that ends there. A word that ends there comes before a
+    /// token that is none.
+    pub fn token_at(&self, byte: usize) -> Option<usize> {
         let next = self.token_from(byte);
         let at = self
             .span(next)
@@ -159,46 +195,60 @@ impl<'a> Document<'a> {
     }
 
     /// Whether a token is a name or a reserved word.
-    pub(crate) fn is_word(&self, token: usize) -> bool {
+    pub fn is_word(&self, token: usize) -> bool {
         matches!(
             self.kind(token),
             Some(TokenKind::Name | TokenKind::Keyword(_))
         )
     }
 
-    pub(crate) fn is_sign(&self, token: usize, sign: Symbol) -> bool {
+    /// Whether a token is this sign.
+    pub fn is_sign(&self, token: usize, sign: Symbol) -> bool {
         self.kind(token) == Some(TokenKind::Symbol(sign))
     }
 
-    pub(crate) fn is_keyword(&self, token: usize, word: Keyword) -> bool {
+    /// Whether a token is this reserved word.
+    pub fn is_keyword(&self, token: usize, word: Keyword) -> bool {
         self.kind(token) == Some(TokenKind::Keyword(word))
     }
 
     /// The declaration that a token names.
-    pub(crate) fn meaning(&self, token: usize) -> Option<usize> {
+    pub fn meaning(&self, token: usize) -> Option<usize> {
         self.meanings.of_tokens.get(token).copied().unwrap_or(None)
     }
 
-    pub(crate) fn declared(&self, declaration: usize) -> Option<Declaration> {
+    pub fn declared(&self, declaration: usize) -> Option<Declaration> {
         self.meanings.declarations.all.get(declaration).copied()
     }
 
-    /// The item by its place among the items.
-    pub(crate) fn item(&self, item: usize) -> Option<Item> {
-        self.map.items.get(item).copied()
+    /// The first item that has the name of a token, by its place among the items.
+    pub fn first_item(&self, token: usize) -> Option<usize> {
+        let name = self.numbers.get(token).copied().unwrap_or(None)?;
+        self.meanings.declarations.item(name)
     }
 
     /// The item that a token names.
-    pub(crate) fn item_named(&self, token: Option<usize>) -> Option<Item> {
-        match self.declared(self.meaning(token?)?)?.sort {
-            Sort::Item(item) => self.item(item),
+    pub fn item_named(&self, token: usize) -> Option<Item> {
+        match self.declared(self.meaning(token)?)?.sort {
+            Sort::Item(item) => self.items().get(item).copied(),
             _ => None,
         }
     }
 
+    /// The collection whose members a name before a `.` has, by its place among the items.
+    pub fn collection_at(&self, token: usize) -> Option<usize> {
+        let words = Words {
+            tokens: &self.tokens,
+            numbers: &self.numbers,
+            count: self.names.len(),
+        };
+        let declarations = &self.meanings.declarations;
+        collection_of(words, self.items(), declarations, self.meaning(token)?)
+    }
+
     /// The name of an item by its place among the items.
-    pub(crate) fn item_name(&self, item: usize) -> &'a str {
-        match self.item(item) {
+    pub fn item_name(&self, item: usize) -> &'a str {
+        match self.items().get(item) {
             Some(item) => self.word(item.name),
             None => "",
         }

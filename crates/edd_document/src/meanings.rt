@@ -17,6 +17,7 @@ pub struct Meanings {
     pub of_tokens: Vec<Option<usize>>,
 }
 
+#[derive(Drop)]
 struct Resolver<'t> {
     words: Words<'t>,
     items: &'t [Item],

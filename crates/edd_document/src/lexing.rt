@@ -169,31 +169,3 @@ pub fn tokens_of(alloc: Global, text: &[u8]) -> Result<Vec<Token>, AllocError> {
     }
     Ok(tokens)
 }
-
-/// Whether a word is a name, a reserved word, or neither.
-pub enum Spelling {
-    Name,
-    Reserved,
-    Other,
-}
-
-/// What a word is to the lexer.
-pub fn spelling_of(alloc: Global, word: &str) -> Result<Spelling, AllocError> {
-    let tokens = match lex(alloc, word.as_bytes()) {
-        Ok(tokens) => tokens,
-        Err(LexFault::Memory) => return Err(AllocError),
-        Err(_) => return Ok(Spelling::Other),
-    };
-    let [token] = tokens.as_slice() else {
-        return Ok(Spelling::Other);
-    };
-    let place = span_of(token);
-    if place.start != 0 || place.end != word.len() {
-        return Ok(Spelling::Other);
-    }
-    match token.kind {
-        TokenKind::Name => Ok(Spelling::Name),
-        TokenKind::Keyword(_) => Ok(Spelling::Reserved),
-        _ => Ok(Spelling::Other),
-    }
-}
