@@ -202,6 +202,7 @@ class App {
         find("restart").addEventListener("click", () => this.openAnew());
         find("share").addEventListener("click", () => this.share());
         find("file").addEventListener("change", (event) => this.read(event.target.files[0]));
+        find("lay-out").addEventListener("click", () => this.layOut());
         find("save-source").addEventListener("click", () => this.saveFile(`${this.fileName()}.edd`, this.source.text()));
         find("save-image").addEventListener("click", () => this.bytes && this.saveFile(`${this.fileName()}.edi`, this.bytes));
         find("save-script").addEventListener("click", () => this.saveRun("script", (method, script) => script));
@@ -238,6 +239,15 @@ class App {
             this.openImage(this.bytes);
         } else {
             this.open();
+        }
+    }
+
+    /** Lays out the text that is shown. */
+    layOut() {
+        try {
+            (find("device").hidden ? this.source : this.device).layOut();
+        } catch (error) {
+            find("said").textContent = error.message;
         }
     }
 

@@ -94,6 +94,21 @@ export class Engine {
         return this.text("check", text).split("\n").filter(Boolean).map((it) => JSON.parse(it));
     }
 
+    /** The text laid out: the same tokens and comments. */
+    layout(text) {
+        return this.text("layout", text);
+    }
+
+    /** The words that may stand at a byte of a text. */
+    offered(text, byte) {
+        return this.value("offered", text, byte);
+    }
+
+    /** What is told of the word at a byte of a text, or null. */
+    told(text, byte) {
+        return this.value("told", text, byte);
+    }
+
     compile(text) {
         return this.bytes("compile", text);
     }

@@ -3,12 +3,23 @@
 const OPTIONS = {
     mode: "eddl", lineNumbers: true, matchBrackets: true, autoCloseBrackets: true, foldGutter: true, indentUnit: 4, tabSize: 4,
     gutters: ["CodeMirror-linenumbers", "finding-dots", "CodeMirror-foldgutter"], lineWrapping: false, inputStyle: "contenteditable",
-    extraKeys: { Tab: false, "Shift-Tab": false },
+    extraKeys: { Tab: false, "Shift-Tab": false, "Ctrl-Space": "autocomplete" },
 };
 
 /** What is quick and what is slow, in milliseconds. */
 const QUICK = 30;
 const SLOW = 60;
+
+/** How long the mouse rests on a word before it is told of, in milliseconds. */
+const REST = 400;
+
+const writer = new TextEncoder();
+const reader = new TextDecoder();
+
+/** What is written in Markdown, as plain lines. */
+function plain(markdown) {
+    return markdown.replace(/^```.*$\n?/gm, "").replace(/\\([^\w\s])/g, "$1").replace(/[*`]/g, "").trim();
+}
 
 /** The units of UTF-16 before a column that counts characters from 1. */
 function unitsBefore(line, column) {
@@ -25,6 +36,58 @@ export class Source {
         this.editor = CodeMirror(place, { ...OPTIONS });
         this.editor.getInputField().setAttribute("aria-label", label);
         this.editor.on("changes", () => this.isQuiet || this.later(changed));
+        this.editor.setOption("hintOptions", { hint: () => this.hints(), completeSingle: false });
+        const shown = this.editor.getWrapperElement();
+        shown.addEventListener("mousemove", (event) => this.rest(event));
+        shown.addEventListener("mouseleave", () => clearTimeout(this.resting));
+    }
+
+    /** The byte of the text at a place of the editor, and the place at a byte. */
+    byteAt(place) {
+        return writer.encode(this.editor.getRange({ line: 0, ch: 0 }, place)).length;
+    }
+
+    placeAt(byte) {
+        return this.editor.posFromIndex(reader.decode(writer.encode(this.text()).slice(0, byte)).length);
+    }
+
+    /** The words that may stand at the cursor. */
+    hints() {
+        const offered = this.engine.offered(this.text(), this.byteAt(this.editor.getCursor()));
+        const [from, to] = [this.placeAt(offered.start), this.placeAt(offered.end)];
+        const begun = this.editor.getRange(from, to).toLowerCase();
+        const list = offered.entries.filter((it) => it.label.toLowerCase().startsWith(begun)).map((it) => ({
+            text: it.label, displayText: it.detail ? `${it.label}  ${it.detail}` : it.label,
+        }));
+        return { list, from, to };
+    }
+
+    /** Where the mouse rests on a word, it is told of. */
+    rest(event) {
+        clearTimeout(this.resting);
+        this.told?.clear();
+        this.told = null;
+        this.resting = setTimeout(() => {
+            const place = this.editor.coordsChar({ left: event.clientX, top: event.clientY }, "window");
+            this.tell(place);
+        }, REST);
+    }
+
+    /** Marks the word at a place with what is to be told of it. */
+    tell(place) {
+        const told = place.outside ? null : this.engine.told(this.text(), this.byteAt(place));
+        if (told && !this.editor.findMarksAt(place).some((it) => it.className?.startsWith("finding"))) {
+            const attributes = { title: plain(told.markdown) };
+            this.told = this.editor.markText(this.placeAt(told.start), this.placeAt(told.end), { className: "told", attributes });
+        }
+    }
+
+    /** Lays the text out, which Undo takes back. */
+    layOut() {
+        const laidOut = this.engine.layout(this.text());
+        if (laidOut !== this.text()) {
+            this.editor.setValue(laidOut);
+        }
     }
 
     text() {

@@ -82,6 +82,10 @@ class Browser:
     def keys(self, *keys):
         webdriver.ActionChains(self.driver, duration=0).send_keys(*keys).perform()
 
+    def chord(self, modifier, key):
+        """A key while another one is held."""
+        webdriver.ActionChains(self.driver, duration=0).key_down(modifier).send_keys(key).key_up(modifier).perform()
+
     def click(self, selector, words=""):
         """Clicks the first thing that is seen of these, with these words."""
         def there():

@@ -15,12 +15,12 @@ EXAMPLES = os.path.join(repository.TOP, "examples")
 OUT = os.path.join(SOURCES, "out")
 MODULE = os.path.join(repository.MADE, "page_module")
 # What the module is built of, and the system that it is built for.
-LIBRARIES = ["edd_check", "edd_device", "edd_dump", "edd_explanations", "edd_panel_lines"]
+LIBRARIES = ["edd_check", "edd_device", "edd_dump", "edd_editing", "edd_explanations", "edd_layout", "edd_panel_lines"]
 WASM, PARTS = "wasm32-unknown-unknown", "std,panic_abort"
 # The package of the editor, and what of it is used.
 EDITOR = "libjs-codemirror"
 EDITOR_FILES = ("/codemirror/lib/codemirror.js", "/codemirror/lib/codemirror.css", "/addon/edit/matchbrackets.js", "/addon/edit/closebrackets.js",
-                "/addon/fold/foldcode.js", "/addon/fold/foldgutter.js", "/addon/fold/foldgutter.css", "/addon/fold/brace-fold.js")
+                "/addon/fold/foldcode.js", "/addon/fold/foldgutter.js", "/addon/fold/foldgutter.css", "/addon/fold/brace-fold.js", "/addon/hint/show-hint.js", "/addon/hint/show-hint.css")
 LICENSE = "/copyright"
 BUILDING = (*packages.COMPILER, "rust-web-src", "lld", EDITOR)
 TESTING = ("chromium", "chromium-driver", "python3-selenium")

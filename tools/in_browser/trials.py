@@ -63,6 +63,27 @@ def faults(counts, browser):
     counts.check(browser.text("stale") == "", "the screen is that of the text again")
 
 
+def editing(counts, browser):
+    """Words that may stand at a place, what is told of a word, and the layout."""
+    browser.source(LEVEL.replace("high }", "hi }"))
+    line = LEVEL.split("\n")[1]
+    browser.focus_editor(1, line.index("high }") + len("hi"))
+    browser.chord(Keys.CONTROL, " ")
+    offered = browser.until(lambda: browser.script("return [...document.querySelectorAll('.CodeMirror-hint')].map((it) => it.innerText)"), "words")
+    counts.check(any(it.startswith("high") for it in offered), f"the words that may stand there: {offered}")
+    browser.keys(Keys.ENTER)
+    counts.check(browser.until(lambda: browser.text("source-findings") == "", "no fault"), "the word is put in")
+    told = browser.script("const s = window.app.source; s.tell({ line: 5, ch: 10 }); return document.querySelector('#source .told')?.title ?? ''")
+    counts.check("VARIABLE high" in told and "High alarm" in told, f"what is told of a variable: {told!r}")
+    browser.source("MANUFACTURER 1,DEVICE_TYPE 1,DEVICE_REVISION 1,DD_REVISION 1\nVARIABLE ä")
+    browser.click("#lay-out")
+    counts.check("3 " in browser.text("said"), f"why nothing is laid out: {browser.text('said')!r}")
+    browser.source("MANUFACTURER 1,DEVICE_TYPE 1,DEVICE_REVISION 1,DD_REVISION 1")
+    browser.click("#lay-out")
+    laid_out = browser.script("return window.app.source.text()")
+    counts.check(laid_out == "MANUFACTURER 1, DEVICE_TYPE 1, DEVICE_REVISION 1, DD_REVISION 1\n", f"the layout: {laid_out!r}")
+
+
 def edits(counts, browser):
     browser.source(LEVEL)
     browser.click("#screen .entry", "Level")
@@ -467,7 +488,7 @@ def test(chosen=()):
         browser.theme("light")
         browser.open()
         for name, action, *more in (
-                ("the first screen", first_example), ("a changed text", changed_text), ("faults", faults), ("edits", edits), ("asked bits", asked_bits),
+                ("the first screen", first_example), ("a changed text", changed_text), ("faults", faults), ("editing", editing), ("edits", edits), ("asked bits", asked_bits),
                 ("a calibration", to_its_end, program), ("an abort", aborted), ("delays", delays), ("endless methods", endless),
                 ("languages", languages),
                 ("the image", image_lines), ("texts that are kept", kept_texts), ("the keyboard", keyboard), ("looks", looks),

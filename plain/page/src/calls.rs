@@ -2,7 +2,7 @@
 use crate::Stop;
 use crate::blocks::{Held, held, new_block};
 use crate::desk::Desk;
-use crate::{json, places, states};
+use crate::{editing, json, places, states};
 use edd_check::{Choices, Format, ReportFault};
 use edd_compiler::Fault;
 use edd_display::ShowFault;
@@ -112,6 +112,24 @@ fn check_text(text: &[u8]) -> Result<Vec<u8>, Stop> {
 #[cfg_attr(target_family = "wasm", unsafe(no_mangle))]
 pub extern "C" fn check(text: u32) -> u32 {
     with_bytes(text, check_text)
+}
+
+/// The text in the layout of the project, with the same tokens and comments.
+#[cfg_attr(target_family = "wasm", unsafe(no_mangle))]
+pub extern "C" fn layout(text: u32) -> u32 {
+    with_bytes(text, editing::layout)
+}
+
+/// The words that may stand at a byte of a text.
+#[cfg_attr(target_family = "wasm", unsafe(no_mangle))]
+pub extern "C" fn offered(text: u32, byte: u32) -> u32 {
+    with_bytes(text, |text| editing::offered(text, byte as usize))
+}
+
+/// What is told of the word at a byte of a text, or `null`.
+#[cfg_attr(target_family = "wasm", unsafe(no_mangle))]
+pub extern "C" fn told(text: u32, byte: u32) -> u32 {
+    with_bytes(text, |text| editing::told(text, byte as usize))
 }
 
 fn compile_text(text: &[u8]) -> Result<Vec<u8>, Stop> {

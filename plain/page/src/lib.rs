@@ -9,6 +9,7 @@
 mod blocks;
 mod calls;
 mod desk;
+mod editing;
 mod places;
 mod states;
 mod texts;
