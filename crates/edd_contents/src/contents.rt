@@ -1,12 +1,13 @@
 //! What an attribute gives, in words that can be compared.
 
-use crate::reader::{Given, Reading, Unread, read};
+use crate::reader::{Unread, read};
+use crate::reading::{Given, Reading};
 use crate::records::Words;
 use edd_display::ShowFault;
 use edd_fault_places::sections::{RowFields, Sections, part};
 use edd_instructions::Instruction;
 use edd_syntax::numbers::{Attr, StrNo};
-use std::alloc::Global;
+use std::alloc::{AllocError, Global};
 
 /// How the content of an attribute is compared.
 #[derive(Clone, Copy, PartialEq, Eq, Debug)]
@@ -46,7 +47,8 @@ pub struct Line {
     pub string: Option<StrNo>,
 }
 
-/// What an attribute gives, in order. Condition 0 is empty, and what is under it is always given.
+/// What an attribute gives, in order. Condition 0 is empty, and what is under it is always given; one
+/// under which nothing is given is empty too.
 #[derive(Drop)]
 pub struct Content {
     pub conditions: Vec<String>,
@@ -96,29 +98,58 @@ fn line_of(
     })
 }
 
-fn content_of(alloc: Global, words: Words<'_, '_>, reading: Reading) -> Result<Content, ShowFault> {
-    let mut lines = Vec::with_capacity(alloc, reading.given.len())?;
+// The conditions under which something is given; the others are empty.
+fn conditions_of(alloc: Global, reading: &Reading) -> Result<Vec<String>, AllocError> {
+    let mut conditions: Vec<String> = Vec::with_capacity(alloc, reading.conditions.len())?;
+    for _ in &reading.conditions {
+        conditions.push(String::new(alloc))?;
+    }
+    for given in &reading.given {
+        if let Some(text) = conditions.get_mut(given.condition) {
+            if text.is_empty() {
+                *text = reading.condition(alloc, given.condition)?;
+            }
+        }
+    }
+    Ok(conditions)
+}
+
+// The records that are given, in the order of the code.
+fn lines_of(
+    alloc: Global,
+    words: Words<'_, '_>,
+    reading: &Reading,
+    conditions: &[String],
+) -> Result<Vec<Line>, ShowFault> {
     let has_nothing = shape_of(words.attribute) == Shape::Value;
+    let mut lines = Vec::with_capacity(alloc, reading.given.len())?;
     for given in &reading.given {
         if given.instruction == Instruction::End && !has_nothing {
             continue;
         }
         let mut line = line_of(alloc, words, given.condition, given)?;
-        if let Some(condition) = reading.conditions.get(given.condition) {
+        if let Some(condition) = conditions.get(given.condition) {
             line.key.push_str(condition)?;
         }
         line.key.push('\n')?;
         words.push_key(&mut line.key, given)?;
         lines.push(line)?;
     }
+    Ok(lines)
+}
+
+fn content_of(
+    alloc: Global,
+    words: Words<'_, '_>,
+    reading: &Reading,
+) -> Result<Content, ShowFault> {
+    let conditions = conditions_of(alloc, reading)?;
+    let mut lines = lines_of(alloc, words, reading, conditions.as_slice())?;
     // The code of a DEFAULT comes before those of the cases.
-    if has_nothing {
+    if shape_of(words.attribute) == Shape::Value {
         lines.sort_by_key(|line| line.condition)?;
     }
-    Ok(Content {
-        conditions: reading.conditions,
-        lines,
-    })
+    Ok(Content { conditions, lines })
 }
 
 // What an attribute gives that isn't written.
@@ -165,7 +196,7 @@ pub fn written(
                 sections,
                 attribute,
             };
-            Ok(Some(content_of(alloc, words, reading)?))
+            Ok(Some(content_of(alloc, words, &reading)?))
         }
         Err(Unread::Strange) => Ok(None),
         Err(Unread::Memory) => Err(ShowFault::Memory),

@@ -5,6 +5,7 @@
 
 mod contents;
 mod reader;
+mod reading;
 mod records;
 mod values;
 

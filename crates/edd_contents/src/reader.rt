@@ -4,6 +4,7 @@
 //! targets of jumps forward; so one pass with the open regions finds them. Other code can be valid,
 //! and is not read.
 
+use crate::reading::{ALWAYS, Condition, Given, Reading};
 use crate::values::{
     Value, binary, choice, comparison_sign, element, named, number, operator_sign, push_operand,
     unary, without_truth,
@@ -31,27 +32,6 @@ impl<T: Drop> From<AllocFailed<T>> for Unread {
     fn from(_error: AllocFailed<T>) -> Unread {
         Unread::Memory
     }
-}
-
-/// What an instruction gives, and under which condition, by its number among the conditions. `End`
-/// stands for a condition under which nothing is given.
-#[derive(Drop)]
-pub struct Given {
-    pub condition: usize,
-    pub instruction: Instruction,
-    /// The number that is given.
-    pub value: Option<Value>,
-}
-
-/// The number of the condition that is empty: what is under it is given always.
-const ALWAYS: usize = 0;
-
-/// What the code of an attribute gives, in the order of the code. Condition 0 is empty: what is under
-/// it is given always. The others are in the order of the source.
-#[derive(Drop)]
-pub struct Reading {
-    pub conditions: Vec<String>,
-    pub given: Vec<Given>,
 }
 
 /// A part of the code with an end of its own.
@@ -90,8 +70,6 @@ struct Reader<'s, 'a> {
     stack: Vec<Value>,
     open: Vec<Open>,
     condition: usize,
-    /// For each condition its text as it stands before `&&`.
-    parts: Vec<String>,
     /// The instruction before was `Duplicate`, which only tests of `&&` and `||` have.
     is_duplicated: bool,
     /// The next `Pop` drops what was duplicated, and is already gone here.
@@ -120,31 +98,24 @@ impl Reader<'_, '_> {
         }
     }
 
-    // A test, or its negation, after the condition around it.
-    fn part(&self, around: usize, test: &Value, is_negated: bool) -> Result<String, Unread> {
+    // The number of a new condition inside of another one.
+    fn under(&mut self, around: usize, test: &Value, is_negated: bool) -> Result<usize, Unread> {
         let mut text = String::new(self.alloc);
-        if around != ALWAYS {
-            if let Some(outer) = self.parts.get(around) {
-                text.push_str(outer)?;
-                text.push_str(" && ")?;
-            }
-        }
         if is_negated {
             text.push('!')?;
         }
         push_operand(&mut text, test)?;
-        Ok(text)
-    }
-
-    // The number of a new condition inside of another one.
-    fn under(&mut self, around: usize, test: &Value, is_negated: bool) -> Result<usize, Unread> {
-        let part = self.part(around, test, is_negated)?;
-        let is_whole = around == ALWAYS && !is_negated;
-        let of = if is_whole { &test.text } else { &part };
-        let text = String::from_str(self.alloc, of)?;
+        let alone = if is_negated {
+            None
+        } else {
+            Some(String::from_str(self.alloc, &test.text)?)
+        };
         let number = self.reading.conditions.len();
-        self.reading.conditions.push(text)?;
-        self.parts.push(part)?;
+        self.reading.conditions.push(Condition {
+            around,
+            test: text,
+            alone,
+        })?;
         Ok(number)
     }
 
@@ -438,16 +409,17 @@ impl Reader<'_, '_> {
 /// Reads the code of an attribute.
 pub fn read(alloc: Global, sections: &Sections<'_>, code: &[u8]) -> Result<Reading, Unread> {
     let mut conditions = Vec::new(alloc);
-    conditions.push(String::new(alloc))?;
-    let mut parts = Vec::new(alloc);
-    parts.push(String::new(alloc))?;
+    conditions.push(Condition {
+        around: ALWAYS,
+        test: String::new(alloc),
+        alone: None,
+    })?;
     let mut reader = Reader {
         alloc,
         sections,
         stack: Vec::new(alloc),
         open: Vec::new(alloc),
         condition: ALWAYS,
-        parts,
         is_duplicated: false,
         is_dropped: false,
         reading: Reading {

@@ -1,6 +1,6 @@
 //! The words of what an attribute gives, with its texts in all languages.
 
-use crate::reader::Given;
+use crate::reading::Given;
 use edd_display::{DATA_QUALIFIERS, MENU_QUALIFIERS, ShowFault, class_word, push_qualifiers};
 use edd_dump::push_string;
 use edd_fault_places::sections::Sections;
