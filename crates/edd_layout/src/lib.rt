@@ -1,17 +1,20 @@
-//! A stand-in.
+//! The text of a description in the layout of the project, which docs/LAYOUT.md describes. Proved is
+//! that it has the same tokens, and that no text is refused but for a lexical fault or for memory.
 #![tactic(auto)]
 
-use std::alloc::Global;
+mod brackets;
+mod bytes;
+mod frames;
+mod kept;
+mod layout;
+mod measures;
+mod places;
+mod remarks;
+mod roles;
+mod same;
+mod source;
+mod steps;
+mod touching;
+mod writer;
 
-#[derive(Drop)]
-pub enum LayoutFault {
-    Memory,
-}
-
-pub fn laid_out(alloc: Global, text: &[u8]) -> Result<Vec<u8>, LayoutFault> {
-    let mut copy = Vec::new(alloc);
-    if copy.extend_from_slice(text).is_err() {
-        return Err(LayoutFault::Memory);
-    }
-    Ok(copy)
-}
+pub use layout::laid_out;

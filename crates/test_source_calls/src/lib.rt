@@ -4,6 +4,8 @@
 #[cfg(test)]
 mod alternatives;
 #[cfg(test)]
+mod layouts;
+#[cfg(test)]
 mod lexer;
 #[cfg(test)]
 mod refusals;

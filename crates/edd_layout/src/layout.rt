@@ -1,0 +1,126 @@
+//! A text in the layout of the project.
+
+ghost use Rattle.std.specs.Prelude.{◌≡◌, ◌⊎◌, List, map, IfOk, IfErr, IfSome, Some, MatchResult};
+ghost use Rattle.edd_lexer.specs.Tokens.{Lexeme, AreTokens};
+ghost use Rattle.edd_lexer.specs.Faults.{LexicalFault};
+ghost use Rattle.edd_lexer.specs.declared.fault.Fault.{Fault};
+ghost use Rattle.edd_lexer.specs.Views.{lexeme_of, fault_of};
+ghost use Rattle.edd_lexer.specs.declared.fault.LexFault.TheVariants.{Memory};
+ghost use Rattle.edd_layout.specs.Same.{SameTokens, HaveSameBytes};
+
+use crate::brackets::partners;
+use crate::kept::{behind_byte_order_mark, differ_in_blanks};
+use crate::measures::measures;
+use crate::places::new_line;
+use crate::remarks::read_remarks;
+use crate::roles::roles;
+use crate::same::are_same;
+use crate::source::Source;
+use crate::writer::{Following, Known, TEXT_LIMIT, Writer};
+use edd_lexer::fault::LexFault;
+use edd_lexer::lex;
+use edd_lexer::token::Token;
+use std::alloc::{AllocError, Global};
+
+fn new_writer<'a>(alloc: Global, known: Known<'a>) -> Writer<'a> {
+    Writer {
+        known,
+        out: Vec::new(alloc),
+        column: 0,
+        token_column: 0,
+        frames: Vec::new(alloc),
+        base: 0,
+        joined_until: 0,
+        following: Following::Begins,
+        texts: None,
+        must_end: false,
+        has_ended: false,
+    }
+}
+
+// The layout of what is known of a text, up to the token behind which it is too long for one.
+fn written(alloc: Global, known: Known<'_>) -> Result<Vec<u8>, AllocError> {
+    let mut writer = new_writer(alloc, known);
+    let count = known.source.tokens.len();
+    for number in 0..count {
+        writer.put_token(number)?;
+        if writer.out.len() > TEXT_LIMIT {
+            break;
+        }
+    }
+    let indent = match writer.frames.last() {
+        Some(frame) => frame.inner(),
+        None => 0,
+    };
+    writer.put_remarks(count, new_line(indent))?;
+    if !writer.out.is_empty() {
+        writer.out.push(b'\n')?;
+    }
+    let Writer { out, .. } = writer;
+    Ok(out)
+}
+
+// The layout of a text with these tokens.
+fn drafted(alloc: Global, text: &[u8], tokens: &[Token]) -> Result<Vec<u8>, AllocError> {
+    let partners = partners(alloc, tokens)?;
+    let source = Source {
+        text,
+        tokens,
+        partners: &partners,
+    };
+    let remarks = read_remarks(alloc, text, tokens)?;
+    let roles = roles(alloc, source)?;
+    let measures = measures(alloc, source, &roles, &remarks)?;
+    written(
+        alloc,
+        Known {
+            source,
+            roles: &roles,
+            measures: &measures,
+            remarks: &remarks,
+        },
+    )
+}
+
+// The layout of a text with these tokens, if it has the same; else the text.
+fn checked(alloc: Global, text: &[u8], tokens: &[Token]) -> Result<Vec<u8>, LexFault>
+    requires { AreTokens text.now (map (lexeme_of text.now) tokens.now) }
+    ensures sound { IfOk result (λ laid. SameTokens text.now laid.items) }
+    ensures kept { IfOk result (λ laid. HaveSameBytes text.now laid.items) }
+    ensures only_memory { IfErr result (λ e. e ≡ Memory) }
+{
+    let draft = drafted(alloc, text, tokens)?;
+    match lex(alloc, &draft) {
+        Ok(others) => {
+            let front = behind_byte_order_mark(text);
+            let other_front = behind_byte_order_mark(&draft);
+            if differ_in_blanks(front, other_front) && are_same(text, tokens, &draft, &others) {
+                return Ok(draft);
+            }
+        }
+        Err(LexFault::Memory) => return Err(LexFault::Memory),
+        Err(_) => {}
+    }
+    Ok(Vec::from_slice(alloc, text)?)
+}
+
+/// The text of a description in the layout of the project: the same tokens, with other blanks and
+/// line ends between them and the same comments and marks. A text stays as it is where its layout
+/// would be longer than a text may be.
+///
+/// Refused is what `lex` refuses, with its fault.
+pub fn laid_out(alloc: Global, text: &[u8]) -> Result<Vec<u8>, LexFault>
+    ensures sound { IfOk result (λ laid. SameTokens text.now laid.items) }
+    ensures kept { IfOk result (λ laid. HaveSameBytes text.now laid.items) }
+    ensures refused { IfErr result
+        (λ e. IfSome (fault_of e) (λ fault. LexicalFault text.now fault)) }
+    ensures complete { (lexemes : List Lexeme) → AreTokens text.now lexemes
+        → IfErr result (λ e. e ≡ Memory) }
+    ensures only_fault { (fault : Fault) → LexicalFault text.now fault
+        → MatchResult result (λ _. ⊥) (λ e. (e ≡ Memory) ⊎ (fault_of e ≡ Some fault)) }
+{
+    match lex(alloc, text) {
+        Ok(tokens) => checked(alloc, text, &tokens),
+        Err(fault) => Err(fault),
+    }
+}
