@@ -7,7 +7,6 @@ use crate::keyword_terms::meaning_of;
 use crate::place_terms::{CLASS_MEANING, CLASSES, Role, TERMS};
 use edd_document::Document;
 use edd_document::declarations::Sort;
-use edd_reports::words::kind_word;
 use edd_syntax::numbers::Kind;
 use edd_syntax::symbols::Keyword;
 use indexmap::IndexMap;
@@ -58,14 +57,6 @@ impl<'d, 'a> Offers<'d, 'a> {
     pub fn add_words(&mut self, words: &[Keyword], kind: CompletionKind) -> Result<(), AllocError> {
         for word in words {
             self.add_term(word.spelling(), kind, meaning_of(*word))?;
-        }
-        Ok(())
-    }
-
-    /// The words with which items of some kinds begin.
-    pub fn add_kinds(&mut self, kinds: &[Kind]) -> Result<(), AllocError> {
-        for kind in kinds {
-            self.add_term(kind_word(*kind), CompletionKind::Keyword, "")?;
         }
         Ok(())
     }
