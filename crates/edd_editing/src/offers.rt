@@ -101,7 +101,8 @@ impl<'d, 'a> Offers<'d, 'a> {
             // Of two items with one name the first is meant.
             if item.kind == kind && document.first_item(item.name) == Some(index) {
                 let label = label_of(self.alloc, document, item)?;
-                self.add(document.word(item.name), CompletionKind::Item(kind), label)?;
+                let name = document.word(item.name);
+                self.add(name, CompletionKind::Item(kind), label)?;
             }
         }
         Ok(())
@@ -117,11 +118,8 @@ impl<'d, 'a> Offers<'d, 'a> {
             if collection == item {
                 let named = names.map_or("", |token| document.word(token));
                 let detail = String::from_str(self.alloc, named)?;
-                self.add(
-                    document.word(declared.token),
-                    CompletionKind::Member,
-                    detail,
-                )?;
+                let name = document.word(declared.token);
+                self.add(name, CompletionKind::Member, detail)?;
             }
         }
         Ok(())
