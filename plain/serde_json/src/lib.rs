@@ -1,10 +1,15 @@
-//! `serde_json` as the sources of `edd` call it. What is written may be refused memory; where the crate
-//! itself finds none while it reads, the program ends.
+//! `serde_json` as the sources of `edd` call it. What is written or read may be refused memory; where
+//! the crate itself finds none while it reads a text with escapes, the program ends.
+mod value;
+
 use edd_plain_std::alloc::Global;
 use edd_plain_std::string::String;
 use edd_plain_std::vec::Vec;
+use serde::de::DeserializeSeed;
+use std::cell::Cell;
 use std::io;
-use std::ops::Deref;
+use value::Reading;
+pub use value::{Index, Map, Value};
 
 /// Why a value is not written or read.
 #[derive(Debug)]
@@ -44,26 +49,28 @@ pub fn to_string<T: serde::Serialize>(alloc: Global, value: &T) -> Result<String
     }
 }
 
-/// A value that was read.
-pub struct Value(serde_json::Value);
-
-impl Value {
-    pub fn from_str(_: Global, text: &str) -> Result<Value, Error> {
-        serde_json::from_str(text).map(Value).map_err(Error::Other)
-    }
-
-    pub fn as_str(value: &serde_json::Value) -> Option<&str> {
-        value.as_str()
-    }
-
-    pub fn as_u64(value: &serde_json::Value) -> Option<u64> {
-        value.as_u64()
+impl Error {
+    pub fn is_memory(&self) -> bool {
+        matches!(self, Error::Memory)
     }
 }
 
-impl Deref for Value {
-    type Target = serde_json::Value;
-    fn deref(&self) -> &serde_json::Value {
-        &self.0
+impl Value {
+    pub fn from_str(alloc: Global, text: &str) -> Result<Value, Error> {
+        Value::from_slice(alloc, text.as_bytes())
+    }
+
+    pub fn from_slice(_: Global, bytes: &[u8]) -> Result<Value, Error> {
+        let is_refused = Cell::new(false);
+        let mut from = serde_json::Deserializer::from_slice(bytes);
+        let reading = Reading {
+            is_refused: &is_refused,
+        };
+        let value = reading.deserialize(&mut from).map_err(Error::Other)?;
+        from.end().map_err(Error::Other)?;
+        if is_refused.get() {
+            return Err(Error::Memory);
+        }
+        Ok(value)
     }
 }

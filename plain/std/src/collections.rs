@@ -59,6 +59,13 @@ impl<'a, K: Ord, V> IntoIterator for &'a BTreeMap<K, V> {
     }
 }
 
+#[cfg(feature = "serde")]
+impl<K: serde::Serialize + Ord, V: serde::Serialize> serde::Serialize for BTreeMap<K, V> {
+    fn serialize<S: serde::Serializer>(&self, to: S) -> Result<S::Ok, S::Error> {
+        to.collect_map(self.iter())
+    }
+}
+
 /// Elements, each once.
 pub struct BTreeSet<T>(Ordered<T, ()>);
 

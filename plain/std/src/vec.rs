@@ -72,6 +72,10 @@ impl<T> Vec<T> {
         self.0.pop()
     }
 
+    pub fn remove(&mut self, at: usize) -> T {
+        self.0.remove(at)
+    }
+
     pub fn clear(&mut self) {
         self.0.clear();
     }

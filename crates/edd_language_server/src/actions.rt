@@ -1,0 +1,155 @@
+//! Edits that mend what is wrong.
+
+use crate::contents::edited;
+use crate::diagnosing::{View, diagnostic};
+use crate::fixes::{Fix, fix_of};
+use crate::greeting::QUICK_FIX;
+use crate::query::{Query, Refusal};
+use crate::renaming::edit_of;
+use edd_check::{Choices, Reports, diagnose};
+use edd_protocol::{list_at, range_at};
+use edd_protocol_shapes::Action;
+use edd_reports::diagnostic::{Diagnostic, Finding, Help};
+use edd_reports::words::Span;
+use std::alloc::{AllocError, Global};
+
+/// The most edits that are tried for a request.
+const MOST_TRIED: usize = 8;
+
+/// An edit that was tried: the finding and the help that it comes of.
+#[derive(Drop)]
+struct Tried<'a> {
+    found: &'a Diagnostic,
+    help: &'a Help,
+    fix: Fix,
+}
+
+// Whether quick fixes are among what is asked for.
+fn is_asked(query: Query<'_>) -> bool {
+    match query.params.pointer("/context/only") {
+        Some(_) => {
+            let only = list_at(query.params, "/context/only");
+            only.iter().any(|kind| kind.as_str() == Some(QUICK_FIX) || kind.as_str() == Some(""))
+        }
+        None => true,
+    }
+}
+
+// The bytes that are asked about.
+fn asked_place(query: Query<'_>) -> Result<Span, Refusal> {
+    let Some(range) = range_at(query.params, "/range") else {
+        return Err(Refusal::BadParams("no range is named"));
+    };
+    let content = &query.opened.content;
+    Ok(Span {
+        start: content
+            .lines
+            .byte(query.text(), range.start, query.client.encoding),
+        end: content
+            .lines
+            .byte(query.text(), range.end, query.client.encoding),
+    })
+}
+
+// Whether a refusal has its place in the bytes that are asked about, or next to them.
+fn is_at(found: &Diagnostic, asked: Span) -> bool {
+    match (found.place, &found.finding) {
+        (Some(place), Finding::Refused(_)) => {
+            place.start <= asked.end && asked.start <= place.end
+        }
+        _ => false,
+    }
+}
+
+fn count(reports: &Reports) -> usize {
+    reports.shown.len().saturating_add(reports.more)
+}
+
+fn first_place(reports: &Reports) -> usize {
+    match reports.shown.first() {
+        Some(found) => found.place.map(|place| place.start).unwrap_or(0),
+        None => usize::MAX,
+    }
+}
+
+// Whether a text compiles further than another one did.
+fn is_further(before: &Reports, after: &Reports) -> bool {
+    let is_later = first_place(before) < first_place(after);
+    !after.is_refused || count(after) < count(before) || is_later
+}
+
+// Whether the text compiles further with a change.
+fn helps(
+    alloc: Global,
+    query: Query<'_>,
+    reports: &Reports,
+    fix: &Fix,
+) -> Result<bool, AllocError> {
+    let place = fix.place;
+    let text = edited(
+        alloc,
+        query.text(),
+        place.start,
+        place.end,
+        fix.text.as_str(),
+    )?;
+    let after = diagnose(alloc, text.as_bytes(), &Choices::new(alloc))?;
+    Ok(is_further(reports, &after))
+}
+
+// The changes that the helps of these places say.
+fn changes<'a>(
+    alloc: Global,
+    reports: &'a Reports,
+    asked: Span,
+) -> Result<Vec<Tried<'a>>, AllocError> {
+    let mut made = Vec::new(alloc);
+    for found in reports.shown.iter().filter(|found| is_at(found, asked)) {
+        for help in &found.helps {
+            if let Some(fix) = fix_of(alloc, found, help)? {
+                made.push(Tried { found, help, fix })?;
+            }
+        }
+    }
+    Ok(made)
+}
+
+fn action_of<'a>(
+    alloc: Global,
+    query: Query<'a>,
+    tried: &'a Tried<'_>,
+) -> Result<Action<'a>, AllocError> {
+    let view = View {
+        opened: query.opened,
+        client: query.client,
+    };
+    let mut diagnostics = Vec::new(alloc);
+    diagnostics.push(diagnostic(alloc, view, tried.found)?)?;
+    let mut edits = Vec::new(alloc);
+    edits.push(query.edit(tried.fix.place, tried.fix.text.as_str()))?;
+    Ok(Action {
+        title: tried.help.text.as_str(),
+        kind: QUICK_FIX,
+        diagnostics,
+        edit: edit_of(alloc, query, edits)?,
+    })
+}
+
+/// Answers with the edits after which the text compiles further.
+pub fn actions(alloc: Global, query: Query<'_>, out: &mut Vec<u8>) -> Result<(), Refusal> {
+    let asked = asked_place(query)?;
+    let mut made: Vec<Action<'_>> = Vec::new(alloc);
+    let Some(reports) = &query.opened.reports else {
+        return query.answer(alloc, &made, out);
+    };
+    if !is_asked(query) {
+        return query.answer(alloc, &made, out);
+    }
+    let changes = changes(alloc, reports, asked)?;
+    for tried in changes.iter().take(MOST_TRIED) {
+        if helps(alloc, query, reports, &tried.fix)? {
+            made.push(action_of(alloc, query, tried)?)?;
+        }
+    }
+    query.answer(alloc, &made, out)
+}

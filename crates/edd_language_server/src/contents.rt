@@ -1,0 +1,95 @@
+//! The text of a document, and how a change of an editor changes it.
+
+use edd_protocol::{Encoding, Lines, range_at, text_at};
+use serde_json::Value;
+use std::alloc::{AllocError, Global};
+
+/// A text and its lines.
+#[derive(Drop)]
+pub struct Content {
+    pub text: String,
+    pub lines: Lines,
+}
+
+impl Content {
+    pub fn of(alloc: Global, text: String) -> Result<Content, AllocError> {
+        let lines = Lines::of(alloc, text.as_str())?;
+        Ok(Content { text, lines })
+    }
+
+    // This text with another one in the place of the bytes from one up to another.
+    fn with(
+        &self,
+        alloc: Global,
+        start: usize,
+        end: usize,
+        new: &str,
+    ) -> Result<Content, AllocError> {
+        Content::of(alloc, edited(alloc, self.text.as_str(), start, end, new)?)
+    }
+
+    // This text with a change; nothing where the change is no change of the protocol.
+    fn changed(
+        &self,
+        alloc: Global,
+        change: &Value,
+        encoding: Encoding,
+    ) -> Result<Option<Content>, AllocError> {
+        let Some(new) = text_at(change, "/text") else {
+            return Ok(None);
+        };
+        let Some(range) = range_at(change, "/range") else {
+            if change.get("range").is_some() {
+                return Ok(None);
+            }
+            return Ok(Some(Content::of(alloc, String::from_str(alloc, new)?)?));
+        };
+        let start = self.lines.byte(self.text.as_str(), range.start, encoding);
+        let end = self.lines.byte(self.text.as_str(), range.end, encoding);
+        Ok(Some(self.with(alloc, start, end, new)?))
+    }
+
+    /// This text with changes, one after the other; nothing where one of them is none, or there are
+    /// none.
+    pub fn after(
+        &self,
+        alloc: Global,
+        changes: &[Value],
+        encoding: Encoding,
+    ) -> Result<Option<Content>, AllocError> {
+        let mut now: Option<Content> = None;
+        for change in changes {
+            let next = match &now {
+                Some(content) => content.changed(alloc, change, encoding)?,
+                None => self.changed(alloc, change, encoding)?,
+            };
+            if next.is_none() {
+                return Ok(None);
+            }
+            now = next;
+        }
+        Ok(now)
+    }
+}
+
+/// A text with another one in the place of the bytes from one up to another. Bytes of which no part
+/// of the text is are the text's end.
+pub fn edited(
+    alloc: Global,
+    text: &str,
+    start: usize,
+    end: usize,
+    new: &str,
+) -> Result<String, AllocError> {
+    let before = text.get(..start).unwrap_or(text);
+    let after = text.get(end.max(start)..).unwrap_or("");
+    let length = before
+        .len()
+        .saturating_add(new.len())
+        .saturating_add(after.len());
+    let mut made = String::with_capacity(alloc, length)?;
+    made.push_str(before)?;
+    made.push_str(new)?;
+    made.push_str(after)?;
+    Ok(made)
+}

@@ -1,0 +1,26 @@
+//! A language server for descriptions as a machine: bytes of an editor in, bytes for the editor out.
+//! What it answers comes of the check, the queries on a text and the layout of the crates below.
+//! Proved is that all of it is safe and ends, whatever bytes come and whichever memory is refused.
+#![tactic(auto)]
+
+mod actions;
+mod client;
+mod completing;
+mod contents;
+mod diagnosing;
+mod documents;
+mod fixes;
+mod formatting;
+mod greeting;
+mod hovering;
+mod notifications;
+mod outlining;
+mod places;
+mod query;
+mod renaming;
+mod requests;
+mod server;
+mod signatures;
+
+pub use edd_protocol::{Frame, Framing, HeaderFault, content_length};
+pub use server::{Next, Server, feed, take};

@@ -1,0 +1,22 @@
+//! What may be written at a place.
+
+use crate::TextEdit;
+use serde::Serialize;
+
+#[derive(Drop, Serialize)]
+#[serde(rename_all = "camelCase")]
+pub struct Completion<'a> {
+    pub label: &'a str,
+    pub kind: u8,
+    pub detail: &'a str,
+    /// By this a client keeps the order.
+    pub sort_text: String,
+    pub text_edit: TextEdit<'a>,
+}
+
+#[derive(Drop, Serialize)]
+#[serde(rename_all = "camelCase")]
+pub struct Completions<'a> {
+    pub is_incomplete: bool,
+    pub items: Vec<Completion<'a>>,
+}
