@@ -41,7 +41,11 @@ fn items<'a>(
         made.push(Completion {
             label: entry.label,
             kind: kind_of(entry.kind),
-            detail: entry.detail.as_str(),
+            detail: if entry.detail.is_empty() {
+                None
+            } else {
+                Some(entry.detail.as_str())
+            },
             sort_text: format!(in alloc; "{number:06}")?,
             text_edit: TextEdit {
                 range,

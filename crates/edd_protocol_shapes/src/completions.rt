@@ -8,7 +8,8 @@ use serde::Serialize;
 pub struct Completion<'a> {
     pub label: &'a str,
     pub kind: u8,
-    pub detail: &'a str,
+    #[serde(skip_serializing_if = "Option::is_none")]
+    pub detail: Option<&'a str>,
     /// By this a client keeps the order.
     pub sort_text: String,
     pub text_edit: TextEdit<'a>,
