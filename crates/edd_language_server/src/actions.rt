@@ -114,6 +114,22 @@ fn changes<'a>(
     Ok(made)
 }
 
+// Those after which the text compiles further.
+fn helping<'a>(
+    alloc: Global,
+    query: Query<'_>,
+    reports: &'a Reports,
+    asked: Span,
+) -> Result<Vec<Tried<'a>>, AllocError> {
+    let mut made = Vec::new(alloc);
+    for tried in changes(alloc, reports, asked)?.into_iter().take(MOST_TRIED) {
+        if helps(alloc, query, reports, &tried.fix)? {
+            made.push(tried)?;
+        }
+    }
+    Ok(made)
+}
+
 fn action_of<'a>(
     alloc: Global,
     query: Query<'a>,
@@ -138,18 +154,13 @@ fn action_of<'a>(
 /// Answers with the edits after which the text compiles further.
 pub fn actions(alloc: Global, query: Query<'_>, out: &mut Vec<u8>) -> Result<(), Refusal> {
     let asked = asked_place(query)?;
-    let mut made: Vec<Action<'_>> = Vec::new(alloc);
-    let Some(reports) = &query.opened.reports else {
-        return query.answer(alloc, &made, out);
+    let tried = match &query.opened.reports {
+        Some(reports) if is_asked(query) => helping(alloc, query, reports, asked)?,
+        _ => Vec::new(alloc),
     };
-    if !is_asked(query) {
-        return query.answer(alloc, &made, out);
-    }
-    let changes = changes(alloc, reports, asked)?;
-    for tried in changes.iter().take(MOST_TRIED) {
-        if helps(alloc, query, reports, &tried.fix)? {
-            made.push(action_of(alloc, query, tried)?)?;
-        }
+    let mut made = Vec::with_capacity(alloc, tried.len())?;
+    for it in &tried {
+        made.push(action_of(alloc, query, it)?)?;
     }
     query.answer(alloc, &made, out)
 }

@@ -9,11 +9,11 @@ use std::alloc::Global;
 /// Answers with an edit of the whole text; with none where it is laid out already, or is refused.
 pub fn format(alloc: Global, query: Query<'_>, out: &mut Vec<u8>) -> Result<(), Refusal> {
     let text = query.text();
-    let mut edits: Vec<TextEdit<'_>> = Vec::new(alloc);
     let laid = match laid_out(alloc, text.as_bytes()) {
         Ok(laid) => laid,
         Err(LayoutFault::Memory) => return Err(Refusal::Memory),
     };
+    let mut edits: Vec<TextEdit<'_>> = Vec::new(alloc);
     let new = str::from_utf8(laid.as_slice()).unwrap_or(text);
     if new != text {
         let whole = Span {
