@@ -91,7 +91,7 @@ fn sound_before(alloc: Global, text: &[u8], fault: u32) -> Result<Sound, AllocEr
     Ok(Sound { tokens, line })
 }
 
-// The tokens of a line before its fault, which is at the end of the longest beginning that has tokens.
+// The tokens of a line before its fault: those of the longest beginning that has tokens.
 fn beginning(alloc: Global, line: &[u8]) -> Result<Vec<Token>, AllocError> {
     if LONGEST < line.len() {
         return Ok(Vec::new(alloc));

@@ -1,6 +1,6 @@
-//! The text of a description as an editor has it, which may be unfinished or refused: its tokens, its
-//! items, what may stand at each place, and what each name means. All of it is found by tokens alone.
-//! Proved is that this is safe and ends.
+//! The text of a description as an editor has it, which may be unfinished or refused: its tokens,
+//! its items, what may stand at each place, and what each name means. All of it is found by tokens
+//! alone. Proved is that this is safe and ends.
 #![tactic(auto)]
 
 pub mod declarations;

@@ -57,12 +57,13 @@ impl Scopes {
         let Some(waiting) = self.waiting else {
             return Ok(None);
         };
+        let before = self.local(waiting.name);
         self.waiting = None;
         self.hidden.push(Hidden {
             open: waiting.open,
             name: waiting.name,
             local: waiting.local,
-            before: self.local(waiting.name),
+            before,
         })?;
         if let Some(place) = self.visible.get_mut(waiting.name) {
             *place = Some(waiting.local);

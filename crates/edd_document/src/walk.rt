@@ -94,12 +94,14 @@ impl Level {
         if is_behind_condition {
             return Place::Expression;
         }
-        match (self.braces, self.word) {
-            (Braces::Body, _) => Place::Body,
-            (Braces::List(word), _) => Place::Qualifier(word),
-            (Braces::Branch(word), _) | (_, Some(word)) if is_number_word(word) => {
-                Place::Expression
-            }
+        let word = match self.braces {
+            Braces::Body => return Place::Body,
+            Braces::List(word) => return Place::Qualifier(word),
+            Braces::Branch(word) => Some(word),
+            _ => self.word,
+        };
+        match word {
+            Some(word) if is_number_word(word) => Place::Expression,
             _ => Place::Other,
         }
     }

@@ -10,8 +10,7 @@ pub struct Comment {
     pub is_block: bool,
 }
 
-// How many bytes a block comment has whose inside is this: up to the end of the text where it is not
-// closed.
+// How many bytes a block comment has whose inside is this: all of them where it is not closed.
 fn block_length(inside: &[u8]) -> usize {
     let mut is_behind_star = false;
     for (index, byte) in inside.iter().enumerate() {

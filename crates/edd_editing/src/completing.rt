@@ -9,10 +9,23 @@ use edd_document::Document;
 use edd_document::spots::{ATTRIBUTE_WORDS, Braces, Place, is_number_word};
 use edd_lexer::token::TokenKind;
 use edd_reports::words::Span;
-use edd_syntax::numbers::{KINDS, Kind};
+use edd_syntax::numbers::Kind;
 use edd_syntax::operators::Parameter;
 use edd_syntax::symbols::{Keyword, Symbol};
 use std::alloc::{AllocError, Global};
+
+/// The words with which items begin.
+const ITEMS: [Keyword; 6] = [
+    Keyword::Variable,
+    Keyword::Command,
+    Keyword::Menu,
+    Keyword::Collection,
+    Keyword::Method,
+    Keyword::Array,
+];
+
+/// How many of them a collection may have as members; an array has the first alone.
+const MEMBERS: usize = 5;
 
 /// The words with which statements begin, and those between their parts.
 const STATEMENTS: [Keyword; 13] = [
@@ -218,11 +231,9 @@ impl Offers<'_, '_> {
         let document = self.document;
         if document.is_keyword(before, Keyword::Of) {
             let is_array = document.is_keyword(before.saturating_sub(1), Keyword::Array);
-            return self.add_kinds(if is_array {
-                &[Kind::Variable]
-            } else {
-                &KINDS_OF_MEMBERS
-            });
+            let count = if is_array { 1 } else { MEMBERS };
+            let kinds = ITEMS.get(..count).unwrap_or(&ITEMS);
+            return self.add_words(kinds, CompletionKind::Keyword);
         }
         if document.is_keyword(before, Keyword::Collection)
             || document.is_keyword(before, Keyword::Array)
@@ -283,7 +294,7 @@ impl Offers<'_, '_> {
     fn add_at(&mut self, cursor: Cursor) -> Result<(), AllocError> {
         let token = cursor.token;
         match self.document.spot(token).place {
-            Place::Top => self.add_kinds(&KINDS),
+            Place::Top => self.add_words(&ITEMS, CompletionKind::Keyword),
             Place::Head(_) => self.add_head(token),
             Place::Start(braces) => self.add_parts(cursor, braces),
             Place::Value(word) => self.add_value(token, word),

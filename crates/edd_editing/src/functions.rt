@@ -31,7 +31,7 @@ pub const FUNCTIONS: [Function; 15] = [
     },
     Function {
         builtin: Builtin::SelectFromList,
-        meaning: "Asks, with a text, for one of the choices of the second text; its value says which.",
+        meaning: "Asks for one of the choices of the second text; its value says which.",
     },
     Function {
         builtin: Builtin::SendCommand,
@@ -39,7 +39,7 @@ pub const FUNCTIONS: [Function; 15] = [
     },
     Function {
         builtin: Builtin::SendCommandTrans,
-        meaning: "Sends one transaction of the command with this NUMBER: the second number says which.",
+        meaning: "Sends a transaction, by the second number, of the command with this NUMBER.",
     },
     Function {
         builtin: Builtin::SaveValues,
@@ -71,7 +71,7 @@ pub const FUNCTIONS: [Function; 15] = [
     },
     Function {
         builtin: Builtin::AddAbortMethod,
-        meaning: "Lists a method to be run where this one is aborted; its value is 0, or -1 where there are 8.",
+        meaning: "Lists a method to be run if this one is aborted; its value is -1 if it is not.",
     },
 ];
 

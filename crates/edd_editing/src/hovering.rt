@@ -74,7 +74,11 @@ fn of_token(
 ) -> Result<Option<String>, AllocError> {
     match document.kind(token) {
         Some(TokenKind::Keyword(word)) => {
-            term(alloc, word.spelling(), meaning_of(word), section_of(word))
+            let place = document.spot(token).place;
+            match meaning_at(place, word.spelling()) {
+                Some(meaning) => term(alloc, word.spelling(), meaning, Section::Attributes),
+                None => term(alloc, word.spelling(), meaning_of(word), section_of(word)),
+            }
         }
         Some(TokenKind::Name) => undeclared(alloc, document, token),
         _ => Ok(None),

@@ -58,7 +58,7 @@ pub fn meaning_of(word: Keyword) -> &'static str {
         Keyword::ConstantUnit => "The unit that is shown after the value.",
         Keyword::Validity => "Whether the item is there for the technician: TRUE or FALSE.",
         Keyword::Type => {
-            "The type of the variable, its size in octets from 1 to 4, and its limits or enumerators."
+            "The type of the variable, its size in octets from 1 to 4, and its limits."
         }
         Keyword::Number => "The number of the command in the device's protocol.",
         Keyword::Operation => "What the command does: READ, WRITE or COMMAND.",

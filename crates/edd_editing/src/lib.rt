@@ -1,6 +1,6 @@
-//! What an editor asks about the text of a description: what a name means, where it is declared and
-//! used, what may be written at a place, and what folds. All of it works on tokens, so a text may be
-//! unfinished or refused. Proved is that every answer is found safely and in bounded time.
+//! What an editor asks about the text of a description: what a name means, where it is declared
+//! and used, what may be written at a place, and what folds. The text may be unfinished or refused.
+//! Proved is that every answer is found safely and in bounded time.
 #![tactic(auto)]
 
 mod answers;

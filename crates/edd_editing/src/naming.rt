@@ -39,8 +39,8 @@ fn places_of(
     Ok(places)
 }
 
-/// All places where what is named at a byte is named, in their order; that of its declaration too if
-/// `declared`.
+/// All places where what is named at a byte is named, in their order; that of its declaration too
+/// if `declared`.
 pub fn references(
     alloc: Global,
     document: &Document<'_>,

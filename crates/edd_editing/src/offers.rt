@@ -7,7 +7,6 @@ use crate::keyword_terms::meaning_of;
 use crate::place_terms::{CLASS_MEANING, CLASSES, Role, TERMS};
 use edd_document::Document;
 use edd_document::declarations::Sort;
-use edd_reports::words::kind_word;
 use edd_syntax::numbers::Kind;
 use edd_syntax::symbols::Keyword;
 use indexmap::IndexMap;
@@ -62,14 +61,6 @@ impl<'d, 'a> Offers<'d, 'a> {
         Ok(())
     }
 
-    /// The words with which items of some kinds begin.
-    pub fn add_kinds(&mut self, kinds: &[Kind]) -> Result<(), AllocError> {
-        for kind in kinds {
-            self.add_term(kind_word(*kind), CompletionKind::Keyword, "")?;
-        }
-        Ok(())
-    }
-
     /// The words that stand for values in their place.
     pub fn add_values(&mut self, role: Role) -> Result<(), AllocError> {
         for term in TERMS {
@@ -110,7 +101,8 @@ impl<'d, 'a> Offers<'d, 'a> {
             // Of two items with one name the first is meant.
             if item.kind == kind && document.first_item(item.name) == Some(index) {
                 let label = label_of(self.alloc, document, item)?;
-                self.add(document.word(item.name), CompletionKind::Item(kind), label)?;
+                let name = document.word(item.name);
+                self.add(name, CompletionKind::Item(kind), label)?;
             }
         }
         Ok(())
@@ -126,11 +118,8 @@ impl<'d, 'a> Offers<'d, 'a> {
             if collection == item {
                 let named = names.map_or("", |token| document.word(token));
                 let detail = String::from_str(self.alloc, named)?;
-                self.add(
-                    document.word(declared.token),
-                    CompletionKind::Member,
-                    detail,
-                )?;
+                let name = document.word(declared.token);
+                self.add(name, CompletionKind::Member, detail)?;
             }
         }
         Ok(())

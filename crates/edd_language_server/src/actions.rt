@@ -1,12 +1,11 @@
 //! Edits that mend what is wrong.
 
-use crate::contents::edited;
-use crate::diagnosing::{View, diagnostic};
 use crate::fixes::{Fix, fix_of};
 use crate::greeting::QUICK_FIX;
 use crate::query::{Query, Refusal};
 use crate::renaming::edit_of;
 use edd_check::{Choices, Reports, diagnose};
+use edd_open_documents::{View, diagnostic, edited};
 use edd_protocol::{list_at, range_at};
 use edd_protocol_shapes::Action;
 use edd_reports::diagnostic::{Diagnostic, Finding, Help};
@@ -114,6 +113,23 @@ fn changes<'a>(
     Ok(made)
 }
 
+// Those after which the text compiles further.
+fn helping<'a>(alloc: Global, query: Query<'a>, asked: Span) -> Result<Vec<Tried<'a>>, AllocError> {
+    let mut made = Vec::new(alloc);
+    let Some(reports) = &query.opened.reports else {
+        return Ok(made);
+    };
+    if !is_asked(query) {
+        return Ok(made);
+    }
+    for tried in changes(alloc, reports, asked)?.into_iter().take(MOST_TRIED) {
+        if helps(alloc, query, reports, &tried.fix)? {
+            made.push(tried)?;
+        }
+    }
+    Ok(made)
+}
+
 fn action_of<'a>(
     alloc: Global,
     query: Query<'a>,
@@ -138,18 +154,10 @@ fn action_of<'a>(
 /// Answers with the edits after which the text compiles further.
 pub fn actions(alloc: Global, query: Query<'_>, out: &mut Vec<u8>) -> Result<(), Refusal> {
     let asked = asked_place(query)?;
-    let mut made: Vec<Action<'_>> = Vec::new(alloc);
-    let Some(reports) = &query.opened.reports else {
-        return query.answer(alloc, &made, out);
-    };
-    if !is_asked(query) {
-        return query.answer(alloc, &made, out);
-    }
-    let changes = changes(alloc, reports, asked)?;
-    for tried in changes.iter().take(MOST_TRIED) {
-        if helps(alloc, query, reports, &tried.fix)? {
-            made.push(action_of(alloc, query, tried)?)?;
-        }
+    let tried = helping(alloc, query, asked)?;
+    let mut made = Vec::with_capacity(alloc, tried.len())?;
+    for it in &tried {
+        made.push(action_of(alloc, query, it)?)?;
     }
     query.answer(alloc, &made, out)
 }

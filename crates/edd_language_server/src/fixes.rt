@@ -56,10 +56,6 @@ fn one_word(words: &str) -> Option<&str> {
     }
 }
 
-fn fix(place: Span, text: String) -> Fix {
-    Fix { place, text }
-}
-
 /// The change that a help of a finding says; nothing where it says none.
 pub fn fix_of(alloc: Global, found: &Diagnostic, help: &Help) -> Result<Option<Fix>, AllocError> {
     let (Some(place), None, Some(said)) = (found.place, help.place, said_by(help.text.as_str()))
@@ -70,10 +66,11 @@ pub fn fix_of(alloc: Global, found: &Diagnostic, help: &Help) -> Result<Option<F
         start: place.start,
         end: place.start,
     };
-    match said {
-        Said::Instead(word) => Ok(Some(fix(place, String::from_str(alloc, word)?))),
-        Said::Here(sign) => Ok(Some(fix(start, String::from_str(alloc, sign)?))),
-        Said::Before(sign) => Ok(Some(fix(start, format!(in alloc; "{sign} ")?))),
-        Said::Without => Ok(Some(fix(place, String::new(alloc)))),
-    }
+    let (place, text) = match said {
+        Said::Instead(word) => (place, String::from_str(alloc, word)?),
+        Said::Here(sign) => (start, String::from_str(alloc, sign)?),
+        Said::Before(sign) => (start, format!(in alloc; "{sign} ")?),
+        Said::Without => (place, String::new(alloc)),
+    };
+    Ok(Some(Fix { place, text }))
 }

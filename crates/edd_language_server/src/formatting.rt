@@ -1,20 +1,30 @@
 //! The document in the one layout of the project.
 
 use crate::query::{Query, Refusal};
-use edd_layout::{LayoutFault, laid_out};
+use edd_layout::laid_out;
+use edd_lexer::fault::LexFault;
 use edd_protocol_shapes::TextEdit;
 use edd_reports::words::Span;
-use std::alloc::Global;
+use std::alloc::{AllocError, Global};
+
+// A text as it is laid out; nothing where it has no tokens.
+fn layout_of(alloc: Global, text: &str) -> Result<Option<Vec<u8>>, AllocError> {
+    match laid_out(alloc, text.as_bytes()) {
+        Ok(laid) => Ok(Some(laid)),
+        Err(LexFault::Memory) => Err(AllocError),
+        Err(_) => Ok(None),
+    }
+}
 
 /// Answers with an edit of the whole text; with none where it is laid out already, or is refused.
 pub fn format(alloc: Global, query: Query<'_>, out: &mut Vec<u8>) -> Result<(), Refusal> {
     let text = query.text();
+    let laid = layout_of(alloc, text)?;
     let mut edits: Vec<TextEdit<'_>> = Vec::new(alloc);
-    let laid = match laid_out(alloc, text.as_bytes()) {
-        Ok(laid) => laid,
-        Err(LayoutFault::Memory) => return Err(Refusal::Memory),
+    let new = match &laid {
+        Some(laid) => str::from_utf8(laid.as_slice()).unwrap_or(text),
+        None => text,
     };
-    let new = str::from_utf8(laid.as_slice()).unwrap_or(text);
     if new != text {
         let whole = Span {
             start: 0,

@@ -1,6 +1,6 @@
 //! The answer to `initialize`.
 
-use crate::client::Client;
+use edd_open_documents::Client;
 use edd_protocol::Encoding;
 use edd_protocol_shapes::{Abilities, Actions, Greeting, Renames, Server, Synchronized, Triggered};
 

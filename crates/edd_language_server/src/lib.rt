@@ -4,11 +4,7 @@
 #![tactic(auto)]
 
 mod actions;
-mod client;
 mod completing;
-mod contents;
-mod diagnosing;
-mod documents;
 mod fixes;
 mod formatting;
 mod greeting;

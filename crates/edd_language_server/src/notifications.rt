@@ -1,9 +1,7 @@
 //! What an editor tells of its documents.
 
-use crate::contents::Content;
-use crate::diagnosing::{clear, publish};
-use crate::documents::Opened;
 use crate::server::Server;
+use edd_open_documents::{Content, Opened, clear, publish};
 use edd_protocol::{Call, list_at, text_at};
 use serde_json::Value;
 use std::alloc::{AllocError, Global};

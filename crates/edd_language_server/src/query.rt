@@ -1,7 +1,6 @@
 //! A request about a document.
 
-use crate::client::Client;
-use crate::documents::{Documents, Opened};
+use edd_open_documents::{Client, Documents, Opened};
 use edd_protocol::{ErrorCode, Id, Range, answer, position_at, refuse, text_at};
 use edd_protocol_shapes::{Location, TextEdit};
 use edd_reports::words::Span;

@@ -1,10 +1,10 @@
 //! What is answered to a request.
 
-use crate::client::Client;
 use crate::greeting::greeting;
 use crate::query::{Query, Refusal, tell};
 use crate::server::{Server, Stage};
 use crate::{actions, completing, formatting, hovering, outlining, places, renaming, signatures};
+use edd_open_documents::Client;
 use edd_protocol::{Call, ErrorCode, Id, answer, refuse};
 use std::alloc::{AllocError, Global};
 

@@ -1,8 +1,7 @@
 //! The server: what it knows, and what becomes of a message.
 
-use crate::client::Client;
-use crate::documents::Documents;
 use crate::{notifications, requests};
+use edd_open_documents::{Client, Documents};
 use edd_protocol::{Call, ErrorCode, Frame, Framing, Id, Misread, read, refuse, value_of};
 use std::alloc::{AllocError, Global};
 

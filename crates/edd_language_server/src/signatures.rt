@@ -37,22 +37,29 @@ fn parameters<'a>(
     Ok(made)
 }
 
+fn answered<'a>(
+    alloc: Global,
+    query: Query<'_>,
+    found: &'a Found,
+) -> Result<Signatures<'a>, AllocError> {
+    let mut signatures = Vec::new(alloc);
+    signatures.push(Signature {
+        label: found.label.as_str(),
+        parameters: parameters(alloc, query, found)?,
+    })?;
+    Ok(Signatures {
+        signatures,
+        active_signature: 0,
+        active_parameter: found.active,
+    })
+}
+
 /// Answers with what it takes, or `null`.
 pub fn signatures(alloc: Global, query: Query<'_>, out: &mut Vec<u8>) -> Result<(), Refusal> {
     let byte = query.byte()?;
     let document = Document::of(alloc, query.text().as_bytes())?;
-    let Some(found) = found_at(alloc, &document, byte)? else {
-        return query.answer(alloc, &(), out);
-    };
-    let mut only = Vec::new(alloc);
-    only.push(Signature {
-        label: found.label.as_str(),
-        parameters: parameters(alloc, query, &found)?,
-    })?;
-    let answered = Signatures {
-        signatures: only,
-        active_signature: 0,
-        active_parameter: found.active,
-    };
-    query.answer(alloc, &answered, out)
+    match found_at(alloc, &document, byte)? {
+        Some(found) => query.answer(alloc, &answered(alloc, query, &found)?, out),
+        None => query.answer(alloc, &(), out),
+    }
 }

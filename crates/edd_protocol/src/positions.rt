@@ -33,7 +33,8 @@ pub struct Range {
 #[derive(Drop)]
 pub struct Lines {
     starts: Vec<usize>,
-    /// How many UTF-16 units come before each byte whose number is a multiple of `STEP`.
+    /// How many UTF-16 units come before each byte whose number is a multiple of `STEP`, and last how
+    /// many there are.
     units: Vec<usize>,
 }
 
@@ -80,6 +81,7 @@ fn steps_of(alloc: Global, text: &str) -> Result<Vec<usize>, AllocError> {
         steps.push(units)?;
         units = units.saturating_add(units_in(bytes));
     }
+    steps.push(units)?;
     Ok(steps)
 }
 

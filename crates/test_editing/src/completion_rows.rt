@@ -398,7 +398,7 @@ MENU a { ITEMS { c.$"#,
     Row {
         query: Query::Details,
         text: "ARRAY OF $",
-        answer: ": VARIABLE (keyword: )",
+        answer: ": VARIABLE (keyword: A value that the device has: its type, its limits and how it is shown.)",
     },
     Row {
         query: Query::Details,

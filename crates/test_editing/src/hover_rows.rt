@@ -113,7 +113,7 @@ A"#,
 ];
 
 /// Words of the language.
-const WORDS: [Row; 14] = [
+const WORDS: [Row; 15] = [
     Row {
         query: Query::Hover,
         text: r#"VARIABLE a { LA$BEL "A"; }"#,
@@ -151,6 +151,16 @@ docs/LANGUAGE.md, Words that are left out"#,
 `READ`
 
 The variable may be read.
+
+docs/LANGUAGE.md, What an attribute means"#,
+    },
+    Row {
+        query: Query::Hover,
+        text: "COMMAND c { OPERATION COM$MAND; }",
+        answer: r#"COMMAND
+`COMMAND`
+
+The command does something else.
 
 docs/LANGUAGE.md, What an attribute means"#,
     },
