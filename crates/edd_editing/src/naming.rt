@@ -135,7 +135,9 @@ fn changed(document: &Document<'_>, declaration: usize, after: &[Option<usize>])
             continue;
         }
         return match meaning {
-            Some(other) if *other != declaration => document.declared(*other).map(|it| it.token),
+            Some(other) if *other != declaration => document
+                .declared(*other)
+                .map(|found| found.token),
             _ => Some(token),
         };
     }

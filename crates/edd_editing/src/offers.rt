@@ -116,7 +116,10 @@ impl<'d, 'a> Offers<'d, 'a> {
                 continue;
             };
             if collection == item {
-                let named = names.map_or("", |token| document.word(token));
+                let named = match names {
+                    Some(token) => document.word(token),
+                    None => "",
+                };
                 let detail = String::from_str(self.alloc, named)?;
                 let name = document.word(declared.token);
                 self.add(name, CompletionKind::Member, detail)?;
