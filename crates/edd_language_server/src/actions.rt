@@ -12,7 +12,7 @@ use edd_reports::diagnostic::{Diagnostic, Finding, Help};
 use edd_reports::words::Span;
 use std::alloc::{AllocError, Global};
 
-/// The most edits that are tried for a request.
+/// Once so many edits are found, no further finding is looked at.
 const MOST_TRIED: usize = 8;
 
 /// An edit that was tried: the finding and the help that it comes of.
@@ -78,12 +78,10 @@ fn is_further(before: &Reports, after: &Reports) -> bool {
 }
 
 // Whether the text compiles further with a change.
-fn helps(
-    alloc: Global,
-    query: Query<'_>,
-    reports: &Reports,
-    fix: &Fix,
-) -> Result<bool, AllocError> {
+fn helps(alloc: Global, query: Query<'_>, fix: &Fix) -> Result<bool, AllocError> {
+    let Some(reports) = &query.opened.reports else {
+        return Ok(false);
+    };
     let place = fix.place;
     let text = edited(
         alloc,
@@ -96,35 +94,29 @@ fn helps(
     Ok(is_further(reports, &after))
 }
 
-// The changes that the helps of these places say.
-fn changes<'a>(
+// Adds the changes that the helps of a finding say.
+fn add_changes<'a>(
     alloc: Global,
-    reports: &'a Reports,
-    asked: Span,
-) -> Result<Vec<Tried<'a>>, AllocError> {
-    let mut made = Vec::new(alloc);
-    for found in reports.shown.iter().filter(|found| is_at(found, asked)) {
-        for help in &found.helps {
-            if let Some(fix) = fix_of(alloc, found, help)? {
-                made.push(Tried { found, help, fix })?;
-            }
+    found: &'a Diagnostic,
+    made: &mut Vec<Tried<'a>>,
+) -> Result<(), AllocError> {
+    for help in &found.helps {
+        if let Some(fix) = fix_of(alloc, found, help)? {
+            made.push(Tried { found, help, fix })?;
         }
     }
-    Ok(made)
+    Ok(())
 }
 
-// Those after which the text compiles further.
-fn helping<'a>(alloc: Global, query: Query<'a>, asked: Span) -> Result<Vec<Tried<'a>>, AllocError> {
+// The changes that the helps say of what is wrong at these places.
+fn changes<'a>(alloc: Global, query: Query<'a>, asked: Span) -> Result<Vec<Tried<'a>>, AllocError> {
     let mut made = Vec::new(alloc);
     let Some(reports) = &query.opened.reports else {
         return Ok(made);
     };
-    if !is_asked(query) {
-        return Ok(made);
-    }
-    for tried in changes(alloc, reports, asked)?.into_iter().take(MOST_TRIED) {
-        if helps(alloc, query, reports, &tried.fix)? {
-            made.push(tried)?;
+    for found in &reports.shown {
+        if is_at(found, asked) && made.len() < MOST_TRIED {
+            add_changes(alloc, found, &mut made)?;
         }
     }
     Ok(made)
@@ -154,10 +146,12 @@ fn action_of<'a>(
 /// Answers with the edits after which the text compiles further.
 pub fn actions(alloc: Global, query: Query<'_>, out: &mut Vec<u8>) -> Result<(), Refusal> {
     let asked = asked_place(query)?;
-    let tried = helping(alloc, query, asked)?;
-    let mut made = Vec::with_capacity(alloc, tried.len())?;
-    for it in &tried {
-        made.push(action_of(alloc, query, it)?)?;
+    let changes = changes(alloc, query, asked)?;
+    let mut made = Vec::with_capacity(alloc, changes.len())?;
+    for tried in &changes {
+        if is_asked(query) && helps(alloc, query, &tried.fix)? {
+            made.push(action_of(alloc, query, tried)?)?;
+        }
     }
     query.answer(alloc, &made, out)
 }

@@ -58,8 +58,9 @@ fn answered<'a>(
 pub fn signatures(alloc: Global, query: Query<'_>, out: &mut Vec<u8>) -> Result<(), Refusal> {
     let byte = query.byte()?;
     let document = Document::of(alloc, query.text().as_bytes())?;
-    match found_at(alloc, &document, byte)? {
-        Some(found) => query.answer(alloc, &answered(alloc, query, &found)?, out),
-        None => query.answer(alloc, &(), out),
-    }
+    let Some(found) = found_at(alloc, &document, byte)? else {
+        return query.answer(alloc, &(), out);
+    };
+    let told = answered(alloc, query, &found)?;
+    query.answer(alloc, &told, out)
 }
