@@ -1,5 +1,6 @@
-//! The text of a description in the layout of the project, which docs/LAYOUT.md describes. Proved is
-//! that it has the same tokens, and that no text is refused but for a lexical fault or for memory.
+//! The text of a description in the layout of the project, which docs/LAYOUT.md describes. Proved
+//! is that the result has the same tokens, and the same bytes but for blanks, so that no comment is
+//! lost, and that a text is refused for its lexical fault alone, or where memory runs out.
 #![tactic(auto)]
 
 mod brackets;

@@ -179,6 +179,7 @@ impl Writer<'_> {
     // Goes to where the token of a number stands, behind the remarks before it.
     fn go_to(&mut self, number: usize, gap: Gap, place: Place) -> Result<(), AllocError> {
         let has_remarks = gap.first < gap.last;
+        let is_separator = self.known.source.is_separator(number);
         // A comment that stands before the token on its line stays there.
         let is_led = self.has_ended && !self.must_end && gap.lines == 0;
         match place {
@@ -193,7 +194,7 @@ impl Writer<'_> {
                 self.end_line(false, column)
             }
             Place::Here => match self.known.measures.get(number) {
-                Some(measure) if measure.touches && !has_remarks => Ok(()),
+                Some(measure) if measure.touches && (!has_remarks || is_separator) => Ok(()),
                 _ => self.blank(),
             },
         }

@@ -110,8 +110,9 @@ else d();k=k?~(k- -1):+k;for(;;){}}}"#,
 
 // Comments and marks stay where they are.
 const COMMENTS: (&str, &str) = (
-    "\n\n// the head  \r\n\n\n  # 1 \"file\"\n   /* before */ VARIABLE v /* name */ { // behind\n\n\n \
-     /* own */\n LABEL \"a\" // first\n \"b\"; /* last */ HELP \"c\";\n\n// end\n\n}// over",
+    "\n\n// the head  \r\n\n\n  # 1 \"file\"\n   /* before */ VARIABLE v /* name */ { // behind\n\
+     \n\n /* own */\n LABEL \"a\" // first\n \"b\"; /* last */ HELP \"c\" /* c */;\n\n// end\n\n}\
+     // over",
     r#"// the head  
 
 # 1 "file"
@@ -119,7 +120,7 @@ const COMMENTS: (&str, &str) = (
     /* own */
     LABEL "a" // first
           "b"; /* last */
-    HELP "c";
+    HELP "c" /* c */;
 
     // end
 } // over
