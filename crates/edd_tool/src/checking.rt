@@ -109,9 +109,5 @@ pub fn check_sources<'a, F: Files, W: Write>(
             is_refused = true;
         }
     }
-    if is_refused {
-        Err(Stop::Shown)
-    } else {
-        Ok(())
-    }
+    if is_refused { Err(Stop::Shown) } else { Ok(()) }
 }

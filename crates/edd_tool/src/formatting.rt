@@ -10,11 +10,7 @@ use std::alloc::Global;
 use std::io::Write;
 
 // What the layout of a source is, where it is another one than the source has.
-fn layout_of<'a>(
-    alloc: Global,
-    name: &'a str,
-    text: &[u8],
-) -> Result<Option<Vec<u8>>, Stop<'a>> {
+fn layout_of<'a>(alloc: Global, name: &'a str, text: &[u8]) -> Result<Option<Vec<u8>>, Stop<'a>> {
     match laid_out(alloc, text) {
         Ok(layout) if layout.as_slice() == text => Ok(None),
         Ok(layout) => Ok(Some(layout)),
