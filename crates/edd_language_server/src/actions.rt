@@ -7,7 +7,7 @@ use crate::renaming::edit_of;
 use edd_check::{Choices, Reports, diagnose};
 use edd_open_documents::{View, diagnostic, edited};
 use edd_protocol::{list_at, range_at};
-use edd_protocol_shapes::Action;
+use edd_protocol_shapes::{Action, WorkspaceEdit};
 use edd_reports::diagnostic::{Diagnostic, Finding, Help};
 use edd_reports::words::Span;
 use std::alloc::{AllocError, Global};
@@ -117,6 +117,27 @@ fn changes<'a>(alloc: Global, query: Query<'a>, asked: Span) -> Result<Vec<Tried
     Ok(made)
 }
 
+// What is mended.
+fn mended<'a>(
+    alloc: Global,
+    view: View<'a>,
+    found: &'a Diagnostic,
+) -> Result<Vec<edd_protocol_shapes::Diagnostic<'a>>, AllocError> {
+    let mut made = Vec::new(alloc);
+    made.push(diagnostic(alloc, view, found)?)?;
+    Ok(made)
+}
+
+fn edit_by<'a>(
+    alloc: Global,
+    query: Query<'a>,
+    fix: Fix<'a>,
+) -> Result<WorkspaceEdit<'a>, AllocError> {
+    let mut edits = Vec::new(alloc);
+    edits.push(query.edit(fix.place, fix.text))?;
+    edit_of(alloc, query, edits)
+}
+
 fn action_of<'a>(
     alloc: Global,
     query: Query<'a>,
@@ -126,15 +147,11 @@ fn action_of<'a>(
         opened: query.opened,
         client: query.client,
     };
-    let mut diagnostics = Vec::new(alloc);
-    diagnostics.push(diagnostic(alloc, view, tried.found)?)?;
-    let mut edits = Vec::new(alloc);
-    edits.push(query.edit(tried.fix.place, tried.fix.text))?;
     Ok(Action {
         title: tried.help.text.as_str(),
         kind: QUICK_FIX,
-        diagnostics,
-        edit: edit_of(alloc, query, edits)?,
+        diagnostics: mended(alloc, view, tried.found)?,
+        edit: edit_by(alloc, query, tried.fix)?,
     })
 }
 
