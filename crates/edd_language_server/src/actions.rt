@@ -7,7 +7,7 @@ use crate::renaming::edit_of;
 use edd_check::{Choices, Reports, diagnose};
 use edd_open_documents::{View, diagnostic, edited};
 use edd_protocol::{list_at, range_at};
-use edd_protocol_shapes::Action;
+use edd_protocol_shapes::{Action, WorkspaceEdit};
 use edd_reports::diagnostic::{Diagnostic, Finding, Help};
 use edd_reports::words::Span;
 use std::alloc::{AllocError, Global};
@@ -16,11 +16,11 @@ use std::alloc::{AllocError, Global};
 const MOST_TRIED: usize = 8;
 
 /// An edit that was tried: the finding and the help that it comes of.
-#[derive(Drop)]
+#[derive(Clone, Copy)]
 struct Tried<'a> {
     found: &'a Diagnostic,
     help: &'a Help,
-    fix: Fix,
+    fix: Fix<'a>,
 }
 
 // Whether quick fixes are among what is asked for.
@@ -78,30 +78,25 @@ fn is_further(before: &Reports, after: &Reports) -> bool {
 }
 
 // Whether the text compiles further with a change.
-fn helps(alloc: Global, query: Query<'_>, fix: &Fix) -> Result<bool, AllocError> {
+fn helps(alloc: Global, query: Query<'_>, fix: Fix<'_>) -> Result<bool, AllocError> {
     let Some(reports) = &query.opened.reports else {
         return Ok(false);
     };
-    let place = fix.place;
     let text = edited(
         alloc,
         query.text(),
-        place.start,
-        place.end,
-        fix.text.as_str(),
+        fix.place.start,
+        fix.place.end,
+        fix.text,
     )?;
     let after = diagnose(alloc, text.as_bytes(), &Choices::new(alloc))?;
     Ok(is_further(reports, &after))
 }
 
 // Adds the changes that the helps of a finding say.
-fn add_changes<'a>(
-    alloc: Global,
-    found: &'a Diagnostic,
-    made: &mut Vec<Tried<'a>>,
-) -> Result<(), AllocError> {
+fn add_changes<'a>(found: &'a Diagnostic, made: &mut Vec<Tried<'a>>) -> Result<(), AllocError> {
     for help in &found.helps {
-        if let Some(fix) = fix_of(alloc, found, help)? {
+        if let Some(fix) = fix_of(found, help) {
             made.push(Tried { found, help, fix })?;
         }
     }
@@ -116,30 +111,47 @@ fn changes<'a>(alloc: Global, query: Query<'a>, asked: Span) -> Result<Vec<Tried
     };
     for found in &reports.shown {
         if is_at(found, asked) && made.len() < MOST_TRIED {
-            add_changes(alloc, found, &mut made)?;
+            add_changes(found, &mut made)?;
         }
     }
     Ok(made)
 }
 
+// What is mended.
+fn mended<'a>(
+    alloc: Global,
+    view: View<'a>,
+    found: &'a Diagnostic,
+) -> Result<Vec<edd_protocol_shapes::Diagnostic<'a>>, AllocError> {
+    let mut made = Vec::new(alloc);
+    made.push(diagnostic(alloc, view, found)?)?;
+    Ok(made)
+}
+
+fn edit_by<'a>(
+    alloc: Global,
+    query: Query<'a>,
+    fix: Fix<'a>,
+) -> Result<WorkspaceEdit<'a>, AllocError> {
+    let mut edits = Vec::new(alloc);
+    edits.push(query.edit(fix.place, fix.text))?;
+    edit_of(alloc, query, edits)
+}
+
 fn action_of<'a>(
     alloc: Global,
     query: Query<'a>,
-    tried: &'a Tried<'_>,
+    tried: Tried<'a>,
 ) -> Result<Action<'a>, AllocError> {
     let view = View {
         opened: query.opened,
         client: query.client,
     };
-    let mut diagnostics = Vec::new(alloc);
-    diagnostics.push(diagnostic(alloc, view, tried.found)?)?;
-    let mut edits = Vec::new(alloc);
-    edits.push(query.edit(tried.fix.place, tried.fix.text.as_str()))?;
     Ok(Action {
         title: tried.help.text.as_str(),
         kind: QUICK_FIX,
-        diagnostics,
-        edit: edit_of(alloc, query, edits)?,
+        diagnostics: mended(alloc, view, tried.found)?,
+        edit: edit_by(alloc, query, tried.fix)?,
     })
 }
 
@@ -149,8 +161,8 @@ pub fn actions(alloc: Global, query: Query<'_>, out: &mut Vec<u8>) -> Result<(),
     let changes = changes(alloc, query, asked)?;
     let mut made = Vec::with_capacity(alloc, changes.len())?;
     for tried in &changes {
-        if is_asked(query) && helps(alloc, query, &tried.fix)? {
-            made.push(action_of(alloc, query, tried)?)?;
+        if is_asked(query) && helps(alloc, query, tried.fix)? {
+            made.push(action_of(alloc, query, *tried)?)?;
         }
     }
     query.answer(alloc, &made, out)

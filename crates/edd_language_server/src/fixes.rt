@@ -2,13 +2,12 @@
 
 use edd_reports::diagnostic::{Diagnostic, Help};
 use edd_reports::words::Span;
-use std::alloc::{AllocError, Global};
 
 /// A change of a text: what stands in the place of which bytes.
-#[derive(Drop)]
-pub struct Fix {
+#[derive(Clone, Copy)]
+pub struct Fix<'a> {
     pub place: Span,
-    pub text: String,
+    pub text: &'a str,
 }
 
 /// What a help says.
@@ -18,34 +17,8 @@ enum Said<'a> {
     Instead(&'a str),
     /// A sign is put in where the finding begins.
     Here(&'a str),
-    /// A sign is put in before the word that is there.
-    Before(&'a str),
     /// The word that is there goes.
     Without,
-}
-
-// Nothing where the words of a help are others.
-fn said_by(help: &str) -> Option<Said<'_>> {
-    if help.ends_with(" may be left out") {
-        return Some(Said::Without);
-    }
-    if let Some((word, behind)) = help.split_once(" may be meant") {
-        let is_all = behind.is_empty() || behind.starts_with(" in place of ");
-        return if is_all {
-            one_word(word).map(Said::Instead)
-        } else {
-            None
-        };
-    }
-    let behind = help.strip_prefix("a ")?;
-    let (sign, place) = behind.split_once(" is missing ")?;
-    if place == "here" {
-        return one_word(sign).map(Said::Here);
-    }
-    if place.starts_with("before ") {
-        return one_word(sign).map(Said::Before);
-    }
-    None
 }
 
 fn one_word(words: &str) -> Option<&str> {
@@ -56,21 +29,47 @@ fn one_word(words: &str) -> Option<&str> {
     }
 }
 
+// What is put in by a help as `a ; is missing here`, and with a blank behind it by one as
+// `a ; is missing before VARIABLE`.
+fn missing(help: &str) -> Option<&str> {
+    let behind = help.strip_prefix("a ")?;
+    let (sign, place) = behind.split_once(" is missing ")?;
+    let sign = one_word(sign)?;
+    if place == "here" {
+        Some(sign)
+    } else if place.starts_with("before ") {
+        behind.get(..sign.len().saturating_add(1))
+    } else {
+        None
+    }
+}
+
+// Nothing where the words of a help are others.
+fn said_by(help: &str) -> Option<Said<'_>> {
+    if help.ends_with(" may be left out") {
+        return Some(Said::Without);
+    }
+    match help.split_once(" may be meant") {
+        Some((word, behind)) if behind.is_empty() || behind.starts_with(" in place of ") => {
+            one_word(word).map(Said::Instead)
+        }
+        _ => missing(help).map(Said::Here),
+    }
+}
+
 /// The change that a help of a finding says; nothing where it says none.
-pub fn fix_of(alloc: Global, found: &Diagnostic, help: &Help) -> Result<Option<Fix>, AllocError> {
-    let (Some(place), None, Some(said)) = (found.place, help.place, said_by(help.text.as_str()))
-    else {
-        return Ok(None);
-    };
+pub fn fix_of<'a>(found: &Diagnostic, help: &'a Help) -> Option<Fix<'a>> {
+    let place = found.place?;
+    if help.place.is_some() {
+        return None;
+    }
     let start = Span {
         start: place.start,
         end: place.start,
     };
-    let (place, text) = match said {
-        Said::Instead(word) => (place, String::from_str(alloc, word)?),
-        Said::Here(sign) => (start, String::from_str(alloc, sign)?),
-        Said::Before(sign) => (start, format!(in alloc; "{sign} ")?),
-        Said::Without => (place, String::new(alloc)),
-    };
-    Ok(Some(Fix { place, text }))
+    match said_by(help.text.as_str())? {
+        Said::Instead(text) => Some(Fix { place, text }),
+        Said::Here(text) => Some(Fix { place: start, text }),
+        Said::Without => Some(Fix { place, text: "" }),
+    }
 }

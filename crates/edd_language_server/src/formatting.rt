@@ -7,12 +7,16 @@ use edd_protocol_shapes::TextEdit;
 use edd_reports::words::Span;
 use std::alloc::{AllocError, Global};
 
-// A text as it is laid out; nothing where it has no tokens.
-fn layout_of(alloc: Global, text: &str) -> Result<Option<Vec<u8>>, AllocError> {
-    match laid_out(alloc, text.as_bytes()) {
-        Ok(laid) => Ok(Some(laid)),
-        Err(LexFault::Memory) => Err(AllocError),
-        Err(_) => Ok(None),
+// A text as it is laid out; as it is where it has no tokens.
+fn layout_of(alloc: Global, text: &str) -> Result<String, AllocError> {
+    let laid = match laid_out(alloc, text.as_bytes()) {
+        Ok(laid) => laid,
+        Err(LexFault::Memory) => return Err(AllocError),
+        Err(_) => return String::from_str(alloc, text),
+    };
+    match String::from_utf8(laid) {
+        Ok(laid) => Ok(laid),
+        Err(_) => String::from_str(alloc, text),
     }
 }
 
@@ -21,16 +25,12 @@ pub fn format(alloc: Global, query: Query<'_>, out: &mut Vec<u8>) -> Result<(), 
     let text = query.text();
     let laid = layout_of(alloc, text)?;
     let mut edits: Vec<TextEdit<'_>> = Vec::new(alloc);
-    let new = match &laid {
-        Some(laid) => str::from_utf8(laid.as_slice()).unwrap_or(text),
-        None => text,
-    };
-    if new != text {
+    if laid.as_str() != text {
         let whole = Span {
             start: 0,
             end: text.len(),
         };
-        edits.push(query.edit(whole, new))?;
+        edits.push(query.edit(whole, laid.as_str()))?;
     }
     query.answer(alloc, &edits, out)
 }

@@ -176,11 +176,11 @@ impl Conversation {
     }
 
     /// What is wrong, if anything is.
-    pub fn end(mut self, _alloc: Global) -> Result<Option<String>, AllocError> {
+    pub fn end(&mut self) -> Result<Option<String>, AllocError> {
         self.note_untold()?;
         if self.wrong.is_empty() {
             return Ok(None);
         }
-        Ok(Some(self.wrong))
+        Ok(Some(self.wrong.clone()?))
     }
 }

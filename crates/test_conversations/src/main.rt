@@ -18,7 +18,7 @@ fn play(rt: HostRuntime, part: &str) -> io::Result<()> {
     for line in lines.lines() {
         conversation.take(rt.alloc(), line)?;
     }
-    match conversation.end(rt.alloc())? {
+    match conversation.end()? {
         None => println!(rt; "ok {name}"),
         Some(wrong) => println!(rt; "WRONG {name}\n{wrong}"),
     }
