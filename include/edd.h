@@ -362,8 +362,8 @@ typedef struct edd_session {
 
 /*
  * Whatever the numbers of an edd_session are, by a wild write or as they lay in memory, every call is safe.
- * edd_advance and edd_reply look at all of them first, and unless they are those of a state that the method may have
- * under the values, they answer EDD_NO_SESSION and write nothing. A wild write that leaves such a state behind is
+ * edd_advance and edd_reply look at all of them first, and unless they are those of a state that fits the method's
+ * code under the values, they answer EDD_NO_SESSION and write nothing. A wild write that leaves such a state behind is
  * not noticed: another pending request, say, or all bytes 0, which is a session that ended. No call answers
  * EDD_NO_SESSION of a session that only these calls have written, over its image and with values in their ranges.
  *
