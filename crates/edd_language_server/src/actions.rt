@@ -123,9 +123,8 @@ fn mended<'a>(
     view: View<'a>,
     found: &'a Diagnostic,
 ) -> Result<Vec<edd_protocol_shapes::Diagnostic<'a>>, AllocError> {
-    let mut made = Vec::new(alloc);
-    made.push(diagnostic(alloc, view, found)?)?;
-    Ok(made)
+    let only = diagnostic(alloc, view, found)?;
+    Ok(vec![in alloc; only]?)
 }
 
 fn edit_by<'a>(
