@@ -47,6 +47,16 @@ pub struct Line {
     pub string: Option<StrNo>,
 }
 
+impl Line {
+    /// By what an entry is found again, whatever its condition is.
+    pub fn entry(&self) -> &str {
+        match self.key.as_str().split_once('\n') {
+            Some((_, entry)) => entry,
+            None => "",
+        }
+    }
+}
+
 /// What an attribute gives, in order. Condition 0 is empty, and what is under it is always given; one
 /// under which nothing is given is empty too.
 #[derive(Drop)]

@@ -83,13 +83,33 @@ pub fn push_operand(text: &mut String, of: &Value) -> Result<(), AllocError> {
     text.push(')')
 }
 
-/// A sign before an operand. The negation of a number is a number.
-pub fn unary(alloc: Global, sign: char, of: &Value) -> Result<Value, AllocError> {
-    let negated = match of.constant {
-        Some(constant) if sign == '-' => constant.checked_neg(),
+// The value of an operator before a number.
+fn value_of_one(sign: char, of: i64) -> Option<i64> {
+    match sign {
+        '-' => of.checked_neg(),
+        '~' => Some(!of),
         _ => None,
-    };
-    if let Some(constant) = negated {
+    }
+}
+
+// The value of an operator between two numbers, where nothing wraps.
+fn value_of_two(sign: &str, left: i64, right: i64) -> Option<i64> {
+    match sign {
+        "+" => left.checked_add(right),
+        "-" => left.checked_sub(right),
+        "*" => left.checked_mul(right),
+        "/" => left.checked_div(right),
+        "%" => left.checked_rem(right),
+        "&" => Some(left & right),
+        "|" => Some(left | right),
+        "^" => Some(left ^ right),
+        _ => None,
+    }
+}
+
+/// A sign before an operand; of a number it is a number.
+pub fn unary(alloc: Global, sign: char, of: &Value) -> Result<Value, AllocError> {
+    if let Some(constant) = of.constant.and_then(|of| value_of_one(sign, of)) {
         return number(alloc, constant);
     }
     let mut text = String::new(alloc);
@@ -102,12 +122,18 @@ pub fn unary(alloc: Global, sign: char, of: &Value) -> Result<Value, AllocError>
     })
 }
 
+/// An operator between two operands; of numbers it is a number.
 pub fn binary(
     alloc: Global,
     sign: &'static str,
     left: &Value,
     right: &Value,
 ) -> Result<Value, AllocError> {
+    if let (Some(one), Some(other)) = (left.constant, right.constant) {
+        if let Some(constant) = value_of_two(sign, one, other) {
+            return number(alloc, constant);
+        }
+    }
     let mut text = String::new(alloc);
     push_operand(&mut text, left)?;
     text.push(' ')?;

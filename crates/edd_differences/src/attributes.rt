@@ -1,11 +1,12 @@
 //! One attribute of two images.
 
-use crate::code::Pair;
+use crate::code::{Pair, texts_of};
 use crate::difference::{Difference, Item, Note, What};
-use crate::lists::{Chain, have_same_conditions, joined, may_be_among};
+use crate::lists::{By, Chain, have_same_conditions, joined, push_line};
 use edd_contents::{Content, Line, Shape, shape_of};
 use edd_display::ShowFault;
 use edd_fault_places::variants::{Variant, first_variant};
+use edd_instructions::{Ask, Instruction};
 use edd_syntax::numbers::{Attr, StrNo};
 use std::alloc::{AllocError, Global};
 
@@ -94,7 +95,8 @@ impl<'a> Comparison<'_, 'a> {
         new: Option<&str>,
         note: Note,
     ) -> Result<(), ShowFault> {
-        let is_breaking = is_relied_on(self.attribute) && old.is_some();
+        let is_certain = note != Note::MayDiffer;
+        let is_breaking = is_relied_on(self.attribute) && old.is_some() && is_certain;
         self.tell_of(self.what, condition, old, new, note, is_breaking)
     }
 
@@ -168,25 +170,22 @@ impl<'a> Comparison<'_, 'a> {
         Ok(())
     }
 
-    // Two texts, language by language; a key of a dictionary has none.
-    fn compare_texts(
+    // Two texts, language by language. A key of a dictionary has none: then nothing is told.
+    fn compare_strings(
         &mut self,
         condition: &str,
-        old: &Line,
-        new: &Line,
-        strings: (StrNo, StrNo),
-    ) -> Result<(), ShowFault> {
-        let first = self.images.old.string(usize::from(strings.0.0));
-        let second = self.images.new.string(usize::from(strings.1.0));
+        old: StrNo,
+        new: StrNo,
+    ) -> Result<bool, ShowFault> {
+        let first = self.images.old.string(usize::from(old.0));
+        let second = self.images.new.string(usize::from(new.0));
         match (first, second) {
             (Some([0, first @ ..]), Some([0, second @ ..])) => {
                 self.compare_variants(condition, first, second, false)?;
-                self.compare_variants(condition, second, first, true)
+                self.compare_variants(condition, second, first, true)?;
+                Ok(true)
             }
-            _ => {
-                let (old, new) = (Some(old.text.as_str()), Some(new.text.as_str()));
-                self.tell(condition, old, new, Note::Nothing)
-            }
+            _ => Ok(false),
         }
     }
 
@@ -195,7 +194,9 @@ impl<'a> Comparison<'_, 'a> {
             return Ok(());
         }
         if let (Some(first), Some(second)) = (old.string, new.string) {
-            return self.compare_texts(condition, old, new, (first, second));
+            if self.compare_strings(condition, first, second)? {
+                return Ok(());
+            }
         }
         let note = note_of_change(self.attribute, old, new);
         let (old, new) = (Some(old.text.as_str()), Some(new.text.as_str()));
@@ -245,71 +246,92 @@ impl<'a> Comparison<'_, 'a> {
         }
     }
 
-    fn tell_presence(
-        &mut self,
-        line: &Line,
-        of: &Content,
-        others: &Content,
-        is_new: bool,
-    ) -> Result<(), ShowFault> {
+    fn tell_presence(&mut self, of: &Content, line: &Line, is_new: bool) -> Result<(), ShowFault> {
         let condition = of.condition(line);
-        let note = if may_be_among(condition, others) {
-            Note::MayDiffer
-        } else {
-            Note::Nothing
-        };
         let text = Some(line.text.as_str());
         if is_new {
-            self.tell(condition, None, text, note)
+            self.tell(condition, None, text, Note::Nothing)
         } else {
-            self.tell(condition, text, None, note)
+            self.tell(condition, text, None, Note::Nothing)
         }
     }
 
-    // The entries that were there, and whether those that are left are in another order.
-    fn compare_old_entries<'c>(
+    // An entry that stands under another condition now, which may be the same one in another form.
+    fn tell_moved(
+        &mut self,
+        old: (&Content, &Line),
+        new: (&Content, &Line),
+    ) -> Result<(), ShowFault> {
+        let mut first = String::new(self.alloc);
+        push_line(&mut first, old.0, old.1)?;
+        let mut second = String::new(self.alloc);
+        push_line(&mut second, new.0, new.1)?;
+        let (first, second) = (Some(first.as_str()), Some(second.as_str()));
+        self.tell_of(self.what, "", first, second, Note::MayDiffer, false)
+    }
+
+    // The entries that stand under the same conditions, and whether they are in the same order. Those
+    // of which there is none are left, by their numbers.
+    fn compare_same_entries<'c>(
         &mut self,
         chain: &mut Chain<'c>,
         old: &'c Content,
         new: &'c Content,
+        left: &mut Vec<usize>,
     ) -> Result<bool, ShowFault> {
         let mut is_in_order = true;
         let mut last = 0;
-        for line in &old.lines {
-            let entry = match chain.take(&line.key)? {
-                Some(number) => {
-                    is_in_order = is_in_order && last <= number;
-                    last = number;
-                    new.lines.get(number)
-                }
-                None => None,
+        for (number, line) in old.lines.iter().enumerate() {
+            let Some(found) = chain.take(By::Condition.key(line))? else {
+                left.push(number)?;
+                continue;
             };
-            match entry {
-                Some(entry) => self.compare_lines(new.condition(entry), line, entry)?,
-                None => self.tell_presence(line, old, new, false)?,
+            is_in_order = is_in_order && last <= found;
+            last = found;
+            if let Some(entry) = new.lines.get(found) {
+                self.compare_lines(new.condition(entry), line, entry)?;
             }
         }
         Ok(is_in_order)
     }
 
-    fn tell_new_entries(
+    // The old entries that are left: they stand under other conditions, or are gone.
+    fn tell_left_entries<'c>(
         &mut self,
-        chain: &Chain<'_>,
-        old: &Content,
-        new: &Content,
+        left: &[usize],
+        same: &mut Chain<'c>,
+        old: &'c Content,
+        new: &'c Content,
     ) -> Result<(), ShowFault> {
+        let mut others = Chain::of(self.alloc, new.lines.as_slice(), By::Entry)?;
+        for number in left {
+            let Some(line) = old.lines.get(*number) else {
+                continue;
+            };
+            let found = others.take_new(By::Entry.key(line), same)?;
+            match found.and_then(|number| new.lines.get(number)) {
+                Some(entry) => self.tell_moved((old, line), (new, entry))?,
+                None => self.tell_presence(old, line, false)?,
+            }
+        }
+        Ok(())
+    }
+
+    fn tell_new_entries(&mut self, chain: &Chain<'_>, new: &Content) -> Result<(), ShowFault> {
         for (number, line) in new.lines.iter().enumerate() {
             if !chain.was_found(number) {
-                self.tell_presence(line, new, old, true)?;
+                self.tell_presence(new, line, true)?;
             }
         }
         Ok(())
     }
 
     fn compare_lists(&mut self, old: &Content, new: &Content) -> Result<(), ShowFault> {
-        let mut chain = Chain::of(self.alloc, new.lines.as_slice())?;
-        let is_in_order = self.compare_old_entries(&mut chain, old, new)?;
-        self.tell_new_entries(&chain, old, new)?;
+        let mut chain = Chain::of(self.alloc, new.lines.as_slice(), By::Condition)?;
+        let mut left = Vec::new(self.alloc);
+        let is_in_order = self.compare_same_entries(&mut chain, old, new, &mut left)?;
+        self.tell_left_entries(left.as_slice(), &mut chain, old, new)?;
+        self.tell_new_entries(&chain, new)?;
         if is_in_order {
             return Ok(());
         }
@@ -353,6 +375,39 @@ impl<'a> Comparison<'_, 'a> {
     /// Tells of an attribute whose code differs and is of no known form.
     pub fn tell_may_differ(&mut self) -> Result<(), ShowFault> {
         self.tell("", None, None, Note::MayDiffer)
+    }
+
+    // Two numbers that a method uses in the same place.
+    fn tell_numbers(&mut self, old: u32, new: u32) -> Result<(), ShowFault> {
+        let first = format!(in self.alloc; "{old}")?;
+        let second = format!(in self.alloc; "{new}")?;
+        self.tell("", Some(&first), Some(&second), Note::Nothing)
+    }
+
+    fn compare_requests(&mut self, old: Ask, new: Ask) -> Result<(), ShowFault> {
+        for (first, second) in texts_of(old).iter().zip(texts_of(new).iter()) {
+            if let (Some(first), Some(second)) = (*first, *second) {
+                if !self.compare_strings("", first, second)? {
+                    self.tell_code()?;
+                }
+            }
+        }
+        Ok(())
+    }
+
+    /// Tells of instructions of a method that differ in a number or in texts.
+    pub fn tell_changes(
+        &mut self,
+        changes: &[(Instruction, Instruction)],
+    ) -> Result<(), ShowFault> {
+        for change in changes {
+            match *change {
+                (Instruction::Push(old), Instruction::Push(new)) => self.tell_numbers(old, new)?,
+                (Instruction::Ask(old), Instruction::Ask(new)) => self.compare_requests(old, new)?,
+                _ => self.tell_code()?,
+            }
+        }
+        Ok(())
     }
 
     /// Tells of a method whose code differs.

@@ -3,6 +3,7 @@
 use edd_fault_places::sections::Sections;
 use edd_instructions::{Ask, Instruction, decode};
 use edd_syntax::numbers::{ArrNo, ItemNo, MethNo, StrNo, VarNo};
+use std::alloc::{AllocError, Global};
 
 /// Two images.
 #[derive(Clone, Copy)]
@@ -64,6 +65,61 @@ impl Pair<'_, '_> {
         }
     }
 
+    // Whether two requests differ in their texts alone.
+    fn is_same_form_of_request(&self, old: Ask, new: Ask) -> bool {
+        match (old, new) {
+            (Ask::PutMessage(_), Ask::PutMessage(_))
+            | (Ask::Acknowledge(_), Ask::Acknowledge(_))
+            | (Ask::Delay(_), Ask::Delay(_))
+            | (Ask::SelectFromList(_, _), Ask::SelectFromList(_, _)) => true,
+            (Ask::GetDevVarValue(_, from), Ask::GetDevVarValue(_, other)) => {
+                self.is_same_variable(from, other)
+            }
+            (old, new) => old == new,
+        }
+    }
+
+    // Whether two instructions differ in a number or in texts alone.
+    fn is_same_form(&self, old: Instruction, new: Instruction) -> bool {
+        match (old, new) {
+            (Instruction::Push(_), Instruction::Push(_)) => true,
+            (Instruction::Ask(old), Instruction::Ask(new)) => {
+                self.is_same_form_of_request(old, new)
+            }
+            (old, new) => self.is_same_instruction(old, new),
+        }
+    }
+
+    /// Where two units of methods differ in numbers and texts alone, the instructions that do.
+    pub fn changes(
+        &self,
+        alloc: Global,
+        old: &[u8],
+        new: &[u8],
+    ) -> Result<Option<Vec<(Instruction, Instruction)>>, AllocError> {
+        let mut changes = Vec::new(alloc);
+        if old.len() != new.len() {
+            return Ok(None);
+        }
+        let mut place = 0;
+        while place < old.len() {
+            let Some((first, behind)) = decode(old, place) else {
+                return Ok(None);
+            };
+            let Some((second, other)) = decode(new, place) else {
+                return Ok(None);
+            };
+            if behind != other || !self.is_same_form(first, second) {
+                return Ok(None);
+            }
+            if !self.is_same_instruction(first, second) {
+                changes.push((first, second))?;
+            }
+            place = behind;
+        }
+        Ok(Some(changes))
+    }
+
     /// Whether two units of methods have the same instructions.
     pub fn is_same_code(&self, old: &[u8], new: &[u8]) -> bool {
         if old.len() != new.len() {
@@ -83,5 +139,15 @@ impl Pair<'_, '_> {
             place = behind;
         }
         true
+    }
+}
+
+/// The texts of a request.
+pub fn texts_of(ask: Ask) -> [Option<StrNo>; 2] {
+    match ask {
+        Ask::PutMessage(text) | Ask::Acknowledge(text) | Ask::Delay(text) => [Some(text), None],
+        Ask::GetDevVarValue(text, _) => [Some(text), None],
+        Ask::SelectFromList(text, choices) => [Some(text), Some(choices)],
+        Ask::SendCommand | Ask::SendCommandTrans | Ask::SaveValues => [None, None],
     }
 }

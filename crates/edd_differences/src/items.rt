@@ -304,10 +304,10 @@ impl<'c, 'a> Comparing<'c, 'a> {
         let attribute = comparison.attribute;
         let (first, second) = (code_of(images.old, *old), code_of(images.new, *new));
         if attribute == Attr::Definition {
-            if old.sub == new.sub && images.is_same_code(first, second) {
-                return Ok(());
-            }
-            return comparison.tell_code();
+            return match images.changes(alloc, first, second)? {
+                Some(changes) if old.sub == new.sub => comparison.tell_changes(&changes),
+                _ => comparison.tell_code(),
+            };
         }
         let old = written(alloc, images.old, attribute, *old)?;
         let new = written(alloc, images.new, attribute, *new)?;

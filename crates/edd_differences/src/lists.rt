@@ -23,13 +23,31 @@ fn none_found(alloc: Global, count: usize) -> Result<Vec<bool>, AllocError> {
     Ok(found)
 }
 
+/// By what lines are found again.
+#[derive(Clone, Copy, PartialEq, Eq, Debug)]
+pub enum By {
+    /// The condition and the entry.
+    Condition,
+    /// The entry alone.
+    Entry,
+}
+
+impl By {
+    pub fn key(self, line: &Line) -> &str {
+        match self {
+            By::Condition => line.key.as_str(),
+            By::Entry => line.entry(),
+        }
+    }
+}
+
 impl<'c> Chain<'c> {
-    pub fn of(alloc: Global, lines: &'c [Line]) -> Result<Chain<'c>, AllocError> {
+    pub fn of(alloc: Global, lines: &'c [Line], by: By) -> Result<Chain<'c>, AllocError> {
         let mut first: IndexMap<&'c str, usize> = IndexMap::new(alloc);
         let mut last: IndexMap<&'c str, usize> = IndexMap::new(alloc);
         let mut next: Vec<usize> = Vec::with_capacity(alloc, lines.len())?;
         for (number, line) in lines.iter().enumerate() {
-            let key = line.key.as_str();
+            let key = by.key(line);
             next.push(lines.len())?;
             match last.insert(key, number)? {
                 Some(before) => {
@@ -60,22 +78,30 @@ impl<'c> Chain<'c> {
         Ok(Some(number))
     }
 
+    /// The first line of a key that was found neither here nor by the other chain, over the same
+    /// lines; it is found by both then.
+    pub fn take_new(
+        &mut self,
+        key: &'c str,
+        other: &mut Chain<'_>,
+    ) -> Result<Option<usize>, AllocError> {
+        for _ in 0..self.found.len() {
+            let Some(number) = self.take(key)? else {
+                return Ok(None);
+            };
+            if !other.was_found(number) {
+                if let Some(found) = other.found.get_mut(number) {
+                    *found = true;
+                }
+                return Ok(Some(number));
+            }
+        }
+        Ok(None)
+    }
+
     pub fn was_found(&self, number: usize) -> bool {
         self.found.get(number).copied().unwrap_or(false)
     }
-}
-
-/// Whether a condition of one list may be one of the other in another form.
-pub fn may_be_among(condition: &str, others: &Content) -> bool {
-    if condition.is_empty() || others.conditions.len() <= 1 {
-        return false;
-    }
-    for other in &others.conditions {
-        if other.as_str() == condition {
-            return false;
-        }
-    }
-    true
 }
 
 /// All that a list gives, in one text.
@@ -85,14 +111,23 @@ pub fn joined(alloc: Global, content: &Content) -> Result<String, AllocError> {
         if !text.is_empty() {
             text.push_str(", ")?;
         }
-        text.push_str(&line.text)?;
-        let condition = content.condition(line);
-        if !condition.is_empty() {
-            text.push_str(" where ")?;
-            text.push_str(condition)?;
-        }
+        push_line(&mut text, content, line)?;
+    }
+    if text.is_empty() {
+        text.push_str("nothing")?;
     }
     Ok(text)
+}
+
+/// A line with its condition, where it has one.
+pub fn push_line(text: &mut String, content: &Content, line: &Line) -> Result<(), AllocError> {
+    text.push_str(&line.text)?;
+    let condition = content.condition(line);
+    if !condition.is_empty() {
+        text.push_str(" where ")?;
+        text.push_str(condition)?;
+    }
+    Ok(())
 }
 
 /// Whether the lines of both stand under the same conditions, one by one.
