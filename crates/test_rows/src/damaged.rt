@@ -34,6 +34,8 @@ impl Tried {
         self.files = self.files.wrapping_add(1);
         match ended.status {
             0 => self.done = self.done.wrapping_add(1),
+            // An editor that ends without a shutdown is told nothing.
+            1 if words == "edd lsp" => {}
             1 => self.is_wrong = self.is_wrong || !is_refusal(&ended.bytes),
             // A file of tests that is damaged may name another file.
             3 if words.starts_with("edd test ") => {}
@@ -50,9 +52,12 @@ struct Ended {
 }
 
 // Whether a line of `check` is a refusal by a lint that is denied, or one in JSON, or a line says
-// that a test failed.
+// that a test failed, or that layouts or descriptions differ.
 fn is_other_refusal(line: &str) -> bool {
-    line.contains(": denied ")
+    line.starts_with("differs ")
+        || line.starts_with("differences ")
+        || line.contains("\"breaking\":")
+        || line.contains(": denied ")
         || line.contains("\"severity\":\"refused\"")
         || line.contains("\"severity\":\"denied\"")
         || line.starts_with("failed ")
