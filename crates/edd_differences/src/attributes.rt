@@ -340,7 +340,8 @@ impl<'a> Comparison<'_, 'a> {
 
     // A change of a condition's form alone may change nothing on the wire.
     fn compare_messages(&mut self, old: &Content, new: &Content) -> Result<(), ShowFault> {
-        let note = if have_same_conditions(old, new) || old.conditions.len() == 1 {
+        let have_none = old.conditions.len() == 1 && new.conditions.len() == 1;
+        let note = if have_none || have_same_conditions(old, new) {
             Note::Nothing
         } else {
             Note::MayDiffer
