@@ -74,8 +74,8 @@ module _ (counts : Counts) where
 
 -- ---- rows rise as those of the description, since the slots of a body put nothing in order
 
-abbrev fields : ℕ → Lowered → AttributeFields
-fields s l = fields_of_attribute (attribute_row_at s l)
+abbrev row_fields : ℕ → Lowered → AttributeFields
+row_fields s l = fields_of_attribute (attribute_row_at s l)
 
 module _ (l m : Lowered) where
   -- whether one row comes before the other, where this is said of their positions
@@ -113,7 +113,7 @@ module _ (l m : Lowered) where
       || (index_of l.row.item == index_of m.row.item && y)) other))
 
   same_order : (s t : ℕ) (b c : Bool) → same_attr l.row.attr attr.Definition ≡ b
-      → same_attr m.row.attr attr.Definition ≡ c → rises (fields s l) (fields t m)
+      → same_attr m.row.attr attr.Definition ≡ c → rises (row_fields s l) (row_fields t m)
       ≡ rises (key (if b then record l.row { sub = 0 } else l.row))
       (key (if c then record m.row { sub = 0 } else m.row))
   same_order s t true true is isnt =

@@ -6,7 +6,7 @@ ghost use Rattle.edd_syntax.specs.ItemView.{numbered_item};
 ghost use Rattle.edd_syntax.specs.Numbers as numbers;
 ghost use Rattle.edd_assembly.specs.Assembly.{name_row_at, name_rows, names_of_kind, names_of_kinds, names_of};
 
-use crate::lengths::number_of;
+use crate::lengths::narrow_length;
 use edd_image::NameRow;
 use edd_syntax::item::Item;
 use edd_syntax::numbers::{KINDS, Kind};
@@ -36,7 +36,7 @@ impl NameSection {
             ++ name_row_at (length self.old.bytes.items) name.now ∷ []) }
         ensures bytes { OnOk result (self.new.bytes.items ≡ self.old.bytes.items ++ name.now) }
     {
-        let start = number_of(self.bytes.len())?;
+        let start = narrow_length(self.bytes.len())?;
         let Ok(length) = u16::try_from(name.len()) else {
             return Err(AllocError);
         };

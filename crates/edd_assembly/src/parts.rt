@@ -18,7 +18,7 @@ ghost use Rattle.edd_assembly.specs.Assembly.{assembled};
 ghost use Rattle.edd_assembly.specs.Views.{lowered_of};
 
 use crate::counts::{count, variable_kinds};
-use crate::lengths::number_of;
+use crate::lengths::narrow_length;
 use crate::names::{NameSection, name_section};
 use crate::strings::{StringSection, string_section};
 use crate::units::{CodeSection, Lowered, code_section};
@@ -66,13 +66,13 @@ fn check_length(
     ensures { OnOk result (header_size version + 4 * variables + 8 * names + 16 * attributes
         + 8 * elements + code + 8 * strings + bytes < 2 ^ 32) }
 {
-    let variables = u64::from(number_of(variables)?);
-    let names = u64::from(number_of(names)?);
-    let attributes = u64::from(number_of(attributes)?);
-    let elements = u64::from(number_of(elements)?);
-    let code = u64::from(number_of(code)?);
-    let strings = u64::from(number_of(strings)?);
-    let bytes = u64::from(number_of(bytes)?);
+    let variables = u64::from(narrow_length(variables)?);
+    let names = u64::from(narrow_length(names)?);
+    let attributes = u64::from(narrow_length(attributes)?);
+    let elements = u64::from(narrow_length(elements)?);
+    let code = u64::from(narrow_length(code)?);
+    let strings = u64::from(narrow_length(strings)?);
+    let bytes = u64::from(narrow_length(bytes)?);
     let total = version.header_size() as u64
         + 4 * variables
         + 8 * names
@@ -119,8 +119,8 @@ fn parts_of(
         ≡ assembly.sections version counts variables.items names.rows.items code.rows.items
         elements.items code.bytes.items strings.rows.items names.bytes.items strings.bytes.items) }
 {
-    let name_bytes = number_of(names.bytes.len())?;
-    let string_bytes = number_of(strings.bytes.len())?;
+    let name_bytes = narrow_length(names.bytes.len())?;
+    let string_bytes = narrow_length(strings.bytes.len())?;
     check_length(
         version,
         variables.len(),

@@ -6,7 +6,7 @@ ghost use Rattle.edd_syntax.specs.WordsView.{variant_of, string_of};
 ghost use Rattle.edd_image.specs.Strings as pure;
 ghost use Rattle.edd_assembly.specs.Assembly.{string_row_at, string_rows};
 
-use crate::lengths::number_of;
+use crate::lengths::narrow_length;
 use edd_image::StringRow;
 use edd_syntax::words::{Variant, Words};
 use std::alloc::{AllocError, Global};
@@ -15,7 +15,7 @@ fn put_variant(out: &mut Vec<u8>, variant: &Variant) -> Result<(), AllocError>
     ensures { OnOk result (out.new.items ≡ out.old.items
         ++ pure.variant_bytes (variant_of variant.now)) }
 {
-    let length = number_of(variant.text.len())?;
+    let length = narrow_length(variant.text.len())?;
     out.push(variant.code.len() as u8)?;
     out.extend_from_slice(variant.code.as_bytes())?;
     out.extend_from_slice(&length.to_be_bytes())?;
@@ -77,9 +77,9 @@ impl StringSection {
     {
         let start = self.bytes.len();
         put_words(&mut self.bytes, words)?;
-        let length = number_of(self.bytes.len() - start)?;
+        let length = narrow_length(self.bytes.len() - start)?;
         self.rows.push(StringRow {
-            start: number_of(start)?,
+            start: narrow_length(start)?,
             length,
         })?;
         Ok(())

@@ -5,7 +5,7 @@ ghost use Rattle.std.specs.List.{flat_map};
 ghost use Rattle.edd_assembly.specs.Assembly.{attribute_row_at, attribute_rows};
 ghost use Rattle.edd_assembly.specs.Views.{lowered_of};
 
-use crate::lengths::number_of;
+use crate::lengths::narrow_length;
 use edd_image::AttributeRow;
 use edd_syntax::numbers::AttrRef;
 use std::alloc::{AllocError, Global};
@@ -42,8 +42,8 @@ impl CodeSection {
         ensures bytes { OnOk result (self.new.bytes.items ≡ self.old.bytes.items
             ++ (lowered_of unit.now).code) }
     {
-        let start = number_of(self.bytes.len())?;
-        let length = number_of(unit.code.len())?;
+        let start = narrow_length(self.bytes.len())?;
+        let length = narrow_length(unit.code.len())?;
         self.bytes.extend_from_slice(&unit.code)?;
         self.rows.push(AttributeRow {
             item: unit.row.item,

@@ -19,14 +19,14 @@ use Rattle.edd_instructions.specs.Steps.{Environment, act}
 use Rattle.edd_instructions.specs.Agreement.{SameRecords}
 use Rattle.edd_code.specs.Blocks as block
 use Rattle.edd_code.specs.Blocks.{Block}
-use Rattle.edd_code.specs.Outcomes.{Outcome, Goes, Traps, Stuck, behind, and_then, does}
+use Rattle.edd_code.specs.Outcomes.{Outcome, Goes, Traps, Stuck, after_records, and_then, does}
 use Rattle.edd_code.specs.Expressions.{expression_block}
 use Rattle.edd_code.specs.ExpressionMeaning.{of_value}
 use Rattle.edd_attrs.specs.TreeBlocks.{IsCondBlock, IsCondsBlock, IsArmsBlock, IsDefaultBlock, IsLineBlock}
 use Rattle.edd_attrs.proofs.GivenRecords.{given, all_given, case_given, default_given}
 use Rattle.edd_code.proofs.BothTests.{both_of}
 
-behind_nothing : (o : Outcome) → behind [] o ≡ o
+behind_nothing : (o : Outcome) → after_records [] o ≡ o
 behind_nothing (Goes records operands) = refl
 behind_nothing (Traps why) = refl
 behind_nothing Stuck = refl
@@ -68,10 +68,10 @@ module _ (string_numbered : StrNo → Option Words) where
     unfolding does
     then_means (Err why) u x y h k = ap (λ o. and_then o (does env d y)) h
     then_means (Ok xs) (Err why) x y h k = ap (λ o. and_then o (does env d y)) h.1
-        ∙ ap (behind h.0) k
+        ∙ ap (after_records h.0) k
     then_means (Ok xs) (Ok ys) x y h k = (
       h.0 ++ k.0,
-      ap (λ o. and_then o (does env d y)) h.1 ∙ ap (behind h.0) k.1,
+      ap (λ o. and_then o (does env d y)) h.1 ∙ ap (after_records h.0) k.1,
       same_append xs ys h.0 k.0 h.2 k.2,
     )
 

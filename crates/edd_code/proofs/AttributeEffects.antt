@@ -9,10 +9,11 @@ use Rattle.edd_code.specs.Blocks.{Block, Nothing, Straight, Then, WhenNotZero, W
 use Rattle.edd_code.specs.Outcomes as attribute
 use Rattle.edd_code.specs.BlockEffects as blocks
 use Rattle.edd_code.specs.BlockEffects.{Outcome, Goes, Stops, Stuck, and_then}
-use Rattle.edd_code.specs.AttributeEffects.{behind, does}
+use Rattle.edd_code.specs.AttributeEffects.{after_records, does}
 
-behind_both : (given records : List Record) (o : attribute.Outcome) → behind (given ++ records) o
-    ≡ behind given (attribute.behind records o)
+behind_both : (given records : List Record) (o : attribute.Outcome)
+    → after_records (given ++ records) o
+    ≡ after_records given (attribute.after_records records o)
 behind_both given records (attribute.Goes more operands) =
     ap (λ (rs : List Record). Goes operands rs) (append_assoc given records more)
 behind_both given records (attribute.Traps why) = refl
@@ -20,23 +21,24 @@ behind_both given records attribute.Stuck = refl
 
 both : (given : List Record) (o : attribute.Outcome) (next : List ℤ → attribute.Outcome)
     (then : List ℤ → List Record → Outcome (List Record) Trap)
-    → ((operands : List ℤ) (rs : List Record) → then operands rs ≡ behind rs (next operands))
-    → and_then (behind given o) then ≡ behind given (attribute.and_then o next)
+    → ((operands : List ℤ) (rs : List Record) → then operands rs ≡ after_records rs (next operands))
+    → and_then (after_records given o) then ≡ after_records given (attribute.and_then o next)
 both given (attribute.Goes records operands) next then same = same operands (given ++ records)
     ∙ behind_both given records (next operands)
 both given (attribute.Traps why) next then same = refl
 both given attribute.Stuck next then same = refl
 
 tested : (b : Bool) (given : List Record) (o p : attribute.Outcome)
-    (x y : Outcome (List Record) Trap) → x ≡ behind given o → y ≡ behind given p
+    (x y : Outcome (List Record) Trap) → x ≡ after_records given o → y ≡ after_records given p
     → (elim b as (λ _. Outcome (List Record) Trap) [ true ↦ x | false ↦ y ])
-    ≡ behind given (elim b as (λ _. attribute.Outcome) [ true ↦ o | false ↦ p ])
+    ≡ after_records given (elim b as (λ _. attribute.Outcome) [ true ↦ o | false ↦ p ])
 tested true given o p x y one two = one
 tested false given o p x y one two = two
 
 module _ (env : Environment) (values : List ℤ) where
   pub same_in_attributes : (b : Block) (operands : List ℤ) (given : List Record)
-      → does env values b operands given ≡ behind given (attribute.does env values b operands)
+      → does env values b operands given
+      ≡ after_records given (attribute.does env values b operands)
   unfolding blocks.does attribute.does
   same_in_attributes Nothing operands given = ap (λ (rs : List Record). Goes operands rs)
       (sym (append-nil given))

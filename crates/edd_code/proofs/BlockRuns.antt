@@ -17,7 +17,7 @@ use Rattle.edd_instructions.specs.Reading.{given_within, with_record}
 use Rattle.edd_instructions.specs.Units.{Placed}
 use Rattle.edd_code.specs.Blocks.{Block, Nothing, Straight, Then, WhenNotZero, WhenZero, Either, Match, size}
 use Rattle.edd_code.specs.Flow.{Flows, depth_after, is_straight}
-use Rattle.edd_code.specs.Outcomes.{Outcome, Goes, Traps, Stuck, behind, and_then, at, outcome_of, does_one, does}
+use Rattle.edd_code.specs.Outcomes.{Outcome, Goes, Traps, Stuck, after_records, and_then, at, outcome_of, does_one, does}
 use Rattle.edd_code.proofs.BlockPlaces.{stand, AllIn}
 
 -- ---- what comes of so many steps
@@ -192,7 +192,8 @@ module _ (env : Environment) (code : List ℕ) (values : List ℤ) where
   -- ---- parts of a run
 
   behind_comes : (p m q : ℕ) (operands left : List ℤ) (rs : List Record) (o : Outcome)
-      → Comes p m operands (Goes rs left) → Comes m q left o → Comes p q operands (behind rs o)
+      → Comes p m operands (Goes rs left) → Comes m q left o
+      → Comes p q operands (after_records rs o)
   behind_comes p m q operands left rs (Goes ss rest) first second = λ k.
       let two = second k in
       let one = first two.0 in

@@ -21,11 +21,11 @@ use Rattle.edd_instructions.specs.Steps.{Environment, act}
 use Rattle.edd_code.specs.Blocks.{Block, Straight, Then, WhenNotZero, WhenZero, Either}
 use Rattle.edd_code.specs.Expressions.{expression_block, item_block, read_block, item_element_block, element_block, no_element, unary_block, truth_block, then_test, instead, no_value}
 use Rattle.edd_code.specs.ExpressionMeaning.{of_value}
-use Rattle.edd_code.specs.Outcomes.{Outcome, Goes, Traps, Stuck, behind, and_then, does}
+use Rattle.edd_code.specs.Outcomes.{Outcome, Goes, Traps, Stuck, after_records, and_then, does}
 
 -- ---- blocks, one after the other
 
-nothing_in_front : (o : Outcome) → behind [] o ≡ o
+nothing_in_front : (o : Outcome) → after_records [] o ≡ o
 nothing_in_front (Goes records operands) = refl
 nothing_in_front (Traps why) = refl
 nothing_in_front Stuck = refl

@@ -18,7 +18,7 @@ use Rattle.edd_instructions.specs.Steps.{State, Environment, Effect, act, step}
 use Rattle.edd_instructions.specs.Execution as image
 use Rattle.edd_instructions.specs.Execution.{Outcome, OutOfSteps, Meeting, nothing_met, meet, closed, go_on, request_in, preceded, stepped, unchanged, execute_following, execute}
 use Rattle.edd_code.specs.BlockEffects.{Goes}
-use Rattle.edd_code.specs.Reports.{at, worded, behind, report}
+use Rattle.edd_code.specs.Reports.{at, worded, report_after, report}
 use Rattle.edd_code.specs.MethodEffects.{pushed, CanBeTaken, stopped, Comes}
 use Rattle.edd_instructions.proofs.Meetings.{waits, aborts, goes_on}
 
@@ -41,8 +41,8 @@ sets_apply (c ∷ rest) s =
 -- changes in front may be counted among those before
 changes_before : (text : StrNo → Option Words) (changes : List Change) (s : source.State)
     (o : Outcome)
-    → behind text s (preceded [] changes o)
-    ≡ behind text (record s { changes = s.changes ++ changes }) o
+    → report_after text s (preceded [] changes o)
+    ≡ report_after text (record s { changes = s.changes ++ changes }) o
 changes_before text changes s o =
     ap (λ (cs : List Change). record {
       requests = map Some s.requests
@@ -58,8 +58,8 @@ changes_before text changes s o =
 -- so may a request whose strings are known
 request_before : (text : StrNo → Option Words) (r : Request) (q : source.Request)
     → worded text r ≡ Some q → (s : source.State) (o : Outcome)
-    → behind text s (preceded (r ∷ []) [] o)
-    ≡ behind text (record s { requests = s.requests ++ q ∷ [] }) o
+    → report_after text s (preceded (r ∷ []) [] o)
+    ≡ report_after text (record s { requests = s.requests ++ q ∷ [] }) o
 request_before text r q is s o =
     ap (λ (rs : List (Option source.Request)). record {
       requests = rs;
@@ -82,7 +82,7 @@ request_before text r q is s o =
 -- a run that is over at once reports what was so far
 pub over_now : (text : StrNo → Option Words) (s : source.State) (t : State) (answers : List Answer)
     (ending : image.Ending)
-    → behind text s (record {
+    → report_after text s (record {
       requests = [];
       changes = [];
       state = t;
@@ -165,7 +165,7 @@ module _ (text : StrNo → Option Words) (env : Environment) (code : List ℕ) w
         changes = [];
       })
       → Leads p q operands left s (record s { slots = slots })
-  quiet_leads p q operands left s slots h k = ap (behind text s) (one_step p operands s _ h k)
+  quiet_leads p q operands left s slots h k = ap (report_after text s) (one_step p operands s _ h k)
 
   pub list_leads : (p q : ℕ) (operands left : List ℤ) (s : source.State) (methods : List MethNo)
       → Acts p operands s (record {
@@ -174,7 +174,8 @@ module _ (text : StrNo → Option Words) (env : Environment) (code : List ℕ) w
         changes = [];
       })
       → Leads p q operands left s (record s { abort_methods = methods })
-  list_leads p q operands left s methods h k = ap (behind text s) (one_step p operands s _ h k)
+  list_leads p q operands left s methods h k =
+      ap (report_after text s) (one_step p operands s _ h k)
 
   -- the records of an attribute are none of a method's requests
   pub record_leads : (p q : ℕ) (operands left : List ℤ) (s : source.State) (given : Emitted)
@@ -182,7 +183,7 @@ module _ (text : StrNo → Option Words) (env : Environment) (code : List ℕ) w
       → Acts p operands s (record { state = at code q left s; emitted = given; changes = [] })
       → Leads p q operands left s s
   record_leads p q operands left s given none h k =
-      ap (behind text s) (one_step p operands s _ h k
+      ap (report_after text s) (one_step p operands s _ h k
       ∙ ap (λ (rs : List Request). stepped
       (preceded rs [] (execute env k (at code q left s) s.answers))) none)
 
@@ -195,7 +196,7 @@ module _ (text : StrNo → Option Words) (env : Environment) (code : List ℕ) w
       })
       → Leads p q operands left s (record s { values = values; changes = s.changes ++ c ∷ [] })
   change_leads p q operands left s c values h k =
-      ap (behind text s) (one_step p operands s _ h k)
+      ap (report_after text s) (one_step p operands s _ h k)
       ∙ changes_before text (c ∷ []) s
       (execute env k (at code q left (record s { values = values })) s.answers)
 
@@ -209,7 +210,7 @@ module _ (text : StrNo → Option Words) (env : Environment) (code : List ℕ) w
       })
       → (k : ℕ) → report text env code (suc k) p operands s ≡ stopped (source.Trapped why) s
   trap_reports p operands left s why h k =
-      ap (behind text s) (one_step p operands s _ h k
+      ap (report_after text s) (one_step p operands s _ h k
       ∙ ap stepped (is_over env k (record (at code p left s) { status = Trapped why }) s.answers
       (image.Trapped why) refl))
       ∙ over_now text s (record (at code p left s) { status = Trapped why }) s.answers
@@ -223,7 +224,7 @@ module _ (text : StrNo → Option Words) (env : Environment) (code : List ℕ) w
       })
       → (k : ℕ) → report text env code (suc k) p operands s ≡ stopped source.Aborted s
   abort_reports p operands s h k =
-      ap (behind text s) (one_step p operands s _ h k
+      ap (report_after text s) (one_step p operands s _ h k
       ∙ ap stepped (is_over env k (record (at code p operands s) { status = Aborted }) s.answers
       image.Aborted refl)) ∙ over_now text s
       (record (at code p operands s) { status = Aborted }) s.answers image.Aborted
@@ -244,7 +245,7 @@ module _ (text : StrNo → Option Words) (env : Environment) (code : List ℕ) w
         ending = image.Ended;
       }
   end_reports p operands s h k =
-      ap (behind text s) (one_step p operands s _ h k
+      ap (report_after text s) (one_step p operands s _ h k
       ∙ ap stepped (is_over env k (record (at code p operands s) { status = Ended }) s.answers
       image.Ended refl)) ∙ over_now text s (record (at code p operands s) { status = Ended })
       s.answers image.Ended
@@ -265,9 +266,9 @@ module _ (text : StrNo → Option Words) (env : Environment) (code : List ℕ) w
         → Acts p operands s (record { state = asks s; emitted = emitted.Request r; changes = [] })
         → (k : ℕ)
         → report text env code (suc k) p operands s
-        ≡ behind text (asked s) (execute env k (asks s) s.answers)
+        ≡ report_after text (asked s) (execute env k (asks s) s.answers)
     requested s h k =
-        ap (behind text s) (one_step p operands s _ h k)
+        ap (report_after text s) (one_step p operands s _ h k)
         ∙ request_before text r said is_said s (execute env k (asks s) s.answers)
 
     -- the state of the method in which each of these answers is the next
@@ -282,8 +283,8 @@ module _ (text : StrNo → Option Words) (env : Environment) (code : List ℕ) w
       suc k,
       omega arith,
       requested s h k
-          ∙ ap (λ (a : List Answer). behind text (asked s) (execute env k (asks s) a)) is
-          ∙ ap (behind text (asked s)) (waits env (at code q left s) r k)
+          ∙ ap (λ (a : List Answer). report_after text (asked s) (execute env k (asks s) a)) is
+          ∙ ap (report_after text (asked s)) (waits env (at code q left s) r k)
           ∙ over_now text (asked s) (asks s) [] image.Waiting
           ∙ ap (λ (a : List Answer). record {
             requests = map Some (s.requests ++ said ∷ []);
@@ -299,8 +300,8 @@ module _ (text : StrNo → Option Words) (env : Environment) (code : List ℕ) w
       suc k,
       omega arith,
       requested s h k
-          ∙ ap (λ (a : List Answer). behind text (asked s) (execute env k (asks s) a)) is
-          ∙ ap (behind text (asked s)) (aborts env (at code q left s) r k rest)
+          ∙ ap (λ (a : List Answer). report_after text (asked s) (execute env k (asks s) a)) is
+          ∙ ap (report_after text (asked s)) (aborts env (at code q left s) r k rest)
           ∙ over_now text (asked s) (asks s) rest image.Aborted,
     )
     ask_comes s (Go number sets ∷ rest) is valid h =
@@ -317,9 +318,9 @@ module _ (text : StrNo → Option Words) (env : Environment) (code : List ℕ) w
             suc k,
             omega arith,
             requested s h k
-                ∙ ap (λ (a : List Answer). behind text (asked s) (execute env k (asks s) a)) is
-                ∙ ap (behind text (asked s)) (goes_on env (at code q left s) r k number sets rest
-                valid.0)
+                ∙ ap (λ (a : List Answer). report_after text (asked s) (execute env k (asks s) a))
+                is ∙ ap (report_after text (asked s))
+                (goes_on env (at code q left s) r k number sets rest valid.0)
                 ∙ changes_before text sets (asked s)
                 (execute env k (at code q (number ∷ left)
                 (record (asked s) { values = values_set s.values sets })) rest),

@@ -10,15 +10,15 @@ use Rattle.edd_code.specs.BlockEffects as blocks
 use Rattle.edd_code.specs.BlockEffects.{Outcome, Goes, Stops, Stuck}
 
 -- with these records so far
-abbrev pub behind : List Record → attribute.Outcome → Outcome (List Record) Trap
-behind given (attribute.Goes records operands) = Goes operands (given ++ records)
-behind given (attribute.Traps why) = Stops why
-behind given attribute.Stuck = Stuck
+abbrev pub after_records : List Record → attribute.Outcome → Outcome (List Record) Trap
+after_records given (attribute.Goes records operands) = Goes operands (given ++ records)
+after_records given (attribute.Traps why) = Stops why
+after_records given attribute.Stuck = Stuck
 
 module _ (env : Environment) (values : List ℤ) where
   -- what a straight instruction results in
   abbrev pub does_one : Instruction → List ℤ → List Record → Outcome (List Record) Trap
-  does_one i operands given = behind given (attribute.does_one env values i operands)
+  does_one i operands given = after_records given (attribute.does_one env values i operands)
 
   -- what a block results in with these operands in front of it and these records so far
   abbrev pub does : Block → List ℤ → List Record → Outcome (List Record) Trap

@@ -17,7 +17,7 @@ use Rattle.edd_instructions.specs.Steps.{Environment, Effect, act}
 use Rattle.edd_code.specs.Blocks.{Block}
 use Rattle.edd_code.specs.BlockEffects as blocks
 use Rattle.edd_code.specs.BlockEffects.{Outcome, Goes, Stops, Stuck}
-use Rattle.edd_code.specs.Reports.{Report, at, told, worded, report}
+use Rattle.edd_code.specs.Reports.{Report, at, transcript_report, worded, report}
 
 -- a stop, and the state that it leaves
 pub record Halted : Type 0 where
@@ -54,7 +54,7 @@ CanBeTaken env answers = AllByRecursion (λ a. answer_fault env.types a ≡ None
 
 -- what a stop reports
 abbrev pub stopped : Stop → State → Report
-stopped why s = told (transcript (ending_of why) s)
+stopped why s = transcript_report (transcript (ending_of why) s)
 
 module _ (text : StrNo → Option Words) (env : Environment) where
   -- a request comes with its answer

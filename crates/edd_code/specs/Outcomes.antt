@@ -22,14 +22,14 @@ pub data Outcome : Type 0 where
   Stuck : Outcome
 
 -- with these records in front
-abbrev pub behind : List Record → Outcome → Outcome
-behind given (Goes records operands) = Goes (given ++ records) operands
-behind given (Traps why) = Traps why
-behind given Stuck = Stuck
+abbrev pub after_records : List Record → Outcome → Outcome
+after_records given (Goes records operands) = Goes (given ++ records) operands
+after_records given (Traps why) = Traps why
+after_records given Stuck = Stuck
 
 -- goes on with the operands that are left, unless there was a trap or it is stuck
 abbrev pub and_then : Outcome → (List ℤ → Outcome) → Outcome
-and_then (Goes records operands) next = behind records (next operands)
+and_then (Goes records operands) next = after_records records (next operands)
 and_then (Traps why) next = Traps why
 and_then Stuck next = Stuck
 

@@ -28,8 +28,8 @@ pub record Report : Type 0 where
 -- ---- by the source
 
 -- what a transcript says
-abbrev pub told : Transcript → Report
-told t = record {
+abbrev pub transcript_report : Transcript → Report
+transcript_report t = record {
   requests = map Some t.requests;
   changes = t.changes;
   values = t.values;
@@ -69,8 +69,8 @@ module _ (text : StrNo → Option Words) where
   worded asks.SaveValues = Some source.SaveValues
 
   -- what the machine did, after what was asked and changed before
-  abbrev pub behind : source.State → Outcome → Report
-  behind s o = record {
+  abbrev pub report_after : source.State → Outcome → Report
+  report_after s o = record {
     requests = map Some s.requests ++ map worded o.requests;
     changes = s.changes ++ o.changes;
     values = o.state.values;
@@ -82,4 +82,5 @@ module _ (text : StrNo → Option Words) where
   -- what at most n steps from a place give, with these operands and this state of the method
   abbrev pub report : Environment → (code : List ℕ) → (n place : ℕ) → (operands : List ℤ)
       → source.State → Report
-  report env code n place operands s = behind s (execute env n (at code place operands s) s.answers)
+  report env code n place operands s =
+      report_after s (execute env n (at code place operands s) s.answers)

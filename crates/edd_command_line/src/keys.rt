@@ -68,7 +68,7 @@ pub fn seconds<'a>(alloc: Global) -> Arg<'a> {
 }
 
 // The number of an option, as at least this many; the usual one where it isn't known.
-fn number_of(of: &ArgMatches<'_>, id: &str, least: u32, usual: usize) -> usize {
+fn word_as_number(of: &ArgMatches<'_>, id: &str, least: u32, usual: usize) -> usize {
     match of.get_one::<u32>(id) {
         Some(UNKNOWN) | None => usual,
         Some(number) => number.max(least) as usize,
@@ -82,8 +82,8 @@ pub fn keys_of(of: &ArgMatches<'_>) -> Option<RawTerminal> {
     }
     Some(RawTerminal {
         size: Size {
-            rows: number_of(of, ROWS, 2, USUAL.rows),
-            columns: number_of(of, COLUMNS, 1, USUAL.columns),
+            rows: word_as_number(of, ROWS, 2, USUAL.rows),
+            columns: word_as_number(of, COLUMNS, 1, USUAL.columns),
         },
         has_seconds: of.get_flag(SECONDS),
     })

@@ -20,29 +20,29 @@ of_command command a sub =
     record { item = items.Command (record { 0 = command }); attr = a; sub = sub }
 
 -- the number that an attribute gives, if it gives one
-abbrev pub number_of : List Record → Option ℤ
-number_of [] = None
-number_of (records.Words s ∷ rest) = None
-number_of (records.Number n ∷ rest) = Some n
-number_of (records.Entry item quals ∷ rest) = None
-number_of (records.DataConst n ∷ rest) = None
-number_of (records.DataVar v mask quals ∷ rest) = None
-number_of (records.Enumerator n text help ∷ rest) = None
-number_of (records.Response n class text ∷ rest) = None
-number_of (records.Member name item label help ∷ rest) = None
-number_of (records.Element n v label help ∷ rest) = None
+abbrev pub first_number : List Record → Option ℤ
+first_number [] = None
+first_number (records.Words s ∷ rest) = None
+first_number (records.Number n ∷ rest) = Some n
+first_number (records.Entry item quals ∷ rest) = None
+first_number (records.DataConst n ∷ rest) = None
+first_number (records.DataVar v mask quals ∷ rest) = None
+first_number (records.Enumerator n text help ∷ rest) = None
+first_number (records.Response n class text ∷ rest) = None
+first_number (records.Member name item label help ∷ rest) = None
+first_number (records.Element n v label help ∷ rest) = None
 
 -- the number that is read, as that of a command of NUMBER
 abbrev pub number_read : Reading → Option ℤ
 number_read NoItem = None
-number_read (Records rs) = number_of rs
+number_read (Records rs) = first_number rs
 number_read (Fault why) = None
 
 -- the number of a transaction, by what is read of TRANSACTION: 0 where it is written without one
 abbrev pub transaction_number : Reading → Option ℤ
 transaction_number NoItem = None
 transaction_number (Records []) = Some (pos 0)
-transaction_number (Records (r ∷ rest)) = number_of (r ∷ rest)
+transaction_number (Records (r ∷ rest)) = first_number (r ∷ rest)
 transaction_number (Fault why) = None
 
 -- the reading that is taken of an attribute gives this as its number

@@ -4,7 +4,7 @@ ghost use Rattle.std.specs.Prelude.{◌≡◌, ◌≢◌, ◌↔◌, IfErr, IfOk
 ghost use Rattle.edd_syntax.specs.DeviceValues.{AreDeviceValues};
 ghost use Rattle.edd_instructions.specs.Reading.{IsReading};
 ghost use Rattle.edd_machine.specs.Types.{types_in};
-ghost use Rattle.edd_device.specs.Messages.{IsCarried, IsCommand, IsMessage, IsPosition, carried, carried_if, entries, number_of, number_read, of_command, transaction_number};
+ghost use Rattle.edd_device.specs.Messages.{IsCarried, IsCommand, IsMessage, IsPosition, carried, carried_if, entries, first_number, number_read, of_command, transaction_number};
 ghost use Rattle.edd_device.specs.Taken.{entries_of, message_of, reading_of};
 
 use crate::fault::DeviceFault;
@@ -57,8 +57,8 @@ pub fn read(
 }
 
 // The number that an attribute gives, if it gives one.
-fn number_of(records: &[Record]) -> Option<i64>
-    ensures { result ≡ number_of records.now }
+fn first_number(records: &[Record]) -> Option<i64>
+    ensures { result ≡ first_number records.now }
 {
     match records {
         [Record::Number(number), ..] => Some(*number),
@@ -71,7 +71,7 @@ pub fn number_read(taken: &Taken) -> Option<i64>
     ensures { result ≡ number_read (reading_of taken.now) }
 {
     match taken {
-        Taken::Records(records) => number_of(records),
+        Taken::Records(records) => first_number(records),
         Taken::NoItem => None,
         Taken::Trap(_) => None,
     }
@@ -86,7 +86,7 @@ fn transaction_number(taken: &Taken) -> Option<i64>
             if records.is_empty() {
                 Some(0)
             } else {
-                number_of(records)
+                first_number(records)
             }
         }
         Taken::NoItem => None,

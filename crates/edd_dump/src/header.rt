@@ -1,7 +1,9 @@
 //! The lines of the header and of the sections.
 
 use edd_display::{ShowFault, print};
-use edd_fault_places::fields::{FIELDS, Field, Section, bounds, field_count, is_second, number_of};
+use edd_fault_places::fields::{
+    FIELDS, Field, Section, bounds, field_count, is_second, number_in_field,
+};
 use std::alloc::Global;
 use std::io::Write;
 
@@ -43,7 +45,7 @@ pub fn print_header<W: Write>(
     out: &mut W,
 ) -> Result<(), ShowFault> {
     for field in FIELDS.iter().take(count.min(field_count(bytes))) {
-        if let Some(number) = number_of(bytes, *field) {
+        if let Some(number) = number_in_field(bytes, *field) {
             print_field(alloc, *field, number, out)?;
         }
     }

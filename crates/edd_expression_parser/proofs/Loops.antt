@@ -16,7 +16,7 @@ use Rattle.edd_grammar.proofs.Texts.{text_sound}
 use Rattle.edd_grammar.proofs.Shorter.{expr_shorter, text_shorter}
 use Rattle.edd_grammar.proofs.SoundExpressions.{expr_sound, loosest_le}
 use Rattle.edd_token_reader.proofs.Fronts.{bind_same}
-use Rattle.edd_expression_parser.specs.Expressions.{listed, argument_view}
+use Rattle.edd_expression_parser.specs.Expressions.{listed, pure_argument}
 
 -- ---- the height
 
@@ -75,7 +75,7 @@ module _ (p : Site) (inner : Inner) (height_left precedence : ℕ) where
 -- arguments after the ones that are read already
 abbrev pub behind : List (code.Argument path.Path) → Arguments Path → Arguments Path
 behind [] others = others
-behind (a ∷ before) others = Cons (argument_view a) (behind before others)
+behind (a ∷ before) others = Cons (pure_argument a) (behind before others)
 
 abbrev pub with_front : List (code.Argument path.Path) → Read (Arguments Path)
     → Read (Arguments Path)
@@ -83,17 +83,17 @@ with_front front found = found >>= λ others. Some (behind front others.0, other
 
 pub behind_none : (front : List (code.Argument path.Path)) → behind front Nil ≡ listed front
 behind_none [] = refl
-behind_none (a ∷ front) = ap (Cons (argument_view a)) (behind_none front)
+behind_none (a ∷ front) = ap (Cons (pure_argument a)) (behind_none front)
 
 pub behind_more : (front : List (code.Argument path.Path)) (a : code.Argument path.Path)
-    (others : Arguments Path) → behind front (Cons (argument_view a) others)
+    (others : Arguments Path) → behind front (Cons (pure_argument a) others)
     ≡ behind (front ++ a ∷ []) others
 behind_more [] a others = refl
-behind_more (b ∷ front) a others = ap (Cons (argument_view b)) (behind_more front a others)
+behind_more (b ∷ front) a others = ap (Cons (pure_argument b)) (behind_more front a others)
 
 regroup : (front : List (code.Argument path.Path)) (a : code.Argument path.Path)
     (found : Read (Arguments Path))
-    → with_front front (found >>= λ o. Some (Cons (argument_view a) o.0, o.1))
+    → with_front front (found >>= λ o. Some (Cons (pure_argument a) o.0, o.1))
     ≡ with_front (front ++ a ∷ []) found
 regroup front a None = refl
 regroup front a (Some o) = ap (λ (x : Arguments Path). Some (x, o.1)) (behind_more front a o.0)
@@ -158,7 +158,7 @@ module _ (p : Site) (height_left : ℕ) where
 
   one_more : (front : List (code.Argument path.Path)) (a : code.Argument path.Path) (n : ℕ)
       (here rest : List Token) → argument_at p (expr_at p height_left) here
-      ≡ Some (argument_view a, rest) → at Comma rest ≡ true
+      ≡ Some (pure_argument a, rest) → at Comma rest ≡ true
       → with_front front (some_arguments p (expr_at p height_left) (suc n) here)
       ≡ with_front (front ++ a ∷ []) (some_arguments p (expr_at p height_left) n (drop 1 rest))
   unfolding some_arguments
@@ -167,11 +167,11 @@ module _ (p : Site) (height_left : ℕ) where
 
   pub arguments_go_on : (front : List (code.Argument path.Path)) (a : code.Argument path.Path)
       (here rest : List Token) → argument_at p (expr_at p height_left) here
-      ≡ Some (argument_view a, rest) → at Comma rest ≡ true
+      ≡ Some (pure_argument a, rest) → at Comma rest ≡ true
       → with_front front (arguments_here here) ≡ with_front (front ++ a ∷ [])
       (arguments_here (drop 1 rest))
   arguments_go_on front a here rest e comma =
-      let s = argument_shortens here (argument_view a) rest e in
+      let s = argument_shortens here (pure_argument a) rest e in
       let more : length here ≡ suc (length here - 1) = omega arith in
       let same = same_arguments (length here - 1) (length (drop 1 rest)) (drop 1 rest)
       (omega (arith, length-drop 1 rest)) (omega arith) in
@@ -181,17 +181,17 @@ module _ (p : Site) (height_left : ℕ) where
 
   pub arguments_close : (front : List (code.Argument path.Path)) (a : code.Argument path.Path)
       (here rest : List Token) → argument_at p (expr_at p height_left) here
-      ≡ Some (argument_view a, rest) → at Comma rest ≡ false
+      ≡ Some (pure_argument a, rest) → at Comma rest ≡ false
       → with_front front (arguments_here here) ≡ closing (listed (front ++ a ∷ []))
       (expect CloseParenthesis rest)
   unfolding some_arguments
   arguments_close front a here rest e last =
-      let s = argument_shortens here (argument_view a) rest e in
+      let s = argument_shortens here (pure_argument a) rest e in
       let more : length here ≡ suc (length here - 1) = omega arith in
       rw (more, e, last) (closed (expect CloseParenthesis rest))
     where
       closed : (end : Option (List Token))
-          → with_front front (closing Nil end >>= λ o. Some (Cons (argument_view a) o.0, o.1))
+          → with_front front (closing Nil end >>= λ o. Some (Cons (pure_argument a) o.0, o.1))
           ≡ closing (listed (front ++ a ∷ [])) end
       closed None = refl
       closed (Some r) = ap (λ (x : Arguments Path). Some (x, r)) (behind_more front a Nil

@@ -18,16 +18,16 @@ abbrev pub expr_view : code.Expr path.Path → pure_tree.Expr Path
 expr_view e = expr_of path_of e
 
 -- an argument as the pure tree
-abbrev pub argument_view : argument.Argument path.Path → pure_tree.Argument Path
-argument_view a = argument_of path_of a
+abbrev pub pure_argument : argument.Argument path.Path → pure_tree.Argument Path
+pure_argument a = argument_of path_of a
 
 -- the arguments that a list has
 abbrev pub listed : List (argument.Argument path.Path) → pure_tree.Arguments Path
-listed all = pure_tree.arguments_from (map argument_view all)
+listed all = pure_tree.arguments_from (map pure_argument all)
 
 -- the height of one argument
 abbrev pub argument_levels : argument.Argument path.Path → ℕ
-argument_levels a = argument_height (pure_tree.Cons (argument_view a) pure_tree.Nil)
+argument_levels a = argument_height (pure_tree.Cons (pure_argument a) pure_tree.Nil)
 
 -- an expression up to this sign, with the sign
 unfoldable pub up_to_at : Site → ℕ → Symbol → List Token → Read (pure_tree.Expr Path)

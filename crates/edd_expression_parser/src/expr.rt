@@ -9,7 +9,7 @@ ghost use Rattle.edd_grammar.specs.Reading.{expect, on_option};
 ghost use Rattle.edd_grammar.specs.ExpressionReading as reading;
 ghost use Rattle.edd_grammar.specs.ExpressionReading.{expr_at, operator_at};
 ghost use Rattle.edd_token_reader.specs.Views.{site_view, infix_view, assignment_view, Gives};
-ghost use Rattle.edd_expression_parser.specs.Expressions.{expr_view, argument_view, argument_levels, listed, up_to_at};
+ghost use Rattle.edd_expression_parser.specs.Expressions.{expr_view, pure_argument, argument_levels, listed, up_to_at};
 
 use crate::trees::{
     Child, Measured, MeasuredArgument, MeasuredArguments, assigned, binary, boxed, call,
@@ -308,7 +308,7 @@ fn argument(
     height_left: u32,
 ) -> Result<MeasuredArgument, ParseFault>
     requires { height_left < 100 }
-    ensures read { Gives (λ a. argument_view a.argument) result cursor.new
+    ensures read { Gives (λ a. pure_argument a.argument) result cursor.new
         (reading.argument_at (site_view site) (expr_at (site_view site) height_left)
         cursor.old) }
     ensures low { IfOk result (λ a. a.levels ≤ height_left) }

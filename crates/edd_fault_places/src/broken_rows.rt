@@ -3,7 +3,7 @@
 use crate::fields::{SECOND_ZERO, ZERO};
 use crate::sections::{RowFields, Sections, Span};
 use crate::spots::Spot;
-use edd_image::{HEADER_LENGTH, extension_zero, header_zero};
+use edd_image::{HEADER_LENGTH, extension_padding, header_padding};
 use edd_syntax::numbers::{Attr, Element};
 
 // Whether a span starts where the one before it ends, and has its zero. Moves the end there.
@@ -120,9 +120,9 @@ fn broken_string_row(sections: &Sections<'_>) -> Option<Spot> {
 
 // A zero of the header that is not zero.
 fn broken_zero(bytes: &[u8]) -> Option<Spot> {
-    let number = if bytes.len() < HEADER_LENGTH || header_zero(bytes) != 0 {
+    let number = if bytes.len() < HEADER_LENGTH || header_padding(bytes) != 0 {
         ZERO
-    } else if extension_zero(bytes) != 0 {
+    } else if extension_padding(bytes) != 0 {
         SECOND_ZERO
     } else {
         return None;

@@ -208,12 +208,12 @@ pub fn whole_fields(bytes: &[u8]) -> usize {
     FIELDS
         .iter()
         .take(field_count(bytes))
-        .filter(|field| number_of(bytes, **field).is_some())
+        .filter(|field| number_in_field(bytes, **field).is_some())
         .count()
 }
 
 /// The number in a field, where the bytes reach so far.
-pub fn number_of(bytes: &[u8], field: Field) -> Option<u32> {
+pub fn number_in_field(bytes: &[u8], field: Field) -> Option<u32> {
     let width = match field.width {
         Width::Two => 2,
         Width::Four => 4,

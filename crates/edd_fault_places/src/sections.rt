@@ -4,12 +4,12 @@ ghost use Rattle.std.specs.Prelude.{◌≡◌, ◌≤◌, IfSome, length};
 
 use edd_image::{
     ATTRIBUTE_ROW, Counts, ELEMENT_ROW, HEADER_LENGTH, NAME_ROW, STRING_ROW, VARIABLE_ROW, VarKind,
-    Version, attribute_item, attribute_kind, attribute_length, attribute_number,
-    attribute_rows_start, attribute_start, attribute_sub, attribute_zero, code_start, counts,
-    element_array, element_number, element_rows_start, element_variable, name_bytes_start,
-    name_length, name_rows_start, name_start, name_zero, sections_end, string_bytes_start,
-    string_length, string_rows_start, string_start, type_of, variable_rows_start, variable_size,
-    variable_type, variable_zero, version,
+    Version, attribute_item, attribute_kind, attribute_length, attribute_number, attribute_padding,
+    attribute_rows_start, attribute_start, attribute_sub, code_start, counts, element_array,
+    element_number, element_rows_start, element_variable, name_bytes_start, name_length,
+    name_padding, name_rows_start, name_start, sections_end, string_bytes_start, string_length,
+    string_rows_start, string_start, type_of, variable_padding, variable_rows_start, variable_size,
+    variable_type, version,
 };
 use edd_syntax::numbers::{ArrNo, Attr, Element, ItemNo, Kind, MethNo, VarNo};
 
@@ -83,7 +83,7 @@ fn name_span(row: &[u8]) -> Span
     Span {
         start: name_start(row, 0) as usize,
         length: usize::from(name_length(row, 0)),
-        has_zero: name_zero(row, 0) == 0,
+        has_zero: name_padding(row, 0) == 0,
     }
 }
 
@@ -108,7 +108,7 @@ fn fields(row: &[u8]) -> RowFields
         unit: Span {
             start: attribute_start(row, 0) as usize,
             length: attribute_length(row, 0) as usize,
-            has_zero: attribute_zero(row, 0) == 0,
+            has_zero: attribute_padding(row, 0) == 0,
         },
     }
 }
@@ -134,7 +134,7 @@ fn variable_fields(row: &[u8]) -> VariableFields
     VariableFields {
         kind: variable_type(row, 0),
         size: variable_size(row, 0),
-        zero: variable_zero(row, 0),
+        zero: variable_padding(row, 0),
     }
 }
 

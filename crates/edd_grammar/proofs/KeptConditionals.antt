@@ -12,7 +12,7 @@ use Rattle.edd_syntax.specs.Conditional as cond
 use Rattle.edd_syntax.specs.Conditional.{Cond, Value, Select, Conds, Arms, NoArms, ConsArm, Case, Default}
 use Rattle.edd_syntax.specs.WellFormed.{is_number, is_label, is_path, is_plain, is_cond, are_conds, are_arms, is_single, is_one, is_at_most_one, are_single_arms}
 use Rattle.edd_syntax.specs.Grammar.{OptionalSign}
-use Rattle.edd_syntax.specs.StatementGrammar.{LabelHere, CaseHere, OneHere, OnlyHere, ElseHere, OneArmsHere, ListHere, ElementHere, ElseIfHere, ListArmsHere}
+use Rattle.edd_syntax.specs.StatementGrammar.{LabelHere, CaseHere, OneHere, OnlyHere, ElseHere, SingleValueArmsHere, ListHere, ElementHere, ElseIfHere, ListArmsHere}
 use Rattle.edd_grammar.specs.KeptTokens.{Kept}
 use Rattle.edd_grammar.proofs.Branches.{Spelling}
 use Rattle.edd_grammar.proofs.KeptExpressions.{Both, kept_next, kept_tail, kept_same, pure_condition_kept}
@@ -75,7 +75,8 @@ module _ {V : Type 0} (Here : Spelling V) where
     else_single (cond.Cons c cond.Nil) here rest (from, e, inr h) = one_single c from rest h.1
     else_single (cond.Cons c (cond.Cons d more)) here rest h = absurd h
 
-    arms_single : (arms : Arms Path V) (here rest : List Token) → OneArmsHere Here arms here rest
+    arms_single : (arms : Arms Path V) (here rest : List Token)
+        → SingleValueArmsHere Here arms here rest
         → are_single_arms is_path is_plain arms ≡ true
     arms_single NoArms here rest h = refl
     arms_single (ConsArm (Case label body) arms) here rest h =
@@ -129,7 +130,8 @@ module _ {V : Type 0} (Here : Spelling V) (of : V → Bool) (values : KeepsValue
         (rw one.0 refl, one.1)
     else_kept (cond.Cons c (cond.Cons d more)) here rest h k = absurd h
 
-    one_arms_kept : (arms : Arms Path V) (here rest : List Token) → OneArmsHere Here arms here rest
+    one_arms_kept : (arms : Arms Path V) (here rest : List Token)
+        → SingleValueArmsHere Here arms here rest
         → Kept here → Both (are_arms is_path is_plain of arms) rest
     one_arms_kept NoArms here rest h k = (refl, kept_same here rest h k)
     one_arms_kept (ConsArm (Case label body) arms) here rest h k =

@@ -8,7 +8,7 @@ use Rattle.edd_syntax.specs.Reference.{Path}
 use Rattle.edd_syntax.specs.Conditional as cond
 use Rattle.edd_syntax.specs.Conditional.{Cond, Value, Select, Conds, Arms, NoArms, ConsArm, Case, Default}
 use Rattle.edd_syntax.specs.Grammar.{InAttribute}
-use Rattle.edd_syntax.specs.StatementGrammar.{IsIf, OneHere, OnlyHere, ElseHere, OneArmsHere}
+use Rattle.edd_syntax.specs.StatementGrammar.{IsIf, OneHere, OnlyHere, ElseHere, SingleValueArmsHere}
 use Rattle.edd_syntax.specs.Size.{cond_height, conds_height}
 use Rattle.edd_grammar.specs.Reading.{Read, expect, at_word}
 use Rattle.edd_grammar.specs.ConditionalReading.{ended, only, one_at}
@@ -30,14 +30,14 @@ module _ {V : Type 0} (Here : Spelling V) where
   IfAgain (cond.Cons c (cond.Cons d more)) here rest = ⊥
 
   arms_one : (arms : Arms Path V) (here rest : List Token) → ArmsOf (OnlyHere Here) arms here rest
-      → OneArmsHere Here arms here rest
+      → SingleValueArmsHere Here arms here rest
   arms_one NoArms here rest h = h
   arms_one (ConsArm (Case label body) arms) here rest h =
       (h.0, h.1, h.2, h.3, arms_one arms h.1 rest h.4)
   arms_one (ConsArm (Default body) arms) here rest h =
       (h.0, h.1, h.2, h.3, arms_one arms h.1 rest h.4)
 
-  one_arms : (arms : Arms Path V) (here rest : List Token) → OneArmsHere Here arms here rest
+  one_arms : (arms : Arms Path V) (here rest : List Token) → SingleValueArmsHere Here arms here rest
       → ArmsOf (OnlyHere Here) arms here rest
   one_arms NoArms here rest h = h
   one_arms (ConsArm (Case label body) arms) here rest h =
@@ -173,7 +173,8 @@ module _ {V : Type 0} (of : V → ℕ) (Here : Spelling V) (value : ℕ → List
           omega (arith, ap length e, one_shorter c from rest h.1)
       else_shorter (cond.Cons c (cond.Cons d more)) here rest h = absurd h
 
-      arms_shorter : (arms : Arms Path V) (here rest : List Token) → OneArmsHere Here arms here rest
+      arms_shorter : (arms : Arms Path V) (here rest : List Token)
+          → SingleValueArmsHere Here arms here rest
           → length rest ≤ length here
       arms_shorter NoArms here rest h = omega (arith, ap length h)
       arms_shorter (ConsArm (Case label body) arms) here rest h =

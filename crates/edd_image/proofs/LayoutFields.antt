@@ -10,7 +10,7 @@ use Rattle.edd_image.specs.declared.versions.Version.{Version}
 use Rattle.edd_image.specs.declared.versions.Version.TheVariants.{One, Two}
 use Rattle.edd_image.specs.Versions.{header_size}
 use Rattle.edd_image.specs.Layout.{Sections, AreSections, variable_row, name_row, attribute_row, element_row, string_row, item_count, layout_length, magic, identification, counts, lengths, extension, header, layout}
-use Rattle.edd_image.specs.Fields.{number_at, version_number, is_extended, header_zero, extension_zero, array_count, element_count, total_length, counts_in, attribute_count, names_length, code_length, strings_length, variable_rows_start, name_rows_start, attribute_rows_start, element_rows_start, code_start, string_rows_start, name_bytes_start, string_bytes_start, sections_end}
+use Rattle.edd_image.specs.Fields.{number_at, version_number, is_extended, header_padding, extension_padding, array_count, element_count, total_length, counts_in, attribute_count, names_length, code_length, strings_length, variable_rows_start, name_rows_start, attribute_rows_start, element_rows_start, code_start, string_rows_start, name_bytes_start, string_bytes_start, sections_end}
 use Rattle.edd_image.specs.Contents.{Span, VariableFields, NameFields, AttributeFields, Contents, contents_in, contents_of}
 use Rattle.edd_image.proofs.LayoutRows.{part_read, variables_read, names_read, attributes_read, elements_read, strings_read, variables_length, names_length_is, attributes_length, elements_length_is, strings_length_is}
 
@@ -95,7 +95,7 @@ arrays_read : (s : Sections) → AreSections s → array_count (layout s) ≡ s.
 arrays_read s are = arrays_read_by s s.version are.no_arrays are.counts_fit.arrays
 
 extension_zero_read : (s : Sections) (v : Version)
-    → extension_zero (layout (record s { version = v })) ≡ 0
+    → extension_padding (layout (record s { version = v })) ≡ 0
 unfolding layout header magic identification counts lengths extension number_at
 extension_zero_read s One = refl
 extension_zero_read s Two =
@@ -138,11 +138,11 @@ counts_read s are = same_counts
     (from_be_bytes-to_be_bytes_4 s.counts.device_revision are.counts_fit.device_revision)
     (from_be_bytes-to_be_bytes_4 s.counts.dd_revision are.counts_fit.dd_revision)
 
-first_zero : (s : Sections) → header_zero (layout s) ≡ 0
+first_zero : (s : Sections) → header_padding (layout s) ≡ 0
 unfolding layout header magic identification counts lengths extension number_at
 first_zero s = refl
 
-zero_read : (s : Sections) → header_zero (layout s) + extension_zero (layout s) ≡ 0
+zero_read : (s : Sections) → header_padding (layout s) + extension_padding (layout s) ≡ 0
 zero_read s =
     let first = first_zero s in
     let second = extension_zero_read s s.version in

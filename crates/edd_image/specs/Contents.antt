@@ -12,7 +12,7 @@ use Rattle.edd_image.specs.declared.parts.Counts.{Counts}
 use Rattle.edd_image.specs.declared.versions.Version.{Version}
 use Rattle.edd_image.specs.declared.versions.Version.TheVariants.{One, Two}
 use Rattle.edd_image.specs.Layout.{Sections, type_code, item_count}
-use Rattle.edd_image.specs.Fields.{version_number, header_zero, extension_zero, counts_in, attribute_count, element_count, names_length, code_length, strings_length, variable_rows_start, name_rows_start, attribute_rows_start, element_rows_start, code_start, string_rows_start, name_bytes_start, string_bytes_start, variable_type, variable_size, variable_zero, name_start, name_length, name_zero, attribute_kind, attribute_number, attribute_item, attribute_sub, attribute_zero, attribute_start, attribute_length, element_array, element_variable, element_number, string_start, string_length}
+use Rattle.edd_image.specs.Fields.{version_number, header_padding, extension_padding, counts_in, attribute_count, element_count, names_length, code_length, strings_length, variable_rows_start, name_rows_start, attribute_rows_start, element_rows_start, code_start, string_rows_start, name_bytes_start, string_bytes_start, variable_type, variable_size, variable_padding, name_start, name_length, name_padding, attribute_kind, attribute_number, attribute_item, attribute_sub, attribute_padding, attribute_start, attribute_length, element_array, element_variable, element_number, string_start, string_length}
 
 -- where something is in its section
 pub record Span : Type 0 where
@@ -78,14 +78,14 @@ abbrev pub variable_fields : List ℕ → ℕ → VariableFields
 variable_fields b row = record {
   type_number = variable_type b row;
   size = variable_size b row;
-  padding = variable_zero b row;
+  padding = variable_padding b row;
 }
 
 -- the fields of the row of a name at a place
 abbrev pub name_fields : List ℕ → ℕ → NameFields
 name_fields b row = record {
   span = record { start = name_start b row; size = name_length b row };
-  padding = name_zero b row;
+  padding = name_padding b row;
 }
 
 -- the fields of the row of an attribute at a place
@@ -95,7 +95,7 @@ attribute_fields b row = record {
   attribute = attribute_number b row;
   item = attribute_item b row;
   sub = attribute_sub b row;
-  padding = attribute_zero b row;
+  padding = attribute_padding b row;
   span = record { start = attribute_start b row; size = attribute_length b row };
 }
 
@@ -120,7 +120,7 @@ rows_from read size (suc n) place = read place ∷ rows_from read size n (place 
 unfoldable pub contents_in : List ℕ → Contents
 contents_in b = record {
   version = unwrap_or (version_of (version_number b)) One;
-  padding = header_zero b + extension_zero b;
+  padding = header_padding b + extension_padding b;
   counts = counts_in b;
   variables = rows_from (variable_fields b) 4 (counts_in b).variables (variable_rows_start b);
   names = rows_from (name_fields b) 8 (item_count (counts_in b)) (name_rows_start b);

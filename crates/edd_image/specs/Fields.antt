@@ -28,8 +28,8 @@ abbrev pub is_extended : List ℕ → Bool
 is_extended b = version_number b == 2 && nat_le 64 (length b)
 
 -- the zero after the version
-abbrev pub header_zero : List ℕ → ℕ
-header_zero b = number_at w16 b 6
+abbrev pub header_padding : List ℕ → ℕ
+header_padding b = number_at w16 b 6
 
 -- how many bytes the image has, as its header says
 abbrev pub total_length : List ℕ → ℕ
@@ -40,8 +40,8 @@ abbrev pub array_count : List ℕ → ℕ
 array_count b = if is_extended b then number_at w16 b 56 else 0
 
 -- the zero after the count of arrays
-abbrev pub extension_zero : List ℕ → ℕ
-extension_zero b = if is_extended b then number_at w16 b 58 else 0
+abbrev pub extension_padding : List ℕ → ℕ
+extension_padding b = if is_extended b then number_at w16 b 58 else 0
 
 -- how many element rows there are; the first version of the layout has none
 abbrev pub element_count : List ℕ → ℕ
@@ -128,8 +128,8 @@ abbrev pub variable_size : List ℕ → ℕ → ℕ
 variable_size b row = slice_index b (row + 1)
 
 -- the zero at the end of a variable's row
-abbrev pub variable_zero : List ℕ → ℕ → ℕ
-variable_zero b row = number_at w16 b (row + 2)
+abbrev pub variable_padding : List ℕ → ℕ → ℕ
+variable_padding b row = number_at w16 b (row + 2)
 
 -- where a name starts among the bytes of names
 abbrev pub name_start : List ℕ → ℕ → ℕ
@@ -140,8 +140,8 @@ abbrev pub name_length : List ℕ → ℕ → ℕ
 name_length b row = number_at w16 b (row + 4)
 
 -- the zero at the end of a name's row
-abbrev pub name_zero : List ℕ → ℕ → ℕ
-name_zero b row = number_at w16 b (row + 6)
+abbrev pub name_padding : List ℕ → ℕ → ℕ
+name_padding b row = number_at w16 b (row + 6)
 
 -- the number of the kind of the item whose attribute it is
 abbrev pub attribute_kind : List ℕ → ℕ → ℕ
@@ -160,8 +160,8 @@ abbrev pub attribute_sub : List ℕ → ℕ → ℕ
 attribute_sub b row = number_at w16 b (row + 4)
 
 -- the zero after the position
-abbrev pub attribute_zero : List ℕ → ℕ → ℕ
-attribute_zero b row = number_at w16 b (row + 6)
+abbrev pub attribute_padding : List ℕ → ℕ → ℕ
+attribute_padding b row = number_at w16 b (row + 6)
 
 -- where the unit of an attribute starts in the code
 abbrev pub attribute_start : List ℕ → ℕ → ℕ

@@ -2,7 +2,7 @@
 
 ghost use Rattle.std.specs.Prelude.{◌≡◌, ◌≤◌, length};
 ghost use Rattle.edd_image.specs.Contents.{version_of};
-ghost use Rattle.edd_image.specs.Fields.{has_magic, version_number, is_extended, header_zero, extension_zero, array_count, element_count, total_length, counts_in, attribute_count, names_length, code_length, strings_length, header_length, name_rows_start, attribute_rows_start, code_start, string_rows_start, name_bytes_start, string_bytes_start, sections_end};
+ghost use Rattle.edd_image.specs.Fields.{has_magic, version_number, is_extended, header_padding, extension_padding, array_count, element_count, total_length, counts_in, attribute_count, names_length, code_length, strings_length, header_length, name_rows_start, attribute_rows_start, code_start, string_rows_start, name_bytes_start, string_bytes_start, sections_end};
 
 use crate::fields::{u8_at, u16_at, u32_at};
 use crate::parts::Counts;
@@ -46,9 +46,9 @@ fn is_extended(bytes: &[u8]) -> bool
 }
 
 /// The zero after the version.
-pub fn header_zero(bytes: &[u8]) -> u16
+pub fn header_padding(bytes: &[u8]) -> u16
     requires { header_length ≤ length bytes.now }
-    ensures { result ≡ header_zero bytes.now }
+    ensures { result ≡ header_padding bytes.now }
 {
     u16_at(bytes, 6)
 }
@@ -114,9 +114,9 @@ pub fn array_count(bytes: &[u8]) -> u16
 }
 
 /// The zero after the count of arrays.
-pub fn extension_zero(bytes: &[u8]) -> u16
+pub fn extension_padding(bytes: &[u8]) -> u16
     requires { header_length ≤ length bytes.now }
-    ensures { result ≡ extension_zero bytes.now }
+    ensures { result ≡ extension_padding bytes.now }
 {
     if is_extended(bytes) {
         u16_at(bytes, 58)

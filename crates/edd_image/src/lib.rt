@@ -14,7 +14,7 @@ mod writing;
 pub use fields::{u16_at, u32_at};
 pub use header::{
     EXTENDED_HEADER_LENGTH, HEADER_LENGTH, attribute_count, code_length, counts, dd_revision,
-    device_revision, device_type, element_count, extension_zero, has_magic, header_zero,
+    device_revision, device_type, element_count, extension_padding, has_magic, header_padding,
     manufacturer, names_length, string_count, strings_length, total_length, variable_count,
     version,
 };
@@ -23,9 +23,9 @@ pub use numbers::type_of;
 pub use parts::{AttributeRow, Counts, NameRow, Parts, StringRow, VarKind};
 pub use rows::{
     ATTRIBUTE_ROW, ELEMENT_ROW, NAME_ROW, STRING_ROW, VARIABLE_ROW, attribute_item, attribute_kind,
-    attribute_length, attribute_number, attribute_start, attribute_sub, attribute_zero,
-    element_array, element_number, element_variable, name_length, name_start, name_zero,
-    string_length, string_start, variable_size, variable_type, variable_zero,
+    attribute_length, attribute_number, attribute_padding, attribute_start, attribute_sub,
+    element_array, element_number, element_variable, name_length, name_padding, name_start,
+    string_length, string_start, variable_padding, variable_size, variable_type,
 };
 pub use starts::{
     attribute_rows_start, code_start, element_rows_start, name_bytes_start, name_rows_start,

@@ -1,7 +1,7 @@
 //! The fields of a row. `row` is the place of its first byte.
 
 ghost use Rattle.std.specs.Prelude.{◌≡◌, ◌+◌, ◌≤◌, length};
-ghost use Rattle.edd_image.specs.Fields.{variable_type, variable_size, variable_zero, name_start, name_length, name_zero, attribute_kind, attribute_number, attribute_item, attribute_sub, attribute_zero, attribute_start, attribute_length, element_array, element_variable, element_number, string_start, string_length};
+ghost use Rattle.edd_image.specs.Fields.{variable_type, variable_size, variable_padding, name_start, name_length, name_padding, attribute_kind, attribute_number, attribute_item, attribute_sub, attribute_padding, attribute_start, attribute_length, element_array, element_variable, element_number, string_start, string_length};
 
 use crate::fields::{u8_at, u16_at, u32_at};
 
@@ -37,9 +37,9 @@ pub fn variable_size(bytes: &[u8], row: usize) -> u8
 }
 
 /// The zero of a variable row.
-pub fn variable_zero(bytes: &[u8], row: usize) -> u16
+pub fn variable_padding(bytes: &[u8], row: usize) -> u16
     requires { row + VARIABLE_ROW ≤ length bytes.now }
-    ensures { result ≡ variable_zero bytes.now row }
+    ensures { result ≡ variable_padding bytes.now row }
 {
     u16_at(bytes, row + 2)
 }
@@ -61,9 +61,9 @@ pub fn name_length(bytes: &[u8], row: usize) -> u16
 }
 
 /// The zero of a name row.
-pub fn name_zero(bytes: &[u8], row: usize) -> u16
+pub fn name_padding(bytes: &[u8], row: usize) -> u16
     requires { row + NAME_ROW ≤ length bytes.now }
-    ensures { result ≡ name_zero bytes.now row }
+    ensures { result ≡ name_padding bytes.now row }
 {
     u16_at(bytes, row + 6)
 }
@@ -101,9 +101,9 @@ pub fn attribute_sub(bytes: &[u8], row: usize) -> u16
 }
 
 /// The zero of an attribute row.
-pub fn attribute_zero(bytes: &[u8], row: usize) -> u16
+pub fn attribute_padding(bytes: &[u8], row: usize) -> u16
     requires { row + ATTRIBUTE_ROW ≤ length bytes.now }
-    ensures { result ≡ attribute_zero bytes.now row }
+    ensures { result ≡ attribute_padding bytes.now row }
 {
     u16_at(bytes, row + 6)
 }

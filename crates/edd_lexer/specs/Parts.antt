@@ -21,10 +21,10 @@ abbrev pub rest_of : Option (Bor (List ℕ)) → Option (List ℕ)
 rest_of o = option_map (λ s. s.now) o
 
 -- what is read of a number, as a step
-abbrev pub number_of : Number → reading.Step
-number_of (number.Integer n rest) = reading.token (Integer n) rest.now
-number_of (number.Decimal rest) = reading.token Decimal rest.now
-number_of number.Bad = reading.wrong BadNumber
+abbrev pub step_of_number : Number → reading.Step
+step_of_number (number.Integer n rest) = reading.token (Integer n) rest.now
+step_of_number (number.Decimal rest) = reading.token Decimal rest.now
+step_of_number number.Bad = reading.wrong BadNumber
 
 -- the end of a string, if it has one: whether its escapes are good, and the bytes after it
 abbrev pub end_of : Option StringEnd → Option (Bool × List ℕ)

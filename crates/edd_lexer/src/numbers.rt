@@ -7,7 +7,7 @@ ghost use Rattle.edd_lexer.specs.Bytes as bytes;
 ghost use Rattle.edd_lexer.specs.Bytes.{begins, front, behind};
 ghost use Rattle.edd_lexer.specs.Numbers as spelled;
 ghost use Rattle.edd_lexer.specs.Reading as reading;
-ghost use Rattle.edd_lexer.specs.Parts.{rest_of, number_of};
+ghost use Rattle.edd_lexer.specs.Parts.{rest_of, step_of_number};
 
 use crate::bytes::{begins_digit, behind_digits, behind_hex_digits, goes_on_number, next_is};
 
@@ -81,7 +81,7 @@ fn integer<'a>(base: u32, digits: &[u8], rest: &'a [u8]) -> Number<'a>
     requires base { base ≤ 16 }
     requires some { 1 ≤ base }
     requires digits { list_all is_ascii_hexdigit digits.now ≡ true }
-    ensures { number_of result ≡ reading.integer_of base digits.now rest.now }
+    ensures { step_of_number result ≡ reading.integer_of base digits.now rest.now }
 {
     if begins_sticking(rest) {
         return Number::Bad;
@@ -101,7 +101,7 @@ fn has_leading_zero(digits: &[u8]) -> bool
 #[tactic(auto, unfolding(crate::specs::Reading::plain_integer), using(crate::proofs::Runs::runs))]
 fn plain_integer<'a>(digits: &[u8], rest: &'a [u8]) -> Number<'a>
     requires { list_all is_ascii_digit digits.now ≡ true }
-    ensures { number_of result ≡ reading.plain_integer digits.now rest.now }
+    ensures { step_of_number result ≡ reading.plain_integer digits.now rest.now }
 {
     if has_leading_zero(digits) {
         return Number::Bad;
@@ -120,7 +120,7 @@ fn is_hex(text: &[u8]) -> bool
 
 #[tactic(auto, unfolding(crate::specs::Reading::hex_integer), using(crate::proofs::Runs::runs))]
 fn hex_integer(text: &[u8]) -> Number
-    ensures { number_of result ≡ reading.hex_integer text.now }
+    ensures { step_of_number result ≡ reading.hex_integer text.now }
 {
     let rest = behind_hex_digits(text);
     integer(16, &text[..text.len() - rest.len()], rest)
@@ -163,7 +163,7 @@ fn exponent_end(text: &[u8]) -> Option<&[u8]>
 // A decimal up to here, if nothing sticks to it.
 #[tactic(auto, unfolding(crate::specs::Reading::decimal_to))]
 fn decimal_to(rest: &[u8]) -> Number
-    ensures { number_of result ≡ reading.decimal_to rest.now }
+    ensures { step_of_number result ≡ reading.decimal_to rest.now }
 {
     if begins_sticking(rest) {
         Number::Bad
@@ -174,7 +174,7 @@ fn decimal_to(rest: &[u8]) -> Number
 
 // A decimal that has this after its fraction.
 fn fraction_to(text: &[u8]) -> Number
-    ensures { number_of result ≡ reading.fraction_to text.now }
+    ensures { step_of_number result ≡ reading.fraction_to text.now }
 {
     match exponent_end(text) {
         Some(end) => decimal_to(end),
@@ -186,7 +186,7 @@ fn fraction_to(text: &[u8]) -> Number
 #[tactic(auto, unfolding(crate::specs::Reading::number_from))]
 fn number_from<'a>(whole: &[u8], rest: &'a [u8]) -> Number<'a>
     requires { list_all is_ascii_digit whole.now ≡ true }
-    ensures { number_of result ≡ reading.number_from whole.now rest.now }
+    ensures { step_of_number result ≡ reading.number_from whole.now rest.now }
 {
     if next_is(b'.', rest) {
         return fraction_to(behind_digits(&rest[1..]));
@@ -200,7 +200,7 @@ fn number_from<'a>(whole: &[u8], rest: &'a [u8]) -> Number<'a>
 /// The number at the front.
 #[tactic(auto, unfolding(crate::specs::Reading::number_at), using(crate::proofs::Runs::runs))]
 pub fn number_at(text: &[u8]) -> Number
-    ensures { number_of result ≡ reading.number_at text.now }
+    ensures { step_of_number result ≡ reading.number_at text.now }
 {
     if is_hex(text) {
         return hex_integer(&text[2..]);

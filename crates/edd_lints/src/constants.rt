@@ -59,7 +59,7 @@ pub fn trap_of(operator: Operator, second: i64, width: Width) -> Option<Trap> {
 }
 
 // The number that two numbers give; nothing where they trap.
-fn number_of(operator: Operator, first: i64, second: i64) -> Option<i64> {
+fn value_of(operator: Operator, first: i64, second: i64) -> Option<i64> {
     let count = u32::try_from(second).unwrap_or(0);
     match operator {
         Operator::Add => Some(first.wrapping_add(second)),
@@ -81,7 +81,7 @@ fn computed(operator: Operator, first: i64, second: i64, width: Width) -> Known 
     if divides && second == -1 && first == width.least() {
         return Known::Traps(Trap::DivOverflow);
     }
-    match number_of(operator, first, second) {
+    match value_of(operator, first, second) {
         Some(number) => Known::Number(width.keep(number)),
         None => Known::Nothing,
     }

@@ -175,7 +175,7 @@ fn check_compared(
 }
 
 // The number that an argument is in a method, where that is known.
-fn number_of(arguments: &[Argument<Target>], place: usize) -> Option<i64> {
+fn number_of_argument(arguments: &[Argument<Target>], place: usize) -> Option<i64> {
     match arguments.get(place)? {
         Argument::Value(e) => match evaluate(e, Width::Method) {
             Known::Number(number) => Some(number),
@@ -212,7 +212,10 @@ fn check_transaction(
     walk: &Walk<'_>,
     findings: &mut Findings,
 ) -> Result<(), AllocError> {
-    let (Some(command), Some(number)) = (number_of(arguments, 0), number_of(arguments, 1)) else {
+    let (Some(command), Some(number)) = (
+        number_of_argument(arguments, 0),
+        number_of_argument(arguments, 1),
+    ) else {
         return Ok(());
     };
     if !walk.instrument.lacks_transaction(command, number) {

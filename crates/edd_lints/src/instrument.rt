@@ -33,7 +33,7 @@ fn range_of(attributes: &[Attribute<Target>]) -> Option<Range> {
     None
 }
 
-fn number_of(attributes: &[Attribute<Target>]) -> Option<u32> {
+fn command_number(attributes: &[Attribute<Target>]) -> Option<u32> {
     for attribute in attributes {
         if let Attribute::Number(number) = attribute {
             return Some(*number);
@@ -69,7 +69,7 @@ impl Instrument {
     }
 
     fn add_command(&mut self, attributes: &[Attribute<Target>]) -> Result<(), AllocError> {
-        let Some(command) = number_of(attributes) else {
+        let Some(command) = command_number(attributes) else {
             return Ok(());
         };
         let mut are_numbered = true;

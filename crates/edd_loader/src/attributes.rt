@@ -9,7 +9,7 @@ ghost use Rattle.edd_loader.specs.Rows.{rises_next};
 
 use edd_image::{
     ATTRIBUTE_ROW, Counts, attribute_item, attribute_kind, attribute_length, attribute_number,
-    attribute_start, attribute_sub, attribute_zero,
+    attribute_padding, attribute_start, attribute_sub,
 };
 use edd_syntax::numbers::{Attr, ItemNo};
 
@@ -49,7 +49,8 @@ fn is_attribute_row(bytes: &[u8], counts: Counts, row: usize) -> bool
     let Some(attr) = Attr::from_number(attribute_number(bytes, row)) else {
         return false;
     };
-    has_attribute(counts, item, attr, attribute_sub(bytes, row)) && attribute_zero(bytes, row) == 0
+    has_attribute(counts, item, attr, attribute_sub(bytes, row))
+        && attribute_padding(bytes, row) == 0
 }
 
 // Whether a row rises to the next by kind, attribute, item and sub, and is no second body of a

@@ -7,8 +7,8 @@ ghost use Rattle.edd_image.specs.Contents.{rows_from, variable_fields, name_fiel
 ghost use Rattle.edd_instructions.specs.Validity.{fills, is_variable_row};
 
 use edd_image::{
-    NAME_ROW, STRING_ROW, VARIABLE_ROW, name_length, name_start, name_zero, string_length,
-    string_start, type_of, variable_size, variable_type, variable_zero,
+    NAME_ROW, STRING_ROW, VARIABLE_ROW, name_length, name_padding, name_start, string_length,
+    string_start, type_of, variable_padding, variable_size, variable_type,
 };
 
 fn is_variable_row(bytes: &[u8], row: usize) -> bool
@@ -19,7 +19,7 @@ fn is_variable_row(bytes: &[u8], row: usize) -> bool
     type_of(variable_type(bytes, row)).is_some()
         && 1 <= size
         && size <= 4
-        && variable_zero(bytes, row) == 0
+        && variable_padding(bytes, row) == 0
 }
 
 /// Whether each of `count` variable rows, the first of which is at `start`, has a type, a size
@@ -48,7 +48,7 @@ pub fn are_name_rows(bytes: &[u8], start: usize, count: usize, end: usize) -> bo
     let mut place: u64 = 0;
     for index in 0..count {
         let row = start + NAME_ROW * index;
-        if name_zero(bytes, row) != 0 {
+        if name_padding(bytes, row) != 0 {
             return false;
         }
         if name_start(bytes, row) as u64 != place {

@@ -18,9 +18,10 @@ use crate::spans::{part, place_in};
 use crate::words::is_string;
 use edd_image::{
     Counts, NAME_ROW, STRING_ROW, attribute_count, attribute_rows_start, code_length, counts,
-    element_count, element_rows_start, extension_zero, header_zero, name_bytes_start, name_length,
-    name_rows_start, name_start, names_length, string_bytes_start, string_count, string_length,
-    string_rows_start, string_start, strings_length, variable_count, variable_rows_start,
+    element_count, element_rows_start, extension_padding, header_padding, name_bytes_start,
+    name_length, name_rows_start, name_start, names_length, string_bytes_start, string_count,
+    string_length, string_rows_start, string_start, strings_length, variable_count,
+    variable_rows_start,
 };
 
 /// How many items there are.
@@ -88,8 +89,8 @@ pub fn are_rows(bytes: &[u8]) -> bool
     requires { AreSectionsOf bytes.now }
     ensures { result ≡ are_rows (contents_in bytes.now) }
 {
-    header_zero(bytes) == 0
-        && extension_zero(bytes) == 0
+    header_padding(bytes) == 0
+        && extension_padding(bytes) == 0
         && variable_rows_keep(bytes)
         && name_rows_keep(bytes)
         && attribute_rows_keep(bytes)

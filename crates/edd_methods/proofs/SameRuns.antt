@@ -15,7 +15,7 @@ use Rattle.edd_instructions.specs.declared.unit.Sort.TheVariants.{Method}
 use Rattle.edd_instructions.specs.Steps.{RunningUnit, Environment}
 use Rattle.edd_instructions.specs.Execution.{preceded, execute}
 use Rattle.edd_instructions.specs.MethodAgreement.{SameRequest, SameRequests, SameOutcome, started, FollowsBody}
-use Rattle.edd_code.specs.Reports.{Report, told, worded, report}
+use Rattle.edd_code.specs.Reports.{Report, transcript_report, worded, report}
 use Rattle.edd_methods.specs.Following.{Follows}
 use Rattle.edd_methods.proofs.UnitRuns.{valid_are_taken}
 
@@ -120,7 +120,7 @@ module _ (text : StrNo → Option Words) where
 
     same_outcome : (k n : ℕ) (s : source.State) (before : List image.Request)
         → SameRequests text s.requests before
-        → report text env code k 0 [] s ≡ told (ended (f n s))
+        → report text env code k 0 [] s ≡ transcript_report (ended (f n s))
         → SameOutcome text (ended (f n s))
         (preceded before s.changes (execute env k (started unit s) s.answers))
     same_outcome k n s before asked e =

@@ -14,7 +14,7 @@ use Rattle.edd_instructions.specs.Steps.{Environment, act}
 use Rattle.edd_instructions.proofs.Spelled.{stands_where_spelled}
 use Rattle.edd_code.proofs.BlockPlaces.{stand}
 use Rattle.edd_code.proofs.Lines.{placed}
-use Rattle.edd_code.specs.Reports.{told, report}
+use Rattle.edd_code.specs.Reports.{transcript_report, report}
 use Rattle.edd_code.specs.MethodEffects.{CanBeTaken}
 use Rattle.edd_methods.specs.Statements.{Code, size, emitted, bytes_at, unit_code, IsSpelledCode}
 use Rattle.edd_methods.specs.StatementEffects.{Same, performs, IsWhole}
@@ -64,7 +64,7 @@ module _ (text : StrNo → Option Words) (env : Environment) (c : Code) (ok : Is
       (stands_where_spelled (bytes_at 0 (size c) (size c) c) [] instruction.End tt)
 
   at_end : (k : ℕ) (s : State) → report text env (unit_code c) (suc k) (size c) [] s
-      ≡ told (transcript run.Ended s)
+      ≡ transcript_report (transcript run.Ended s)
   unfolding act
   at_end k s = end_reports text env (unit_code c) (size c) [] s
       (record {
@@ -77,7 +77,7 @@ module _ (text : StrNo → Option Words) (env : Environment) (c : Code) (ok : Is
   finishes : (n : ℕ) (s : State) (o : source.Outcome Completion)
       → Does text env (unit_code c) n 0 []
       (record { end = 0 + size c; out = size c; back = size c }) s o
-      → (k : ℕ) × (n ≤ k) × (report text env (unit_code c) k 0 [] s ≡ told (ended o))
+      → (k : ℕ) × (n ≤ k) × (report text env (unit_code c) k 0 [] s ≡ transcript_report (ended o))
   finishes n s (Done Normal t) d = let a =
       d.comes (suc n) in (
         a.0,
@@ -97,7 +97,7 @@ module _ (text : StrNo → Option Words) (env : Environment) (c : Code) (ok : Is
       → Follows text env (unit_code c) f
   unit_follows f same s valid n =
       subst (λ (o : source.Outcome Completion). (k : ℕ) × (n ≤ k)
-      × (report text env (unit_code c) k 0 [] s ≡ told (ended o))) (same n s)
+      × (report text env (unit_code c) k 0 [] s ≡ transcript_report (ended o))) (same n s)
       (finishes n s (performs text env c n s) (code_follows text env [] (spelling instruction.End) c
       (size c) (size c) n s ok (omega (arith, small)) (omega (arith, small))
       (omega (arith, small)) whole valid))

@@ -6,7 +6,7 @@ use Rattle.edd_syntax.specs.Words.{Words}
 use Rattle.edd_syntax.specs.MethodState.{State, Outcome, Done, Stopped, Action}
 use Rattle.edd_syntax.specs.Execution.{Completion, Normal, Breaks, Continues, Returns, Ended, ended, transcript}
 use Rattle.edd_instructions.specs.Steps.{Environment}
-use Rattle.edd_code.specs.Reports.{Report, report, told}
+use Rattle.edd_code.specs.Reports.{Report, report, transcript_report}
 use Rattle.edd_code.specs.MethodEffects.{CanBeTaken, stopped}
 
 -- where code goes on
@@ -38,7 +38,7 @@ module _ (text : StrNo → Option Words) (env : Environment) (code : List ℕ) w
   reached k to (Done Normal s) = report text env code k to.end [] s
   reached k to (Done Breaks s) = report text env code k to.out [] s
   reached k to (Done Continues s) = report text env code k to.back [] s
-  reached k to (Done Returns s) = told (transcript Ended s)
+  reached k to (Done Returns s) = transcript_report (transcript Ended s)
   reached k to (Stopped why s) = stopped why s
 
   -- From a place with these operands the run results in the outcome, whatever number of steps is
@@ -54,4 +54,4 @@ module _ (text : StrNo → Option Words) (env : Environment) (code : List ℕ) w
   -- turns.
   abbrev pub Follows : (f : ℕ → Action Completion) → Type 0
   Follows f = (s : State) → CanBeTaken env s.answers → (n : ℕ)
-      → (k : ℕ) × (n ≤ k) × (report text env code k 0 [] s ≡ told (ended (f n s)))
+      → (k : ℕ) × (n ≤ k) × (report text env code k 0 [] s ≡ transcript_report (ended (f n s)))

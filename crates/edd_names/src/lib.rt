@@ -1,8 +1,8 @@
 //! A description with the meaning of each name in its place.
 #![tactic(auto)]
 
+mod attributes;
 mod braces;
-mod fields;
 mod resolving;
 mod texts;
 mod unit_items;

@@ -10,7 +10,7 @@ ghost use Rattle.edd_syntax.specs.TreeView.{path_of};
 ghost use Rattle.edd_name_meanings.specs.Directory.{description_of};
 ghost use Rattle.edd_expression_names.specs.Copies.{Accepts, Copies, Refuses};
 
-use crate::fields::copy_attributes;
+use crate::attributes::copy_attributes;
 use edd_name_meanings::directory::Names;
 use edd_name_meanings::fault::NameFault;
 use edd_syntax::item::{

@@ -28,18 +28,18 @@ impl Documents {
         }
     }
 
-    fn number_of(&self, uri: &str) -> Option<usize> {
+    fn place_of(&self, uri: &str) -> Option<usize> {
         self.list
             .iter()
             .position(|opened| opened.uri.as_str() == uri)
     }
 
     pub fn get(&self, uri: &str) -> Option<&Opened> {
-        self.list.get(self.number_of(uri)?)
+        self.list.get(self.place_of(uri)?)
     }
 
     pub fn get_mut(&mut self, uri: &str) -> Option<&mut Opened> {
-        let number = self.number_of(uri)?;
+        let number = self.place_of(uri)?;
         self.list.get_mut(number)
     }
 
@@ -54,7 +54,7 @@ impl Documents {
 
     /// Removes a document, and says whether it was open.
     pub fn close(&mut self, uri: &str) -> bool {
-        let Some(number) = self.number_of(uri) else {
+        let Some(number) = self.place_of(uri) else {
             return false;
         };
         if number < self.list.len() {

@@ -14,7 +14,7 @@ use edd_syntax::numbers::{Attr, VarNo};
 use std::alloc::{AllocError, Global};
 
 // The number that an attribute of a variable gives, if it gives one.
-fn number_of(
+fn number_read(
     alloc: Global,
     image: &Image<'_>,
     values: &Values,
@@ -50,11 +50,11 @@ fn default_of(
 ) -> Result<i64, AllocError>
     requires { AreDeviceValues (types_in image.now) values.now.numbers.items }
 {
-    if let Some(number) = number_of(alloc, image, values, variable, Attr::DefaultValue)? {
+    if let Some(number) = number_read(alloc, image, values, variable, Attr::DefaultValue)? {
         return Ok(number);
     }
-    let low = number_of(alloc, image, values, variable, Attr::MinValue)?;
-    let high = number_of(alloc, image, values, variable, Attr::MaxValue)?;
+    let low = number_read(alloc, image, values, variable, Attr::MinValue)?;
+    let high = number_read(alloc, image, values, variable, Attr::MaxValue)?;
     Ok(within(0, low, high))
 }
 

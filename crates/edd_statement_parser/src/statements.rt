@@ -133,7 +133,7 @@ fn evaluate(cursor: &mut Cursor, height_left: u32) -> Result<Stmt<Path>, ParseFa
 
 // A statement of a word alone, or an expression.
 #[tactic(auto, unfolding(crate::specs::Bodies::simple_at))]
-fn simple(cursor: &mut Cursor, height_left: u32) -> Result<Stmt<Path>, ParseFault>
+fn simple_statement(cursor: &mut Cursor, height_left: u32) -> Result<Stmt<Path>, ParseFault>
     requires { height_left ≤ 100 }
     ensures { Gives stmt_view result cursor.new (simple_at height_left cursor.old) }
 {
@@ -206,7 +206,7 @@ fn layer(cursor: &mut Cursor, height_left: u32) -> Result<Stmt<Path>, ParseFault
     if cursor.eat_word(Keyword::Switch) {
         return after_switch(cursor, height_left);
     }
-    simple(cursor, height_left)
+    simple_statement(cursor, height_left)
 }
 
 // A body after its opening brace, with the closing one.

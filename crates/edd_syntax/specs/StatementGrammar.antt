@@ -57,7 +57,7 @@ module _ {V : Type 0} (Here : V → List Token → List Token → Type 0) where
         (test brace inside : List Token) × NextWord word.Select here test
         × ConditionHere InAttribute on test brace
         × NextSign sign.OpenBrace brace inside
-        × OneArmsHere arms inside (Sign sign.CloseBrace ∷ rest)
+        × SingleValueArmsHere arms inside (Sign sign.CloseBrace ∷ rest)
 
     -- exactly one value
     pub OnlyHere : Conds Path V → List Token → List Token → Type 0
@@ -76,15 +76,15 @@ module _ {V : Type 0} (Here : V → List Token → List Token → Type 0) where
     ElseHere (cond.Cons c (cond.Cons d more)) here rest = ⊥
 
     -- the arms of a SELECT, with exactly one value in each
-    pub OneArmsHere : Arms Path V → List Token → List Token → Type 0
-    OneArmsHere NoArms here rest = here ≡ rest
-    OneArmsHere (ConsArm (Case label body) arms) here rest =
+    pub SingleValueArmsHere : Arms Path V → List Token → List Token → Type 0
+    SingleValueArmsHere NoArms here rest = here ≡ rest
+    SingleValueArmsHere (ConsArm (Case label body) arms) here rest =
         (from behind : List Token) × CaseHere word.Case label here from × OnlyHere body from behind
-        × OneArmsHere arms behind rest
-    OneArmsHere (ConsArm (Default body) arms) here rest =
+        × SingleValueArmsHere arms behind rest
+    SingleValueArmsHere (ConsArm (Default body) arms) here rest =
         (from behind : List Token) × (here ≡ Reserved word.Default ∷ Sign sign.Colon ∷ from)
         × OnlyHere body from behind
-        × OneArmsHere arms behind rest
+        × SingleValueArmsHere arms behind rest
 
   -- ---- a list: any number of elements, each with a comma after it or none
 

@@ -7,7 +7,7 @@ use Rattle.edd_name_meanings.specs.Directory.{description_of}
 use Rattle.edd_expression_names.proofs.Copying.{Copied}
 use Rattle.edd_expression_names.proofs.ExprSteps.{each_joined}
 use Rattle.edd_syntax.proofs.FirstLaws.{flat_split}
-use Rattle.edd_names.proofs.fields.add_attributes.Given as goal
+use Rattle.edd_names.proofs.attributes.add_attributes.Given as goal
 
 -- those so far are copied
 abbrev pub invariant-loop-attribute : goal.invariant-loop-attribute

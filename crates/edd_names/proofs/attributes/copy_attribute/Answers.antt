@@ -6,7 +6,7 @@ use Rattle.edd_syntax.specs.ResolvedTrees.{◌>>=◌, resolved_attribute}
 use Rattle.edd_syntax.specs.TreeView.{path_of}
 use Rattle.edd_name_meanings.specs.Directory.{description_of}
 use Rattle.edd_name_meanings.specs.Meanings.{Means}
-use Rattle.edd_names.proofs.fields.copy_attribute.Goals as goal
+use Rattle.edd_names.proofs.attributes.copy_attribute.Goals as goal
 
 pub returns-in-Ok-made_of-made_of-7-clause-sound : goal.returns-in-Ok-made_of-made_of-7-clause-sound
 unfolding Means

@@ -13,7 +13,7 @@ use Rattle.edd_syntax.proofs.FirstLaws.{flat_split, flat_one}
 use Rattle.edd_name_rules.proofs.Passing.{passed}
 use Rattle.edd_expression_names.proofs.UseLaws.{no_use}
 use Rattle.edd_name_rules.proofs.SlotLaws.{locals_within}
-use Rattle.edd_names.proofs.fields.add_attributes.Goals as goal
+use Rattle.edd_names.proofs.attributes.add_attributes.Goals as goal
 
 pub loop-attribute-init : goal.loop-attribute-init
 loop-attribute-init c = at_start (description_of c.args.names.now) (attribute_of path_of)
