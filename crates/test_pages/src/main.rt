@@ -7,6 +7,7 @@
 mod explained;
 mod refusals;
 mod table;
+mod typed;
 
 use std::io;
 use std::io::Read;

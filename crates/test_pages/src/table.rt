@@ -1,19 +1,22 @@
 //! The parts of the table: each begins with a word and an argument on a line that an @ begins, and
 //! has a text below.
 
+use crate::typed::Typed;
 use std::alloc::Global;
 use std::{fs, io};
 
-/// What the last command printed.
+/// What the last command printed, and what is typed to the next one.
 #[derive(Drop)]
 pub struct Printed {
     text: String,
+    typed: String,
 }
 
 impl Printed {
     pub fn nothing(alloc: Global) -> Printed {
         Printed {
             text: String::new(alloc),
+            typed: String::new(alloc),
         }
     }
 
@@ -38,19 +41,24 @@ impl Printed {
     }
 }
 
-// Runs `edd` with these words.
-fn run(rt: HostRuntime, text: &str) -> io::Result<Printed> {
+// Runs `edd` with these words, and lines that are typed where there are any.
+fn run(rt: HostRuntime, text: &str, typed: &str) -> io::Result<Printed> {
     let mut words = Vec::new(rt.alloc());
     words.push("edd".to_string(rt.alloc())?)?;
     for word in text.split_ascii_whitespace() {
         words.push(word.to_string(rt.alloc())?)?;
     }
     let mut bytes = Vec::new(rt.alloc());
-    let status = edd_tool::run_on_system(&rt, &words, &mut bytes);
+    let status = if typed.is_empty() {
+        edd_tool::run_on_system(&rt, &words, &mut bytes)
+    } else {
+        edd_tool::run(rt.alloc(), &words, &mut Typed::new(rt, typed), &mut bytes)
+    };
     println!(rt; "{text}: status {status}")?;
     let lines = str::from_utf8(&bytes).unwrap_or("no text\n");
     Ok(Printed {
         text: lines.to_string(rt.alloc())?,
+        typed: String::new(rt.alloc()),
     })
 }
 
@@ -62,9 +70,10 @@ fn say(rt: HostRuntime, is_right: bool, printed: &Printed) -> io::Result<()> {
     }
 }
 
-/// Takes a part: `file NAME` writes its text to a file, `run WORDS` runs `edd`, `prints` says that
-/// these are the lines that it printed, `begins` that these are the first of them, and `shows` that
-/// these are among them, one after the other. Any other part is a heading.
+/// Takes a part: `file NAME` writes its text to a file, `types` has its lines typed to the next
+/// command, `run WORDS` runs `edd`, `prints` says that these are the lines that it printed, `begins`
+/// that these are the first of them, and `shows` that these are among them, one after the other.
+/// Any other part is a heading.
 pub fn take(rt: HostRuntime, part: &str, printed: &mut Printed) -> io::Result<()> {
     let (head, below) = part.split_once('\n').unwrap_or((part, ""));
     let (kind, rest) = head.split_once(' ').unwrap_or((head, ""));
@@ -73,7 +82,8 @@ pub fn take(rt: HostRuntime, part: &str, printed: &mut Printed) -> io::Result<()
             let text = format!(in rt.alloc(); "{below}\n")?;
             fs::write(&rt, rest, text)?;
         }
-        "run" => *printed = run(rt, rest)?,
+        "types" => printed.typed = format!(in rt.alloc(); "{below}\n")?,
+        "run" => *printed = run(rt, rest, printed.typed.as_str())?,
         "prints" => say(rt, printed.is(below), printed)?,
         "begins" => say(rt, printed.begins_with(below), printed)?,
         "shows" => say(rt, printed.has(rt.alloc(), below)?, printed)?,
