@@ -71,6 +71,7 @@ def own_steps(counts, edition):
     counts.step("rows", runs.rows, program)
     counts.step("outputs that nobody reads", runs.closed_output, program)
     counts.step("refused memory", refusals.of_program, program)
+    counts.step("refused memory of the language server", refusals.of_editor, program)
     counts.step("refused memory in calls", refusals.of_calls, edition, made)
     return program
 

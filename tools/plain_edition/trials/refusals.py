@@ -1,4 +1,5 @@
 """Memory that is refused: behind the command line each refused request ends the program with status 4."""
+import json
 import os
 import subprocess
 import tempfile
@@ -83,6 +84,60 @@ def of_program(score, program):
                 if number > before or status >= 0:
                     score.check(is_answered, f"{' '.join(words)}: request {number} of {every}: status {status}")
     return f"{behind} requests behind the command line were refused; in front of it {aborted} of the others ended the program"
+
+
+# A text without quotes and line ends: where `serde_json` reads an escape it takes memory that can't be refused.
+EDITED = (
+    "MANUFACTURER 1, DEVICE_TYPE 2, DEVICE_REVISION 3, DD_REVISION 4 "
+    "VARIABLE flow { LABEL [flow]; TYPE INTEGER (2) { MAX_VALUE 5 * 20; } } "
+    "COLLECTION OF VARIABLE all { MEMBERS { first, flow; } } "
+    "MENU main { LABEL [main]; ITEMS { flow, all.first } } "
+    "METHOD reset { LABEL [reset]; DEFINITION { int n; n = flow; DELAY(n, [wait]); flwo = 1; } }"
+)
+URI = "file:///one.edd"
+
+
+def place(text):
+    """The parameters that name the place where these characters are."""
+    return {"textDocument": {"uri": URI}, "position": {"line": 0, "character": EDITED.index(text)}}
+
+
+def conversation():
+    """A conversation that asks everything once, as bytes."""
+    document = {"textDocument": {"uri": URI}}
+    whole = {"start": {"line": 0, "character": 0}, "end": {"line": 0, "character": len(EDITED)}}
+    asked = [("initialize", {"capabilities": {"textDocument": {"codeAction": {"codeActionLiteralSupport": {}}}}})]
+    told = [("initialized", {}), ("textDocument/didOpen", {"textDocument": {"uri": URI, "version": 1, "text": EDITED.replace("flwo", "flow")}})]
+    told += [("textDocument/didChange", {"textDocument": {"uri": URI, "version": 2}, "contentChanges": [{"text": EDITED}]})]
+    for method in ("hover", "definition", "documentHighlight", "prepareRename", "completion"):
+        asked.append((f"textDocument/{method}", place("flow, all")))
+    asked += [("textDocument/references", {**place("flow, all"), "context": {"includeDeclaration": True}})]
+    asked += [("textDocument/rename", {**place("flow, all"), "newName": "rate"}), ("textDocument/signatureHelp", place("n, [wait"))]
+    asked += [("textDocument/hover", place("5 * 20")), ("textDocument/completion", place("first }")), ("textDocument/completion", place("LABEL [main"))]
+    asked += [(f"textDocument/{method}", document) for method in ("documentSymbol", "foldingRange")]
+    asked += [("textDocument/formatting", {**document, "options": {}}), ("textDocument/codeAction", {**document, "range": whole, "context": {"diagnostics": []}})]
+    messages = [{"id": number, "method": method, "params": params} for number, (method, params) in enumerate(asked)]
+    messages[1:1] = [{"method": method, "params": params} for method, params in told]
+    messages += [{"id": len(asked), "method": "shutdown"}, {"method": "exit"}]
+    bodies = [json.dumps({"jsonrpc": "2.0", **message}).encode() for message in messages]
+    return b"".join(b"Content-Length: %d\r\n\r\n%s" % (len(body), body) for body in bodies)
+
+
+def of_editor(score, program):
+    """The language server: each refused request ends it with status 4, after whole answers."""
+    with tempfile.TemporaryDirectory() as room:
+        refused, typed = Refused(room), conversation()
+        status, whole, _ = refused.run([program, "lsp"], 0, typed)
+        score.check(not status and b'"error"' not in whole, f"lsp: status {status}: {whole[-1000:]}")
+        before, every, ended = refused.requests([program, "lsp"]), refused.requests([program, "lsp"], typed), 0
+        for number in range(1, every + 1, APART):
+            status, lines, _ = refused.run([program, "lsp"], number, typed)
+            if status < 0 and not lines and number <= before:
+                ended += 1
+                continue
+            answers, behind = lines[:-len(b"no memory\n")], lines[-len(b"no memory\n"):]
+            score.check(status == MEMORY and behind == b"no memory\n" and whole.startswith(answers), f"lsp: request {number} of {every}: status {status}")
+    return f"one in {APART} of {every} requests, {ended} before the input is read"
 
 
 def of_calls(score, edition, folder):
