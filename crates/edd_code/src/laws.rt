@@ -63,7 +63,7 @@ pub fn attributes_are_a_case()
     ensures { (env : Environment) (values : List ℤ) (b : Block) (operands : List ℤ)
         (given : List Record)
         → attributes.does env values b operands given
-        ≡ attributes.behind given (does env values b operands) }
+        ≡ attributes.after_records given (does env values b operands) }
 {}
 
 /// Wherever the bytes of a block are in a method, the machine goes on from their first to the
