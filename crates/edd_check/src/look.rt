@@ -5,8 +5,10 @@ use crate::diagnose;
 use crate::reports::Reports;
 use edd_reports::diagnostic::Diagnostic;
 use edd_reports::lines::Lines;
+use edd_reports::words::Span;
 use edd_reports::{
-    Findings, Format, Originals, ReportFault, Source, print_diagnostic, print_more, print_sarif,
+    Findings, Format, Originals, ReportFault, Source, Spot, print_diagnostic, print_more,
+    print_sarif, spot_of,
 };
 use std::alloc::{AllocError, Global};
 use std::io::Write;
@@ -76,6 +78,11 @@ impl<'a> Look<'a> {
     /// Adds such a file, where it could be read: its lines are shown.
     pub fn add_original(&mut self, name: &'a str, text: Vec<u8>) -> Result<(), AllocError> {
         self.originals.add(name, text)
+    }
+
+    /// Where a place of the text is shown.
+    pub fn spot(&self, place: Span) -> Spot<'_> {
+        spot_of(self.source(), place)
     }
 
     fn source(&self) -> Source<'_> {

@@ -24,6 +24,7 @@ use lines::Lines;
 pub use marks::Origin;
 pub use originals::Originals;
 pub use sarif::{Findings, print_sarif};
+pub use spots::{Spot, spot_of};
 use std::alloc::Global;
 use std::io::Write;
 

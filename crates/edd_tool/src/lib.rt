@@ -23,6 +23,8 @@ mod script_slips;
 mod serving;
 mod system;
 mod testing;
+mod trace_lines;
+mod tracing;
 
 pub use edd_compiler::{Fault, compile};
 use edd_display::ShowFault;

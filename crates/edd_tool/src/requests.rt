@@ -15,6 +15,7 @@ use crate::reasons::{reason_of, told};
 use crate::script::{self, ScriptFault};
 use crate::serving::serve;
 use crate::testing::test_files;
+use crate::tracing::trace;
 use crate::{COMMAND_LINE, DONE, FILE, MEMORY, REFUSED};
 use edd_command_line::{NoRequest, Request, Run, Showing, Writing};
 use edd_compiler::Fault;
@@ -303,17 +304,25 @@ pub fn read_device<'a, F: Files>(
     }
 }
 
+/// The same for one use.
+pub fn lent<'a, 'd>(device: &'d Option<(&'a str, Vec<u8>)>) -> Option<(&'a str, &'d [u8])> {
+    match device {
+        Some((name, text)) => Some((*name, text.as_slice())),
+        None => None,
+    }
+}
+
 /// Runs a method of an image, with a device where there is one, and prints what it did.
 pub fn run_method<'a, W: Write>(
     alloc: Global,
     bytes: &[u8],
-    device: Option<(&'a str, Vec<u8>)>,
+    device: Option<(&'a str, &[u8])>,
     script: &[u8],
     run: Run<'a>,
     out: &mut W,
 ) -> Result<(), Stop<'a>> {
     match device {
-        Some((name, text)) => play_with_device(alloc, bytes, name, &text, script, run, out),
+        Some((name, text)) => play_with_device(alloc, bytes, name, text, script, run, out),
         None => play_bytes(alloc, bytes, script, run, out),
     }
 }
@@ -328,7 +337,7 @@ fn play_file<'a, F: Files, W: Write>(
     let bytes = read(alloc, files, image)?;
     let device = read_device(alloc, files, run.device)?;
     let script = read_script(alloc, files, run.script)?;
-    let mut answer = run_method(alloc, &bytes, device, &script, run, out);
+    let mut answer = run_method(alloc, &bytes, lent(&device), &script, run, out);
     if run.is_explained {
         answer = with_command_named(alloc, answer, image, &bytes, Instead::Try, out);
     }
@@ -346,6 +355,7 @@ fn try_source<'a, F: Files, W: Write>(
     alloc: Global,
     source: &'a str,
     run: Run<'a>,
+    is_traced: bool,
     files: &mut F,
     out: &mut W,
 ) -> Result<(), Stop<'a>> {
@@ -353,7 +363,18 @@ fn try_source<'a, F: Files, W: Write>(
     let device = read_device(alloc, files, run.device)?;
     let script = read_script(alloc, files, run.script)?;
     let bytes = image_of_source(alloc, source, &text, run.is_explained, files, out)?;
-    let answer = run_method(alloc, &bytes, device, &script, run, out);
+    let answer = run_method(alloc, &bytes, lent(&device), &script, run, out);
+    if is_traced && matches!(answer, Ok(()) | Err(Stop::Device(_))) {
+        trace(
+            alloc,
+            (source, &text),
+            &bytes,
+            lent(&device),
+            &script,
+            run,
+            out,
+        )?;
+    }
     with_script_shown(
         alloc,
         answer,
@@ -399,8 +420,13 @@ pub fn answer<'a, F: Files, W: Write>(
         Request::Play { image, run } => {
             told(play_file(alloc, image, run, files, out), run.is_explained)
         }
-        Request::Try { source, run } => {
-            told(try_source(alloc, source, run, files, out), run.is_explained)
+        Request::Try {
+            source,
+            run,
+            is_traced,
+        } => {
+            let answer = try_source(alloc, source, run, is_traced, files, out);
+            told(answer, run.is_explained)
         }
         Request::Check(checking) => told(check_sources(alloc, &checking, files, out), true),
         Request::Open(opening) => open(alloc, opening, files, out),

@@ -182,6 +182,25 @@ pub fn parse(alloc: Global, image: &Image<'_>, script: &[u8]) -> Result<Script, 
     Ok(made)
 }
 
+/// The line, counted from 1, of an answer of a script, by its number among them.
+pub fn answer_line(
+    alloc: Global,
+    image: &Image<'_>,
+    script: &[u8],
+    number: usize,
+) -> Result<Option<usize>, AllocError> {
+    let mut before: usize = 0;
+    for (above, bytes) in script.split_inclusive(|byte| *byte == b'\n').enumerate() {
+        if let Some(Line::Answer(_)) = parse_line(alloc, image, bytes)? {
+            if before == number {
+                return Ok(Some(above.saturating_add(1)));
+            }
+            before = before.saturating_add(1);
+        }
+    }
+    Ok(None)
+}
+
 // The last setting of a variable counts.
 fn note_set(given: &mut [Option<i64>], line: &Line) {
     if let Line::Set(variable, value) = line

@@ -2,7 +2,7 @@
 
 use crate::files::{FileFault, Files};
 use crate::opening::{Manner, open_bytes};
-use crate::requests::{Stop, of_file, read, read_bytes, report, run_method, show_bytes};
+use crate::requests::{Stop, lent, of_file, read, read_bytes, report, run_method, show_bytes};
 use edd_cases::{
     Case, Description, Ended, Form, Kind, Misread, Printed, Tally, TestFault, Tests, beside,
     compare, ending_of, push_as_it_is, push_case, read_tests, refusal_in,
@@ -86,7 +86,7 @@ fn run_case<'a, F: Files>(
                 steps: case.steps,
                 is_explained: false,
             };
-            run_method(alloc, &image, device, script, run, out)
+            run_method(alloc, &image, lent(&device), script, run, out)
         }
         Kind::Show => show_bytes(alloc, &image, script, case.language, out),
         Kind::Open => {
