@@ -164,7 +164,41 @@ fn end_of(line: &[u8], made: &[u8], part: Span) -> Reach {
     }
 }
 
-/// Where a part of the line `made` is in the line that it was made from.
+fn goes_on(byte: Option<&u8>) -> bool {
+    match byte {
+        Some(byte) => is_of_word(*byte),
+        None => false,
+    }
+}
+
+// Whether a word stands at a place of the line, and is no part of a longer one.
+fn is_word_at(line: &[u8], place: usize, word: &[u8]) -> bool {
+    let end = place.saturating_add(word.len());
+    let before = match place.checked_sub(1) {
+        Some(before) => line.get(before),
+        None => None,
+    };
+    let is_apart = !(goes_on(before) && goes_on(word.first()))
+        && !(goes_on(line.get(end)) && goes_on(word.last()));
+    piece(line, place, end) == word && is_apart
+}
+
+// The place of a word that is between two places once.
+fn only_place(line: &[u8], within: Span, word: &[u8]) -> Option<usize> {
+    let mut found = None;
+    for place in within.start..within.end {
+        if is_word_at(line, place, word) {
+            if found.is_some() {
+                return None;
+            }
+            found = Some(place);
+        }
+    }
+    found
+}
+
+/// Where a part of the line `made` is in the line that it was made from. In what a macro may have
+/// become it is looked for as it is.
 pub fn aligned(line: &str, made: &str, part: Span) -> Aligned {
     let (line, made) = (line.as_bytes(), made.as_bytes());
     let start = start_of(line, made, part);
@@ -173,8 +207,16 @@ pub fn aligned(line: &str, made: &str, part: Span) -> Aligned {
         start: start.at,
         end: end.at.max(start.at),
     };
-    let is_same = start.is_whole
-        && end.is_whole
-        && piece(line, place.start, place.end) == piece(made, part.start, part.end);
-    Aligned { place, is_same }
+    let word = piece(made, part.start, part.end);
+    let is_same = start.is_whole && end.is_whole && piece(line, place.start, place.end) == word;
+    match only_place(line, place, word) {
+        Some(start) if !is_same && !word.is_empty() => Aligned {
+            place: Span {
+                start,
+                end: start.saturating_add(word.len()),
+            },
+            is_same: true,
+        },
+        _ => Aligned { place, is_same },
+    }
 }

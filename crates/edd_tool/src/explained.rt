@@ -58,6 +58,27 @@ pub fn image_of_source<'a, F: Files, W: Write>(
     Err(Stop::Shown)
 }
 
+/// What was done with a device. Where its source is refused and that is to be explained, the places
+/// are printed.
+pub fn with_device_shown<'a, F: Files, W: Write>(
+    alloc: Global,
+    answer: Result<(), Stop<'a>>,
+    device: Option<(&'a str, &[u8])>,
+    is_explained: bool,
+    files: &mut F,
+    out: &mut W,
+) -> Result<(), Stop<'a>> {
+    let is_refused = matches!(answer, Err(Stop::NoSource(_, _)));
+    let (true, Some((name, text))) = (is_explained && is_refused, device) else {
+        return answer;
+    };
+    if let Err(stop) = &answer {
+        report(alloc, stop, out)?;
+    }
+    explain_source(alloc, name, text, files, out)?;
+    Err(Stop::Shown)
+}
+
 // What is wrong with a script for an end of the program that it has brought about.
 fn wrong_of(stop: &Stop<'_>) -> Option<Wrong> {
     match stop {

@@ -18,6 +18,7 @@ mod opening;
 mod playing;
 mod reasons;
 mod requests;
+mod running;
 mod script;
 mod script_slips;
 mod serving;

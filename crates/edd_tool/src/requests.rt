@@ -3,21 +3,19 @@
 ghost use Rattle.std.specs.Prelude.{◌≤◌};
 
 use crate::checking::{check_sources, push_lints};
-use crate::devices::play_with_device;
 use crate::differing::diff_files;
 use crate::explained::{Instead, image_of_source, with_command_named, with_script_shown};
 use crate::explaining::print_explanation;
 use crate::files::{FileFault, Files, read_all};
 use crate::formatting::format_files;
 use crate::opening::{INPUT, OUTPUT, open};
-use crate::playing::play_bytes;
 use crate::reasons::{reason_of, told};
+use crate::running::{play_file, try_source};
 use crate::script::{self, ScriptFault};
 use crate::serving::serve;
 use crate::testing::test_files;
-use crate::tracing::trace;
 use crate::{COMMAND_LINE, DONE, FILE, MEMORY, REFUSED};
-use edd_command_line::{NoRequest, Request, Run, Showing, Writing};
+use edd_command_line::{NoRequest, Request, Showing, Writing};
 use edd_compiler::Fault;
 use edd_display::{ShowFault, print, print_text, show};
 use edd_dump::dump;
@@ -290,99 +288,6 @@ fn show_file<'a, F: Files, W: Write>(
     let answer = show_bytes(alloc, &bytes, &script, language, out);
     let answer = with_command_named(alloc, answer, file, &bytes, Instead::View, out);
     with_script_shown(alloc, answer, &bytes, (name, &script), is_explained, out)
-}
-
-/// The source of a device, if one is given, with its name.
-pub fn read_device<'a, F: Files>(
-    alloc: Global,
-    files: &mut F,
-    name: Option<&'a str>,
-) -> Result<Option<(&'a str, Vec<u8>)>, Stop<'a>> {
-    match name {
-        Some(name) => Ok(Some((name, read(alloc, files, name)?))),
-        None => Ok(None),
-    }
-}
-
-/// The same for one use.
-pub fn lent<'a, 'd>(device: &'d Option<(&'a str, Vec<u8>)>) -> Option<(&'a str, &'d [u8])> {
-    match device {
-        Some((name, text)) => Some((*name, text.as_slice())),
-        None => None,
-    }
-}
-
-/// Runs a method of an image, with a device where there is one, and prints what it did.
-pub fn run_method<'a, W: Write>(
-    alloc: Global,
-    bytes: &[u8],
-    device: Option<(&'a str, &[u8])>,
-    script: &[u8],
-    run: Run<'a>,
-    out: &mut W,
-) -> Result<(), Stop<'a>> {
-    match device {
-        Some((name, text)) => play_with_device(alloc, bytes, name, text, script, run, out),
-        None => play_bytes(alloc, bytes, script, run, out),
-    }
-}
-
-fn play_file<'a, F: Files, W: Write>(
-    alloc: Global,
-    image: &'a str,
-    run: Run<'a>,
-    files: &mut F,
-    out: &mut W,
-) -> Result<(), Stop<'a>> {
-    let bytes = read(alloc, files, image)?;
-    let device = read_device(alloc, files, run.device)?;
-    let script = read_script(alloc, files, run.script)?;
-    let mut answer = run_method(alloc, &bytes, lent(&device), &script, run, out);
-    if run.is_explained {
-        answer = with_command_named(alloc, answer, image, &bytes, Instead::Try, out);
-    }
-    with_script_shown(
-        alloc,
-        answer,
-        &bytes,
-        (run.script, &script),
-        run.is_explained,
-        out,
-    )
-}
-
-fn try_source<'a, F: Files, W: Write>(
-    alloc: Global,
-    source: &'a str,
-    run: Run<'a>,
-    is_traced: bool,
-    files: &mut F,
-    out: &mut W,
-) -> Result<(), Stop<'a>> {
-    let text = read(alloc, files, source)?;
-    let device = read_device(alloc, files, run.device)?;
-    let script = read_script(alloc, files, run.script)?;
-    let bytes = image_of_source(alloc, source, &text, run.is_explained, files, out)?;
-    let answer = run_method(alloc, &bytes, lent(&device), &script, run, out);
-    if is_traced && matches!(answer, Ok(()) | Err(Stop::Device(_))) {
-        trace(
-            alloc,
-            (source, &text),
-            &bytes,
-            lent(&device),
-            &script,
-            run,
-            out,
-        )?;
-    }
-    with_script_shown(
-        alloc,
-        answer,
-        &bytes,
-        (run.script, &script),
-        run.is_explained,
-        out,
-    )
 }
 
 fn dump_file<'a, F: Files, W: Write>(

@@ -2,7 +2,8 @@
 
 use crate::files::{FileFault, Files};
 use crate::opening::{Manner, open_bytes};
-use crate::requests::{Stop, lent, of_file, read, read_bytes, report, run_method, show_bytes};
+use crate::requests::{Stop, of_file, read, read_bytes, report, show_bytes};
+use crate::running::{lent, run_method};
 use edd_cases::{
     Case, Description, Ended, Form, Kind, Misread, Printed, Tally, TestFault, Tests, beside,
     compare, ending_of, push_as_it_is, push_case, read_tests, refusal_in,

@@ -103,16 +103,13 @@ fn value_of(session: &Session<'_, '_>, variable: VarNo) -> i64 {
     session.values().get(variable).unwrap_or(0)
 }
 
-// What the device answers, if it does. Where it has a fault the method is aborted.
-fn reply_of<'a>(
+// What a device answers, if it does. Where it has a fault the method is aborted.
+fn ask_device<'a>(
     alloc: Global,
     request: Request,
     values: &Values,
-    device: &mut Option<Device<'_, '_>>,
+    device: &mut Device<'_, '_>,
 ) -> Result<Option<Answer>, Stop<'a>> {
-    let Some(device) = device else {
-        return Ok(None);
-    };
     let instrument = device.instrument();
     if !values.are_of(instrument) {
         return Ok(None);
@@ -121,6 +118,19 @@ fn reply_of<'a>(
         Ok(answer) => Ok(answer),
         Err(DeviceFault::Memory) => Err(Stop::Memory),
         Err(_) => Ok(Some(Answer::Abort)),
+    }
+}
+
+// What the device answers, if there is one.
+fn reply_of<'a>(
+    alloc: Global,
+    request: Request,
+    values: &Values,
+    device: &mut Option<Device<'_, '_>>,
+) -> Result<Option<Answer>, Stop<'a>> {
+    match device {
+        Some(device) => ask_device(alloc, request, values, device),
+        None => Ok(None),
     }
 }
 
