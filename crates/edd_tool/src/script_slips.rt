@@ -36,15 +36,25 @@ struct Word<'a> {
     start: usize,
 }
 
-const SET: &str = "`set NAME N` sets a variable to a decimal number of 64 bits";
+const BEGIN: &str = "a line of a script begins with set, answer or abort";
 
-const ANSWER: &str =
-    "`answer CODE NAME=N ..` has a decimal number of 32 bits, and then settings without spaces";
+const COMMENT: &str = "a script has no comments";
 
-const ABORT: &str = "nothing stands behind `abort`";
+const TAB: &str = "words are parted by spaces, and a TAB is none";
 
-const BEGIN: &str =
-    "a line of a script begins with set, answer or abort, and spaces part its words";
+const NAME_MISSING: &str = "the variable and its value are missing: `set NAME N`";
+
+const VALUE_MISSING: &str = "the value is missing: `set NAME N`";
+
+const NO_EQUALS: &str = "a space parts the variable and its value: `set NAME N`";
+
+const SET_ENDS: &str = "nothing stands behind the value: `set NAME N`";
+
+const CODE_MISSING: &str = "the code is missing: `answer CODE NAME=N ..`";
+
+const SETTING: &str = "a setting is NAME=N, without spaces: `answer CODE NAME=N ..`";
+
+const ABORT_ENDS: &str = "nothing stands behind `abort`";
 
 // The words of a line, and at its end one of no width.
 fn words_of<'a>(alloc: Global, line: &'a str) -> Result<Vec<Word<'a>>, AllocError> {
@@ -149,16 +159,29 @@ fn word_at<'a>(words: &[Word<'a>], place: usize) -> Word<'a> {
     }
 }
 
+fn number_reason(alloc: Global, word: &str) -> Result<String, AllocError> {
+    format!(in alloc; "`{word}` is no decimal number of 64 bits")
+}
+
 // What is wrong with a line that begins with `set`.
 fn slip_of_set(alloc: Global, image: &Image<'_>, words: &[Word<'_>]) -> Result<Slip, AllocError> {
     let (name, value) = (word_at(words, 1), word_at(words, 2));
-    if !name.text.is_empty() && variable(image, name.text).is_none() {
+    if name.text.is_empty() {
+        return slip_as(alloc, name, NAME_MISSING);
+    }
+    if name.text.contains('=') {
+        return slip_as(alloc, name, NO_EQUALS);
+    }
+    if variable(image, name.text).is_none() {
         return Ok(slip(name, name_reason(alloc, image, name.text)?));
     }
-    if name.text.is_empty() || number(value.text).is_none() {
-        return slip_as(alloc, value, SET);
+    if value.text.is_empty() {
+        return slip_as(alloc, value, VALUE_MISSING);
     }
-    slip_as(alloc, word_at(words, 3), SET)
+    if number(value.text).is_none() {
+        return Ok(slip(value, number_reason(alloc, value.text)?));
+    }
+    slip_as(alloc, word_at(words, 3), SET_ENDS)
 }
 
 // What is wrong with a setting of an answer, if it is.
@@ -171,8 +194,11 @@ fn slip_of_setting(
         return Ok(None);
     }
     let Some((name, value)) = word.text.split_once('=') else {
-        return Ok(Some(slip_as(alloc, word, ANSWER)?));
+        return Ok(Some(slip_as(alloc, word, SETTING)?));
     };
+    if name.is_empty() || value.is_empty() {
+        return Ok(Some(slip_as(alloc, word, SETTING)?));
+    }
     let named = Word {
         text: name,
         start: word.start,
@@ -186,8 +212,20 @@ fn slip_of_setting(
     };
     match number(value) {
         Some(_) => Ok(None),
-        None => Ok(Some(slip_as(alloc, valued, ANSWER)?)),
+        None => Ok(Some(slip(valued, number_reason(alloc, value)?))),
     }
+}
+
+// What is wrong with the code of an answer.
+fn slip_of_code(alloc: Global, word: Word<'_>) -> Result<Slip, AllocError> {
+    if word.text.is_empty() {
+        return slip_as(alloc, word, CODE_MISSING);
+    }
+    let text = word.text;
+    let reason = format!(in alloc;
+        "`{text}` is no code, a decimal number of 32 bits: `answer CODE NAME=N ..`"
+    )?;
+    Ok(slip(word, reason))
 }
 
 // What is wrong with a line that begins with `answer`: its code, or the first setting that can't be
@@ -199,14 +237,32 @@ fn slip_of_answer(
 ) -> Result<Slip, AllocError> {
     let code = word_at(words, 1);
     if code_of(code.text).is_none() {
-        return slip_as(alloc, code, ANSWER);
+        return slip_of_code(alloc, code);
     }
     for word in words.iter().skip(2) {
         if let Some(found) = slip_of_setting(alloc, image, *word)? {
             return Ok(found);
         }
     }
-    slip_as(alloc, code, ANSWER)
+    slip_of_code(alloc, code)
+}
+
+// What is wrong with the first word of a line.
+fn slip_of_first(alloc: Global, word: Word<'_>) -> Result<Slip, AllocError> {
+    let text = word.text;
+    if text.contains('\t') {
+        return slip_as(alloc, word, TAB);
+    }
+    if text.starts_with('#') || text.starts_with("//") || text.starts_with(';') {
+        return slip_as(alloc, word, COMMENT);
+    }
+    let mut reason = String::from_str(alloc, BEGIN)?;
+    for known in ["set", "answer", "abort"] {
+        if text.eq_ignore_ascii_case(known) {
+            reason.push_str(", in small letters")?;
+        }
+    }
+    Ok(slip(word, reason))
 }
 
 // What is wrong with a line that can't be read.
@@ -216,8 +272,8 @@ fn slip_of_line(alloc: Global, image: &Image<'_>, line: &str) -> Result<Slip, Al
     match first.text {
         "set" => slip_of_set(alloc, image, &words),
         "answer" => slip_of_answer(alloc, image, &words),
-        "abort" => slip_as(alloc, word_at(&words, 1), ABORT),
-        _ => slip_as(alloc, first, BEGIN),
+        "abort" => slip_as(alloc, word_at(&words, 1), ABORT_ENDS),
+        _ => slip_of_first(alloc, first),
     }
 }
 
