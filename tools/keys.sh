@@ -1,6 +1,17 @@
 # shellcheck shell=sh
-# How `edd open` is run by the keys of a terminal: a part of ./edd and of the program that tools/install installs. Who reads it has a
-# function `say`, which is called when the terminal is as it was.
+# How edd is run on a terminal, `open` by its keys and `check` with its colours: a part of ./edd and of the program that tools/install
+# installs. Who reads it has a function `say`, which is called when the terminal is as it was.
+
+# Whether the program is to print colours, which it can't know by itself: `check` does on a terminal that has some, where neither the
+# user nor NO_COLOR says otherwise.
+shows_colours() {
+    [ "$2" = check ] && [ -t 1 ] && [ -z "${NO_COLOR-}" ] && [ "${TERM-}" != dumb ] || return 1
+    for word in "$@"; do
+        case $word in
+        --color | --color=* | --) return 1 ;;
+        esac
+    done
+}
 
 # Whether the program is to read keys: `open` does on a terminal, where no lines are asked for.
 reads_keys() {

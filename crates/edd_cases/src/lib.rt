@@ -22,4 +22,4 @@ pub use printed::{Printed, Seen};
 pub use renewing::{Piece, push_as_it_is, push_case, renewed};
 pub use settings::{Description, Form, Kind};
 pub use tally::{Ended, Tally};
-pub use telling::ending_of;
+pub use telling::{ending_of, refusal_in};

@@ -1,14 +1,27 @@
 //! How a test ended, as lines.
 
 use crate::comparing::Difference;
+use crate::printed::Seen;
 use std::alloc::{AllocError, Global};
 
 const NO_MORE_LINES: &str = "no more lines";
 
 const NO_SUCH_LINE: &str = "no such line";
 
-// The number of the line, what is expected on it, and what was seen.
-fn told<'c, 'p>(difference: Difference<'c, 'p>) -> (usize, &'c str, &'p str) {
+const REFUSED: &str = "refused ";
+
+/// What a run is refused with, where its last line says that it is.
+pub fn refusal_in<'p>(seen: &[Seen<'p>]) -> Option<&'p str> {
+    let last = seen.last()?.text;
+    last.starts_with(REFUSED).then_some(last)
+}
+
+// The number of the line, what is expected on it, and what was seen. A line that is not there is
+// missing for the refusal, where there is one.
+fn told<'c, 'p>(
+    difference: Difference<'c, 'p>,
+    refusal: Option<&'p str>,
+) -> (usize, &'c str, &'p str) {
     match difference {
         Difference::Other {
             line,
@@ -16,35 +29,40 @@ fn told<'c, 'p>(difference: Difference<'c, 'p>) -> (usize, &'c str, &'p str) {
             seen,
         } => (line, expected, seen),
         Difference::End { line, expected } => (line, expected, NO_MORE_LINES),
-        Difference::Nowhere { line, expected } => (line, expected, NO_SUCH_LINE),
+        Difference::Nowhere { line, expected } => {
+            (line, expected, refusal.unwrap_or(NO_SUCH_LINE))
+        }
         Difference::More { line, seen } => (line, NO_MORE_LINES, seen),
     }
 }
 
-fn push_difference(
+fn push_difference<'p>(
     alloc: Global,
     lines: &mut String,
-    difference: Difference<'_, '_>,
+    difference: Difference<'_, 'p>,
+    refusal: Option<&'p str>,
 ) -> Result<(), AllocError> {
-    let (line, expected, seen) = told(difference);
+    let (line, expected, seen) = told(difference, refusal);
     let expects = format!(in alloc; "  line {line}: expected {expected}\n")?;
     lines.push_str(&expects)?;
     let has = format!(in alloc; "  line {line}: seen {seen}\n")?;
     lines.push_str(&has)
 }
 
-/// The lines that say how a test of a file ended: it has passed where nothing differs.
-pub fn ending_of(
+/// The lines that say how a test of a file ended: it has passed where nothing differs. Its run may
+/// have been refused.
+pub fn ending_of<'p>(
     alloc: Global,
     file: &str,
     name: &str,
-    differs: Option<Difference<'_, '_>>,
+    differs: Option<Difference<'_, 'p>>,
+    refusal: Option<&'p str>,
 ) -> Result<String, AllocError> {
     match differs {
         None => format!(in alloc; "passed {file}: {name}\n"),
         Some(difference) => {
             let mut lines = format!(in alloc; "failed {file}: {name}\n")?;
-            push_difference(alloc, &mut lines, difference)?;
+            push_difference(alloc, &mut lines, difference, refusal)?;
             Ok(lines)
         }
     }

@@ -9,6 +9,7 @@
 mod accepted;
 mod choices;
 mod grammar;
+mod look;
 mod refusals;
 mod remarks;
 mod reports;
@@ -17,10 +18,12 @@ mod sources;
 
 pub use choices::{Choices, Level};
 use edd_compiler::{Fault, compile};
-use edd_reports::lines::Lines;
-use edd_reports::{Source, print_diagnostic, print_more};
+pub use edd_reports::diagnostic::{Diagnostic, Finding};
+pub use edd_reports::nearest::Nearest;
+pub use edd_reports::words::Span;
 pub use edd_reports::{Format, ReportFault};
 pub use edd_warnings::{LINTS, Lint};
+pub use look::{Look, print_document};
 pub use reports::Reports;
 use std::alloc::{AllocError, Global};
 use std::io::Write;
@@ -36,24 +39,6 @@ pub fn diagnose(alloc: Global, text: &[u8], choices: &Choices) -> Result<Reports
     Ok(reports)
 }
 
-fn print_all<W: Write>(
-    alloc: Global,
-    name: &str,
-    lines: &Lines<'_>,
-    reports: &Reports,
-    format: Format,
-    out: &mut W,
-) -> Result<(), ReportFault> {
-    let source = Source { name, lines };
-    for found in &reports.shown {
-        print_diagnostic(alloc, source, found, format, out)?;
-    }
-    if 0 < reports.more {
-        print_more(alloc, source, reports.more, format, out)?;
-    }
-    Ok(())
-}
-
 /// Prints what is said of the text of the source of this name. Says whether it is refused, or a
 /// lint that is denied finds something.
 pub fn check<W: Write>(
@@ -64,8 +49,7 @@ pub fn check<W: Write>(
     format: Format,
     out: &mut W,
 ) -> Result<bool, ReportFault> {
-    let reports = diagnose(alloc, text, choices)?;
-    let lines = Lines::of(alloc, text)?;
-    print_all(alloc, name, &lines, &reports, format, out)?;
-    Ok(reports.is_refused)
+    let look = Look::at(alloc, name, text, choices)?;
+    look.print(alloc, format, out)?;
+    Ok(look.is_refused())
 }

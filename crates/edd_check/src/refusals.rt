@@ -117,8 +117,35 @@ fn of_rules(
     of_tokens(alloc, text, &tokens, refusal, reports)
 }
 
+/// What an image begins with, and no source does.
+const MAGIC: &[u8] = b"EDI1";
+
+// Says what is to be done with an image, in place of what helps in a source.
+fn name_commands(alloc: Global, reports: &mut Reports) -> Result<(), AllocError> {
+    let help = "this is an image and no source: `edd show` shows it, `edd dump` lays it open";
+    reports.keep_first();
+    if let Some(first) = reports.shown.last_mut() {
+        first.helps.clear();
+        first.help(String::from_str(alloc, help)?)?;
+    }
+    Ok(())
+}
+
 /// What is said of a text with this fault.
 pub fn of_fault(
+    alloc: Global,
+    text: &[u8],
+    fault: Fault,
+    reports: &mut Reports,
+) -> Result<(), AllocError> {
+    of_source(alloc, text, fault, reports)?;
+    if text.starts_with(MAGIC) {
+        name_commands(alloc, reports)?;
+    }
+    Ok(())
+}
+
+fn of_source(
     alloc: Global,
     text: &[u8],
     fault: Fault,

@@ -37,4 +37,10 @@ impl Reports {
     pub fn pass(&mut self) {
         self.more = self.more.saturating_add(1);
     }
+
+    /// Shows the first alone.
+    pub fn keep_first(&mut self) {
+        self.shown.truncate(1);
+        self.more = 0;
+    }
 }

@@ -12,7 +12,8 @@ pub const EXPLANATIONS: [Explanation; 11] = [
     Explanation {
         number: 102,
         name: "MAGIC",
-        text: r#"The first four bytes are not EDI1: the file is no image.
+        text: r#"The first four bytes are not EDI1: the file is no image. A source is shown by `edd view`
+and run by `edd try`.
 "#,
     },
     Explanation {

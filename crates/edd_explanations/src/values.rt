@@ -13,7 +13,8 @@ pub const EXPLANATIONS: [Explanation; 13] = [
         number: 202,
         name: "RANGE",
         text: r#"A value is out of the range of its variable. An INTEGER of s octets holds -2^(8s-1) to
-2^(8s-1)-1, the other types 0 to 2^(8s)-1. In a script it is a line that sets a variable.
+2^(8s-1)-1, the other types 0 to 2^(8s)-1. In a script it is a line that sets a variable:
+`--explain` shows which.
 
 Wrong, for a variable of type INTEGER (1):
 
@@ -51,7 +52,7 @@ Right:
     Explanation {
         number: 207,
         name: "OUT_OF_RANGE",
-        text: r#"An answer sets a variable to a value out of its range.
+        text: r#"An answer sets a variable to a value out of its range. `--explain` shows which.
 
 Wrong, for a variable of type INTEGER (1):
 
@@ -119,7 +120,7 @@ Right:
         number: 300,
         name: "SCRIPT",
         text: r#"The line of the script is none of: set NAME N, answer CODE NAME=N .., abort, or a blank
-line; or it names no variable of the image.
+line; or it names no variable of the image. `--explain` shows the word that is wrong.
 
 Wrong:
 

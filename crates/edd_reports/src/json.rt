@@ -2,6 +2,7 @@
 
 use crate::diagnostic::{Diagnostic, Finding, Help};
 use crate::lines::Lines;
+use crate::spots::spot_of;
 use crate::words::Span;
 use crate::{ReportFault, Source, print};
 use serde::Serialize;
@@ -14,13 +15,15 @@ struct HelpLine<'a> {
     text: &'a str,
     line: Option<usize>,
     column: Option<usize>,
+    origin: Option<OriginLine<'a>>,
 }
 
-/// The file and the line that a preprocessor has marked.
+/// The file and the line that a preprocessor has marked, and where that file was read the column.
 #[derive(Drop, Serialize)]
 struct OriginLine<'a> {
     source: Option<&'a str>,
     line: usize,
+    column: Option<usize>,
 }
 
 /// What is wrong as an object. `null` stands for what there is none of.
@@ -71,11 +74,18 @@ fn corner_at(lines: &Lines<'_>, byte: Option<usize>) -> Corner {
     }
 }
 
-fn origin_at<'a>(lines: &Lines<'a>, byte: Option<usize>) -> Option<OriginLine<'a>> {
-    let origin = lines.place(byte?).origin?;
+fn origin_at<'a>(source: Source<'a>, place: Option<Span>) -> Option<OriginLine<'a>> {
+    let place = place?;
+    let origin = source.lines.place(place.start).origin?;
+    let spot = spot_of(source, place);
     Some(OriginLine {
         source: origin.file,
         line: origin.line,
+        column: if spot.is_original {
+            Some(spot.column)
+        } else {
+            None
+        },
     })
 }
 
@@ -89,16 +99,17 @@ fn end_of(place: Option<Span>) -> Option<usize> {
 
 fn help_lines<'a>(
     alloc: Global,
-    lines: &Lines<'_>,
+    source: Source<'a>,
     helps: &'a [Help],
 ) -> Result<Vec<HelpLine<'a>>, ReportFault> {
     let mut made = Vec::with_capacity(alloc, helps.len())?;
     for help in helps {
-        let at = corner_at(lines, start_of(help.place));
+        let at = corner_at(source.lines, start_of(help.place));
         made.push(HelpLine {
             text: help.text.as_str(),
             line: at.line,
             column: at.column,
+            origin: origin_at(source, help.place),
         })?;
     }
     Ok(made)
@@ -106,13 +117,13 @@ fn help_lines<'a>(
 
 /// What a finding says.
 #[derive(Clone, Copy)]
-struct Words<'a> {
-    severity: &'static str,
-    number: Option<u16>,
-    kind: Option<&'a str>,
-    detail: Option<&'a str>,
-    lint: Option<&'static str>,
-    message: &'a str,
+pub struct Words<'a> {
+    pub severity: &'static str,
+    pub number: Option<u16>,
+    pub kind: Option<&'a str>,
+    pub detail: Option<&'a str>,
+    pub lint: Option<&'static str>,
+    pub message: &'a str,
 }
 
 // The parts of a refusal: a number, a kind, and what is left is its detail.
@@ -129,7 +140,7 @@ fn words_of_refusal(refusal: &str) -> Words<'_> {
     }
 }
 
-fn words_of(finding: &Finding) -> Words<'_> {
+pub fn words_of(finding: &Finding) -> Words<'_> {
     match finding {
         Finding::Refused(refusal) => words_of_refusal(refusal.as_str()),
         Finding::Warned {
@@ -161,19 +172,19 @@ fn line_of<'a>(
         column: start.column,
         end_line: end.line,
         end_column: end.column,
-        origin: origin_at(source.lines, start_of(found.place)),
+        origin: origin_at(source, found.place),
         severity: words.severity,
         number: words.number,
         kind: words.kind,
         detail: words.detail,
         lint: words.lint,
         message: words.message,
-        helps: help_lines(alloc, source.lines, &found.helps)?,
+        helps: help_lines(alloc, source, &found.helps)?,
     })
 }
 
-// Out of memory is all that can go wrong with such values.
-fn print_value<T: Serialize, W: Write>(
+/// Prints a value on a line. Out of memory is all that can go wrong with such values.
+pub fn print_value<T: Serialize, W: Write>(
     alloc: Global,
     value: &T,
     out: &mut W,

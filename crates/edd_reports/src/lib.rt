@@ -2,20 +2,29 @@
 //! printed as lines of text or of JSON. Proved is that all of it is safe and ends.
 #![tactic(auto)]
 
+mod alignment;
+mod colours;
 pub mod diagnostic;
 mod fault;
 mod json;
 pub mod lines;
 mod marks;
 pub mod nearest;
+mod originals;
 pub mod outline;
+mod sarif;
+mod spots;
 mod text;
 pub mod words;
 
+use colours::{COLOURED, PLAIN};
 use diagnostic::Diagnostic;
 pub use fault::ReportFault;
 use lines::Lines;
 pub use marks::Origin;
+pub use originals::Originals;
+pub use sarif::{Findings, print_sarif};
+pub use spots::{Spot, spot_of};
 use std::alloc::Global;
 use std::io::Write;
 
@@ -24,15 +33,18 @@ use std::io::Write;
 pub enum Format {
     /// Lines for a reader: where it is, the line of the source, and what helps.
     Text,
+    /// The same with the colours of a terminal.
+    Colours,
     /// An object of JSON on each line.
     Json,
 }
 
-/// A source: its name and its text.
+/// A source: its name, its text, and the files that it was made from, as far as they were read.
 #[derive(Clone, Copy)]
 pub struct Source<'a> {
     pub name: &'a str,
     pub lines: &'a Lines<'a>,
+    pub originals: &'a Originals<'a>,
 }
 
 // Prints a line.
@@ -53,7 +65,8 @@ pub fn print_diagnostic<W: Write>(
     out: &mut W,
 ) -> Result<(), ReportFault> {
     match format {
-        Format::Text => text::print_diagnostic(alloc, source, found, out),
+        Format::Text => text::print_diagnostic(alloc, source, found, &PLAIN, out),
+        Format::Colours => text::print_diagnostic(alloc, source, found, &COLOURED, out),
         Format::Json => json::print_diagnostic(alloc, source, found, out),
     }
 }
@@ -67,7 +80,7 @@ pub fn print_more<W: Write>(
     out: &mut W,
 ) -> Result<(), ReportFault> {
     match format {
-        Format::Text => text::print_more(alloc, source, more, out),
+        Format::Text | Format::Colours => text::print_more(alloc, source, more, out),
         Format::Json => json::print_more(alloc, source, more, out),
     }
 }

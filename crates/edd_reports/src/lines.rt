@@ -13,7 +13,7 @@ pub struct Place<'a> {
     pub line: usize,
     /// Counted in characters.
     pub column: usize,
-    /// Nothing of a line that is long or no text.
+    /// Nothing of a line that is long or no text, or has a character of the number 0.
     pub text: &'a str,
     /// How many bytes of the line are before the column.
     pub before: usize,
@@ -35,6 +35,9 @@ fn shown(text: &[u8], start: usize, end: usize) -> &str {
         return "";
     }
     let line = text_in(text, Span { start, end });
+    if line.contains('\0') {
+        return "";
+    }
     line.strip_suffix('\r').unwrap_or(line)
 }
 

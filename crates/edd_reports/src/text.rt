@@ -1,7 +1,8 @@
 //! Lines for a reader.
 
+use crate::colours::Colours;
 use crate::diagnostic::{Diagnostic, Finding, Help};
-use crate::lines::{Lines, Place};
+use crate::spots::{Spot, spot_of};
 use crate::words::Span;
 use crate::{Origin, ReportFault, Source, print};
 use std::alloc::Global;
@@ -19,75 +20,81 @@ fn push_room(line: &mut String, before: &str) -> Result<(), ReportFault> {
     Ok(())
 }
 
-// How many carets a place has: as many as it has characters on its first line, and at least one.
-fn carets(text: &[u8], place: Span) -> usize {
-    let bytes = text.iter().skip(place.start);
-    let width = place.end.saturating_sub(place.start);
-    let count = bytes
-        .take(width)
-        .take_while(|byte| **byte != b'\n')
-        .filter(|byte| **byte & 0xc0 != 0x80)
-        .count();
-    count.max(1).min(MOST_CARETS)
-}
-
 // The line of the source, and carets under the place.
 fn print_line<W: Write>(
     alloc: Global,
-    text: &[u8],
-    place: Span,
-    at: Place<'_>,
+    spot: Spot<'_>,
+    colours: &Colours,
     out: &mut W,
 ) -> Result<(), ReportFault> {
-    if at.text.is_empty() {
+    if spot.text.is_empty() {
         return Ok(());
     }
-    print(String::from_str(alloc, at.text)?, out)?;
+    print(String::from_str(alloc, spot.text)?, out)?;
     let mut line = String::new(alloc);
-    if let Some(before) = at.text.get(..at.before) {
-        push_room(&mut line, before)?;
-    }
-    for _ in 0..carets(text, place) {
+    push_room(&mut line, spot.before)?;
+    line.push_str(colours.carets)?;
+    for _ in 0..spot.width.max(1).min(MOST_CARETS) {
         line.push('^')?;
     }
+    line.push_str(colours.end)?;
     print(line, out)
+}
+
+// What stands in the text where a macro stands in the file.
+fn print_made<W: Write>(alloc: Global, made: &str, out: &mut W) -> Result<(), ReportFault> {
+    print(
+        format!(in alloc; "help: the preprocessor made `{made}` of it")?,
+        out,
+    )
 }
 
 fn print_help<W: Write>(
     alloc: Global,
-    lines: &Lines<'_>,
+    source: Source<'_>,
     help: &Help,
     out: &mut W,
 ) -> Result<(), ReportFault> {
     let mut line = String::from_str(alloc, "help: ")?;
     line.push_str(help.text.as_str())?;
     if let Some(place) = help.place {
-        let at = lines.place(place.start);
-        match at.origin {
+        let spot = spot_of(source, place);
+        match source.lines.place(place.start).origin {
             Some(
                 Origin {
                     file: Some(file),
                     line: number,
                 },
-            ) => write!(line, " at {file}:{number}:{}", at.column)?,
-            Some(origin) => write!(line, " at {}:{}", origin.line, at.column)?,
-            None => write!(line, " at {}:{}", at.line, at.column)?,
+            ) => write!(line, " at {file}:{number}:{}", spot.column)?,
+            _ => write!(line, " at {}:{}", spot.line, spot.column)?,
         }
     }
     print(line, out)
 }
 
 // What comes after the place.
-fn push_finding(line: &mut String, finding: &Finding) -> Result<(), ReportFault> {
+fn push_finding(
+    line: &mut String,
+    finding: &Finding,
+    colours: &Colours,
+) -> Result<(), ReportFault> {
+    let end = colours.end;
     match finding {
-        Finding::Refused(refusal) => write!(line, ": refused {refusal}")?,
+        Finding::Refused(refusal) => {
+            let begin = colours.refused;
+            write!(line, ": {begin}refused{end} {refusal}")?;
+        }
         Finding::Warned {
             lint,
             message,
             is_denied,
         } => {
-            let word = if *is_denied { "denied" } else { "warning" };
-            write!(line, ": {word} {lint} {message}")?;
+            let (begin, word) = if *is_denied {
+                (colours.refused, "denied")
+            } else {
+                (colours.warning, "warning")
+            };
+            write!(line, ": {begin}{word}{end} {lint} {message}")?;
         }
     }
     Ok(())
@@ -99,30 +106,34 @@ fn print_at<W: Write>(
     source: Source<'_>,
     found: &Diagnostic,
     place: Span,
+    colours: &Colours,
     out: &mut W,
 ) -> Result<(), ReportFault> {
-    let at = source.lines.place(place.start);
-    let (name, number) = match at.origin {
-        Some(origin) => (origin.file.unwrap_or(source.name), origin.line),
-        None => (source.name, at.line),
-    };
-    let mut line = format!(in alloc; "{name}:{number}:{}", at.column)?;
-    push_finding(&mut line, &found.finding)?;
+    let spot = spot_of(source, place);
+    let (begin, end) = (colours.place, colours.end);
+    let mut line = format!(in alloc; "{begin}{}:{}:{}{end}", spot.file, spot.line, spot.column)?;
+    push_finding(&mut line, &found.finding, colours)?;
     print(line, out)?;
-    print_line(alloc, source.lines.text, place, at, out)
+    print_line(alloc, spot, colours, out)?;
+    match spot.made {
+        Some(made) => print_made(alloc, made, out),
+        None => Ok(()),
+    }
 }
 
 fn print_first<W: Write>(
     alloc: Global,
     source: Source<'_>,
     found: &Diagnostic,
+    colours: &Colours,
     out: &mut W,
 ) -> Result<(), ReportFault> {
     if let Some(place) = found.place {
-        return print_at(alloc, source, found, place, out);
+        return print_at(alloc, source, found, place, colours, out);
     }
-    let mut line = String::from_str(alloc, source.name)?;
-    push_finding(&mut line, &found.finding)?;
+    let (begin, end) = (colours.place, colours.end);
+    let mut line = format!(in alloc; "{begin}{}{end}", source.name)?;
+    push_finding(&mut line, &found.finding, colours)?;
     print(line, out)
 }
 
@@ -131,11 +142,12 @@ pub fn print_diagnostic<W: Write>(
     alloc: Global,
     source: Source<'_>,
     found: &Diagnostic,
+    colours: &Colours,
     out: &mut W,
 ) -> Result<(), ReportFault> {
-    print_first(alloc, source, found, out)?;
+    print_first(alloc, source, found, colours, out)?;
     for help in &found.helps {
-        print_help(alloc, source.lines, help, out)?;
+        print_help(alloc, source, help, out)?;
     }
     Ok(())
 }

@@ -67,8 +67,21 @@ impl<'a, R: Files + Input + Print + AllocGlobal> SystemFiles<'a, R> {
         ensures remembered { OnOk result (vec_len self.new.opened ≡ vec_len self.old.opened + 1) }
     {
         let file = fs::open(self.rt, name)?;
-        self.opened.push(identity_of(&file.metadata()?))?;
+        let found = file.metadata()?;
+        if found.is_dir() {
+            return Err(io::Error::from(io::ErrorKind::IsADirectory));
+        }
+        self.opened.push(identity_of(&found))?;
         Ok(file)
+    }
+
+    /// Opens a plain file, and nothing that gives bytes without an end or waits, as a pipe.
+    pub fn open_plain(&mut self, name: &str) -> io::Result<Opened<R::File, R::Reader>> {
+        let found = fs::metadata(self.rt, name)?;
+        if !found.is_file() {
+            return Err(io::Error::from(io::ErrorKind::InvalidInput));
+        }
+        Ok(Opened::File(self.open_file(name)?))
     }
 
     /// Writes a file as `save` does, but none that was opened.

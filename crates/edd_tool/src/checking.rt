@@ -1,9 +1,9 @@
 //! What the program does to check a source.
 
-use crate::files::Files;
-use crate::requests::{Stop, read_each};
-use edd_check::{Choices, Format, LINTS, Lint, ReportFault, check};
-use edd_command_line::{Form, Lints};
+use crate::files::{FileFault, Files};
+use crate::requests::{Stop, read_each, read_marked};
+use edd_check::{Choices, Format, LINTS, Lint, Look, ReportFault, print_document};
+use edd_command_line::{Checking, Form, Lints};
 use std::alloc::{AllocError, Global};
 use std::io::Write;
 
@@ -73,41 +73,83 @@ pub fn push_lints(line: &mut String) -> Result<(), AllocError> {
     Ok(())
 }
 
-fn format_of(form: Form) -> Format {
-    match form {
-        Form::Text => Format::Text,
-        Form::Json => Format::Json,
+/// Adds the files that the marks of a preprocessor name for what is shown, as far as they can be
+/// read.
+pub fn add_originals<'t, 'a, F: Files>(
+    alloc: Global,
+    look: &mut Look<'t>,
+    files: &mut F,
+) -> Result<(), Stop<'a>> {
+    let names = look.marked_files(alloc)?;
+    for name in names {
+        match read_marked(alloc, files, name) {
+            Ok(text) => look.add_original(name, text)?,
+            Err(FileFault::Memory) => return Err(Stop::Memory),
+            Err(_) => {}
+        }
     }
+    Ok(())
 }
 
-// Prints what is said of a source, and answers whether it is refused.
-fn check_text<'a, W: Write>(
+// Looks at all sources.
+fn looks_at<'t, 'a, F: Files>(
     alloc: Global,
-    source: &'a str,
-    text: &[u8],
+    names: &[&'t str],
+    texts: &'t [Vec<u8>],
     choices: &Choices,
-    form: Form,
+    files: &mut F,
+) -> Result<Vec<Look<'t>>, Stop<'a>> {
+    let mut looks = Vec::with_capacity(alloc, names.len())?;
+    for (name, text) in names.iter().zip(texts.iter()) {
+        let mut look = Look::at(alloc, *name, text, choices)?;
+        add_originals(alloc, &mut look, files)?;
+        looks.push(look)?;
+    }
+    Ok(looks)
+}
+
+// Prints what is said of each source.
+fn print_each<'a, W: Write>(
+    alloc: Global,
+    looks: &[Look<'_>],
+    format: Format,
     out: &mut W,
-) -> Result<bool, Stop<'a>> {
-    Ok(check(alloc, source, text, choices, format_of(form), out)?)
+) -> Result<(), Stop<'a>> {
+    for look in looks {
+        look.print(alloc, format, out)?;
+    }
+    Ok(())
+}
+
+fn print_looks<'a, W: Write>(
+    alloc: Global,
+    looks: &[Look<'_>],
+    form: Form,
+    is_coloured: bool,
+    out: &mut W,
+) -> Result<(), Stop<'a>> {
+    match form {
+        Form::Text if is_coloured => print_each(alloc, looks, Format::Colours, out),
+        Form::Text => print_each(alloc, looks, Format::Text, out),
+        Form::Json => print_each(alloc, looks, Format::Json, out),
+        Form::Sarif => Ok(print_document(alloc, looks, out)?),
+    }
 }
 
 /// Prints what is said of sources, one after the other. All are read first.
 pub fn check_sources<'a, F: Files, W: Write>(
     alloc: Global,
-    names: &[&'a str],
-    lints: &Lints<'a>,
-    form: Form,
+    checking: &Checking<'a>,
     files: &mut F,
     out: &mut W,
 ) -> Result<(), Stop<'a>> {
-    let choices = choices_of(alloc, lints)?;
-    let texts = read_each(alloc, files, names)?;
-    let mut is_refused = false;
-    for (name, text) in names.iter().zip(texts.iter()) {
-        if check_text(alloc, *name, text, &choices, form, out)? {
-            is_refused = true;
-        }
+    let choices = choices_of(alloc, &checking.lints)?;
+    let texts = read_each(alloc, files, &checking.names)?;
+    let looks = looks_at(alloc, &checking.names, &texts, &choices, files)?;
+    print_looks(alloc, &looks, checking.form, checking.is_coloured, out)?;
+    if looks.iter().any(|look| look.is_refused()) {
+        Err(Stop::Shown)
+    } else {
+        Ok(())
     }
-    if is_refused { Err(Stop::Shown) } else { Ok(()) }
 }

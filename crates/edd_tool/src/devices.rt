@@ -14,7 +14,8 @@ use edd_syntax::numbers::ItemNo;
 use std::alloc::{AllocError, Global};
 use std::io::Write;
 
-fn trap_word(why: Trap) -> &'static str {
+/// The word of a trap.
+pub fn trap_word(why: Trap) -> &'static str {
     match why {
         Trap::DivZero => "DIV_ZERO",
         Trap::DivOverflow => "DIV_OVERFLOW",

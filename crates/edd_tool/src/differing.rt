@@ -43,8 +43,8 @@ pub fn diff_files<'a, F: Files, W: Write>(
     let new_image = loaded(alloc, new, &new_bytes)?;
     let found = differences(alloc, &old_image, &new_image)?;
     match form {
-        Form::Text => print_lines(alloc, &found, out)?,
         Form::Json => print_objects(alloc, &found, out)?,
+        Form::Text | Form::Sarif => print_lines(alloc, &found, out)?,
     }
     if found.is_empty() {
         Ok(())

@@ -3,19 +3,20 @@
 ghost use Rattle.std.specs.Prelude.{◌≤◌};
 
 use crate::checking::{check_sources, push_lints};
-use crate::devices::play_with_device;
 use crate::differing::diff_files;
+use crate::explained::{Instead, image_of_source, with_command_named, with_script_shown};
 use crate::explaining::print_explanation;
 use crate::files::{FileFault, Files, read_all};
 use crate::formatting::format_files;
 use crate::opening::{INPUT, OUTPUT, open};
-use crate::playing::play_bytes;
+use crate::reasons::{reason_of, told};
+use crate::running::{play_file, try_source};
 use crate::script::{self, ScriptFault};
 use crate::serving::serve;
 use crate::testing::test_files;
 use crate::{COMMAND_LINE, DONE, FILE, MEMORY, REFUSED};
-use edd_command_line::{NoRequest, Request, Run};
-use edd_compiler::{Fault, compile};
+use edd_command_line::{NoRequest, Request, Showing, Writing};
+use edd_compiler::Fault;
 use edd_display::{ShowFault, print, print_text, show};
 use edd_dump::dump;
 use edd_loader::{Image, LoadFault, load};
@@ -29,7 +30,9 @@ use std::io::Write;
 pub enum Stop<'a> {
     Help(String),
     CommandLine(String),
-    File(&'a str),
+    File(&'a str, FileFault),
+    /// The same, and the reason is said.
+    FileAndWhy(&'a str, FileFault),
     /// A file that a file of tests names.
     Named(String),
     NotCompiled(Fault),
@@ -136,8 +139,8 @@ impl<T: Drop> From<AllocFailed<T>> for Stop<'_> {
 /// The end of a program whose file failed.
 pub fn of_file<'a>(name: &'a str, fault: FileFault) -> Stop<'a> {
     match fault {
-        FileFault::Failed => Stop::File(name),
         FileFault::Memory => Stop::Memory,
+        fault => Stop::File(name, fault),
     }
 }
 
@@ -153,6 +156,16 @@ pub fn read_bytes<F: Files>(
 ) -> Result<Vec<u8>, FileFault> {
     let name = if name == STANDARD { INPUT } else { name };
     let mut reader = files.open(name)?;
+    read_all(alloc, &mut reader)
+}
+
+/// The bytes of a plain file that a mark in a text names.
+pub fn read_marked<F: Files>(
+    alloc: Global,
+    files: &mut F,
+    name: &str,
+) -> Result<Vec<u8>, FileFault> {
+    let mut reader = files.open_plain(name)?;
     read_all(alloc, &mut reader)
 }
 
@@ -192,14 +205,18 @@ pub fn read_script<'a, F: Files>(
 
 fn write_image<'a, F: Files, W: Write>(
     alloc: Global,
-    source: &'a str,
-    image: &'a str,
-    is_quiet: bool,
+    writing: Writing<'a>,
     files: &mut F,
     out: &mut W,
 ) -> Result<(), Stop<'a>> {
+    let Writing {
+        source,
+        image,
+        is_quiet,
+        is_explained,
+    } = writing;
     let text = read(alloc, files, source)?;
-    let bytes = compile(alloc, &text)?;
+    let bytes = image_of_source(alloc, source, &text, is_explained, files, out)?;
     let file = if image == STANDARD { OUTPUT } else { image };
     files
         .save(file, &bytes)
@@ -237,83 +254,40 @@ pub fn show_bytes<'a, W: Write>(
 
 fn view<'a, F: Files, W: Write>(
     alloc: Global,
-    source: &'a str,
-    script: Option<&'a str>,
-    language: &str,
+    showing: Showing<'a>,
     files: &mut F,
     out: &mut W,
 ) -> Result<(), Stop<'a>> {
-    let text = read(alloc, files, source)?;
-    let script = read_script(alloc, files, script)?;
-    let bytes = compile(alloc, &text)?;
-    show_bytes(alloc, &bytes, &script, language, out)
+    let Showing {
+        file,
+        script: name,
+        language,
+        is_explained,
+    } = showing;
+    let text = read(alloc, files, file)?;
+    let script = read_script(alloc, files, name)?;
+    let bytes = image_of_source(alloc, file, &text, is_explained, files, out)?;
+    let answer = show_bytes(alloc, &bytes, &script, language, out);
+    with_script_shown(alloc, answer, &bytes, (name, &script), is_explained, out)
 }
 
 fn show_file<'a, F: Files, W: Write>(
     alloc: Global,
-    image: &'a str,
-    script: Option<&'a str>,
-    language: &str,
+    showing: Showing<'a>,
     files: &mut F,
     out: &mut W,
 ) -> Result<(), Stop<'a>> {
-    let bytes = read(alloc, files, image)?;
-    let script = read_script(alloc, files, script)?;
-    show_bytes(alloc, &bytes, &script, language, out)
-}
-
-/// The source of a device, if one is given, with its name.
-pub fn read_device<'a, F: Files>(
-    alloc: Global,
-    files: &mut F,
-    name: Option<&'a str>,
-) -> Result<Option<(&'a str, Vec<u8>)>, Stop<'a>> {
-    match name {
-        Some(name) => Ok(Some((name, read(alloc, files, name)?))),
-        None => Ok(None),
-    }
-}
-
-/// Runs a method of an image, with a device where there is one, and prints what it did.
-pub fn run_method<'a, W: Write>(
-    alloc: Global,
-    bytes: &[u8],
-    device: Option<(&'a str, Vec<u8>)>,
-    script: &[u8],
-    run: Run<'a>,
-    out: &mut W,
-) -> Result<(), Stop<'a>> {
-    match device {
-        Some((name, text)) => play_with_device(alloc, bytes, name, &text, script, run, out),
-        None => play_bytes(alloc, bytes, script, run, out),
-    }
-}
-
-fn play_file<'a, F: Files, W: Write>(
-    alloc: Global,
-    image: &'a str,
-    run: Run<'a>,
-    files: &mut F,
-    out: &mut W,
-) -> Result<(), Stop<'a>> {
-    let bytes = read(alloc, files, image)?;
-    let device = read_device(alloc, files, run.device)?;
-    let script = read_script(alloc, files, run.script)?;
-    run_method(alloc, &bytes, device, &script, run, out)
-}
-
-fn try_source<'a, F: Files, W: Write>(
-    alloc: Global,
-    source: &'a str,
-    run: Run<'a>,
-    files: &mut F,
-    out: &mut W,
-) -> Result<(), Stop<'a>> {
-    let text = read(alloc, files, source)?;
-    let device = read_device(alloc, files, run.device)?;
-    let script = read_script(alloc, files, run.script)?;
-    let bytes = compile(alloc, &text)?;
-    run_method(alloc, &bytes, device, &script, run, out)
+    let Showing {
+        file,
+        script: name,
+        language,
+        is_explained,
+    } = showing;
+    let bytes = read(alloc, files, file)?;
+    let script = read_script(alloc, files, name)?;
+    let answer = show_bytes(alloc, &bytes, &script, language, out);
+    let answer = with_command_named(alloc, answer, file, &bytes, Instead::View, out);
+    with_script_shown(alloc, answer, &bytes, (name, &script), is_explained, out)
 }
 
 fn dump_file<'a, F: Files, W: Write>(
@@ -338,26 +312,28 @@ pub fn answer<'a, F: Files, W: Write>(
     out: &mut W,
 ) -> Result<(), Stop<'a>> {
     match edd_command_line::parse(alloc, words)? {
-        Request::Compile {
-            source,
-            image,
-            is_quiet,
-        } => write_image(alloc, source, image, is_quiet, files, out),
-        Request::View {
-            source,
-            script,
-            language,
-        } => view(alloc, source, script, language, files, out),
-        Request::Show {
-            image,
-            script,
-            language,
-        } => show_file(alloc, image, script, language, files, out),
-        Request::Play { image, run } => play_file(alloc, image, run, files, out),
-        Request::Try { source, run } => try_source(alloc, source, run, files, out),
-        Request::Check { names, lints, form } => {
-            check_sources(alloc, &names, &lints, form, files, out)
+        Request::Compile(writing) => {
+            told(
+                write_image(alloc, writing, files, out),
+                writing.is_explained,
+            )
         }
+        Request::View(showing) => { told(view(alloc, showing, files, out), showing.is_explained) }
+        Request::Show(showing) => {
+            told(show_file(alloc, showing, files, out), showing.is_explained)
+        }
+        Request::Play { image, run } => {
+            told(play_file(alloc, image, run, files, out), run.is_explained)
+        }
+        Request::Try {
+            source,
+            run,
+            is_traced,
+        } => {
+            let answer = try_source(alloc, source, run, is_traced, files, out);
+            told(answer, run.is_explained)
+        }
+        Request::Check(checking) => told(check_sources(alloc, &checking, files, out), true),
         Request::Open(opening) => open(alloc, opening, files, out),
         Request::Test { names, is_update } => test_files(alloc, &names, is_update, files, out),
         Request::Format { names, is_check } => format_files(alloc, &names, is_check, files, out),
@@ -373,7 +349,11 @@ pub fn report<W: Write>(alloc: Global, stop: &Stop<'_>, out: &mut W) -> Result<(
     match stop {
         Stop::Help(text) | Stop::CommandLine(text) => print_text(out, text),
         Stop::Shown => Ok(()),
-        Stop::File(name) => print(alloc, out, format_args!("file {name}")),
+        Stop::File(name, _) => print(alloc, out, format_args!("file {name}")),
+        Stop::FileAndWhy(name, fault) => {
+            let why = reason_of(*fault);
+            print(alloc, out, format_args!("file {name}\n{why}"))
+        }
         Stop::Named(name) => print(alloc, out, format_args!("file {name}")),
         Stop::NotCompiled(fault) => print(alloc, out, format_args!("refused {fault}")),
         Stop::NotLoaded(fault) => print(alloc, out, format_args!("refused {fault}")),
@@ -426,7 +406,7 @@ pub fn status(stop: &Stop<'_>) -> u8
         | Stop::NoSource(_, _)
         | Stop::NoImage(_, _)
         | Stop::Device(_) => REFUSED,
-        Stop::File(_) | Stop::Named(_) | Stop::Output => FILE,
+        Stop::File(_, _) | Stop::FileAndWhy(_, _) | Stop::Named(_) | Stop::Output => FILE,
         Stop::Memory => MEMORY,
     }
 }

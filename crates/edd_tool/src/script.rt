@@ -28,22 +28,24 @@ impl<T: Drop> From<AllocFailed<T>> for ScriptFault {
     }
 }
 
-// Digits with an optional minus.
-fn number(word: &str) -> Option<i64> {
+/// Digits with an optional minus.
+pub fn number(word: &str) -> Option<i64> {
     if word.starts_with('+') {
         return None;
     }
     word.parse::<i64>().ok()
 }
 
-fn code(word: &str) -> Option<i32> {
+/// The same of 32 bits.
+pub fn code(word: &str) -> Option<i32> {
     if word.starts_with('+') {
         return None;
     }
     word.parse::<i32>().ok()
 }
 
-fn variable(image: &Image<'_>, name: &str) -> Option<VarNo> {
+/// The variable of a name.
+pub fn variable(image: &Image<'_>, name: &str) -> Option<VarNo> {
     match image.find(name) {
         Some(ItemNo::Variable(number)) => Some(number),
         _ => None,
@@ -78,9 +80,9 @@ fn answer_of(alloc: Global, image: &Image<'_>, line: &str) -> Result<Option<Answ
     Ok(Some(Answer::Go { code, sets }))
 }
 
-// A line of a script.
+/// A line of a script.
 #[derive(Drop)]
-enum Line {
+pub enum Line {
     Set(VarNo, i64),
     Answer(Answer),
     Blank,
@@ -116,12 +118,17 @@ fn line_of(alloc: Global, image: &Image<'_>, text: &str) -> Result<Option<Line>,
     }
 }
 
-// The text of a line, without its end.
-fn text_of(bytes: &[u8]) -> Option<&str> {
+/// The text of a line, without its end.
+pub fn text_of(bytes: &[u8]) -> Option<&str> {
     Some(without_end(str::from_utf8(bytes).ok()?))
 }
 
-fn parse_line(alloc: Global, image: &Image<'_>, bytes: &[u8]) -> Result<Option<Line>, AllocError> {
+/// What a line says, if it can be read.
+pub fn parse_line(
+    alloc: Global,
+    image: &Image<'_>,
+    bytes: &[u8],
+) -> Result<Option<Line>, AllocError> {
     match text_of(bytes) {
         Some(text) => line_of(alloc, image, text),
         None => Ok(None),
@@ -173,6 +180,25 @@ pub fn parse(alloc: Global, image: &Image<'_>, script: &[u8]) -> Result<Script, 
         }
     }
     Ok(made)
+}
+
+/// The line, counted from 1, of an answer of a script, by its number among them.
+pub fn answer_line(
+    alloc: Global,
+    image: &Image<'_>,
+    script: &[u8],
+    number: usize,
+) -> Result<Option<usize>, AllocError> {
+    let mut before: usize = 0;
+    for (above, bytes) in script.split_inclusive(|byte| *byte == b'\n').enumerate() {
+        if let Some(Line::Answer(_)) = parse_line(alloc, image, bytes)? {
+            if before == number {
+                return Ok(Some(above.saturating_add(1)));
+            }
+            before = before.saturating_add(1);
+        }
+    }
+    Ok(None)
 }
 
 // The last setting of a variable counts.

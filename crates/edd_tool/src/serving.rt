@@ -1,6 +1,6 @@
 //! What the program does as a language server.
 
-use crate::files::Files;
+use crate::files::{FileFault, Files};
 use crate::opening::INPUT;
 use crate::requests::{Stop, of_file};
 use edd_language_server::{Framing, Next, Server, feed};
@@ -29,7 +29,7 @@ fn take_piece<'a, R: Read, W: Write>(
 ) -> Result<Next, Stop<'a>> {
     let mut piece = [0; PIECE];
     let Ok(count) = input.read(&mut piece) else {
-        return Err(Stop::File(INPUT));
+        return Err(Stop::File(INPUT, FileFault::Failed));
     };
     if count == 0 {
         return Ok(Next::Exit { is_clean: false });

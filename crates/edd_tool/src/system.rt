@@ -23,11 +23,26 @@ impl<'a, R: rt::Files + Input + Print + AllocGlobal> ProgramFiles<'a, R> {
     }
 }
 
-fn fault(error: &io::Error) -> FileFault {
-    if error.kind() == io::ErrorKind::OutOfMemory {
-        FileFault::Memory
-    } else {
-        FileFault::Failed
+// Why a file could not be read.
+fn of_reading(error: &io::Error) -> FileFault {
+    match error.kind() {
+        io::ErrorKind::OutOfMemory => FileFault::Memory,
+        io::ErrorKind::NotFound | io::ErrorKind::NotADirectory => FileFault::Missing,
+        io::ErrorKind::IsADirectory => FileFault::Folder,
+        io::ErrorKind::PermissionDenied => FileFault::MayNotRead,
+        _ => FileFault::Failed,
+    }
+}
+
+// Why a file could not be written.
+fn of_writing(error: &io::Error) -> FileFault {
+    match error.kind() {
+        io::ErrorKind::OutOfMemory => FileFault::Memory,
+        io::ErrorKind::NotFound | io::ErrorKind::NotADirectory => FileFault::NoFolder,
+        io::ErrorKind::IsADirectory => FileFault::Folder,
+        io::ErrorKind::PermissionDenied => FileFault::MayNotWrite,
+        io::ErrorKind::InvalidInput => FileFault::IsRead,
+        _ => FileFault::Failed,
     }
 }
 
@@ -35,11 +50,17 @@ impl<R: rt::Files + Input + Print + AllocGlobal> Files for ProgramFiles<'_, R> {
     type Reader = Opened<R::File, R::Reader>;
 
     fn open(&mut self, name: &str) -> Result<Self::Reader, FileFault> {
-        self.files.open(name).map_err(|error| fault(&error))
+        self.files.open(name).map_err(|error| of_reading(&error))
+    }
+
+    fn open_plain(&mut self, name: &str) -> Result<Self::Reader, FileFault> {
+        let opened = self.files.open_plain(name);
+        opened.map_err(|error| of_reading(&error))
     }
 
     fn save(&mut self, name: &str, bytes: &[u8]) -> Result<(), FileFault> {
-        self.files.save(name, bytes).map_err(|error| fault(&error))
+        let saved = self.files.save(name, bytes);
+        saved.map_err(|error| of_writing(&error))
     }
 
     // What was read to its end is no longer in use; the lines of the standard input are gone.
@@ -48,7 +69,7 @@ impl<R: rt::Files + Input + Print + AllocGlobal> Files for ProgramFiles<'_, R> {
             return Err(FileFault::Failed);
         }
         let mut files = SystemFiles::new(self.rt);
-        files.save(name, bytes).map_err(|error| fault(&error))
+        files.save(name, bytes).map_err(|error| of_writing(&error))
     }
 }
 

@@ -2,10 +2,11 @@
 
 use crate::files::{FileFault, Files};
 use crate::opening::{Manner, open_bytes};
-use crate::requests::{Stop, of_file, read, read_bytes, report, run_method, show_bytes};
+use crate::requests::{Stop, of_file, read, read_bytes, report, show_bytes};
+use crate::running::{lent, run_method};
 use edd_cases::{
     Case, Description, Ended, Form, Kind, Misread, Printed, Tally, TestFault, Tests, beside,
-    compare, ending_of, push_as_it_is, push_case, read_tests,
+    compare, ending_of, push_as_it_is, push_case, read_tests, refusal_in,
 };
 use edd_command_line::Run;
 use edd_compiler::compile;
@@ -33,8 +34,8 @@ fn read_beside<'a, F: Files>(
         Err(fault) => fault,
     };
     match fault {
-        FileFault::Failed => Err(Stop::Named(path)),
         FileFault::Memory => Err(Stop::Memory),
+        _ => Err(Stop::Named(path)),
     }
 }
 
@@ -84,8 +85,9 @@ fn run_case<'a, F: Files>(
                 script: None,
                 language: case.language,
                 steps: case.steps,
+                is_explained: false,
             };
-            run_method(alloc, &image, device, script, run, out)
+            run_method(alloc, &image, lent(&device), script, run, out)
         }
         Kind::Show => show_bytes(alloc, &image, script, case.language, out),
         Kind::Open => {
@@ -136,7 +138,7 @@ fn test_case<'a, F: Files, W: Write>(
     let is_renewed = found.is_some() && given.is_update && case.form == Form::Whole;
     push_case(alloc, file, case, &seen, is_renewed)?;
     let differs = if is_renewed { None } else { found };
-    let lines = ending_of(alloc, given.name, case.name, differs)?;
+    let lines = ending_of(alloc, given.name, case.name, differs, refusal_in(&seen))?;
     print_text(out, &lines)?;
     match differs {
         None => Ok(Ended::Passed),

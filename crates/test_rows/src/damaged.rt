@@ -51,8 +51,8 @@ struct Ended {
     bytes: Vec<u8>,
 }
 
-// Whether a line of `check` is a refusal by a lint that is denied, or one in JSON, or a line says
-// that a test failed, or that layouts or descriptions differ.
+// Whether a line of `check` is a refusal by a lint that is denied, or one in JSON, SARIF or colours,
+// or a line says that a test failed, or that layouts or descriptions differ.
 fn is_other_refusal(line: &str) -> bool {
     line.starts_with("differs ")
         || line.starts_with("differences ")
@@ -60,18 +60,23 @@ fn is_other_refusal(line: &str) -> bool {
         || line.contains(": denied ")
         || line.contains("\"severity\":\"refused\"")
         || line.contains("\"severity\":\"denied\"")
+        || line.contains("\"level\":\"error\"")
+        || line.contains("refused\u{1b}[0m ")
         || line.starts_with("failed ")
 }
 
-// Whether the last line is a refusal with a number, or the first one is after a place, as `check`
-// prints it, or a line is a refusal in another form of `check`.
+// Whether the last line is a refusal with a number, or the first one is, or is one after a place, as
+// `check` prints it, or a line is a refusal in another form of `check`.
 fn is_refusal(printed: &[u8]) -> bool {
     let text = str::from_utf8(printed).unwrap_or("");
     let first = text.lines().next().unwrap_or("");
     let last = text.lines().last().unwrap_or("");
-    let refusal = match last.strip_prefix("refused ") {
-        Some(refusal) => refusal,
-        None => first.split(": refused ").last().unwrap_or(""),
+    let refusal = match (
+        last.strip_prefix("refused "),
+        first.strip_prefix("refused "),
+    ) {
+        (Some(refusal), _) | (None, Some(refusal)) => refusal,
+        (None, None) => first.split(": refused ").last().unwrap_or(""),
     };
     let number = refusal.split(' ').next().unwrap_or("");
     number.parse::<u16>().is_ok() || text.lines().any(is_other_refusal)
@@ -87,6 +92,7 @@ fn run(alloc: Global, words: &str, files: &[Given<'_>]) -> Result<Ended, AllocEr
     let mut memory = MemoryFiles {
         saved: Vec::new(alloc),
         files,
+        marked: &passes,
         opens: &passes,
         reads: &passes,
         saves: &passes,

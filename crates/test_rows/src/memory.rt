@@ -51,6 +51,8 @@ impl Passes {
 pub struct MemoryFiles<'a> {
     pub saved: Vec<u8>,
     pub files: &'a [Given<'a>],
+    /// Of the files that marks name, which no command needs.
+    pub marked: &'a Passes,
     pub opens: &'a Passes,
     pub reads: &'a Passes,
     pub saves: &'a Passes,
@@ -140,7 +142,22 @@ impl<'a> Files for MemoryFiles<'a> {
                 });
             }
         }
-        Err(FileFault::Failed)
+        Err(FileFault::Missing)
+    }
+
+    fn open_plain(&mut self, name: &str) -> Result<MemoryReader<'a>, FileFault> {
+        for file in self.files {
+            if file.name == name {
+                return Ok(MemoryReader {
+                    rest: file.bytes.as_slice(),
+                    most: LEAST_READ,
+                    is_endless: false,
+                    has_pauses: false,
+                    reads: self.marked,
+                });
+            }
+        }
+        Err(FileFault::Missing)
     }
 
     fn save(&mut self, _name: &str, bytes: &[u8]) -> Result<(), FileFault> {

@@ -82,9 +82,11 @@ pub fn run(
     let reads = passes(Trial::Reads, trial, count);
     let saves = passes(Trial::Saves, trial, count);
     let writes = passes(Trial::Writes, trial, count);
+    let marked = Passes::new(u32::MAX);
     let mut files = MemoryFiles {
         saved: Vec::new(alloc),
         files: row.files.as_slice(),
+        marked: &marked,
         opens: &opens,
         reads: &reads,
         saves: &saves,
@@ -173,6 +175,10 @@ fn is_file_of(row: &Row<'_>, name: &str) -> bool {
 fn is_file_fault(row: &Row<'_>, text: &str) -> bool {
     let Some(lines) = text.strip_suffix('\n') else {
         return false;
+    };
+    let lines = match lines.rsplit_once("\nwhy: ") {
+        Some((file, _)) => file,
+        None => lines,
     };
     let (before, last) = match lines.rsplit_once('\n') {
         Some((before, last)) => (before, last),

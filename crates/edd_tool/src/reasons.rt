@@ -1,0 +1,34 @@
+//! Why a file could not be read or written, in words.
+
+use crate::files::FileFault;
+use crate::requests::Stop;
+
+/// The line below `file NAME`.
+pub fn reason_of(fault: FileFault) -> &'static str {
+    match fault {
+        FileFault::Missing => "why: it does not exist",
+        FileFault::Folder => "why: it is a folder",
+        FileFault::MayNotRead => "why: it may not be read",
+        FileFault::TooLarge => "why: it has more than 67108864 bytes",
+        FileFault::NoFolder => "why: its folder does not exist",
+        FileFault::MayNotWrite => "why: it or its folder may not be written",
+        FileFault::IsRead => "why: it was read, and is not replaced",
+        FileFault::Failed | FileFault::Memory => "why: it could not be read or written",
+    }
+}
+
+/// The same end of the program, of which the reason is said too.
+pub fn with_reason<'a>(stop: Stop<'a>) -> Stop<'a> {
+    match stop {
+        Stop::File(name, fault) => Stop::FileAndWhy(name, fault),
+        other => other,
+    }
+}
+
+/// What was answered; where the reason is asked for it is said too.
+pub fn told<'a>(answer: Result<(), Stop<'a>>, is_explained: bool) -> Result<(), Stop<'a>> {
+    match answer {
+        Err(stop) if is_explained => Err(with_reason(stop)),
+        other => other,
+    }
+}

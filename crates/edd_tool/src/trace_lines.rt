@@ -1,0 +1,204 @@
+//! The lines of a trace. Each begins with `trace`, as no line of a run does.
+
+use crate::devices::trap_word;
+use crate::requests::Stop;
+use edd_check::{Look, Span};
+use edd_display::print;
+use edd_instructions::{Record, Request};
+use edd_loader::Image;
+use edd_machine::{ReadFault, Values, attribute};
+use edd_panel::{bits_of, first_number, is_enumerator, of_variable};
+use edd_syntax::answer::Trap;
+use edd_syntax::numbers::{Attr, ItemNo, VarNo};
+use edd_syntax::operators::Builtin;
+use edd_syntax::types::VarType;
+use std::alloc::{AllocError, Global};
+use std::io::Write;
+
+/// Where the lines of a trace go, and whose places they have.
+#[derive(Drop)]
+pub struct Telling<'t, 's, W> {
+    pub alloc: Global,
+    pub look: &'t Look<'s>,
+    pub image: &'t Image<'t>,
+    pub out: &'t mut W,
+}
+
+/// The function that makes a request.
+pub fn function_of(request: Request) -> Builtin {
+    match request {
+        Request::PutMessage(_) => Builtin::PutMessage,
+        Request::Acknowledge(_) => Builtin::Acknowledge,
+        Request::Delay(_, _) => Builtin::Delay,
+        Request::GetDevVarValue(_, _) => Builtin::GetDevVarValue,
+        Request::SelectFromList(_, _) => Builtin::SelectFromList,
+        Request::SendCommand(_) => Builtin::SendCommand,
+        Request::SendCommandTrans(_, _) => Builtin::SendCommandTrans,
+        Request::SaveValues => Builtin::SaveValues,
+    }
+}
+
+// The records of an attribute of a variable; none where it can't be told what they are.
+fn records_of(
+    alloc: Global,
+    image: &Image<'_>,
+    values: &Values,
+    variable: VarNo,
+    attr: Attr,
+) -> Result<Vec<Record>, AllocError> {
+    match attribute(alloc, image, of_variable(variable, attr), values) {
+        Ok(records) => Ok(records),
+        Err(ReadFault::Memory) => Err(AllocError),
+        Err(_) => Ok(Vec::new(alloc)),
+    }
+}
+
+// Whether enumerators name a number: one of them, or of bits several.
+fn is_named(kind: VarType, records: &[Record], number: i64) -> bool {
+    let mut bits: u64 = 0;
+    for record in records {
+        if is_enumerator(record, number) {
+            return true;
+        }
+        if let Record::Enumerator { value, .. } = record {
+            bits |= bits_of(*value);
+        }
+    }
+    kind == VarType::BitEnumerated && bits_of(number) & !bits == 0
+}
+
+impl<W: Write> Telling<'_, '_, W> {
+    fn line<'a>(&mut self, place: Option<Span>, what: &str) -> Result<(), Stop<'a>> {
+        let (alloc, look) = (self.alloc, self.look);
+        match place {
+            Some(place) => {
+                let spot = look.spot(place);
+                let (file, line, column) = (spot.file, spot.line, spot.column);
+                print(
+                    alloc,
+                    self.out,
+                    format_args!("trace {file}:{line}:{column}: {what}"),
+                )?;
+            }
+            None => print(alloc, self.out, format_args!("trace: {what}"))?,
+        }
+        Ok(())
+    }
+
+    fn name(&self, variable: VarNo) -> &str {
+        self.image.name(ItemNo::Variable(variable)).unwrap_or("")
+    }
+
+    /// A request, by its number.
+    pub fn request<'a>(
+        &mut self,
+        place: Option<Span>,
+        request: Request,
+        number: usize,
+    ) -> Result<(), Stop<'a>> {
+        let name = function_of(request).name();
+        let what = format!(in self.alloc; "request {number} {name}")?;
+        self.line(place, &what)
+    }
+
+    /// A change of a variable by the method, or by an answer.
+    pub fn change<'a>(
+        &mut self,
+        place: Option<Span>,
+        variable: VarNo,
+        change: (i64, i64),
+        by: &str,
+    ) -> Result<(), Stop<'a>> {
+        let (old, new) = change;
+        if old == new {
+            return Ok(());
+        }
+        let name = self.name(variable);
+        let what = format!(in self.alloc; "{name} from {old} to {new}{by}")?;
+        self.line(place, &what)
+    }
+
+    /// A trap, with the line of the source.
+    pub fn trap<'a>(&mut self, place: Option<Span>, why: Trap) -> Result<(), Stop<'a>> {
+        let word = trap_word(why);
+        let text = match place {
+            Some(place) => self.look.spot(place).text.trim(),
+            None => "",
+        };
+        let what = if text.is_empty() {
+            format!(in self.alloc; "trapped {word}")?
+        } else {
+            format!(in self.alloc; "trapped {word} in {text}")?
+        };
+        self.line(place, &what)
+    }
+
+    /// Warns of a value that a technician could not have entered.
+    pub fn entered<'a>(
+        &mut self,
+        place: Option<Span>,
+        values: &Values,
+        variable: VarNo,
+        number: i64,
+    ) -> Result<(), Stop<'a>> {
+        let (alloc, image) = (self.alloc, self.image);
+        let name = image.name(ItemNo::Variable(variable)).unwrap_or("");
+        let lowest = records_of(alloc, image, values, variable, Attr::MinValue)?;
+        if let Some(least) = first_number(&lowest) {
+            if number < least {
+                let what = format!(in alloc;
+                    "warning: {name} is set to {number}, under MIN_VALUE {least}"
+                )?;
+                return self.line(place, &what);
+            }
+        }
+        let highest = records_of(alloc, image, values, variable, Attr::MaxValue)?;
+        if let Some(greatest) = first_number(&highest) {
+            if greatest < number {
+                let what = format!(in alloc;
+                    "warning: {name} is set to {number}, over MAX_VALUE {greatest}"
+                )?;
+                return self.line(place, &what);
+            }
+        }
+        self.enumerated(place, values, variable, number)
+    }
+
+    fn enumerated<'a>(
+        &mut self,
+        place: Option<Span>,
+        values: &Values,
+        variable: VarNo,
+        number: i64,
+    ) -> Result<(), Stop<'a>> {
+        let (alloc, image) = (self.alloc, self.image);
+        let named = records_of(alloc, image, values, variable, Attr::Enumerators)?;
+        let Some(kind) = image.variable(variable) else {
+            return Ok(());
+        };
+        if named.is_empty() || is_named(kind.var_type, &named, number) {
+            return Ok(());
+        }
+        let name = image.name(ItemNo::Variable(variable)).unwrap_or("");
+        let what = format!(in alloc; "warning: {name} is set to {number}, which no enumerator is")?;
+        self.line(place, &what)
+    }
+
+    /// Warns of answers that no request has met.
+    pub fn left_over<'a>(&mut self, count: usize, line: usize) -> Result<(), Stop<'a>> {
+        let what = if count == 1 {
+            format!(in self.alloc; "warning: the answer on line {line} of the script is left over")?
+        } else {
+            format!(in self.alloc;
+                "warning: {count} answers are left over, the first on line {line} of the script"
+            )?
+        };
+        self.line(None, &what)
+    }
+
+    /// Says that the run is followed no further.
+    pub fn cut<'a>(&mut self, steps: u64) -> Result<(), Stop<'a>> {
+        let what = format!(in self.alloc; "no more than {steps} instructions are followed")?;
+        self.line(None, &what)
+    }
+}

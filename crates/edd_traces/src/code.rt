@@ -1,0 +1,56 @@
+//! The effects of the instructions of a unit.
+
+use crate::effect::{Effect, of_operator};
+use edd_instructions::{Ask, Instruction, decode};
+use edd_syntax::operators::Builtin;
+use std::alloc::{AllocError, Global};
+
+/// An effect, and the place of its instruction.
+#[derive(Clone, Copy)]
+pub struct Placed {
+    pub place: usize,
+    pub effect: Effect,
+}
+
+fn function_of(ask: Ask) -> Builtin {
+    match ask {
+        Ask::PutMessage(_) => Builtin::PutMessage,
+        Ask::Acknowledge(_) => Builtin::Acknowledge,
+        Ask::Delay(_) => Builtin::Delay,
+        Ask::GetDevVarValue(_, _) => Builtin::GetDevVarValue,
+        Ask::SelectFromList(_, _) => Builtin::SelectFromList,
+        Ask::SendCommand => Builtin::SendCommand,
+        Ask::SendCommandTrans => Builtin::SendCommandTrans,
+        Ask::SaveValues => Builtin::SaveValues,
+    }
+}
+
+fn effect_of(instruction: Instruction) -> Option<Effect> {
+    match instruction {
+        Instruction::Store(variable) => Some(Effect::Store(variable)),
+        Instruction::Ask(ask) => Some(Effect::Ask(function_of(ask))),
+        Instruction::Operate(op) => of_operator(op),
+        Instruction::ReadElement(array) => Some(Effect::Element(array)),
+        Instruction::Abort => Some(Effect::Abort),
+        _ => None,
+    }
+}
+
+/// The effects of the code of a unit, in its order.
+pub fn effects_in(alloc: Global, code: &[u8]) -> Result<Vec<Placed>, AllocError> {
+    let mut found = Vec::new(alloc);
+    let mut place: usize = 0;
+    for _ in 0..code.len() {
+        if code.len() < place {
+            break;
+        }
+        let Some((instruction, next)) = decode(code, place) else {
+            break;
+        };
+        if let Some(effect) = effect_of(instruction) {
+            found.push(Placed { place, effect })?;
+        }
+        place = next;
+    }
+    Ok(found)
+}

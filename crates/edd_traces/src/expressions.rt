@@ -1,0 +1,158 @@
+//! The effects of expressions, in the order of their code. Each sign that belongs to an expression is
+//! passed, so that none is taken for another one.
+
+use crate::effect::{of_call, of_element, of_operator, of_store};
+use crate::walk::Walk;
+use edd_syntax::expr::{Argument, Expr};
+use edd_syntax::operators::{Builtin, IncrementOperator, Operator, UnaryOperator};
+use edd_syntax::reference::Target;
+use edd_syntax::symbols::Symbol;
+use std::alloc::AllocError;
+
+fn unary_sign(op: UnaryOperator) -> Symbol {
+    match op {
+        UnaryOperator::Plus => Symbol::Operator(Operator::Add),
+        UnaryOperator::Minus => Symbol::Operator(Operator::Subtract),
+        UnaryOperator::Not => Symbol::Exclamation,
+        UnaryOperator::Complement => Symbol::Tilde,
+    }
+}
+
+fn increment_sign(op: IncrementOperator) -> Symbol {
+    match op {
+        IncrementOperator::PreIncrement | IncrementOperator::PostIncrement => Symbol::Increment,
+        IncrementOperator::PreDecrement | IncrementOperator::PostDecrement => Symbol::Decrement,
+    }
+}
+
+/// The effects of an expression.
+#[cycle(expressions)]
+pub fn walk_expr(e: &Expr<Target>, walk: &mut Walk<'_>) -> Result<(), AllocError> {
+    match e {
+        Expr::Literal(_) | Expr::Decimal { .. } | Expr::Reference(_) => Ok(()),
+        Expr::Indexed(array, index) => {
+            let token = walk.cursor.sign(Symbol::OpenBracket);
+            walk_expr(index, walk)?;
+            walk.note(of_element(*array), token)
+        }
+        Expr::Parentheses(inner) => walk_expr(inner, walk),
+        Expr::Unary(op, inner) => {
+            walk.cursor.sign(unary_sign(*op));
+            walk_expr(inner, walk)
+        }
+        Expr::Binary(op, left, right) => {
+            let token = walk_pair(left, Symbol::Operator(*op), right, walk)?;
+            walk.note(of_operator(*op), token)
+        }
+        Expr::Compare(by, left, right) => {
+            walk_pair(left, Symbol::Comparison(*by), right, walk)?;
+            Ok(())
+        }
+        Expr::LogicalAnd(left, right) => {
+            walk_pair(left, Symbol::LogicalAnd, right, walk)?;
+            Ok(())
+        }
+        Expr::LogicalOr(left, right) => {
+            walk_pair(left, Symbol::LogicalOr, right, walk)?;
+            Ok(())
+        }
+        Expr::Conditional(test, first, second) => {
+            walk_pair(test, Symbol::Question, first, walk)?;
+            walk.cursor.sign(Symbol::Colon);
+            walk_expr(second, walk)
+        }
+        Expr::Assign(to, value) => {
+            let token = walk.cursor.sign(Symbol::Equals);
+            walk_expr(value, walk)?;
+            walk.note(of_store(*to), token)
+        }
+        Expr::CompoundAssign(op, to, value) => {
+            let token = walk.cursor.sign(Symbol::CompoundAssign(*op));
+            walk_expr(value, walk)?;
+            walk.note(of_operator(*op), token)?;
+            walk.note(of_store(*to), token)
+        }
+        Expr::Increment(op, to) => {
+            let token = walk.cursor.sign(increment_sign(*op));
+            walk.note(of_store(*to), token)
+        }
+        Expr::Call {
+            function,
+            arguments,
+            ..
+        } => walk_call(*function, arguments, walk),
+    }
+}
+
+// What is before a sign, the sign, whose token is the answer, and what is behind it.
+#[cycle(expressions)]
+fn walk_pair(
+    left: &Expr<Target>,
+    sign: Symbol,
+    right: &Expr<Target>,
+    walk: &mut Walk<'_>,
+) -> Result<usize, AllocError> {
+    walk_expr(left, walk)?;
+    let token = walk.cursor.sign(sign);
+    walk_expr(right, walk)?;
+    Ok(token)
+}
+
+// A first argument that is a plain reference.
+fn first_target(arguments: &[Argument<Target>]) -> Option<Target> {
+    match arguments.first() {
+        Some(Argument::Value(Expr::Reference(to))) => Some(*to),
+        _ => None,
+    }
+}
+
+fn note_call(
+    walk: &mut Walk<'_>,
+    function: Target,
+    first: Option<Target>,
+    token: usize,
+) -> Result<(), AllocError> {
+    let called: Option<Builtin> = match function {
+        Target::Function(called) => Some(called),
+        Target::Local(_) | Target::Item(_) => None,
+    };
+    match called {
+        Some(called) => walk.note(of_call(called, first), token),
+        None => Ok(()),
+    }
+}
+
+#[cycle(expressions)]
+fn walk_call(
+    function: Target,
+    arguments: &[Argument<Target>],
+    walk: &mut Walk<'_>,
+) -> Result<(), AllocError> {
+    let token = walk.cursor.call();
+    walk_arguments(arguments, walk)?;
+    note_call(walk, function, first_target(arguments), token)
+}
+
+#[cycle(expressions)]
+fn walk_arguments(arguments: &[Argument<Target>], walk: &mut Walk<'_>) -> Result<(), AllocError> {
+    for argument in arguments {
+        walk_argument(argument, walk)?;
+    }
+    Ok(())
+}
+
+#[cycle(expressions)]
+fn walk_argument(argument: &Argument<Target>, walk: &mut Walk<'_>) -> Result<(), AllocError> {
+    match argument {
+        Argument::Text(_) => Ok(()),
+        Argument::Value(e) => walk_expr(e, walk),
+    }
+}
+
+/// The effects of an expression that may be missing.
+pub fn walk_optional(e: &Option<Expr<Target>>, walk: &mut Walk<'_>) -> Result<(), AllocError> {
+    match e {
+        None => Ok(()),
+        Some(e) => walk_expr(e, walk),
+    }
+}

@@ -1,0 +1,115 @@
+//! The effects of statements, in the order of their code.
+
+use crate::expressions::{walk_expr, walk_optional};
+use crate::walk::Walk;
+use edd_syntax::expr::Expr;
+use edd_syntax::reference::Target;
+use edd_syntax::stmt::{Declarator, Part, Stmt};
+use edd_syntax::symbols::{Keyword, Symbol};
+use std::alloc::AllocError;
+
+/// The effects of what is between braces.
+#[cycle(statements)]
+pub fn walk_parts(parts: &[Part<Target>], walk: &mut Walk<'_>) -> Result<(), AllocError> {
+    for part in parts {
+        walk_part(part, walk)?;
+    }
+    Ok(())
+}
+
+// The sign in a label is none of an expression.
+#[cycle(statements)]
+fn walk_part(part: &Part<Target>, walk: &mut Walk<'_>) -> Result<(), AllocError> {
+    match part {
+        Part::Declare(declarators) => walk_declarators(declarators, walk),
+        Part::Statement(s) => walk_stmt(s, walk),
+        Part::CaseLabel { .. } => {
+            walk.cursor.word(Keyword::MethodCase);
+            walk.cursor.sign(Symbol::Colon);
+            Ok(())
+        }
+        Part::DefaultLabel { .. } => {
+            walk.cursor.word(Keyword::MethodDefault);
+            walk.cursor.sign(Symbol::Colon);
+            Ok(())
+        }
+    }
+}
+
+fn walk_declarators(
+    declarators: &[Declarator<Target>],
+    walk: &mut Walk<'_>,
+) -> Result<(), AllocError> {
+    for declarator in declarators {
+        if declarator.value.is_some() {
+            walk.cursor.sign(Symbol::Equals);
+        }
+        walk_optional(&declarator.value, walk)?;
+    }
+    Ok(())
+}
+
+// In the code of `for` what is done after the body comes before the condition.
+fn walk_header(
+    initial: &Option<Expr<Target>>,
+    condition: &Option<Expr<Target>>,
+    update: &Option<Expr<Target>>,
+    walk: &mut Walk<'_>,
+) -> Result<(), AllocError> {
+    walk_optional(initial, walk)?;
+    let start = walk.count();
+    walk_optional(condition, walk)?;
+    let middle = walk.count();
+    walk_optional(update, walk)?;
+    walk.swap(start, middle)
+}
+
+// In the code of `do` the condition comes before the body.
+#[cycle(statements)]
+fn walk_do(
+    body: &Stmt<Target>,
+    condition: &Expr<Target>,
+    walk: &mut Walk<'_>,
+) -> Result<(), AllocError> {
+    let start = walk.count();
+    walk_stmt(body, walk)?;
+    let middle = walk.count();
+    walk_expr(condition, walk)?;
+    walk.swap(start, middle)
+}
+
+#[cycle(statements)]
+fn walk_stmt(s: &Stmt<Target>, walk: &mut Walk<'_>) -> Result<(), AllocError> {
+    match s {
+        Stmt::Empty | Stmt::Return | Stmt::Break { .. } | Stmt::Continue { .. } => Ok(()),
+        Stmt::Evaluate(e) => walk_expr(e, walk),
+        Stmt::Block(parts) => walk_parts(parts, walk),
+        Stmt::If(condition, first) => {
+            walk_expr(condition, walk)?;
+            walk_stmt(first, walk)
+        }
+        Stmt::IfElse(condition, first, otherwise) => {
+            walk_expr(condition, walk)?;
+            walk_stmt(first, walk)?;
+            walk_stmt(otherwise, walk)
+        }
+        Stmt::While(condition, body) => {
+            walk_expr(condition, walk)?;
+            walk_stmt(body, walk)
+        }
+        Stmt::Do(body, condition) => walk_do(body, condition, walk),
+        Stmt::For {
+            initial,
+            condition,
+            update,
+            body,
+        } => {
+            walk_header(initial, condition, update, walk)?;
+            walk_stmt(body, walk)
+        }
+        Stmt::Switch(on, parts) => {
+            walk_expr(on, walk)?;
+            walk_parts(parts, walk)
+        }
+    }
+}
