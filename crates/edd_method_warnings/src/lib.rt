@@ -1,6 +1,8 @@
 //! What is in the language and surely not meant in the body of a method.
 #![tactic(auto)]
 
+mod flow;
+mod loops;
 mod methods;
 mod statements;
 

@@ -1,7 +1,9 @@
 //! What is surely not meant in the type of a variable: values that it can't hold, and limits.
 
 use crate::enumerators::check_enumerators;
+use crate::formats::check_formats;
 use edd_lints::constants::{Known, Width, evaluate};
+use edd_lints::instrument::Instrument;
 use edd_lints::lint::Lint;
 use edd_lints::range::Range;
 use edd_lints::tokens_left::{Mark, TokensLeft, first_on};
@@ -197,9 +199,31 @@ fn check_option(
     check_constants(value, range, option_at(attr, line), findings)
 }
 
-/// The type of a variable, among its attributes.
+// A default value that is none of the enumerators.
+fn check_listed_default(
+    options: Options,
+    variable: u16,
+    instrument: &Instrument,
+    findings: &mut Findings,
+) -> Result<(), AllocError> {
+    match (options.default, instrument.range(variable)) {
+        (Some(Constant { number, line }), Some(range))
+            if range.holds(number) && instrument.is_unlisted(variable, number) => {
+            let name = instrument.name_of(variable);
+            let at = option_at(Attr::DefaultValue, line).at;
+            let alloc = findings.alloc;
+            let message = format!(in alloc; "{number} is no enumerator of {name}")?;
+            findings.add(Lint::UnlistedValue, at, message)
+        }
+        _ => Ok(()),
+    }
+}
+
+/// The type of the variable with a number, among its attributes.
 pub fn check_type(
     attribute: &Attribute<Target>,
+    variable: u16,
+    instrument: &Instrument,
     tokens_left: &mut TokensLeft<'_>,
     findings: &mut Findings,
 ) -> Result<(), AllocError> {
@@ -216,5 +240,7 @@ pub fn check_type(
     let options = options_of(parts);
     check_limits(options, findings)?;
     check_default(options, findings)?;
-    check_enumerators(parts, range, tokens_left, findings)
+    check_listed_default(options, variable, instrument, findings)?;
+    check_formats(parts, findings)?;
+    check_enumerators(parts, range, *kind, tokens_left, findings)
 }

@@ -108,7 +108,7 @@ ARRAY OF VARIABLE r { ELEMENTS { 1, a; } }
 @ 3 IF constant-condition
 VARIABLE a { TYPE INTEGER;
 VALIDITY IF (1 < 2) { TRUE; } ELSE { FALSE; } }
-@ 2 SELECT constant-condition
+@ 2 SELECT literal-condition
 VARIABLE a { TYPE INTEGER; VALIDITY SELECT (3) { CASE 3: TRUE; } }
 @
 VARIABLE a { TYPE INTEGER; VALIDITY IF (a) { TRUE; } ELSE IF (a && 1) { TRUE; } }
@@ -121,8 +121,8 @@ CASE 2: FALSE; CASE 0x1: FALSE; } }
 @
 VARIABLE a { TYPE INTEGER; VALIDITY SELECT (a) { CASE 1: SELECT (a) { CASE 1: TRUE; } DEFAULT: FALSE; } }
 @ 3 CASE repeated-case at 2 CASE
-VARIABLE a { TYPE ENUMERATED { { 1, "x" } SELECT (a) { CASE 4: { 2, "y" }
-CASE 4: { 3, "z" } } } }
+VARIABLE a { TYPE ENUMERATED { { 1, "x" } SELECT (a) { CASE 1: { 2, "y" }
+CASE 1: { 3, "z" } } } }
 "#;
 
 #[test]

@@ -19,16 +19,16 @@ VARIABLE v { TYPE INTEGER; }
 MENU a { ITEMS { b } }
 MENU b { ITEMS { IF (v) { c } } }
 MENU c { ITEMS { b } }
-@ 2 a cyclic-menu at 2 a
+@ 2 a cyclic-menu at 2 a; 2 a repeated-entry at 2 a
 MENU a { ITEMS { a, a } }
-@
+@ 4 c empty-menu
 MENU a { ITEMS { b, c } }
 MENU b { ITEMS { c } }
 MENU c { ITEMS { } }
-@
+@ 3 b unreached-menu
 MENU a { ITEMS { c } }
 MENU b { ITEMS { c, a } }
-MENU c { ITEMS { } }
+MENU c { ITEMS { "x" } }
 @ 3 INPT unknown-class
 VARIABLE a { CLASS DYNAMIC &
 INPT; TYPE INTEGER; }
@@ -39,12 +39,12 @@ METHOD m { CLASS WARRANTY; DEFINITION { } }
 @
 METHOD m { CLASS SERVICE; DEFINITION { PUT_MESSAGE([key]); } }
 @ 2 "x|y" stray-bar
-MENU a { LABEL "x|y"; ITEMS { } }
+MENU a { LABEL "x|y"; ITEMS { "z" } }
 @
-MENU a { LABEL "|en|x\|y"; ITEMS { } }
+MENU a { LABEL "|en|x\|y"; ITEMS { "z" } }
 @ 3 "|en|x" stray-bar
 MENU a { LABEL
-"|en|x" "|DE|y"; ITEMS { } }
+"|en|x" "|DE|y"; ITEMS { "z" } }
 @
 MENU a { LABEL "|en" "|x" "|de" "|y"; ITEMS { "|en us|x", "|001|y" } }
 @ 3 "|en|s|fr|t" missing-language
@@ -55,7 +55,7 @@ MENU a { LABEL "|en|x|de|y"; HELP "|en|u|de|v"; ITEMS { "s", "|fr|t" } }
 @
 MENU a { LABEL "|en|x|de|y"; ITEMS { "|en|s|fr|t" } }
 @
-MENU a { LABEL "|en|x|de|y"; HELP [key]; ITEMS { } }
+MENU a { LABEL "|en|x|de|y"; HELP [key]; ITEMS { "z" } }
 @ 2 a unused-item
 VARIABLE a { TYPE INTEGER; }
 MENU m { ITEMS { } }

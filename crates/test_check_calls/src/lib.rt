@@ -5,6 +5,8 @@
 #[cfg(test)]
 mod attributes;
 #[cfg(test)]
+mod bodies;
+#[cfg(test)]
 mod found;
 #[cfg(test)]
 mod items;
@@ -14,3 +16,7 @@ mod json;
 mod lints;
 #[cfg(test)]
 mod methods;
+#[cfg(test)]
+mod texts;
+#[cfg(test)]
+mod values;

@@ -22,14 +22,14 @@ a = 1 << 31;
 a /= 3 - 3;
 @ 4 % trapping-expression
 send_command(a % 0);
-@ 4 if constant-condition
+@ 4 if literal-condition
 if (0) a = 1;
 @ 4 if constant-condition
 if (a) a = 1; else if (2 > 1)
 a = 2;
 @
 if (a == 0) a = 1;
-@ 4 switch constant-condition
+@ 4 switch literal-condition
 switch (2) { case 2: a = 1; }
 @ 4 while constant-condition
 while (1 + 1) { PUT_MESSAGE("x"); }
@@ -41,7 +41,7 @@ while (0);
 @ 5 while constant-condition
 do a = 1;
 while (0 * 2);
-@ 4 for constant-condition
+@ 4 for dead-loop
 for (; 1 > 2; ) a = 1;
 @ 4 return unreachable-statement
 return;
@@ -121,7 +121,7 @@ int b; while ((b = a) > 1) a = a - 1;
 @ 5 b unread-local
 { int b = 1; a = b; }
 { int b = 2; }
-@ 5 d unread-local
+@ 4 c unset-local; 5 d unread-local
 long b, c;
 long d; b++; d = c;
 "#;
