@@ -208,6 +208,9 @@ pub fn check_expression(
             check_expression(second, false, walk, findings)
         }
         Expr::Compare(comparison, first, second) => {
+            if is_statement {
+                walk.expect(first)?;
+            }
             check_expression(first, false, walk, findings)?;
             let sign = Symbol::Comparison(*comparison);
             let at = walk.tokens_left.to(TokenKind::Symbol(sign));

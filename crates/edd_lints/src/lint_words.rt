@@ -60,20 +60,16 @@ pub const WORDS: [(&str, &str); 62] = [
         "a condition that is computed and never changes",
     ),
     (
-        "literal-condition",
-        "a condition that is a plain number, as IF (1) (off unless denied)",
-    ),
-    (
-        "settled-comparison",
-        "a comparison or a CASE that the type of the variable has settled",
-    ),
-    (
         "repeated-case",
         "a CASE with the label of an earlier one: it is never taken",
     ),
     (
         "misread-operators",
         "operators that bind otherwise than they look: parentheses say what is meant",
+    ),
+    (
+        "settled-comparison",
+        "a comparison or a CASE that the type of the variable has settled",
     ),
     (
         "equal-operands",
@@ -100,14 +96,6 @@ pub const WORDS: [(&str, &str); 62] = [
     (
         "missing-label",
         "a variable, a method or a collection without LABEL that a menu shows",
-    ),
-    (
-        "unreached-method",
-        "a method that no menu leads to (off unless denied)",
-    ),
-    (
-        "unreached-menu",
-        "a menu besides the first that no other menu leads to (off unless denied)",
     ),
     ("unknown-class", "a word of CLASS that is none of EDDL's"),
     (
@@ -180,10 +168,6 @@ pub const WORDS: [(&str, &str); 62] = [
         "a command over 127, or below 0, that the description does not have",
     ),
     (
-        "undeclared-command",
-        "a command up to 127 that the description does not have (off unless denied)",
-    ),
-    (
         "missing-transaction",
         "a transaction that the command does not have",
     ),
@@ -195,15 +179,6 @@ pub const WORDS: [(&str, &str); 62] = [
     ("endless-loop", "a loop that nothing ends"),
     ("dead-loop", "a loop that never runs"),
     ("backward-loop", "a for that counts away from its limit"),
-    ("unread-local", "a local that is never read"),
-    (
-        "unset-local",
-        "a local that is read before anything sets it",
-    ),
-    (
-        "hiding-local",
-        "a local with the name of an item, which can't be reached there",
-    ),
     (
         "fall-through",
         "a case that goes on with the next one, and no comment says so",
@@ -215,6 +190,31 @@ pub const WORDS: [(&str, &str); 62] = [
     (
         "nested-abort-method",
         "an add_abort_method in an abort method: it lists nothing",
+    ),
+    ("unread-local", "a local that is never read"),
+    (
+        "unset-local",
+        "a local that is read before anything sets it",
+    ),
+    (
+        "hiding-local",
+        "a local with the name of an item, which can't be reached there",
+    ),
+    (
+        "literal-condition",
+        "a condition that is a plain number, as IF (1) (off unless denied)",
+    ),
+    (
+        "undeclared-command",
+        "a command up to 127 that the description does not have (off unless denied)",
+    ),
+    (
+        "unreached-method",
+        "a method that no menu leads to (off unless denied)",
+    ),
+    (
+        "unreached-menu",
+        "a menu besides the first that no other menu leads to (off unless denied)",
     ),
     (
         "trap-after-abort-method",

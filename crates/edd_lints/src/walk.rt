@@ -3,6 +3,7 @@
 use crate::constants::Width;
 use crate::instrument::Instrument;
 use crate::tokens_left::TokensLeft;
+use edd_syntax::expr::Expr;
 use edd_syntax::reference::Target;
 use std::alloc::{AllocError, Global};
 use std::collections::BTreeSet;
@@ -89,6 +90,14 @@ impl<'a> Walk<'a> {
         }
         self.acts = true;
         self.uses.push(Use::Write(target))?;
+        Ok(())
+    }
+
+    /// Takes a local as set where a comparison is in the place of an assignment to it.
+    pub fn expect(&mut self, e: &Expr<Target>) -> Result<(), AllocError> {
+        if let Expr::Reference(Target::Local(slot)) = e {
+            self.writes.insert(*slot)?;
+        }
         Ok(())
     }
 

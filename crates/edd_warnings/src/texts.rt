@@ -72,11 +72,15 @@ fn is_of_word(byte: u8) -> bool {
     byte.is_ascii_alphanumeric() || 0x80 <= byte
 }
 
-// Whether two strings that follow each other meet in what looks like one word.
+// Whether two strings that follow each other meet in what looks like one word. A digit or a single
+// letter behind is what a macro numbers things with.
 fn meets(before: &[u8], behind: &[u8]) -> bool {
-    match (before.last(), behind.first()) {
-        (Some(last), Some(first)) => {
-            is_of_word(*last) && is_of_word(*first) && !before.ends_with(b"\\n")
+    match (before.last(), behind) {
+        (Some(last), [first, _, ..]) => {
+            is_of_word(*last)
+                && is_of_word(*first)
+                && !first.is_ascii_digit()
+                && !before.ends_with(b"\\n")
         }
         _ => false,
     }

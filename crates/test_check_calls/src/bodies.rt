@@ -159,6 +159,8 @@ if (e) a = 1; else a = 1;
 if (a == 1) e = 0; else if (a == 2) e = 2; else if (a == 1) save_values();
 @
 if (send_command(130)) e = 0; else if (send_command(130)) e = 2;
+@ 5 == dropped-comparison
+int i; i == 5; a = i;
 @ 5 i unset-local
 int i; a = i;
 @ 5 i unset-local
