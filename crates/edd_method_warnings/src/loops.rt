@@ -1,6 +1,7 @@
 //! Loops that nothing ends, that never run, or that count away from their limits.
 
 use crate::flow::{Flow, GOES_ON};
+use crate::said::say;
 use edd_lints::constants::{Known, Width, evaluate, holds, is_literal};
 use edd_lints::lint::Lint;
 use edd_lints::operands::{referred, turned};
@@ -28,11 +29,6 @@ pub struct Loop<'a, 'e> {
     pub from: usize,
     pub test: usize,
     pub tested: usize,
-}
-
-fn say(lint: Lint, at: Mark<'_>, message: &str, findings: &mut Findings) -> Result<(), AllocError> {
-    let message = String::from_str(findings.alloc, message)?;
-    findings.add(lint, at, message)
 }
 
 // The number of a place among the slots and the variables. All elements of arrays are one place.

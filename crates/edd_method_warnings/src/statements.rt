@@ -1,11 +1,13 @@
 //! Statements: what is never reached, what does nothing, and cases that go on with the next.
 
+use crate::cases::{check_block_after, check_fall, check_label_part, has_comment};
 use crate::flow::{Flow, GOES_ON, abort_of, counts, has_no_body, joined, leaving};
 use crate::loops::{Loop, check_head, check_loop};
+use crate::said::{pass, say};
 use edd_lexer::token::TokenKind;
 use edd_lints::expressions::{COMPARED, SELECTED, check_condition, check_expression, check_tested};
 use edd_lints::lint::Lint;
-use edd_lints::operands::{check_label, selected_variable};
+use edd_lints::operands::selected_variable;
 use edd_lints::stores::{check_wrapped, without_parentheses};
 use edd_lints::tokens_left::Mark;
 use edd_lints::walk::Walk;
@@ -15,16 +17,6 @@ use edd_syntax::reference::Target;
 use edd_syntax::stmt::{Declarator, Part, Stmt};
 use edd_syntax::symbols::{Keyword, Symbol};
 use std::alloc::AllocError;
-
-// Passes the next sign of this kind.
-fn pass(walk: &mut Walk<'_>, symbol: Symbol) {
-    walk.tokens_left.to(TokenKind::Symbol(symbol));
-}
-
-fn say(lint: Lint, at: Mark<'_>, message: &str, findings: &mut Findings) -> Result<(), AllocError> {
-    let message = String::from_str(findings.alloc, message)?;
-    findings.add(lint, at, message)
-}
 
 // An expression of a statement. Says whether the host is asked in it.
 fn check_value(
@@ -137,62 +129,6 @@ fn check_next<'a>(
     })
 }
 
-// Whether bytes between two tokens have a comment.
-fn has_comment(gap: &[u8]) -> bool {
-    gap.iter()
-        .any(|byte| !matches!(*byte, b' ' | b'\t' | b'\r' | b'\n'))
-}
-
-// A label after statements that go on with it. Where it has no more than a `break` nothing is
-// lost, and a comment says that it is meant.
-fn check_fall(
-    flow: Flow<'_>,
-    next: Option<&Part<Target>>,
-    walk: &Walk<'_>,
-    findings: &mut Findings,
-) -> Result<(), AllocError> {
-    let is_short = matches!(
-        next,
-        Some(Part::Statement(Stmt::Break { .. })) | Some(Part::Statement(Stmt::Return))
-    );
-    let is_remarked = flow.is_remarked || has_comment(walk.tokens_left.gap());
-    if flow.ends.is_some() || is_short || is_remarked {
-        return Ok(());
-    }
-    let message = "the case before this one goes on here: a break is missing, or a comment";
-    say(
-        Lint::FallThrough,
-        walk.tokens_left.next(),
-        message,
-        findings,
-    )
-}
-
-// A `;` between the head of a loop and the block that looks like its body.
-fn check_block_after(
-    head: Option<Mark<'_>>,
-    s: &Stmt<Target>,
-    findings: &mut Findings,
-) -> Result<(), AllocError> {
-    match (head, s) {
-        (Some(at), Stmt::Block(_)) => {
-            let message = "a ; stands between this and the block after it";
-            say(Lint::EmptyBranch, at, message, findings)
-        }
-        _ => Ok(()),
-    }
-}
-
-// The label of a case.
-fn check_case(label: i64, walk: &mut Walk<'_>, findings: &mut Findings) -> Result<(), AllocError> {
-    let at = walk.tokens_left.to_word(Keyword::MethodCase);
-    pass(walk, Symbol::Colon);
-    match walk.selected.last().copied().flatten() {
-        Some(variable) => check_label(variable, label, at, walk, findings),
-        None => Ok(()),
-    }
-}
-
 /// What is between braces.
 #[cycle(statements)]
 pub fn check_parts<'a>(
@@ -218,23 +154,12 @@ pub fn check_parts<'a>(
                 flow = check_next(s, flow, walk, findings)?;
                 has_statement = true;
             }
-            Part::CaseLabel { label, .. } => {
+            Part::CaseLabel { .. } | Part::DefaultLabel { .. } => {
                 if has_statement && !is_dead {
                     let next = parts.get(number.saturating_add(1));
                     check_fall(flow, next, walk, findings)?;
                 }
-                check_case(*label, walk, findings)?;
-                flow.ends = None;
-                has_statement = false;
-                is_dead = false;
-            }
-            Part::DefaultLabel { .. } => {
-                if has_statement && !is_dead {
-                    let next = parts.get(number.saturating_add(1));
-                    check_fall(flow, next, walk, findings)?;
-                }
-                walk.tokens_left.to_word(Keyword::MethodDefault);
-                pass(walk, Symbol::Colon);
+                check_label_part(part, walk, findings)?;
                 flow.ends = None;
                 has_statement = false;
                 is_dead = false;

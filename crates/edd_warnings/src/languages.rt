@@ -38,12 +38,14 @@ fn is_number(code: &[u8]) -> bool {
     matches!(code.first(), Some(b'0'..=b'9'))
 }
 
+// Whether a row of codes has this one.
+fn has_code(row: &str, language: &str) -> bool {
+    row.split(' ').any(|one| one == language)
+}
+
 fn is_language(code: &[u8]) -> bool {
     let language = language_of(code);
-    is_number(code)
-        || CODES
-            .iter()
-            .any(|row| row.split(' ').any(|one| one == language))
+    is_number(code) || CODES.iter().any(|row| has_code(row, language))
 }
 
 // What is wrong with one language of a text, by itself.
