@@ -48,24 +48,12 @@ fn is_language(code: &[u8]) -> bool {
     is_number(code) || CODES.iter().any(|row| has_code(row, language))
 }
 
-// What is wrong with one language of a text, by itself.
-fn check_variant(
-    variant: &Variant<'_>,
-    has_words: bool,
-    at: Mark<'_>,
-    findings: &mut Findings,
-) -> Result<(), AllocError> {
-    let alloc = findings.alloc;
-    let code = code_text(variant.code);
-    if !is_language(variant.code) {
-        let message = format!(in alloc; "{code} is no code of a language")?;
-        findings.add(Lint::UnknownLanguage, at, message)?;
-    }
-    if has_words && !has_sign(variant.words) {
-        let message = format!(in alloc; "this text has no words in {code}")?;
-        findings.add(Lint::EmptyLanguage, at, message)?;
-    }
-    Ok(())
+// The first language of a text that some rule is broken by, where there is one.
+#[derive(Clone, Copy)]
+struct Wrong<'r> {
+    repeated: Option<&'r str>,
+    unknown: Option<&'r str>,
+    empty: Option<&'r str>,
 }
 
 // Whether words are more than spaces.
@@ -73,24 +61,51 @@ fn has_sign(words: &[u8]) -> bool {
     words.iter().any(|byte| *byte != b' ')
 }
 
-// The languages of a text, one by one.
+// What is wrong with the languages of a text, of which a reader needs one each.
+fn wrong_in<'r>(alloc: Global, variants: &Variants<'r>) -> Result<Wrong<'r>, AllocError> {
+    let mut seen = BTreeSet::new(alloc);
+    let mut wrong = Wrong {
+        repeated: None,
+        unknown: None,
+        empty: None,
+    };
+    let has_words = variants.all.iter().any(|variant| has_sign(variant.words));
+    for variant in &variants.all {
+        let code = code_text(variant.code);
+        if seen.contains(&code) {
+            wrong.repeated = wrong.repeated.or(Some(code));
+            continue;
+        }
+        seen.insert(code)?;
+        if !is_language(variant.code) {
+            wrong.unknown = wrong.unknown.or(Some(code));
+        }
+        if has_words && !has_sign(variant.words) {
+            wrong.empty = wrong.empty.or(Some(code));
+        }
+    }
+    Ok(wrong)
+}
+
+// The languages of a text by themselves.
 fn check_variants(
     variants: &Variants<'_>,
     at: Mark<'_>,
     findings: &mut Findings,
 ) -> Result<(), AllocError> {
-    let mut seen = BTreeSet::new(findings.alloc);
-    let has_words = variants.all.iter().any(|variant| has_sign(variant.words));
-    for variant in &variants.all {
-        let code = code_text(variant.code);
-        if seen.contains(&code) {
-            let alloc = findings.alloc;
-            let message = format!(in alloc; "{code} is twice in this text")?;
-            findings.add(Lint::RepeatedLanguage, at, message)?;
-        } else {
-            check_variant(variant, has_words, at, findings)?;
-        }
-        seen.insert(code)?;
+    let alloc = findings.alloc;
+    let wrong = wrong_in(alloc, variants)?;
+    if let Some(code) = wrong.repeated {
+        let message = format!(in alloc; "{code} is twice in this text")?;
+        findings.add(Lint::RepeatedLanguage, at, message)?;
+    }
+    if let Some(code) = wrong.empty {
+        let message = format!(in alloc; "this text has no words in {code}")?;
+        findings.add(Lint::EmptyLanguage, at, message)?;
+    }
+    if let Some(code) = wrong.unknown {
+        let message = format!(in alloc; "{code} is no code of a language")?;
+        findings.add(Lint::UnknownLanguage, at, message)?;
     }
     Ok(())
 }
