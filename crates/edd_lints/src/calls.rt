@@ -3,7 +3,7 @@
 use crate::constants::{Known, Width, evaluate};
 use crate::instrument::variable_of;
 use crate::lint::Lint;
-use crate::stores::check_stored;
+use crate::stores::{check_assigned, check_stored};
 use crate::tokens_left::Mark;
 use crate::walk::Walk;
 use crate::warning::Findings;
@@ -90,6 +90,7 @@ fn check_iassign(
         return Ok(());
     };
     if let Some(Argument::Value(value)) = arguments.get(1) {
+        check_assigned(to, value, at, findings)?;
         check_stored(to, value, at, walk, findings)?;
     }
     walk.write(to)

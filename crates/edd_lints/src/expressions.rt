@@ -123,14 +123,15 @@ fn sign_before(operator: UnaryOperator) -> Symbol {
 
 // A comparison, whose sign is at a place.
 fn check_comparison(
-    comparison: Comparison,
-    sides: (&Expr<Target>, &Expr<Target>),
+    compared: &Expr<Target>,
     at: Mark<'_>,
     is_statement: bool,
     walk: &Walk<'_>,
     findings: &mut Findings,
 ) -> Result<(), AllocError> {
-    let (first, second) = sides;
+    let Expr::Compare(comparison, first, second) = compared else {
+        return Ok(());
+    };
     if is_statement {
         let message = String::from_str(
             findings.alloc,
@@ -140,7 +141,7 @@ fn check_comparison(
     }
     let is_misread = check_compared(first, second, at, findings)?;
     if !is_misread && !is_statement {
-        check_settled(comparison, first, second, at, walk, findings)?;
+        check_settled(compared, at, walk, findings)?;
     }
     match comparison {
         Comparison::Equal | Comparison::NotEqual => Ok(()),
@@ -214,8 +215,7 @@ pub fn check_expression(
             check_expression(first, false, walk, findings)?;
             let sign = Symbol::Comparison(*comparison);
             let at = walk.tokens_left.to(TokenKind::Symbol(sign));
-            let sides: (&Expr<Target>, &Expr<Target>) = (first, second);
-            check_comparison(*comparison, sides, at, is_statement, walk, findings)?;
+            check_comparison(e, at, is_statement, walk, findings)?;
             check_expression(second, false, walk, findings)
         }
         Expr::LogicalAnd(first, second) => {
@@ -291,12 +291,12 @@ fn check_both(
     findings: &mut Findings,
 ) -> Result<(), AllocError> {
     let before = walk.ranged;
-    if let Some(place) = ranged_place(first, second) {
+    if let Some(place) = ranged_place(first, second, sign) {
         walk.ranged = Some(place);
     }
     check_expression(first, false, walk, findings)?;
     let at = walk.tokens_left.to(TokenKind::Symbol(sign));
-    check_logical(first, second, at, findings)?;
+    check_logical(first, second, sign, at, walk.width, findings)?;
     check_expression(second, false, walk, findings)?;
     walk.ranged = before;
     Ok(())

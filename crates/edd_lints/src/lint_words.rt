@@ -153,7 +153,7 @@ pub const WORDS: [(&str, &str); 62] = [
     ),
     (
         "empty-branch",
-        "a ; right after the condition of an if, or between a loop and its block",
+        "an if that does nothing, or a ; between a loop and its block",
     ),
     (
         "store-out-of-range",

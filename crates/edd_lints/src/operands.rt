@@ -1,6 +1,6 @@
 //! Operators that bind otherwise than they look, and those whose operands settle what they give.
 
-use crate::constants::{Known, Width, evaluate};
+use crate::constants::{Known, Width, evaluate, holds};
 use crate::instrument::variable_of;
 use crate::lint::Lint;
 use crate::range::Range;
@@ -11,6 +11,7 @@ use crate::warning::Findings;
 use edd_syntax::expr::Expr;
 use edd_syntax::operators::{Comparison, Operator, UnaryOperator};
 use edd_syntax::reference::Target;
+use edd_syntax::symbols::Symbol;
 use std::alloc::AllocError;
 
 // Whether an expression is a comparison that stands in no parentheses.
@@ -121,22 +122,88 @@ pub fn check_operands(
     )
 }
 
-/// `&&` or `||` of the same twice.
+/// `&&` or `||` of the same twice, or of two comparisons of which never both hold, or always one.
 pub fn check_logical(
     first: &Expr<Target>,
     second: &Expr<Target>,
+    sign: Symbol,
     at: Mark<'_>,
+    width: Width,
     findings: &mut Findings,
 ) -> Result<(), AllocError> {
-    if !are_same(last_of(first), second) {
+    let last = last_of(first, sign);
+    if are_same(last, second) {
+        return add_text(
+            Lint::EqualOperands,
+            at,
+            "both sides of this sign are the same",
+            findings,
+        );
+    }
+    let (Some(one), Some(other)) = (compared_with(last, width), compared_with(second, width)) else {
+        return Ok(());
+    };
+    if one.0 != other.0 {
         return Ok(());
     }
-    add_text(
-        Lint::EqualOperands,
-        at,
-        "both sides of this sign are the same",
-        findings,
-    )
+    let (one, other) = ((one.1, one.2), (other.1, other.2));
+    if sign == Symbol::LogicalAnd && never_both(one, other) {
+        let message = "the comparisons on both sides of this sign never hold together";
+        return add_text(Lint::SettledComparison, at, message, findings);
+    }
+    if sign == Symbol::LogicalOr && always_one(one, other) {
+        let message = "one of the comparisons on both sides of this sign always holds";
+        return add_text(Lint::SettledComparison, at, message, findings);
+    }
+    Ok(())
+}
+
+/// A comparison with a number.
+type Bound = (Comparison, i64);
+
+// A place that is compared with a number, as if the place came first.
+fn compared_with(e: &Expr<Target>, width: Width) -> Option<(Target, Comparison, i64)> {
+    let Expr::Compare(comparison, first, second) = without_parentheses(e) else {
+        return None;
+    };
+    let (target, comparison, other) = match referred(first) {
+        Some(target) => (target, *comparison, second),
+        None => (referred(second)?, turned(*comparison), first),
+    };
+    match evaluate(other, width) {
+        Known::Number(number) => Some((target, comparison, number)),
+        Known::Traps(_) | Known::Nothing => None,
+    }
+}
+
+// The numbers at which one of two comparisons with numbers may change, and those beside them.
+fn steps(one: Bound, other: Bound) -> [i64; 6] {
+    [
+        one.1.saturating_sub(1),
+        one.1,
+        one.1.saturating_add(1),
+        other.1.saturating_sub(1),
+        other.1,
+        other.1.saturating_add(1),
+    ]
+}
+
+fn never_both(one: Bound, other: Bound) -> bool {
+    for number in steps(one, other) {
+        if holds(one.0, number, one.1) && holds(other.0, number, other.1) {
+            return false;
+        }
+    }
+    true
+}
+
+fn always_one(one: Bound, other: Bound) -> bool {
+    for number in steps(one, other) {
+        if !holds(one.0, number, one.1) && !holds(other.0, number, other.1) {
+            return false;
+        }
+    }
+    true
 }
 
 /// `? :` that chooses one of the same two.
@@ -157,10 +224,11 @@ pub fn check_chosen(
     )
 }
 
-// The last operand of a chain of `&&` or `||`.
-fn last_of(e: &Expr<Target>) -> &Expr<Target> {
+// The last operand of a chain of `&&` or of `||`.
+fn last_of(e: &Expr<Target>, sign: Symbol) -> &Expr<Target> {
     match e {
-        Expr::LogicalAnd(_, last) | Expr::LogicalOr(_, last) => last,
+        Expr::LogicalAnd(_, last) if sign == Symbol::LogicalAnd => last,
+        Expr::LogicalOr(_, last) if sign == Symbol::LogicalOr => last,
         _ => e,
     }
 }
@@ -177,8 +245,8 @@ fn compared_place(e: &Expr<Target>) -> Option<Target> {
 }
 
 /// What two comparisons that follow each other both compare, as with the ends of a range.
-pub fn ranged_place(first: &Expr<Target>, second: &Expr<Target>) -> Option<Target> {
-    match (compared_place(last_of(first)), compared_place(second)) {
+pub fn ranged_place(first: &Expr<Target>, second: &Expr<Target>, sign: Symbol) -> Option<Target> {
+    match (compared_place(last_of(first, sign)), compared_place(second)) {
         (Some(one), Some(other)) if one == other => Some(one),
         _ => None,
     }
@@ -227,41 +295,24 @@ fn read_range(range: Range, width: Width) -> Range {
     range
 }
 
-// A variable that is compared with a number, with the comparison as if the variable came first.
-fn compared_number(
-    comparison: Comparison,
-    first: &Expr<Target>,
-    second: &Expr<Target>,
-    width: Width,
-) -> Option<(u16, Comparison, i64)> {
-    let (target, comparison, other) = match referred(first) {
-        Some(target) => (target, comparison, second),
-        None => (referred(second)?, turned(comparison), first),
-    };
-    let variable = variable_of(target)?;
-    match evaluate(other, width) {
-        Known::Number(number) => Some((variable, comparison, number)),
-        Known::Traps(_) | Known::Nothing => None,
-    }
-}
-
 /// A comparison whose type or whose enumerators settle what it gives. Both ends of a range may be
 /// written though one of them is that of the type.
 pub fn check_settled(
-    comparison: Comparison,
-    first: &Expr<Target>,
-    second: &Expr<Target>,
+    compared: &Expr<Target>,
     at: Mark<'_>,
     walk: &Walk<'_>,
     findings: &mut Findings,
 ) -> Result<(), AllocError> {
-    if referred(first).is_some() && are_same(first, second) {
-        let message = "both sides of this sign are the same";
-        return add_text(Lint::EqualOperands, at, message, findings);
+    if let Expr::Compare(_, first, second) = compared {
+        if are_same(first, second) {
+            let message = "both sides of this sign are the same";
+            return add_text(Lint::EqualOperands, at, message, findings);
+        }
     }
-    let Some((variable, comparison, number)) = compared_number(
-        comparison, first, second, walk.width,
-    ) else {
+    let Some((target, comparison, number)) = compared_with(compared, walk.width) else {
+        return Ok(());
+    };
+    let Some(variable) = variable_of(target) else {
         return Ok(());
     };
     let Some(range) = walk.instrument.range(variable) else {
@@ -270,7 +321,7 @@ pub fn check_settled(
     let range = read_range(range, walk.width);
     let is_equality = matches!(comparison, Comparison::Equal | Comparison::NotEqual);
     match settled(comparison, range, number) {
-        Some(_) if !is_equality && walk.ranged.and_then(variable_of) == Some(variable) => Ok(()),
+        Some(_) if !is_equality && walk.ranged == Some(target) => Ok(()),
         Some(gives) => add_settled(range, gives, at, findings),
         None if is_equality => check_listed(variable, number, "", at, walk, findings),
         None => Ok(()),

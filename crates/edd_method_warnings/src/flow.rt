@@ -72,12 +72,10 @@ pub fn leaving(line: u32, word: Keyword, breaks: bool) -> Flow<'static> {
     }
 }
 
-/// Whether a loop has no body, or an `else` no statement.
-pub fn has_no_body(s: &Stmt<Target>) -> bool {
+/// Whether a statement is braces with nothing between.
+pub fn is_empty_block(s: &Stmt<Target>) -> bool {
     match s {
-        Stmt::While(_, body) | Stmt::For { body, .. } | Stmt::IfElse(_, _, body) => {
-            matches!(**body, Stmt::Empty)
-        }
+        Stmt::Block(parts) => parts.is_empty(),
         _ => false,
     }
 }

@@ -12,6 +12,7 @@ use edd_syntax::expr::Expr;
 use edd_syntax::numbers::ItemNo;
 use edd_syntax::operators::{Comparison, IncrementOperator, Operator};
 use edd_syntax::reference::Target;
+use edd_syntax::stmt::Stmt;
 use std::alloc::{AllocError, Global};
 use std::collections::BTreeSet;
 
@@ -223,8 +224,33 @@ fn is_set(uses: &[Use], place: Target) -> bool {
     uses.iter().any(|one| matches!(one, Use::Write(target) if *target == place))
 }
 
-/// The head of a `for`: whether it begins behind its limit, and whether it counts away from it.
-/// `body` is where in what was read and set the body begins.
+// Whether a `for` with this condition and this third part counts to a constant.
+fn only_counts(condition: &Option<Expr<Target>>, update: &Option<Expr<Target>>) -> bool {
+    match (limit_of(condition), step_of(update)) {
+        (Some((place, _, limit)), Some((counted, _))) => {
+            counted == place && matches!(evaluate(limit, Width::Method), Known::Number(_))
+        }
+        _ => false,
+    }
+}
+
+/// Whether a loop has no body, or an `else` no statement, and it is not said of itself.
+pub fn has_no_body(s: &Stmt<Target>) -> bool {
+    match s {
+        Stmt::While(_, body) | Stmt::IfElse(_, _, body) => matches!(**body, Stmt::Empty),
+        Stmt::For {
+            condition,
+            update,
+            body,
+            ..
+        } => matches!(**body, Stmt::Empty) && !only_counts(condition, update),
+        _ => false,
+    }
+}
+
+/// The head of a `for`: whether it begins behind its limit, whether it counts away from it, and
+/// whether it counts to a constant and does no more. `body` is where in what was read and set the
+/// body begins.
 pub fn check_head(
     at: Mark<'_>,
     head: (
@@ -233,6 +259,7 @@ pub fn check_head(
         &Option<Expr<Target>>,
     ),
     body: usize,
+    is_empty: bool,
     walk: &Walk<'_>,
     findings: &mut Findings,
 ) -> Result<(), AllocError> {
@@ -257,6 +284,10 @@ pub fn check_head(
             }
             let message = "this loop counts away from its limit";
             say(Lint::BackwardLoop, at, message, findings)
+        }
+        _ if is_empty && only_counts(condition, update) => {
+            let message = "this loop only counts: a ; stands right after its head";
+            say(Lint::EmptyBranch, at, message, findings)
         }
         _ => Ok(()),
     }

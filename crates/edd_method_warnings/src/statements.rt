@@ -1,8 +1,8 @@
 //! Statements: what is never reached, what does nothing, and cases that go on with the next.
 
 use crate::cases::{check_block_after, check_fall, check_label_part, has_comment};
-use crate::flow::{Flow, GOES_ON, abort_of, counts, has_no_body, joined, leaving};
-use crate::loops::{Loop, check_head, check_loop};
+use crate::flow::{Flow, GOES_ON, abort_of, counts, is_empty_block, joined, leaving};
+use crate::loops::{Loop, check_head, check_loop, has_no_body};
 use crate::said::{pass, say};
 use edd_lexer::token::TokenKind;
 use edd_lints::expressions::{COMPARED, SELECTED, check_condition, check_expression, check_tested};
@@ -217,8 +217,12 @@ fn check_if<'a>(
         let message = "nothing is done where this condition holds: a ; stands right after it";
         say(Lint::EmptyBranch, at, message, findings)?;
     }
-    let first = check_statement(first, walk, findings)?;
-    Ok(joined(at, asks, first, GOES_ON))
+    let flow = check_statement(first, walk, findings)?;
+    if is_empty_block(first) && !asks && !flow.is_remarked {
+        let message = "nothing is done where this condition holds";
+        say(Lint::EmptyBranch, at, message, findings)?;
+    }
+    Ok(joined(at, asks, flow, GOES_ON))
 }
 
 #[cycle(statements)]
@@ -307,7 +311,8 @@ fn check_for<'a>(
     let begin = walk.uses.len();
     let flow = check_statement(body, walk, findings)?;
     walk.loops = walk.loops.saturating_sub(1);
-    check_head(at, (initial, condition, update), begin, walk, findings)?;
+    let head = (initial, condition, update);
+    check_head(at, head, begin, matches!(body, Stmt::Empty), walk, findings)?;
     let looped = Loop {
         at,
         test_at: at,

@@ -85,6 +85,8 @@ if (a = 5) save_values();
 switch (a = 5) { case 5: save_values(); }
 @ 5 = assigned-to-itself
 if (a = a) save_values();
+@ 5 iassign assigned-to-itself
+iassign(a, a);
 @
 switch ((a = send_command(130))) { case 5: save_values(); }
 "#;
@@ -151,6 +153,21 @@ switch (a) { case 1: return; case 2: a = 3; default: break; }
 switch (a) { case 1: switch (e) { case 0: return; default: abort(); } case 2: a = 3; }
 @
 switch (a) { case 1: if (e) return; else abort(); case 2: a = 3; }
+@ 5 for empty-branch
+int i; for (i = 0; i < 3; i++);
+save_values();
+@ 5 if empty-branch
+if (e) { }
+@
+if (e) { /* nothing yet */ } if (e) { } else a = 1; if (send_command(130)) { }
+@ 5 && settled-comparison
+if (a == 5 && a == 6) e = 2;
+@ 5 && settled-comparison
+if (e && a > 10 && a < 5) e = 2;
+@ 5 || settled-comparison
+if (a != 5 || 6 != a) e = 2;
+@
+if (a == 5 || a == 6 || e && a == 5 || a < 3 && a > 1 || a != 5 && a != 6) e = 2;
 @ 5 if equal-branches
 if (e) { a = 1; } else { a = 1; }
 @ 5 if equal-branches
