@@ -8,12 +8,20 @@ use edd_syntax::symbols::{Keyword, Symbol};
 use std::alloc::{AllocError, Global};
 use std::collections::BTreeMap;
 
-/// The tokens of an item, and for each that opens a bracket the number of the one that closes it.
+/// The tokens of an item, and for each that opens a bracket the number of the one that closes it;
+/// 0 for the others.
 #[derive(Drop)]
 struct Brackets<'a> {
     text: &'a [u8],
     tokens: &'a [Token],
-    closing: BTreeMap<usize, usize>,
+    closing: Vec<usize>,
+}
+
+fn begins_condition(kind: TokenKind) -> bool {
+    matches!(
+        kind,
+        TokenKind::Keyword(Keyword::If) | TokenKind::Keyword(Keyword::MethodIf)
+    )
 }
 
 fn opens(kind: TokenKind) -> bool {
@@ -34,20 +42,29 @@ fn closes(kind: TokenKind) -> bool {
     )
 }
 
+// Notes what closes the bracket at a number.
+fn close(closing: &mut [usize], first: Option<usize>, number: usize) {
+    let Some(first) = first else {
+        return;
+    };
+    if let Some(place) = closing.get_mut(first) {
+        *place = number;
+    }
+}
+
 fn brackets_of<'a>(
     alloc: Global,
     text: &'a [u8],
     tokens: &'a [Token],
 ) -> Result<Brackets<'a>, AllocError> {
-    let mut closing = BTreeMap::new(alloc);
+    let mut closing = Vec::new(alloc);
     let mut open = Vec::new(alloc);
     for (number, token) in tokens.iter().enumerate() {
+        closing.push(0)?;
         if opens(token.kind) {
             open.push(number)?;
         } else if closes(token.kind) {
-            if let Some(first) = open.pop() {
-                closing.insert(first, number)?;
-            }
+            close(&mut closing, open.pop(), number);
         }
     }
     Ok(Brackets {
@@ -77,10 +94,10 @@ impl<'a> Brackets<'a> {
     }
 
     fn is_if(&self, number: usize) -> bool {
-        matches!(
-            self.kind(number),
-            Some(TokenKind::Keyword(Keyword::If)) | Some(TokenKind::Keyword(Keyword::MethodIf))
-        )
+        match self.kind(number) {
+            Some(kind) => begins_condition(kind),
+            None => false,
+        }
     }
 
     fn is_else(&self, number: usize) -> bool {
@@ -92,11 +109,9 @@ impl<'a> Brackets<'a> {
 
     // What a bracket and the one that closes it enclose.
     fn enclosed(&self, open: usize) -> Option<Extent> {
-        let to = self.closing.get(&open).copied()?;
-        Some(Extent {
-            from: open.saturating_add(1),
-            to,
-        })
+        let to = self.closing.get(open).copied()?;
+        let from = open.saturating_add(1);
+        (from <= to).then_some(Extent { from, to })
     }
 
     // A simple statement, up to its semicolon.
@@ -243,6 +258,9 @@ pub fn check_branches(
     tokens: &[Token],
     findings: &mut Findings,
 ) -> Result<(), AllocError> {
+    if !tokens.iter().any(|token| begins_condition(token.kind)) {
+        return Ok(());
+    }
     let brackets = brackets_of(findings.alloc, text, tokens)?;
     for number in 0..tokens.len() {
         if brackets.is_if(number) {
