@@ -133,6 +133,11 @@ impl Instrument {
         }
     }
 
+    /// The type of the variable of this number.
+    pub fn kind(&self, variable: u16) -> Option<VarType> {
+        self.variable(variable)?.kind
+    }
+
     /// What the variable of this number can hold.
     pub fn range(&self, variable: u16) -> Option<Range> {
         self.variable(variable)?.range

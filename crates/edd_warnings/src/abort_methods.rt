@@ -6,14 +6,14 @@ use edd_lints::tokens_left::{Mark, mark_of, word_of};
 use edd_lints::warning::Findings;
 use edd_syntax::operators::Builtin;
 use edd_syntax::symbols::{Keyword, Symbol};
-use std::alloc::AllocError;
+use std::alloc::{AllocError, Global};
 use std::collections::{BTreeMap, BTreeSet};
 
 /// The methods that add abort methods, and those that are added.
 #[derive(Drop)]
 struct Added<'a> {
-    /// The name of each method that adds one, and where.
-    adding: Vec<(&'a str, Mark<'a>)>,
+    /// The name of each method that adds one, that of the one, and where.
+    adding: Vec<(&'a str, &'a str, Mark<'a>)>,
     /// The names of those that others add.
     added: BTreeSet<&'a str>,
     /// How often each name is there but at declarations and where it is added.
@@ -36,7 +36,7 @@ impl<'a> Added<'a> {
     fn add_name(&mut self, at: Mark<'a>, passed: &mut Passed<'a>) -> Result<(), AllocError> {
         let name = at.word.unwrap_or("");
         if let Some(call) = passed.adds {
-            self.adding.push((passed.method, call))?;
+            self.adding.push((passed.method, name, call))?;
             if name != passed.method {
                 self.added.insert(name)?;
             }
@@ -76,9 +76,15 @@ impl<'a> Added<'a> {
         }
     }
 
-    // Whether a method is added as an abort method and is nothing else.
-    fn is_abort_method(&self, name: &str) -> bool {
-        self.added.contains(name) && !self.others.contains_key(name)
+    // The methods that are added by one which no other method adds.
+    fn surely_added(&self, alloc: Global) -> Result<BTreeSet<&'a str>, AllocError> {
+        let mut names = BTreeSet::new(alloc);
+        for (method, name, _) in &self.adding {
+            if !self.added.contains(method) && method != name {
+                names.insert(*name)?;
+            }
+        }
+        Ok(names)
     }
 }
 
@@ -102,8 +108,9 @@ pub fn check_abort_methods(
     for token in tokens {
         all.add(text, token, &mut passed)?;
     }
-    for (method, at) in &all.adding {
-        if all.is_abort_method(*method) {
+    let sure = all.surely_added(alloc)?;
+    for (method, _, at) in &all.adding {
+        if sure.contains(method) && !all.others.contains_key(method) {
             let message = format!(in alloc;
                 "{method} is an abort method, in which this lists nothing"
             )?;

@@ -75,8 +75,13 @@ impl<'a> Messages<'a, '_> {
             check_mask(mask, bits, most, at, findings)?;
         }
         let is_whole = mask.is_none() && !is_info;
+        let is_twice = match before {
+            Some(carried) if carried.is_whole => !is_info,
+            Some(carried) => is_whole && carried.bits != 0,
+            None => false,
+        };
         match before {
-            Some(carried) if self.is_reply && is_whole && carried.is_whole => {
+            Some(carried) if self.is_reply && is_twice => {
                 let name = self.instrument.name_of(variable);
                 let alloc = findings.alloc;
                 let message = format!(in alloc; "{name} is in this reply already")?;

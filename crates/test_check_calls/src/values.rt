@@ -24,6 +24,10 @@ VARIABLE a { TYPE ENUMERATED { DEFAULT_VALUE 3; { 0, "x" } { 1, "y" } } }
 VARIABLE a { TYPE ENUMERATED { DEFAULT_VALUE 3; { 0, "x" } IF (a) { { 3, "y" } } } }
 @
 VARIABLE a { TYPE ENUMERATED { DEFAULT_VALUE 3; } }
+@ 2 DEFAULT_VALUE unlisted-value
+VARIABLE a { TYPE ENUMERATED { DEFAULT_VALUE IF (a) { 3; } ELSE { 1; } { 0, "x" } { 1, "y" } } }
+@ 2 DEFAULT_VALUE unlisted-value
+VARIABLE a { TYPE BIT_ENUMERATED { DEFAULT_VALUE 9; { 1, "x" } { 2, "y" } } }
 @
 VARIABLE a { TYPE BIT_ENUMERATED { DEFAULT_VALUE 3; { 1, "x" } { 2, "y" } } }
 @ 2 CASE unlisted-value
@@ -66,6 +70,12 @@ a, b, a } } }
 VARIABLE a { TYPE INTEGER; } VARIABLE b { TYPE INTEGER; }
 COMMAND c { NUMBER 1; OPERATION READ; TRANSACTION 0 { REPLY { a, a (INFO), b <1>, b <2> } }
 TRANSACTION 1 { REPLY { a, IF (b) { b } ELSE { b, 7 } } } }
+@ 3 a repeated-data-item at 3 a
+VARIABLE a { TYPE INTEGER; }
+COMMAND c { NUMBER 1; OPERATION READ; TRANSACTION { REPLY { a <1>, a } } }
+@ 3 a repeated-data-item at 3 a
+VARIABLE a { TYPE INTEGER; }
+COMMAND c { NUMBER 1; OPERATION READ; TRANSACTION { REPLY { a, a <1> } } }
 @ 4 a overlapping-masks
 VARIABLE a { TYPE BIT_ENUMERATED; }
 COMMAND c { NUMBER 1; OPERATION READ; TRANSACTION { REPLY { a <0x0F>,
@@ -166,6 +176,9 @@ MENU c { ITEMS { "x" } }
 METHOD m { DEFINITION { add_abort_method(n); } }
 METHOD n { DEFINITION { add_abort_method(o); } }
 METHOD o { DEFINITION { } }
+@
+METHOD m { DEFINITION { add_abort_method(n); } }
+METHOD n { DEFINITION { add_abort_method(m); } }
 @
 MENU a { ITEMS { m, n } }
 METHOD m { DEFINITION { add_abort_method(n); } }
