@@ -19,7 +19,7 @@ pub struct Choices {
 }
 
 impl Choices {
-    /// Each lint warns.
+    /// Each lint warns that is not one to be asked for.
     pub fn new(alloc: Global) -> Choices {
         Choices {
             allowed: Vec::new(alloc),
@@ -40,7 +40,7 @@ impl Choices {
     pub fn level(&self, lint: Lint) -> Level {
         if self.denied.contains(&lint) {
             Level::Deny
-        } else if self.allowed.contains(&lint) {
+        } else if lint.is_asked() || self.allowed.contains(&lint) {
             Level::Allow
         } else {
             Level::Warn

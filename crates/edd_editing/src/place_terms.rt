@@ -1,6 +1,7 @@
 //! Words that are names to the lexer, and mean something in their places.
 
 use edd_document::spots::Place;
+use edd_lints::classes::CLASSES;
 use edd_syntax::symbols::Keyword;
 
 /// Where a word means something.
@@ -26,41 +27,6 @@ pub struct Term {
 
 /// What is said of every class.
 pub const CLASS_MEANING: &str = "A class of variables and methods.";
-
-/// The classes of variables and methods.
-pub const CLASSES: [&str; 31] = [
-    "ALARM",
-    "ANALOG_INPUT",
-    "ANALOG_OUTPUT",
-    "COMPUTATION",
-    "CONSTANT",
-    "CONTAINED",
-    "CORRECTION",
-    "DEVICE",
-    "DIAGNOSTIC",
-    "DIGITAL_INPUT",
-    "DIGITAL_OUTPUT",
-    "DISCRETE",
-    "DISCRETE_INPUT",
-    "DISCRETE_OUTPUT",
-    "DYNAMIC",
-    "FACTORY",
-    "FREQUENCY_INPUT",
-    "FREQUENCY_OUTPUT",
-    "HART",
-    "INPUT",
-    "LOCAL",
-    "LOCAL_DISPLAY",
-    "MAINTENANCE",
-    "OPERATE",
-    "OPTIONAL",
-    "OUTPUT",
-    "SERVICE",
-    "SPECIALIST",
-    "TEMPORARY",
-    "TUNE",
-    "USER_INTERFACE",
-];
 
 /// The words that are no classes.
 pub const TERMS: [Term; 24] = [

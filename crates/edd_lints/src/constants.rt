@@ -39,7 +39,8 @@ impl Width {
         }
     }
 
-    fn keep(self, number: i64) -> i64 {
+    /// A number as it is computed with here.
+    pub fn keep(self, number: i64) -> i64 {
         match self {
             Width::Attribute => number,
             Width::Method => wrap(32, i128::from(number)),
@@ -100,8 +101,8 @@ fn combined(operator: Operator, first: Known, second: Known, width: Width) -> Kn
     }
 }
 
-// Whether two numbers compare so.
-fn holds(comparison: Comparison, first: i64, second: i64) -> bool {
+/// Whether two numbers compare so.
+pub fn holds(comparison: Comparison, first: i64, second: i64) -> bool {
     match comparison {
         Comparison::Equal => first == second,
         Comparison::NotEqual => first != second,

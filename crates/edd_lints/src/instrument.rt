@@ -1,36 +1,31 @@
 //! What is known of the items of a description, by their numbers.
 
+use crate::facts::{Facts, type_parts};
+use crate::listed::add_enumerators;
 use crate::range::Range;
-use edd_syntax::item::{Attribute, Item, TypeWord};
-use edd_syntax::numbers::Element;
+use edd_syntax::item::{Attribute, Item, VariableDef};
+use edd_syntax::numbers::{Element, ItemNo};
 use edd_syntax::reference::Target;
+use edd_syntax::types::VarType;
 use std::alloc::{AllocError, Global};
 use std::collections::BTreeSet;
 
-/// The ranges of the variables, the elements of the arrays, and the numbers of transactions.
+/// The variables, the elements of the arrays, the numbers of commands and transactions, and the
+/// names of all items.
 #[derive(Drop)]
 pub struct Instrument {
-    ranges: Vec<Option<Range>>,
+    variables: Vec<Facts>,
+    /// A variable and an enumerator of its type.
+    listed: BTreeSet<(u16, i64)>,
     /// An array and the number of an element, which is there.
     elements: BTreeSet<(u16, u32)>,
-    /// The numbers of the commands all of whose transactions have numbers.
+    /// The numbers of the commands.
     commands: BTreeSet<u32>,
+    /// The numbers of the commands all of whose transactions have numbers.
+    numbered: BTreeSet<u32>,
     /// The number of a command and that of a transaction, which it has.
     transactions: BTreeSet<(u32, u32)>,
-}
-
-// What a variable with these attributes can hold.
-fn range_of(attributes: &[Attribute<Target>]) -> Option<Range> {
-    for attribute in attributes {
-        if let Attribute::TypeOf {
-            word: TypeWord::Known { kind, size },
-            ..
-        } = attribute
-        {
-            return Some(Range::of(*kind, *size));
-        }
-    }
-    None
+    names: BTreeSet<String>,
 }
 
 fn command_number(attributes: &[Attribute<Target>]) -> Option<u32> {
@@ -42,6 +37,14 @@ fn command_number(attributes: &[Attribute<Target>]) -> Option<u32> {
     None
 }
 
+/// The variable that a target is.
+pub fn variable_of(target: Target) -> Option<u16> {
+    match target {
+        Target::Item(ItemNo::Variable(variable)) => Some(variable.0),
+        _ => None,
+    }
+}
+
 impl Instrument {
     /// What is known of items and of the elements of their arrays.
     pub fn of(
@@ -50,28 +53,54 @@ impl Instrument {
         elements: &[Element],
     ) -> Result<Instrument, AllocError> {
         let mut known = Instrument {
-            ranges: Vec::new(alloc),
+            variables: Vec::new(alloc),
+            listed: BTreeSet::new(alloc),
             elements: BTreeSet::new(alloc),
             commands: BTreeSet::new(alloc),
+            numbered: BTreeSet::new(alloc),
             transactions: BTreeSet::new(alloc),
+            names: BTreeSet::new(alloc),
         };
         for item in items {
-            match item {
-                Item::Variable(variable) => known.ranges.push(range_of(&variable.attributes))?,
-                Item::Command(command) => known.add_command(&command.attributes)?,
-                _ => {}
-            }
+            known.add_item(alloc, item)?;
         }
-        for element in elements {
-            known.elements.insert((element.array.0, element.number))?;
-        }
+        known.add_elements(elements)?;
         Ok(known)
+    }
+
+    fn add_item(&mut self, alloc: Global, item: &Item<Target>) -> Result<(), AllocError> {
+        self.names.insert(String::from_str(alloc, item.name())?)?;
+        match item {
+            Item::Variable(variable) => self.add_variable(alloc, variable),
+            Item::Command(command) => self.add_command(&command.attributes),
+            _ => Ok(()),
+        }
+    }
+
+    fn add_variable(
+        &mut self,
+        alloc: Global,
+        variable: &VariableDef<Target>,
+    ) -> Result<(), AllocError> {
+        let number = u16::try_from(self.variables.len()).unwrap_or(u16::MAX);
+        add_enumerators(type_parts(variable), number, &mut self.listed)?;
+        let facts = Facts::of(alloc, variable)?;
+        self.variables.push(facts)?;
+        Ok(())
+    }
+
+    fn add_elements(&mut self, elements: &[Element]) -> Result<(), AllocError> {
+        for element in elements {
+            self.elements.insert((element.array.0, element.number))?;
+        }
+        Ok(())
     }
 
     fn add_command(&mut self, attributes: &[Attribute<Target>]) -> Result<(), AllocError> {
         let Some(command) = command_number(attributes) else {
             return Ok(());
         };
+        self.commands.insert(command)?;
         let mut are_numbered = true;
         for attribute in attributes {
             match attribute {
@@ -86,14 +115,49 @@ impl Instrument {
             }
         }
         if are_numbered {
-            self.commands.insert(command)?;
+            self.numbered.insert(command)?;
         }
         Ok(())
     }
 
+    /// What is known of the variable of this number.
+    pub fn variable(&self, variable: u16) -> Option<&Facts> {
+        self.variables.get(usize::from(variable))
+    }
+
+    /// What the variable of this number is called.
+    pub fn name_of(&self, variable: u16) -> &str {
+        match self.variable(variable) {
+            Some(facts) => facts.name.as_str(),
+            None => "",
+        }
+    }
+
+    /// The type of the variable of this number.
+    pub fn kind(&self, variable: u16) -> Option<VarType> {
+        self.variable(variable)?.kind
+    }
+
     /// What the variable of this number can hold.
     pub fn range(&self, variable: u16) -> Option<Range> {
-        self.ranges.get(usize::from(variable)).copied().flatten()
+        self.variable(variable)?.range
+    }
+
+    /// Whether a variable is one of enumerators, of which this number is none.
+    pub fn is_unlisted(&self, variable: u16, number: i64) -> bool {
+        match self.variable(variable) {
+            Some(facts) => {
+                facts.kind == Some(VarType::Enumerated)
+                    && facts.has_enumerators
+                    && !self.listed.contains(&(variable, number))
+            }
+            None => false,
+        }
+    }
+
+    /// Whether an item has this name.
+    pub fn has_name(&self, name: &str) -> bool {
+        self.names.contains(name)
     }
 
     /// Whether an array has an element of this number.
@@ -104,13 +168,24 @@ impl Instrument {
         }
     }
 
+    /// Whether there are commands, of which none has this number.
+    pub fn lacks_command(&self, command: i64) -> bool {
+        if self.commands.is_empty() {
+            return false;
+        }
+        match u32::try_from(command) {
+            Ok(command) => !self.commands.contains(&command),
+            Err(_) => true,
+        }
+    }
+
     /// Whether the command of this number is one of the description, all of whose transactions have
     /// their numbers written, and none has this one.
     pub fn lacks_transaction(&self, command: i64, transaction: i64) -> bool {
         let Ok(command) = u32::try_from(command) else {
             return false;
         };
-        if !self.commands.contains(&command) {
+        if !self.numbered.contains(&command) {
             return false;
         }
         match u32::try_from(transaction) {

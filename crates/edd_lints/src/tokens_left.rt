@@ -101,6 +101,85 @@ impl<'a> TokensLeft<'a> {
         self.last
     }
 
+    /// The place of the next token, which is not passed.
+    pub fn next(&self) -> Mark<'a> {
+        match self.rest.first() {
+            Some(token) => mark_of(self.text, token),
+            None => self.last,
+        }
+    }
+
+    /// What is left behind the parenthesis that closes the next one which opens.
+    pub fn behind_parentheses(&self) -> TokensLeft<'a> {
+        let rest = self.rest;
+        let mut depth = 0usize;
+        for (number, token) in rest.iter().enumerate() {
+            if token.kind == TokenKind::Symbol(Symbol::OpenParenthesis) {
+                depth = depth.saturating_add(1);
+            }
+            if token.kind == TokenKind::Symbol(Symbol::CloseParenthesis) {
+                depth = depth.saturating_sub(1);
+                if depth == 0 {
+                    return TokensLeft {
+                        text: self.text,
+                        rest: &rest[number + 1..],
+                        last: mark_of(self.text, token),
+                    };
+                }
+            }
+        }
+        *self
+    }
+
+    /// What is in the text between the last token that was passed and the next one.
+    pub fn gap(&self) -> &'a [u8] {
+        let Some(next) = self.rest.first() else {
+            return b"";
+        };
+        let text = self.text;
+        let start = (self.last.start.unwrap_or(next.start) as usize).saturating_add(
+            self.last.word.unwrap_or("").len(),
+        );
+        let end = next.start as usize;
+        if end < start || text.len() < end {
+            return b"";
+        }
+        &text[start..end]
+    }
+
+    /// Passes the next token with this text, and gives its place.
+    pub fn to_text(&mut self, word: &str) -> Mark<'a> {
+        let rest = self.rest;
+        for (number, token) in rest.iter().enumerate() {
+            if word_of(self.text, token) == word {
+                self.rest = &rest[number + 1..];
+                self.last = mark_of(self.text, token);
+                return self.last;
+            }
+        }
+        self.last
+    }
+
+    /// Passes the next token with this text on a line, and gives its place.
+    pub fn to_text_on(&mut self, line: u32, word: &str) -> Mark<'a> {
+        let rest = self.rest;
+        for (number, token) in rest.iter().enumerate() {
+            if line < token.line {
+                break;
+            }
+            if token.line == line && word_of(self.text, token) == word {
+                self.rest = &rest[number + 1..];
+                self.last = mark_of(self.text, token);
+                return self.last;
+            }
+        }
+        Mark {
+            line,
+            word: None,
+            start: None,
+        }
+    }
+
     /// The same of a reserved word.
     pub fn to_word(&mut self, word: Keyword) -> Mark<'a> {
         self.to(TokenKind::Keyword(word))

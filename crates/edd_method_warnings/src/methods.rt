@@ -1,18 +1,20 @@
-//! The body of a method, and its locals that are never read.
+//! The body of a method, its locals, and the abort methods that it adds.
 
 use crate::statements::check_parts;
 use edd_lexer::token::{Token, TokenKind};
 use edd_lints::constants::Width;
-use edd_lints::expressions::Walk;
 use edd_lints::instrument::Instrument;
 use edd_lints::lint::Lint;
-use edd_lints::tokens_left::{Mark, TokensLeft, mark_of};
+use edd_lints::tokens_left::{Mark, TokensLeft, first_on, mark_of};
+use edd_lints::walk::Walk;
 use edd_lints::warning::Findings;
+use edd_syntax::expr::Expr;
 use edd_syntax::item::Attribute;
+use edd_syntax::operators::Builtin;
 use edd_syntax::reference::Target;
+use edd_syntax::stmt::{Part, Stmt};
 use edd_syntax::symbols::{Keyword, Symbol};
 use std::alloc::{AllocError, Global};
-use std::collections::BTreeSet;
 
 // The names of the locals of a method in the order of their declarators, which is that of their
 // slots. A name is declared after `int` or `long`, and after a comma of that declaration that
@@ -46,18 +48,71 @@ fn locals_of<'a>(
     Ok(locals)
 }
 
-// A warning on each local whose slot is not read.
+// A warning on a local that is not read, or read before anything sets it, or that hides an item.
+fn check_local(
+    slot: u8,
+    at: Mark<'_>,
+    walk: &Walk<'_>,
+    findings: &mut Findings,
+) -> Result<(), AllocError> {
+    let name = at.word.unwrap_or("");
+    let alloc = findings.alloc;
+    if !walk.reads.contains(&slot) {
+        let message = format!(in alloc; "the local {name} is never read")?;
+        findings.add(Lint::UnreadLocal, at, message)?;
+    } else if !walk.writes.contains(&slot) {
+        let message = format!(in alloc; "nothing ever sets the local {name}: it is 0")?;
+        findings.add(Lint::UnsetLocal, at, message)?;
+    } else if walk.early.contains(&slot) {
+        let message = format!(in alloc; "the local {name} is read before anything sets it")?;
+        findings.add(Lint::UnsetLocal, at, message)?;
+    }
+    if walk.instrument.has_name(name) {
+        let message = format!(in alloc; "this local hides the item {name}")?;
+        findings.add(Lint::HidingLocal, at, message)?;
+    }
+    Ok(())
+}
+
+// All locals, in the order of their slots.
 fn check_locals(
     locals: &[Mark<'_>],
-    reads: &BTreeSet<u8>,
+    walk: &Walk<'_>,
     findings: &mut Findings,
 ) -> Result<(), AllocError> {
     for (slot, at) in locals.iter().enumerate() {
         let slot = u8::try_from(slot).unwrap_or(u8::MAX);
-        if !reads.contains(&slot) {
-            let name = at.word.unwrap_or("");
-            let message = format!(in findings.alloc; "the local {name} is never read")?;
-            findings.add(Lint::UnreadLocal, *at, message)?;
+        check_local(slot, *at, walk, findings)?;
+    }
+    Ok(())
+}
+
+// The line of a statement that adds an abort method.
+fn added_at(part: &Part<Target>) -> Option<u32> {
+    let Part::Statement(Stmt::Evaluate(Expr::Call { line, function, .. })) = part else {
+        return None;
+    };
+    match *function {
+        Target::Function(Builtin::AddAbortMethod) => Some(*line),
+        _ => None,
+    }
+}
+
+/// How many abort methods there may be.
+const MOST: usize = 8;
+
+// A warning on each statement of a body that adds an abort method when there are eight.
+fn check_added(parts: &[Part<Target>], findings: &mut Findings) -> Result<(), AllocError> {
+    let mut added = 0usize;
+    for part in parts {
+        if let Some(line) = added_at(part) {
+            added = added.saturating_add(1);
+            if MOST < added {
+                let alloc = findings.alloc;
+                let message = String::from_str(alloc, "this lists nothing: eight are listed")?;
+                let at = first_on(line, Builtin::AddAbortMethod.name());
+                findings.add(Lint::AbortMethodLimit, at, message)?;
+            }
         }
     }
     Ok(())
@@ -76,8 +131,11 @@ pub fn check_method(
     let mut walk = Walk::new(findings.alloc, tokens_left, Width::Method, instrument);
     for attribute in attributes {
         if let Attribute::Definition(parts) = attribute {
+            walk.tokens_left.to_word(Keyword::Definition);
+            walk.tokens_left.to(TokenKind::Symbol(Symbol::OpenBrace));
             check_parts(parts, &mut walk, findings)?;
+            check_added(parts, findings)?;
         }
     }
-    check_locals(&locals, &walk.reads, findings)
+    check_locals(&locals, &walk, findings)
 }

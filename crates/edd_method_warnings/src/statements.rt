@@ -1,49 +1,22 @@
-//! Statements that are never reached, and loops that nothing ends.
+//! Statements: what is never reached, what does nothing, and cases that go on with the next.
 
+use crate::cases::{check_block_after, check_fall, check_label_part, has_comment};
+use crate::flow::{Flow, GOES_ON, abort_of, counts, is_empty_block, joined, leaving};
+use crate::loops::{Loop, check_head, check_loop, has_no_body};
+use crate::said::{pass, say};
 use edd_lexer::token::TokenKind;
-use edd_lints::constants::{Known, Width, evaluate, is_literal};
-use edd_lints::expressions::{Walk, check_condition, check_expression};
+use edd_lints::expressions::{COMPARED, SELECTED, check_condition, check_expression, check_tested};
 use edd_lints::lint::Lint;
-use edd_lints::tokens_left::{Mark, first_on};
+use edd_lints::operands::selected_variable;
+use edd_lints::stores::{check_wrapped, without_parentheses};
+use edd_lints::tokens_left::Mark;
+use edd_lints::walk::Walk;
 use edd_lints::warning::Findings;
 use edd_syntax::expr::Expr;
-use edd_syntax::operators::Builtin;
 use edd_syntax::reference::Target;
 use edd_syntax::stmt::{Declarator, Part, Stmt};
 use edd_syntax::symbols::{Keyword, Symbol};
 use std::alloc::AllocError;
-
-/// How a method goes on after a statement.
-#[derive(Clone, Copy)]
-pub struct Flow<'a> {
-    /// Where the statement never goes on after itself: the place of what sees to that.
-    ends: Option<Mark<'a>>,
-    /// Whether a `break` in it leaves the loop or the `switch` around it.
-    breaks: bool,
-    /// Whether the method may end in it, by itself or since a host that is asked aborts it.
-    leaves: bool,
-}
-
-const GOES_ON: Flow<'static> = Flow {
-    ends: None,
-    breaks: false,
-    leaves: false,
-};
-
-// Whether an expression is a call that ends the method, and the line of the call.
-fn abort_of(e: &Expr<Target>) -> Option<Mark<'static>> {
-    let Expr::Call { line, function, .. } = e else {
-        return None;
-    };
-    match *function {
-        Target::Function(Builtin::Abort) => Some(first_on(*line, Builtin::Abort.name())),
-        Target::Function(Builtin::ProcessAbort) => Some(first_on(
-            *line,
-            Builtin::ProcessAbort.name(),
-        )),
-        _ => None,
-    }
-}
 
 // An expression of a statement. Says whether the host is asked in it.
 fn check_value(
@@ -60,32 +33,37 @@ fn check_value(
     Ok(asks)
 }
 
-// A condition of a statement. Says whether the host is asked in it.
+// The condition of an `if` or what a `switch` is over, in parentheses, which are passed. Says
+// whether the host is asked in it.
 fn check_test(
     e: &Expr<Target>,
     at: Mark<'_>,
+    assigns: &str,
+    walk: &mut Walk<'_>,
+    findings: &mut Findings,
+) -> Result<bool, AllocError> {
+    let behind = walk.tokens_left.behind_parentheses();
+    let before = walk.asks;
+    walk.asks = false;
+    check_condition(e, at, assigns, walk, findings)?;
+    let asks = walk.asks;
+    walk.asks = asks || before;
+    walk.tokens_left = behind;
+    Ok(asks)
+}
+
+// The condition of a loop.
+fn check_loop_test(
+    e: &Expr<Target>,
     walk: &mut Walk<'_>,
     findings: &mut Findings,
 ) -> Result<bool, AllocError> {
     let before = walk.asks;
     walk.asks = false;
-    check_condition(e, at, walk, findings)?;
+    check_tested(e, COMPARED, walk, findings)?;
     let asks = walk.asks;
     walk.asks = asks || before;
     Ok(asks)
-}
-
-// The condition of a loop, which may be a plain literal.
-fn check_loop_test(
-    e: &Expr<Target>,
-    at: Mark<'_>,
-    walk: &mut Walk<'_>,
-    findings: &mut Findings,
-) -> Result<bool, AllocError> {
-    if is_literal(e) {
-        return check_value(e, false, walk, findings);
-    }
-    check_test(e, at, walk, findings)
 }
 
 fn check_optional(
@@ -108,59 +86,14 @@ fn check_declarators(
     for declarator in declarators {
         if let Some(e) = &declarator.value {
             walk.tokens_left.to(TokenKind::Symbol(Symbol::Equals));
+            check_wrapped(e, walk, findings)?;
             let here = check_value(e, false, walk, findings)?;
             asks = asks || here;
+            walk.write(declarator.place)?;
         }
     }
+    pass(walk, Symbol::Semicolon);
     Ok(asks)
-}
-
-// Whether a condition always holds. A missing one does.
-fn always_holds(condition: Option<&Expr<Target>>) -> bool {
-    match condition {
-        None => true,
-        Some(e) => match evaluate(e, Width::Method) {
-            Known::Number(number) => number != 0,
-            Known::Traps(_) | Known::Nothing => false,
-        },
-    }
-}
-
-// A loop at a place, whose condition always holds or not, with a body and what its conditions ask.
-fn check_loop<'a>(
-    at: Mark<'a>,
-    is_endless: bool,
-    asks: bool,
-    body: Flow<'a>,
-    findings: &mut Findings,
-) -> Result<Flow<'a>, AllocError> {
-    let leaves = body.leaves || asks;
-    if is_endless && !body.breaks && !leaves {
-        let message = String::from_str(
-            findings.alloc,
-            "nothing ends this loop: it has no break, no return and no request",
-        )?;
-        findings.add(Lint::EndlessLoop, at, message)?;
-    }
-    Ok(Flow {
-        ends: if is_endless && !body.breaks {
-            Some(at)
-        } else {
-            None
-        },
-        breaks: false,
-        leaves,
-    })
-}
-
-// Whether a statement that is never reached is worth a warning. A `break` after a `return` is a
-// habit, and so is a `return` after an abort.
-fn counts(s: &Stmt<Target>) -> bool {
-    match s {
-        Stmt::Empty | Stmt::Break { .. } | Stmt::Return => false,
-        Stmt::Block(parts) => !parts.is_empty(),
-        _ => true,
-    }
 }
 
 fn warn_unreached(end: Mark<'_>, findings: &mut Findings) -> Result<(), AllocError> {
@@ -192,6 +125,7 @@ fn check_next<'a>(
         },
         breaks: so_far.breaks || flow.breaks,
         leaves: so_far.leaves || flow.leaves,
+        is_remarked: flow.is_remarked,
     })
 }
 
@@ -203,17 +137,46 @@ pub fn check_parts<'a>(
     findings: &mut Findings,
 ) -> Result<Flow<'a>, AllocError> {
     let mut flow = GOES_ON;
-    for part in parts {
+    let mut has_statement = false;
+    let mut is_dead = false;
+    let mut head = None;
+    for (number, part) in parts.iter().enumerate() {
         match part {
             Part::Declare(declarators) => {
                 let asks = check_declarators(declarators, walk, findings)?;
                 flow.leaves = flow.leaves || asks;
+                head = None;
             }
-            Part::Statement(s) => flow = check_next(s, flow, walk, findings)?,
-            Part::CaseLabel { .. } | Part::DefaultLabel { .. } => flow.ends = None,
+            Part::Statement(s) => {
+                check_block_after(head, s, findings)?;
+                head = has_no_body(s).then_some(walk.tokens_left.next());
+                is_dead = is_dead || flow.ends.is_some();
+                flow = check_next(s, flow, walk, findings)?;
+                has_statement = true;
+            }
+            Part::CaseLabel { .. } | Part::DefaultLabel { .. } => {
+                if has_statement && !is_dead {
+                    let next = parts.get(number.saturating_add(1));
+                    check_fall(flow, next, walk, findings)?;
+                }
+                check_label_part(part, walk, findings)?;
+                flow.ends = None;
+                has_statement = false;
+                is_dead = false;
+            }
         }
     }
+    flow.is_remarked = has_comment(walk.tokens_left.gap());
     Ok(flow)
+}
+
+// Whether nothing is done with what an expression gives. A plain number may be what is left of a
+// macro, and of a comparison it is said already.
+fn is_dropped(e: &Expr<Target>) -> bool {
+    !matches!(
+        without_parentheses(e),
+        Expr::Literal(_) | Expr::Compare(_, _, _)
+    )
 }
 
 // An expression as a statement: an abort ends what comes after it.
@@ -222,33 +185,23 @@ fn check_evaluated<'a>(
     walk: &mut Walk<'a>,
     findings: &mut Findings,
 ) -> Result<Flow<'a>, AllocError> {
+    let at = walk.tokens_left.next();
+    let before = walk.acts;
+    walk.acts = false;
     let asks = check_value(e, true, walk, findings)?;
+    if !walk.acts && is_dropped(e) {
+        let message = "this statement does nothing: its value is not used";
+        say(Lint::DroppedValue, at, message, findings)?;
+    }
+    walk.acts = walk.acts || before;
+    pass(walk, Symbol::Semicolon);
     let ends = abort_of(e);
     let leaves = asks || ends.is_some();
     Ok(Flow {
         ends,
-        breaks: false,
         leaves,
+        ..GOES_ON
     })
-}
-
-// An `if`, with its two branches.
-fn joined<'a>(at: Mark<'a>, asks: bool, first: Flow<'a>, second: Flow<'a>) -> Flow<'a> {
-    let both = first.ends.is_some() && second.ends.is_some();
-    Flow {
-        ends: if both { Some(at) } else { None },
-        breaks: first.breaks || second.breaks,
-        leaves: asks || first.leaves || second.leaves,
-    }
-}
-
-// What leads on from a loop to another place: its end with `break`, or its next turn.
-fn leaving(line: u32, word: Keyword, breaks: bool) -> Flow<'static> {
-    Flow {
-        ends: Some(first_on(line, word.spelling())),
-        breaks,
-        leaves: false,
-    }
 }
 
 #[cycle(statements)]
@@ -259,16 +212,17 @@ fn check_if<'a>(
     findings: &mut Findings,
 ) -> Result<Flow<'a>, AllocError> {
     let at = walk.tokens_left.to_word(Keyword::MethodIf);
-    let asks = check_test(condition, at, walk, findings)?;
+    let asks = check_test(condition, at, COMPARED, walk, findings)?;
     if let Stmt::Empty = first {
-        let message = String::from_str(
-            findings.alloc,
-            "nothing is done where this condition holds: a ; stands right after it",
-        )?;
-        findings.add(Lint::EmptyBranch, at, message)?;
+        let message = "nothing is done where this condition holds: a ; stands right after it";
+        say(Lint::EmptyBranch, at, message, findings)?;
     }
-    let first = check_statement(first, walk, findings)?;
-    Ok(joined(at, asks, first, GOES_ON))
+    let flow = check_statement(first, walk, findings)?;
+    if is_empty_block(first) && !asks && !flow.is_remarked {
+        let message = "nothing is done where this condition holds";
+        say(Lint::EmptyBranch, at, message, findings)?;
+    }
+    Ok(joined(at, asks, flow, GOES_ON))
 }
 
 #[cycle(statements)]
@@ -279,9 +233,25 @@ fn check_while<'a>(
     findings: &mut Findings,
 ) -> Result<Flow<'a>, AllocError> {
     let at = walk.tokens_left.to_word(Keyword::While);
-    let asks = check_loop_test(condition, at, walk, findings)?;
+    let from = walk.uses.len();
+    let behind = walk.tokens_left.behind_parentheses();
+    walk.loops = walk.loops.saturating_add(1);
+    let asks = check_loop_test(condition, walk, findings)?;
+    walk.tokens_left = behind;
+    let tested = walk.uses.len();
     let flow = check_statement(body, walk, findings)?;
-    check_loop(at, always_holds(Some(condition)), asks, flow, findings)
+    walk.loops = walk.loops.saturating_sub(1);
+    let looped = Loop {
+        at,
+        test_at: at,
+        condition: Some(condition),
+        is_do: false,
+        asks,
+        from,
+        test: from,
+        tested,
+    };
+    check_loop(&looped, flow, walk, findings)
 }
 
 #[cycle(statements)]
@@ -292,10 +262,27 @@ fn check_do<'a>(
     findings: &mut Findings,
 ) -> Result<Flow<'a>, AllocError> {
     let at = walk.tokens_left.to_word(Keyword::Do);
+    let from = walk.uses.len();
+    walk.loops = walk.loops.saturating_add(1);
     let flow = check_statement(body, walk, findings)?;
-    let test = walk.tokens_left.to_word(Keyword::While);
-    let asks = check_loop_test(condition, test, walk, findings)?;
-    check_loop(at, always_holds(Some(condition)), asks, flow, findings)
+    let test_at = walk.tokens_left.to_word(Keyword::While);
+    let behind = walk.tokens_left.behind_parentheses();
+    let test = walk.uses.len();
+    let asks = check_loop_test(condition, walk, findings)?;
+    walk.loops = walk.loops.saturating_sub(1);
+    walk.tokens_left = behind;
+    pass(walk, Symbol::Semicolon);
+    let looped = Loop {
+        at,
+        test_at,
+        condition: Some(condition),
+        is_do: true,
+        asks,
+        from,
+        test,
+        tested: walk.uses.len(),
+    };
+    check_loop(&looped, flow, walk, findings)
 }
 
 #[cycle(statements)]
@@ -308,15 +295,35 @@ fn check_for<'a>(
     findings: &mut Findings,
 ) -> Result<Flow<'a>, AllocError> {
     let at = walk.tokens_left.to_word(Keyword::For);
+    let behind = walk.tokens_left.behind_parentheses();
     check_optional(initial, walk, findings)?;
+    pass(walk, Symbol::Semicolon);
+    walk.loops = walk.loops.saturating_add(1);
+    let from = walk.uses.len();
     let tests = match condition {
-        Some(e) => check_loop_test(e, at, walk, findings)?,
+        Some(e) => check_loop_test(e, walk, findings)?,
         None => false,
     };
+    let tested = walk.uses.len();
+    pass(walk, Symbol::Semicolon);
     let updates = check_optional(update, walk, findings)?;
+    walk.tokens_left = behind;
+    let begin = walk.uses.len();
     let flow = check_statement(body, walk, findings)?;
-    let endless = always_holds(condition.as_ref());
-    check_loop(at, endless, tests || updates, flow, findings)
+    walk.loops = walk.loops.saturating_sub(1);
+    let head = (initial, condition, update);
+    check_head(at, head, begin, matches!(body, Stmt::Empty), walk, findings)?;
+    let looped = Loop {
+        at,
+        test_at: at,
+        condition: condition.as_ref(),
+        is_do: false,
+        asks: tests || updates,
+        from,
+        test: from,
+        tested,
+    };
+    check_loop(&looped, flow, walk, findings)
 }
 
 #[cycle(statements)]
@@ -327,13 +334,33 @@ fn check_switch<'a>(
     findings: &mut Findings,
 ) -> Result<Flow<'a>, AllocError> {
     let at = walk.tokens_left.to_word(Keyword::Switch);
-    let asks = check_test(on, at, walk, findings)?;
+    let asks = check_test(on, at, SELECTED, walk, findings)?;
+    pass(walk, Symbol::OpenBrace);
+    walk.selected.push(selected_variable(on))?;
     let flow = check_parts(parts, walk, findings)?;
+    walk.selected.pop();
+    pass(walk, Symbol::CloseBrace);
+    let has_default = parts
+        .iter()
+        .any(|part| matches!(part, Part::DefaultLabel { .. }));
+    let ends = has_default && !flow.breaks && flow.ends.is_some();
     Ok(Flow {
-        ends: None,
-        breaks: false,
+        ends: if ends { Some(at) } else { None },
         leaves: asks || flow.leaves,
+        ..GOES_ON
     })
+}
+
+#[cycle(statements)]
+fn check_block<'a>(
+    parts: &[Part<Target>],
+    walk: &mut Walk<'a>,
+    findings: &mut Findings,
+) -> Result<Flow<'a>, AllocError> {
+    pass(walk, Symbol::OpenBrace);
+    let flow = check_parts(parts, walk, findings)?;
+    pass(walk, Symbol::CloseBrace);
+    Ok(flow)
 }
 
 #[cycle(statements)]
@@ -343,14 +370,18 @@ fn check_statement<'a>(
     findings: &mut Findings,
 ) -> Result<Flow<'a>, AllocError> {
     match s {
-        Stmt::Empty => Ok(GOES_ON),
+        Stmt::Empty => {
+            pass(walk, Symbol::Semicolon);
+            Ok(GOES_ON)
+        }
         Stmt::Evaluate(e) => check_evaluated(e, walk, findings),
-        Stmt::Block(parts) => check_parts(parts, walk, findings),
+        Stmt::Block(parts) => check_block(parts, walk, findings),
         Stmt::If(condition, first) => check_if(first, condition, walk, findings),
         Stmt::IfElse(condition, first, otherwise) => {
             let at = walk.tokens_left.to_word(Keyword::MethodIf);
-            let asks = check_test(condition, at, walk, findings)?;
+            let asks = check_test(condition, at, COMPARED, walk, findings)?;
             let first = check_statement(first, walk, findings)?;
+            walk.tokens_left.to_word(Keyword::MethodElse);
             let second = check_statement(otherwise, walk, findings)?;
             Ok(joined(at, asks, first, second))
         }
@@ -363,12 +394,24 @@ fn check_statement<'a>(
             body,
         } => check_for(initial, condition, update, body, walk, findings),
         Stmt::Switch(on, parts) => check_switch(parts, on, walk, findings),
-        Stmt::Break { line } => Ok(leaving(*line, Keyword::Break, true)),
-        Stmt::Continue { line } => Ok(leaving(*line, Keyword::Continue, false)),
-        Stmt::Return => Ok(Flow {
-            ends: Some(walk.tokens_left.to_word(Keyword::Return)),
-            breaks: false,
-            leaves: true,
-        }),
+        Stmt::Break { line } => {
+            let flow = leaving(*line, Keyword::Break, true);
+            pass(walk, Symbol::Semicolon);
+            Ok(flow)
+        }
+        Stmt::Continue { line } => {
+            let flow = leaving(*line, Keyword::Continue, false);
+            pass(walk, Symbol::Semicolon);
+            Ok(flow)
+        }
+        Stmt::Return => {
+            let at = walk.tokens_left.to_word(Keyword::Return);
+            pass(walk, Symbol::Semicolon);
+            Ok(Flow {
+                ends: Some(at),
+                leaves: true,
+                ..GOES_ON
+            })
+        }
     }
 }

@@ -1,47 +1,13 @@
 //! Words of CLASS that EDDL does not have.
 
 use edd_lexer::token::{Token, TokenKind};
+use edd_lints::classes::CLASSES;
 use edd_lints::lint::Lint;
 use edd_lints::tokens_left::{Mark, mark_of};
 use edd_lints::warning::Findings;
 use edd_syntax::symbols::{Keyword, Symbol};
 use std::alloc::{AllocError, Global};
 use strsim::levenshtein;
-
-/// The classes of variables and methods.
-const CLASSES: [&str; 31] = [
-    "ALARM",
-    "ANALOG_INPUT",
-    "ANALOG_OUTPUT",
-    "COMPUTATION",
-    "CONSTANT",
-    "CONTAINED",
-    "CORRECTION",
-    "DEVICE",
-    "DIAGNOSTIC",
-    "DIGITAL_INPUT",
-    "DIGITAL_OUTPUT",
-    "DISCRETE",
-    "DISCRETE_INPUT",
-    "DISCRETE_OUTPUT",
-    "DYNAMIC",
-    "FACTORY",
-    "FREQUENCY_INPUT",
-    "FREQUENCY_OUTPUT",
-    "HART",
-    "INPUT",
-    "LOCAL",
-    "LOCAL_DISPLAY",
-    "MAINTENANCE",
-    "OPERATE",
-    "OPTIONAL",
-    "OUTPUT",
-    "SERVICE",
-    "SPECIALIST",
-    "TEMPORARY",
-    "TUNE",
-    "USER_INTERFACE",
-];
 
 /// The longest word that is compared, in bytes, so that long words take no long time.
 const LONGEST: usize = 32;

@@ -1,7 +1,9 @@
-//! Numbers that a command or two commands have twice.
+//! Numbers that a command or two commands have twice, and the messages of commands.
 
+use crate::messages::check_messages;
 use crate::repeats::Numbers;
 use edd_lexer::token::TokenKind;
+use edd_lints::instrument::Instrument;
 use edd_lints::lint::Lint;
 use edd_lints::tokens_left::TokensLeft;
 use edd_lints::warning::Findings;
@@ -37,6 +39,7 @@ fn check_codes(
 pub fn check_command<'a>(
     attributes: &[Attribute<Target>],
     tokens_left: TokensLeft<'a>,
+    instrument: &Instrument,
     commands: &mut Numbers<'a>,
     findings: &mut Findings,
 ) -> Result<(), AllocError> {
@@ -52,8 +55,9 @@ pub fn check_command<'a>(
                 let at = tokens_left.to_word(Keyword::Number);
                 commands.add(i64::from(*number), at, findings)?;
             }
-            Attribute::Transaction { number, .. } => {
+            Attribute::Transaction { number, parts } => {
                 let at = tokens_left.to_word(Keyword::Transaction);
+                check_messages(parts, tokens_left, instrument, findings)?;
                 if let Some(number) = number {
                     transactions.add(i64::from(*number), at, findings)?;
                 }

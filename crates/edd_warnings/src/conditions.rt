@@ -3,10 +3,12 @@
 use crate::repeats::Numbers;
 use crate::steps::{Step, push_cond, push_conds};
 use edd_lints::constants::Width;
-use edd_lints::expressions::{Walk, check_condition, check_expression};
+use edd_lints::expressions::{COMPARED, check_condition, check_expression};
 use edd_lints::instrument::Instrument;
 use edd_lints::lint::Lint;
+use edd_lints::operands::{check_label, selected_variable};
 use edd_lints::tokens_left::TokensLeft;
+use edd_lints::walk::Walk;
 use edd_lints::warning::Findings;
 use edd_syntax::cond::Cond;
 use edd_syntax::expr::Expr;
@@ -58,16 +60,20 @@ fn check_step<'a, V: LintValue>(
         Step::Value(value) => value.check_value(walk, findings),
         Step::If(condition) => {
             let at = walk.tokens_left.to_word(Keyword::If);
-            check_condition(condition, at, walk, findings)
+            check_condition(condition, at, COMPARED, walk, findings)
         }
         Step::Select(on) => {
             let at = walk.tokens_left.to_word(Keyword::Select);
             let labels = Numbers::new(findings.alloc, Lint::RepeatedCase, "the CASE");
             selects.push(labels)?;
-            check_condition(on, at, walk, findings)
+            walk.selected.push(selected_variable(on))?;
+            check_condition(on, at, COMPARED, walk, findings)
         }
         Step::Case(label) => {
             let at = walk.tokens_left.to_word(Keyword::Case);
+            if let Some(Some(variable)) = walk.selected.last().copied() {
+                check_label(variable, *label, at, walk, findings)?;
+            }
             match selects.last_mut() {
                 Some(labels) => labels.add(*label, at, findings),
                 None => Ok(()),
@@ -75,6 +81,7 @@ fn check_step<'a, V: LintValue>(
         }
         Step::EndOfSelect => {
             selects.pop();
+            walk.selected.pop();
             Ok(())
         }
     }

@@ -1,15 +1,16 @@
-//! Enumerators that the variable can't hold, or that one list has twice.
+//! Enumerators that the variable can't hold, that are no bit, or that one list has twice.
 
 use crate::repeats::Numbers;
 use crate::variables::check_range;
 use edd_lexer::token::TokenKind;
 use edd_lints::lint::Lint;
 use edd_lints::range::Range;
-use edd_lints::tokens_left::TokensLeft;
+use edd_lints::tokens_left::{Mark, TokensLeft};
 use edd_lints::warning::Findings;
 use edd_syntax::cond::{Arm, Cond};
 use edd_syntax::item::{Enumerator, TypePart};
 use edd_syntax::reference::Target;
+use edd_syntax::types::VarType;
 use std::alloc::{AllocError, Global};
 
 fn new_list<'a>(alloc: Global) -> Numbers<'a> {
@@ -19,6 +20,7 @@ fn new_list<'a>(alloc: Global) -> Numbers<'a> {
 fn check_enumerator<'a>(
     enumerator: &Enumerator,
     range: Range,
+    kind: VarType,
     tokens_left: &mut TokensLeft<'a>,
     list: &mut Numbers<'a>,
     findings: &mut Findings,
@@ -26,7 +28,34 @@ fn check_enumerator<'a>(
     let written = u32::try_from(enumerator.value.unsigned_abs()).unwrap_or(u32::MAX);
     let at = tokens_left.to_on(enumerator.line, TokenKind::Integer(written));
     check_range(range, "the enumerator", enumerator.value, at, findings)?;
+    check_bit(enumerator.value, kind, at, findings)?;
     list.add(enumerator.value, at, findings)
+}
+
+// How many bits of a number are set, where it is one of 32 bits.
+fn bits_of(number: i64) -> Option<u32> {
+    Some(u32::try_from(number).ok()?.count_ones())
+}
+
+// An enumerator of a BIT_ENUMERATED, which is the name of one bit.
+fn check_bit(
+    number: i64,
+    kind: VarType,
+    at: Mark<'_>,
+    findings: &mut Findings,
+) -> Result<(), AllocError> {
+    if kind != VarType::BitEnumerated {
+        return Ok(());
+    }
+    let alloc = findings.alloc;
+    let message = match bits_of(number) {
+        Some(0) => String::from_str(alloc, "0 has no bit, and each enumerator names one")?,
+        Some(1) | None => return Ok(()),
+        Some(bits) => {
+            format!(in alloc; "{number} has {bits} bits, and each enumerator names one")?
+        }
+    };
+    findings.add(Lint::EnumeratorBits, at, message)
 }
 
 // An element of a list. The lists of its branches are lists of their own.
@@ -34,21 +63,24 @@ fn check_enumerator<'a>(
 fn check_element<'a>(
     c: &Cond<Target, Enumerator>,
     range: Range,
+    kind: VarType,
     tokens_left: &mut TokensLeft<'a>,
     list: &mut Numbers<'a>,
     findings: &mut Findings,
 ) -> Result<(), AllocError> {
     match c {
-        Cond::Value(enumerator) => check_enumerator(enumerator, range, tokens_left, list, findings),
+        Cond::Value(enumerator) => {
+            check_enumerator(enumerator, range, kind, tokens_left, list, findings)
+        }
         Cond::If {
             first,
             otherwise,
             ..
         } => {
-            check_list(first, range, tokens_left, findings)?;
-            check_list(otherwise, range, tokens_left, findings)
+            check_list(first, range, kind, tokens_left, findings)?;
+            check_list(otherwise, range, kind, tokens_left, findings)
         }
-        Cond::Select { arms, .. } => check_arms(arms, range, tokens_left, findings),
+        Cond::Select { arms, .. } => check_arms(arms, range, kind, tokens_left, findings),
     }
 }
 
@@ -56,12 +88,13 @@ fn check_element<'a>(
 fn check_list<'a>(
     elements: &[Cond<Target, Enumerator>],
     range: Range,
+    kind: VarType,
     tokens_left: &mut TokensLeft<'a>,
     findings: &mut Findings,
 ) -> Result<(), AllocError> {
     let mut list = new_list(findings.alloc);
     for c in elements {
-        check_element(c, range, tokens_left, &mut list, findings)?;
+        check_element(c, range, kind, tokens_left, &mut list, findings)?;
     }
     Ok(())
 }
@@ -70,13 +103,14 @@ fn check_list<'a>(
 fn check_arms<'a>(
     arms: &[Arm<Target, Enumerator>],
     range: Range,
+    kind: VarType,
     tokens_left: &mut TokensLeft<'a>,
     findings: &mut Findings,
 ) -> Result<(), AllocError> {
     for arm in arms {
         match arm {
             Arm::Case { body, .. } | Arm::Default { body, .. } => {
-                check_list(body, range, tokens_left, findings)?;
+                check_list(body, range, kind, tokens_left, findings)?;
             }
         }
     }
@@ -87,13 +121,14 @@ fn check_arms<'a>(
 pub fn check_enumerators<'a>(
     parts: &[TypePart<Target>],
     range: Range,
+    kind: VarType,
     tokens_left: &mut TokensLeft<'a>,
     findings: &mut Findings,
 ) -> Result<(), AllocError> {
     let mut list = new_list(findings.alloc);
     for part in parts {
         if let TypePart::Element(c) = part {
-            check_element(c, range, tokens_left, &mut list, findings)?;
+            check_element(c, range, kind, tokens_left, &mut list, findings)?;
         }
     }
     Ok(())

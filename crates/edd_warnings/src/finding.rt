@@ -1,11 +1,16 @@
 //! All warnings of a description.
 
+use crate::abort_methods::check_abort_methods;
+use crate::branches::check_branches;
 use crate::classes::check_classes;
 use crate::commands::{check_command, command_numbers};
 use crate::conditions::check_conditionals;
-use crate::languages::check_texts;
+use crate::entries::check_entries;
+use crate::languages::check_languages;
 use crate::menus::check_menus;
 use crate::repeats::Numbers;
+use crate::signs::check_signs;
+use crate::texts::texts_of;
 use crate::unused::check_uses;
 use crate::variables::check_type;
 use edd_lexer::token::Token;
@@ -14,9 +19,32 @@ use edd_lints::tokens_left::{TokensLeft, items_of};
 use edd_lints::warning::{Findings, Warning};
 use edd_method_warnings::check_method;
 use edd_syntax::checked::Checked;
-use edd_syntax::item::Item;
+use edd_syntax::item::{Attribute, Item};
 use edd_syntax::reference::Target;
 use std::alloc::{AllocError, Global};
+
+/// What is gathered of the items so far.
+#[derive(Drop)]
+struct Gathered<'a> {
+    /// How many variables are passed.
+    variables: u16,
+    commands: Numbers<'a>,
+}
+
+// The type of a variable.
+fn check_variable(
+    attributes: &[Attribute<Target>],
+    variable: u16,
+    tokens_left: TokensLeft<'_>,
+    instrument: &Instrument,
+    findings: &mut Findings,
+) -> Result<(), AllocError> {
+    let mut tokens_left = tokens_left;
+    for attribute in attributes {
+        check_type(attribute, variable, instrument, &mut tokens_left, findings)?;
+    }
+    Ok(())
+}
 
 // The attributes of one item.
 fn check_item<'a>(
@@ -24,30 +52,26 @@ fn check_item<'a>(
     text: &'a [u8],
     tokens: &'a [Token],
     instrument: &Instrument,
-    commands: &mut Numbers<'a>,
+    gathered: &mut Gathered<'a>,
     findings: &mut Findings,
 ) -> Result<(), AllocError> {
-    let mut tokens_left = TokensLeft::new(text, tokens);
-    check_conditionals(item.attributes(), tokens_left, instrument, findings)?;
+    let tokens_left = TokensLeft::new(text, tokens);
+    let attributes = item.attributes();
+    check_conditionals(attributes, tokens_left, instrument, findings)?;
+    check_branches(text, tokens, findings)?;
     match item {
-        Item::Variable(variable) => {
-            for attribute in &variable.attributes {
-                check_type(attribute, &mut tokens_left, findings)?;
-            }
+        Item::Variable(_) => {
+            let variable = gathered.variables;
+            gathered.variables = variable.saturating_add(1);
+            check_variable(attributes, variable, tokens_left, instrument, findings)
         }
-        Item::Command(command) => {
-            check_command(&command.attributes, tokens_left, commands, findings)?;
+        Item::Command(_) => {
+            let commands = &mut gathered.commands;
+            check_command(attributes, tokens_left, instrument, commands, findings)
         }
-        Item::Method(method) => check_method(
-            &method.attributes,
-            text,
-            tokens,
-            instrument,
-            findings,
-        )?,
-        Item::Menu(_) | Item::Collection(_) | Item::Array(_) => {}
+        Item::Method(_) => check_method(attributes, text, tokens, instrument, findings),
+        Item::Menu(_) | Item::Collection(_) | Item::Array(_) => Ok(()),
     }
-    Ok(())
 }
 
 /// The warnings of a description, by their lines, and on one line in the order of the lints. `text`
@@ -63,13 +87,20 @@ pub fn warnings(
     let items = items_of(alloc, tokens)?;
     let elements = checked.elements(alloc)?;
     let instrument = Instrument::of(alloc, &checked.items, &elements)?;
-    let mut commands = command_numbers(alloc);
+    let mut gathered = Gathered {
+        variables: 0,
+        commands: command_numbers(alloc),
+    };
     for (item, own) in checked.items.iter().zip(&items) {
-        check_item(item, text, own, &instrument, &mut commands, &mut findings)?;
+        check_item(item, text, own, &instrument, &mut gathered, &mut findings)?;
     }
+    let texts = texts_of(alloc, text, tokens)?;
+    check_languages(&texts, &mut findings)?;
+    check_signs(&texts, &mut findings)?;
     check_classes(text, tokens, &mut findings)?;
-    check_texts(text, tokens, &mut findings)?;
+    check_abort_methods(text, tokens, &mut findings)?;
     check_menus(text, &checked.items, &items, &mut findings)?;
+    check_entries(text, &checked.items, &items, &mut findings)?;
     check_uses(text, tokens, &checked.items, &items, &mut findings)?;
     findings.sorted()
 }

@@ -1,156 +1,195 @@
-//! The languages of texts: bars that open none, and a language that most other texts have.
+//! The languages of texts: bars that open none, codes that are none, languages that are there
+//! twice, without words or with other choices, and one that most other texts have.
 
-use edd_lexer::token::{Token, TokenKind};
+use crate::texts::Spoken;
+use crate::variants::{Variant, Variants, variants_of};
 use edd_lints::lint::Lint;
-use edd_lints::tokens_left::{Mark, mark_of};
+use edd_lints::tokens_left::Mark;
 use edd_lints::warning::Findings;
 use std::alloc::{AllocError, Global};
 use std::collections::{BTreeMap, BTreeSet};
 
-/// A text: strings that follow each other are one.
-#[derive(Drop)]
-struct Spoken<'a> {
-    /// Of its first string.
-    at: Mark<'a>,
-    /// The insides of its strings, joined.
-    raw: Vec<u8>,
+/// The codes of languages, of two letters, as ISO 639-1 has them.
+const CODES: [&str; 8] = [
+    "aa ab ae af ak am an ar as av ay az ba be bg bh bi bm bn bo br bs ca ce ch co",
+    "cr cs cu cv cy da de dv dz ee el en eo es et eu fa ff fi fj fo fr fy ga gd gl",
+    "gn gu gv ha he hi ho hr ht hu hy hz ia id ie ig ii ik io is it iu ja jv ka kg",
+    "ki kj kk kl km kn ko kr ks ku kv kw ky la lb lg li ln lo lt lu lv mg mh mi mk",
+    "ml mn mr ms mt my na nb nd ne ng nl nn no nr nv ny oc oj om or os pa pi pl ps",
+    "pt qu rm rn ro ru rw sa sc sd se sg si sk sl sm sn so sq sr ss st su sv sw ta",
+    "te tg th ti tk tl tn to tr ts tt tw ty ug uk ur uz ve vi vo wa wo xh yi yo za",
+    "zh zu",
+];
+
+// A code as text.
+fn code_text(code: &[u8]) -> &str {
+    str::from_utf8(code).unwrap_or("en")
 }
 
-// The length of the code here, where a bar follows it.
-fn code_len(here: &[u8]) -> Option<usize> {
-    match here {
-        [b'a'..=b'z', b'a'..=b'z', b'|', ..] => Some(2),
-        [b'0'..=b'9', b'0'..=b'9', b'0'..=b'9', b'|', ..] => Some(3),
-        [
-            b'a'..=b'z',
-            b'a'..=b'z',
-            b' ',
-            b'a'..=b'z',
-            b'a'..=b'z',
-            b'|',
-            ..
-        ] => Some(5),
-        _ => None,
+// The language of a code: that of its country is left out.
+fn language_of(code: &[u8]) -> &str {
+    match code.split_first() {
+        Some((b'0'..=b'9', _)) => code_text(code),
+        _ => code_text(code.get(..2).unwrap_or(code)),
     }
 }
 
-// The inside of a string.
-fn inside<'a>(text: &'a [u8], token: &Token) -> &'a [u8] {
-    let start = (token.start as usize).saturating_add(1);
-    let end = (token.end as usize).saturating_sub(1);
-    if end < start || text.len() < end {
-        return b"";
-    }
-    &text[start..end]
+fn is_number(code: &[u8]) -> bool {
+    matches!(code.first(), Some(b'0'..=b'9'))
 }
 
-// Adds a string to the text that it belongs to.
-fn push_string<'a>(
-    alloc: Global,
-    all: &mut Vec<Spoken<'a>>,
-    text: &'a [u8],
-    token: &Token,
-    goes_on: bool,
-) -> Result<(), AllocError> {
-    if goes_on {
-        if let Some(last) = all.last_mut() {
-            return last.raw.extend_from_slice(inside(text, token));
+// Whether a row of codes has this one.
+fn has_code(row: &str, language: &str) -> bool {
+    row.split(' ').any(|one| one == language)
+}
+
+fn is_language(code: &[u8]) -> bool {
+    let language = language_of(code);
+    is_number(code) || CODES.iter().any(|row| has_code(row, language))
+}
+
+// The first language of a text that some rule is broken by, where there is one.
+#[derive(Clone, Copy)]
+struct Wrong<'r> {
+    repeated: Option<&'r str>,
+    unknown: Option<&'r str>,
+    empty: Option<&'r str>,
+}
+
+// Whether words are more than spaces.
+fn has_sign(words: &[u8]) -> bool {
+    words.iter().any(|byte| *byte != b' ')
+}
+
+// What is wrong with the languages of a text, of which a reader needs one each.
+fn wrong_in<'r>(alloc: Global, variants: &Variants<'r>) -> Result<Wrong<'r>, AllocError> {
+    let mut seen = BTreeSet::new(alloc);
+    let mut wrong = Wrong {
+        repeated: None,
+        unknown: None,
+        empty: None,
+    };
+    let has_words = variants.all.iter().any(|variant| has_sign(variant.words));
+    for variant in &variants.all {
+        let code = code_text(variant.code);
+        if seen.contains(&code) {
+            wrong.repeated = wrong.repeated.or(Some(code));
+            continue;
+        }
+        seen.insert(code)?;
+        if !is_language(variant.code) {
+            wrong.unknown = wrong.unknown.or(Some(code));
+        }
+        if has_words && !has_sign(variant.words) {
+            wrong.empty = wrong.empty.or(Some(code));
         }
     }
-    let mut raw = Vec::new(alloc);
-    raw.extend_from_slice(inside(text, token))?;
-    let at = mark_of(text, token);
-    all.push(Spoken { at, raw })?;
+    Ok(wrong)
+}
+
+// The languages of a text by themselves.
+fn check_variants(
+    variants: &Variants<'_>,
+    at: Mark<'_>,
+    findings: &mut Findings,
+) -> Result<(), AllocError> {
+    let alloc = findings.alloc;
+    let wrong = wrong_in(alloc, variants)?;
+    if let Some(code) = wrong.repeated {
+        let message = format!(in alloc; "{code} is twice in this text")?;
+        findings.add(Lint::RepeatedLanguage, at, message)?;
+    }
+    if let Some(code) = wrong.empty {
+        let message = format!(in alloc; "this text has no words in {code}")?;
+        findings.add(Lint::EmptyLanguage, at, message)?;
+    }
+    if let Some(code) = wrong.unknown {
+        let message = format!(in alloc; "{code} is no code of a language")?;
+        findings.add(Lint::UnknownLanguage, at, message)?;
+    }
     Ok(())
 }
 
-// All texts of a description.
-fn spoken_in<'a>(
+// How many choices words have: they are parted by semicolons.
+fn choices_in(words: &[u8]) -> usize {
+    let mut count = 1usize;
+    for byte in words {
+        if *byte == b';' {
+            count = count.saturating_add(1);
+        }
+    }
+    count
+}
+
+// A language with another number of choices than the first one.
+fn check_choices(
+    variants: &Variants<'_>,
+    at: Mark<'_>,
+    findings: &mut Findings,
+) -> Result<(), AllocError> {
+    let Some(first) = variants.all.first() else {
+        return Ok(());
+    };
+    let count = choices_in(first.words);
+    for variant in &variants.all {
+        let other = choices_in(variant.words);
+        if other != count {
+            let (one, two) = (code_text(first.code), code_text(variant.code));
+            let alloc = findings.alloc;
+            let message = format!(in alloc; "{count} choices in {one}, but {other} in {two}")?;
+            return findings.add(Lint::UnevenChoices, at, message);
+        }
+    }
+    Ok(())
+}
+
+// The languages of a text, where it has more than one, and whether one is a number.
+fn languages_of<'r>(
     alloc: Global,
-    text: &'a [u8],
-    tokens: &[Token],
-) -> Result<Vec<Spoken<'a>>, AllocError> {
-    let mut all = Vec::new(alloc);
-    let mut goes_on = false;
-    for token in tokens {
-        let is_string = token.kind == TokenKind::String;
-        if is_string {
-            push_string(alloc, &mut all, text, token, goes_on)?;
-        }
-        goes_on = is_string;
+    variants: &Variants<'r>,
+) -> Result<(BTreeSet<&'r str>, bool), AllocError> {
+    let mut languages = BTreeSet::new(alloc);
+    let mut has_number = false;
+    for variant in &variants.all {
+        has_number = has_number || is_number(variant.code);
+        languages.insert(language_of(variant.code))?;
     }
-    Ok(all)
-}
-
-// What the bars of a text open.
-#[derive(Drop)]
-struct Languages {
-    codes: BTreeSet<String>,
-    has_stray_bar: bool,
-}
-
-// A code as text. English is what has none.
-fn code_text(alloc: Global, code: &[u8]) -> Result<String, AllocError> {
-    String::from_str(alloc, str::from_utf8(code).unwrap_or("en"))
-}
-
-// The languages of a text. A backslash and the byte after it are passed together.
-fn languages_of(alloc: Global, raw: &[u8]) -> Result<Languages, AllocError> {
-    let mut codes = BTreeSet::new(alloc);
-    let mut has_stray_bar = false;
-    let mut passed = 0usize;
-    for (at, byte) in raw.iter().enumerate() {
-        if at < passed {
-            continue;
-        }
-        if *byte == b'\\' {
-            passed = at.saturating_add(2);
-        } else if *byte == b'|' {
-            match code_len(&raw[at + 1..]) {
-                Some(len) => {
-                    let behind = raw[at + 1..].get(..len).unwrap_or(b"");
-                    codes.insert(code_text(alloc, behind)?)?;
-                    passed = at.saturating_add(len).saturating_add(2);
-                }
-                None => has_stray_bar = true,
-            }
-        } else if at == 0 {
-            codes.insert(String::from_str(alloc, "en")?)?;
-        }
-    }
-    Ok(Languages {
-        codes,
-        has_stray_bar,
-    })
+    Ok((languages, has_number))
 }
 
 // How many texts of more than one language there are, and how many of them have each language.
 #[derive(Drop)]
-struct Counts {
+struct Counts<'r> {
     texts: usize,
-    of_language: BTreeMap<String, usize>,
+    of_language: BTreeMap<&'r str, usize>,
 }
 
-impl Counts {
-    fn add(&mut self, alloc: Global, languages: &Languages) -> Result<(), AllocError> {
-        if languages.codes.len() < 2 {
+impl<'r> Counts<'r> {
+    fn new(alloc: Global) -> Counts<'r> {
+        Counts {
+            texts: 0,
+            of_language: BTreeMap::new(alloc),
+        }
+    }
+
+    fn add(&mut self, languages: &BTreeSet<&'r str>) -> Result<(), AllocError> {
+        if languages.len() < 2 {
             return Ok(());
         }
         self.texts = self.texts.saturating_add(1);
-        for code in &languages.codes {
-            let key = String::from_str(alloc, code.as_str())?;
-            let count = self.of_language.entry(key)?.or_insert(0usize);
+        for code in languages {
+            let count = self.of_language.entry(*code)?.or_insert(0usize);
             *count = count.saturating_add(1);
         }
         Ok(())
     }
 
     // The languages that more than half of the texts have.
-    fn usual(&self, alloc: Global) -> Result<Vec<&str>, AllocError> {
+    fn usual(&self, alloc: Global) -> Result<Vec<&'r str>, AllocError> {
         let mut usual = Vec::new(alloc);
         for (code, count) in &self.of_language {
             if self.texts / 2 < *count {
-                usual.push(code.as_str())?;
+                usual.push(*code)?;
             }
         }
         Ok(usual)
@@ -159,15 +198,15 @@ impl Counts {
 
 fn check_missing(
     at: Mark<'_>,
-    languages: &Languages,
+    languages: &BTreeSet<&str>,
     usual: &[&str],
     findings: &mut Findings,
 ) -> Result<(), AllocError> {
-    if languages.codes.len() < 2 {
+    if languages.len() < 2 {
         return Ok(());
     }
     for code in usual {
-        if !languages.codes.contains(*code) {
+        if !languages.contains(code) {
             let alloc = findings.alloc;
             let message = format!(in alloc; "this text lacks {code}, which most texts have")?;
             findings.add(Lint::MissingLanguage, at, message)?;
@@ -176,30 +215,36 @@ fn check_missing(
     Ok(())
 }
 
-/// The texts of a description.
-pub fn check_texts(
-    text: &[u8],
-    tokens: &[Token],
-    findings: &mut Findings,
-) -> Result<(), AllocError> {
+/// The languages of the texts of a description. Those with codes of three digits are compared
+/// with each other, and those without with each other.
+pub fn check_languages(texts: &[Spoken<'_>], findings: &mut Findings) -> Result<(), AllocError> {
     let alloc = findings.alloc;
-    let mut counts = Counts {
-        texts: 0,
-        of_language: BTreeMap::new(alloc),
-    };
+    let mut lettered = Counts::new(alloc);
+    let mut numbered = Counts::new(alloc);
     let mut all = Vec::new(alloc);
-    for spoken in &spoken_in(alloc, text, tokens)? {
-        let languages = languages_of(alloc, &spoken.raw)?;
-        if languages.has_stray_bar {
+    for spoken in texts {
+        let variants = variants_of(alloc, &spoken.raw)?;
+        if variants.has_stray_bar {
             let message = String::from_str(alloc, "a bar in this text opens no language")?;
             findings.add(Lint::StrayBar, spoken.at, message)?;
         }
-        counts.add(alloc, &languages)?;
-        all.push((spoken.at, languages))?;
+        check_variants(&variants, spoken.at, findings)?;
+        if spoken.is_choices {
+            check_choices(&variants, spoken.at, findings)?;
+        }
+        let (languages, has_number) = languages_of(alloc, &variants)?;
+        if has_number {
+            numbered.add(&languages)?;
+        } else {
+            lettered.add(&languages)?;
+        }
+        all.push((spoken.at, languages, has_number))?;
     }
-    let usual = counts.usual(alloc)?;
-    for (at, languages) in &all {
-        check_missing(*at, languages, &usual, findings)?;
+    let letters = lettered.usual(alloc)?;
+    let numbers = numbered.usual(alloc)?;
+    for (at, languages, has_number) in &all {
+        let usual = if *has_number { &numbers } else { &letters };
+        check_missing(*at, languages, usual, findings)?;
     }
     Ok(())
 }

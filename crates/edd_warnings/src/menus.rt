@@ -1,12 +1,12 @@
 //! Menus that contain themselves.
 
+use crate::entries::entries_of;
 use crate::unused::name_of_item;
 use edd_lexer::token::Token;
 use edd_lints::lint::Lint;
 use edd_lints::tokens_left::{Mark, TokensLeft};
 use edd_lints::warning::Findings;
-use edd_syntax::cond::{Arm, Cond};
-use edd_syntax::item::{Attribute, Item, MenuEntry};
+use edd_syntax::item::{Attribute, Item};
 use edd_syntax::numbers::ItemNo;
 use edd_syntax::reference::Target;
 use edd_syntax::symbols::Keyword;
@@ -33,55 +33,6 @@ struct Menu<'a> {
     passed: usize,
 }
 
-#[cycle(entries)]
-fn push_inner(
-    c: &Cond<Target, MenuEntry<Target>>,
-    inner: &mut Vec<usize>,
-) -> Result<(), AllocError> {
-    match c {
-        Cond::Value(MenuEntry::Text(_)) => Ok(()),
-        Cond::Value(MenuEntry::Reference { to, .. }) => {
-            if let Target::Item(ItemNo::Menu(number)) = *to {
-                inner.push(usize::from(number.0))?;
-            }
-            Ok(())
-        }
-        Cond::If {
-            first,
-            otherwise,
-            ..
-        } => {
-            push_list(first, inner)?;
-            push_list(otherwise, inner)
-        }
-        Cond::Select { arms, .. } => push_arms(arms, inner),
-    }
-}
-
-#[cycle(entries)]
-fn push_list(
-    entries: &[Cond<Target, MenuEntry<Target>>],
-    inner: &mut Vec<usize>,
-) -> Result<(), AllocError> {
-    for c in entries {
-        push_inner(c, inner)?;
-    }
-    Ok(())
-}
-
-#[cycle(entries)]
-fn push_arms(
-    arms: &[Arm<Target, MenuEntry<Target>>],
-    inner: &mut Vec<usize>,
-) -> Result<(), AllocError> {
-    for arm in arms {
-        match arm {
-            Arm::Case { body, .. } | Arm::Default { body, .. } => push_list(body, inner)?,
-        }
-    }
-    Ok(())
-}
-
 // A menu that the walk has not reached.
 fn menu_of<'a>(
     alloc: Global,
@@ -91,9 +42,9 @@ fn menu_of<'a>(
     let mut tokens_left = tokens_left;
     let name = name_of_item(Keyword::Menu, &mut tokens_left);
     let mut inner = Vec::new(alloc);
-    for attribute in attributes {
-        if let Attribute::Items(entries) = attribute {
-            push_list(entries, &mut inner)?;
+    for entry in &entries_of(alloc, attributes)? {
+        if let Target::Item(ItemNo::Menu(number)) = entry.to {
+            inner.push(usize::from(number.0))?;
         }
     }
     Ok(Menu {

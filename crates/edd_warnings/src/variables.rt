@@ -1,7 +1,10 @@
 //! What is surely not meant in the type of a variable: values that it can't hold, and limits.
 
 use crate::enumerators::check_enumerators;
+use crate::formats::check_formats;
+use crate::steps::{Step, push_cond};
 use edd_lints::constants::{Known, Width, evaluate};
+use edd_lints::instrument::Instrument;
 use edd_lints::lint::Lint;
 use edd_lints::range::Range;
 use edd_lints::tokens_left::{Mark, TokensLeft, first_on};
@@ -11,7 +14,8 @@ use edd_syntax::expr::Expr;
 use edd_syntax::item::{Attribute, TypePart, TypeWord};
 use edd_syntax::numbers::Attr;
 use edd_syntax::reference::Target;
-use std::alloc::AllocError;
+use edd_syntax::types::VarType;
+use std::alloc::{AllocError, Global};
 
 /// A warning where a number is outside of the range of its variable.
 pub fn check_range(
@@ -197,9 +201,103 @@ fn check_option(
     check_constants(value, range, option_at(attr, line), findings)
 }
 
-/// The type of a variable, among its attributes.
+// All bits of the enumerators of a type; nothing where it has none.
+fn bits_of(alloc: Global, parts: &[TypePart<Target>]) -> Result<Option<i64>, AllocError> {
+    let mut steps = Vec::new(alloc);
+    for part in parts {
+        if let TypePart::Element(c) = part {
+            push_cond(c, &mut steps)?;
+        }
+    }
+    let mut bits = None;
+    for step in &steps {
+        if let Step::Value(enumerator) = step {
+            bits = Some(bits.unwrap_or(0) | enumerator.value);
+        }
+    }
+    Ok(bits)
+}
+
+// What is said of a default value that no enumerator names.
+fn unnamed(
+    number: i64,
+    variable: u16,
+    bits: Option<i64>,
+    instrument: &Instrument,
+    alloc: Global,
+) -> Result<Option<String>, AllocError> {
+    let is_of_bits = instrument.kind(variable) == Some(VarType::BitEnumerated);
+    match bits {
+        Some(bits) if is_of_bits && number & !bits != 0 => Ok(Some(format!(in alloc;
+            "{number} has bits that no enumerator names"
+        )?)),
+        _ if instrument.is_unlisted(variable, number) => {
+            let name = instrument.name_of(variable);
+            Ok(Some(format!(in alloc; "{number} is no enumerator of {name}")?))
+        }
+        _ => Ok(None),
+    }
+}
+
+// A default value, in all its branches, that no enumerator names.
+fn check_named(
+    part: &TypePart<Target>,
+    variable: u16,
+    bits: Option<i64>,
+    instrument: &Instrument,
+    findings: &mut Findings,
+) -> Result<(), AllocError> {
+    let TypePart::DefaultValue { line, value } = part else {
+        return Ok(());
+    };
+    let alloc = findings.alloc;
+    let mut steps = Vec::new(alloc);
+    push_cond(value, &mut steps)?;
+    for step in &steps {
+        let message = match (default_of(step), instrument.range(variable)) {
+            (Some(number), Some(range)) if range.holds(number) => {
+                unnamed(number, variable, bits, instrument, alloc)?
+            }
+            _ => None,
+        };
+        if let Some(message) = message {
+            let at = option_at(Attr::DefaultValue, *line).at;
+            findings.add(Lint::UnlistedValue, at, message)?;
+        }
+    }
+    Ok(())
+}
+
+// The constant that a step of an option has.
+fn default_of(step: &Step<'_, Expr<Target>>) -> Option<i64> {
+    match step {
+        Step::Value(e) => match evaluate(e, Width::Attribute) {
+            Known::Number(number) => Some(number),
+            Known::Traps(_) | Known::Nothing => None,
+        },
+        _ => None,
+    }
+}
+
+// The default values of a type that no enumerator names.
+fn check_defaults(
+    parts: &[TypePart<Target>],
+    variable: u16,
+    instrument: &Instrument,
+    findings: &mut Findings,
+) -> Result<(), AllocError> {
+    let bits = bits_of(findings.alloc, parts)?;
+    for part in parts {
+        check_named(part, variable, bits, instrument, findings)?;
+    }
+    Ok(())
+}
+
+/// The type of the variable with a number, among its attributes.
 pub fn check_type(
     attribute: &Attribute<Target>,
+    variable: u16,
+    instrument: &Instrument,
     tokens_left: &mut TokensLeft<'_>,
     findings: &mut Findings,
 ) -> Result<(), AllocError> {
@@ -216,5 +314,7 @@ pub fn check_type(
     let options = options_of(parts);
     check_limits(options, findings)?;
     check_default(options, findings)?;
-    check_enumerators(parts, range, tokens_left, findings)
+    check_defaults(parts, variable, instrument, findings)?;
+    check_formats(parts, findings)?;
+    check_enumerators(parts, range, *kind, tokens_left, findings)
 }

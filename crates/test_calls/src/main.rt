@@ -40,7 +40,6 @@ fn of_text(alloc: Global, kind: &str, text: &str) -> Result<String, AllocError> 
         "rows" => compiling::rows(alloc, text),
         "elements" => compiling::elements(alloc, text),
         "warnings" => warned::warnings_of_items(alloc, text),
-        "bodies" => warned::warnings_of_body(alloc, text),
         "messages" => warned::first_message(alloc, text),
         "lints" => warned::lint(alloc, text),
         "many" => json::many(alloc, text),
@@ -54,6 +53,8 @@ impl Answers for Calls {
         match kind {
             "repeated" => parsing::repeated(alloc, row.asked, text),
             "choices" => strings::choice(alloc, row.asked, text),
+            "bodies" => warned::warnings_of_body(alloc, row.asked, text),
+            "body_messages" => warned::message_of_body(alloc, row.asked, text),
             "steps" => compiling::steps(alloc, text, wanted),
             "lowered" => lowering::lowered(alloc, row.asked, text, wanted),
             "json" => json::parts(alloc, row.asked, text, wanted),

@@ -1,6 +1,6 @@
 //! `warnings`: of items from line 2 on, each warning's line, its word, its lint, and the line and the word
-//! of its other place. `bodies`: the same of a body from line 4 on. `messages`: the message of the
-//! first warning. `lints`: the lint of a name, or all of them.
+//! of its other place. `bodies`: the same of a body. `messages` and `body_messages`: the message of
+//! the first warning. `lints`: the lint of a name, or all of them.
 
 use edd_compiler::checked_of;
 use edd_lexer::lex;
@@ -9,9 +9,20 @@ use std::alloc::{AllocError, Global};
 
 const HEAD: &str = "MANUFACTURER 1 DEVICE_TYPE 2 DEVICE_REVISION 3 DD_REVISION 4\n";
 
-const BEFORE_BODY: &str =
+/// What is around a body: a small description, or where an `instrument` is asked one with variables
+/// of several types, an array and a command.
+const AROUND: (&str, &str) = (
     "VARIABLE a { TYPE INTEGER { MAX_VALUE r[1]; } } ARRAY OF VARIABLE r { ELEMENTS { 1, a; } }
-METHOD m { DEFINITION {\n";
+METHOD m { DEFINITION {\n",
+    "} }",
+);
+
+const INSTRUMENT: (&str, &str) = (
+    "VARIABLE a { TYPE INTEGER; } VARIABLE u { TYPE UNSIGNED_INTEGER (4); } VARIABLE r { HANDLING READ; TYPE INTEGER; }
+VARIABLE e { TYPE ENUMERATED { { 0, \"off\" } { 2, \"on\" } } } ARRAY OF VARIABLE f { ELEMENTS { 1, a; 2, e; 3, r; 4, u; } }
+COMMAND c { NUMBER 130; OPERATION READ; TRANSACTION 0 { } } METHOD m { DEFINITION {\n",
+    "} } METHOD n { DEFINITION { a = f[1]; } }",
+);
 
 // The warnings of a text; nothing of one that is refused.
 fn warnings_of(alloc: Global, text: &[u8]) -> Option<Vec<Warning>> {
@@ -71,9 +82,20 @@ pub fn warnings_of_items(alloc: Global, items: &str) -> Result<String, AllocErro
     }
 }
 
-pub fn warnings_of_body(alloc: Global, body: &str) -> Result<String, AllocError> {
-    let items = format!(in alloc; "{BEFORE_BODY}{body}\n}} }}")?;
+// The items of a body.
+fn items_around(alloc: Global, asked: &str, body: &str) -> Result<String, AllocError> {
+    let (before, after) = if asked == "instrument" { INSTRUMENT } else { AROUND };
+    format!(in alloc; "{before}{body}\n{after}")
+}
+
+pub fn warnings_of_body(alloc: Global, asked: &str, body: &str) -> Result<String, AllocError> {
+    let items = items_around(alloc, asked, body)?;
     warnings_of_items(alloc, items.as_str())
+}
+
+pub fn message_of_body(alloc: Global, asked: &str, body: &str) -> Result<String, AllocError> {
+    let items = items_around(alloc, asked, body)?;
+    first_message(alloc, items.as_str())
 }
 
 pub fn first_message(alloc: Global, items: &str) -> Result<String, AllocError> {

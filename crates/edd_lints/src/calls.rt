@@ -1,0 +1,154 @@
+//! Calls of functions: commands and transactions that are not there, and what can't be written.
+
+use crate::constants::{Known, Width, evaluate};
+use crate::instrument::variable_of;
+use crate::lint::Lint;
+use crate::stores::{check_assigned, check_stored};
+use crate::tokens_left::Mark;
+use crate::walk::Walk;
+use crate::warning::Findings;
+use edd_syntax::expr::{Argument, Expr};
+use edd_syntax::operators::Builtin;
+use edd_syntax::reference::Target;
+use std::alloc::AllocError;
+
+/// Whether a call of the function is a request.
+pub fn asks(function: Builtin) -> bool {
+    match function {
+        Builtin::PutMessage
+        | Builtin::Acknowledge
+        | Builtin::Delay
+        | Builtin::GetDevVarValue
+        | Builtin::SelectFromList
+        | Builtin::SendCommand
+        | Builtin::SendCommandTrans
+        | Builtin::SaveValues => true,
+        Builtin::IvarValue
+        | Builtin::LvarValue
+        | Builtin::Iassign
+        | Builtin::Lassign
+        | Builtin::Abort
+        | Builtin::ProcessAbort
+        | Builtin::AddAbortMethod => false,
+    }
+}
+
+// The number that an argument is in a method, where that is known.
+fn number_of_argument(arguments: &[Argument<Target>], place: usize) -> Option<i64> {
+    match arguments.get(place)? {
+        Argument::Value(e) => match evaluate(e, Width::Method) {
+            Known::Number(number) => Some(number),
+            Known::Traps(_) | Known::Nothing => None,
+        },
+        Argument::Text(_) => None,
+    }
+}
+
+// What an argument refers to.
+fn target_of_argument(arguments: &[Argument<Target>], place: usize) -> Option<Target> {
+    match arguments.get(place)? {
+        Argument::Value(Expr::Reference(to)) => Some(*to),
+        _ => None,
+    }
+}
+
+/// A call of a function.
+pub fn check_call(
+    function: Builtin,
+    arguments: &[Argument<Target>],
+    at: Mark<'_>,
+    walk: &mut Walk<'_>,
+    findings: &mut Findings,
+) -> Result<(), AllocError> {
+    match function {
+        Builtin::Iassign | Builtin::Lassign => check_iassign(arguments, at, walk, findings),
+        Builtin::SendCommand | Builtin::SendCommandTrans => {
+            check_command(arguments, at, walk, findings)
+        }
+        Builtin::GetDevVarValue => check_entered(arguments, at, walk, findings),
+        Builtin::Abort | Builtin::ProcessAbort => {
+            walk.acts = true;
+            Ok(())
+        }
+        Builtin::AddAbortMethod => {
+            walk.acts = true;
+            walk.has_abort_method = true;
+            Ok(())
+        }
+        _ => Ok(()),
+    }
+}
+
+// A store by a function.
+fn check_iassign(
+    arguments: &[Argument<Target>],
+    at: Mark<'_>,
+    walk: &mut Walk<'_>,
+    findings: &mut Findings,
+) -> Result<(), AllocError> {
+    let Some(to) = target_of_argument(arguments, 0) else {
+        return Ok(());
+    };
+    if let Some(Argument::Value(value)) = arguments.get(1) {
+        check_assigned(to, value, at, findings)?;
+        check_stored(to, value, at, walk, findings)?;
+    }
+    walk.write(to)
+}
+
+/// The commands up to this number may be those that every device of the protocol has.
+const LAST_COMMON: i64 = 127;
+
+// The lint of a command that is not declared.
+fn lint_of_command(command: i64) -> Lint {
+    if 0 <= command && command <= LAST_COMMON {
+        Lint::UndeclaredCommand
+    } else {
+        Lint::MissingCommand
+    }
+}
+
+// A command that the description does not have, or a transaction that its command does not have.
+fn check_command(
+    arguments: &[Argument<Target>],
+    at: Mark<'_>,
+    walk: &Walk<'_>,
+    findings: &mut Findings,
+) -> Result<(), AllocError> {
+    let Some(command) = number_of_argument(arguments, 0) else {
+        return Ok(());
+    };
+    let alloc = findings.alloc;
+    if walk.instrument.lacks_command(command) {
+        let message = format!(in alloc; "no command has the number {command}")?;
+        return findings.add(lint_of_command(command), at, message);
+    }
+    match number_of_argument(arguments, 1) {
+        Some(number) if walk.instrument.lacks_transaction(command, number) => {
+            let message = format!(in alloc; "the command {command} has no transaction {number}")?;
+            findings.add(Lint::MissingTransaction, at, message)
+        }
+        _ => Ok(()),
+    }
+}
+
+// A variable that a technician is asked for and can't write.
+fn check_entered(
+    arguments: &[Argument<Target>],
+    at: Mark<'_>,
+    walk: &Walk<'_>,
+    findings: &mut Findings,
+) -> Result<(), AllocError> {
+    let Some(variable) = target_of_argument(arguments, 1).and_then(variable_of) else {
+        return Ok(());
+    };
+    match walk.instrument.variable(variable) {
+        Some(facts) if facts.is_read_only => {
+            let name = facts.name.as_str();
+            let alloc = findings.alloc;
+            let message = format!(in alloc; "{name} can't be entered: its HANDLING is READ")?;
+            findings.add(Lint::UnwritableVariable, at, message)
+        }
+        _ => Ok(()),
+    }
+}

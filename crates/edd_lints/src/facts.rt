@@ -1,0 +1,64 @@
+//! What is known of one variable.
+
+use crate::range::Range;
+use edd_syntax::cond::Cond;
+use edd_syntax::item::{Attribute, TypePart, TypeWord, VariableDef};
+use edd_syntax::reference::Target;
+use edd_syntax::types::{Handling, VarType};
+use std::alloc::{AllocError, Global};
+
+/// What a variable is called and may hold.
+#[derive(Drop)]
+pub struct Facts {
+    pub name: String,
+    pub range: Option<Range>,
+    pub kind: Option<VarType>,
+    /// Whether its type has enumerators.
+    pub has_enumerators: bool,
+    /// Whether HANDLING is READ, under no condition.
+    pub is_read_only: bool,
+}
+
+impl Facts {
+    /// What is known of a variable.
+    pub fn of(alloc: Global, variable: &VariableDef<Target>) -> Result<Facts, AllocError> {
+        let mut facts = Facts {
+            name: String::from_str(alloc, variable.name.as_str())?,
+            range: None,
+            kind: None,
+            has_enumerators: false,
+            is_read_only: false,
+        };
+        for attribute in &variable.attributes {
+            facts.add(attribute);
+        }
+        Ok(facts)
+    }
+
+    fn add(&mut self, attribute: &Attribute<Target>) {
+        match attribute {
+            Attribute::TypeOf {
+                word: TypeWord::Known { kind, size },
+                parts,
+            } => {
+                self.range = Some(Range::of(*kind, *size));
+                self.kind = Some(*kind);
+                self.has_enumerators = parts
+                    .iter()
+                    .any(|part| matches!(part, TypePart::Element(_)));
+            }
+            Attribute::Handling(Cond::Value(Handling::Read)) => self.is_read_only = true,
+            _ => {}
+        }
+    }
+}
+
+/// The parts of a variable's type.
+pub fn type_parts(variable: &VariableDef<Target>) -> &[TypePart<Target>] {
+    for attribute in &variable.attributes {
+        if let Attribute::TypeOf { parts, .. } = attribute {
+            return parts;
+        }
+    }
+    &[]
+}

@@ -1,0 +1,147 @@
+//! Constants that what they are assigned to doesn't hold, and numbers of more than 32 bits.
+
+use crate::constants::{Known, Width, evaluate};
+use crate::instrument::variable_of;
+use crate::lint::Lint;
+use crate::range::Range;
+use crate::tokens_left::Mark;
+use crate::walk::Walk;
+use crate::warning::Findings;
+use edd_lexer::token::TokenKind;
+use edd_syntax::expr::Expr;
+use edd_syntax::operators::UnaryOperator;
+use edd_syntax::reference::Target;
+use std::alloc::AllocError;
+
+/// The greatest number that a method computes with.
+const GREATEST: u32 = 2_147_483_647;
+
+/// An expression without the parentheses around it.
+pub fn without_parentheses(e: &Expr<Target>) -> &Expr<Target> {
+    match e {
+        Expr::Parentheses(inner) => inner,
+        _ => e,
+    }
+}
+
+// The number that is stored. A plain number is the one that is written: of its 32 bits the variable
+// keeps those that it has.
+fn stored_number(value: &Expr<Target>, walk: &Walk<'_>) -> Option<i64> {
+    if let Expr::Literal(number) = without_parentheses(value) {
+        return Some(i64::from(*number));
+    }
+    match evaluate(value, walk.width) {
+        Known::Number(number) => Some(number),
+        Known::Traps(_) | Known::Nothing => None,
+    }
+}
+
+// Whether all bits of a number that was computed with 32 bits are kept.
+fn keeps_bits(range: Range, value: &Expr<Target>, walk: &Walk<'_>) -> bool {
+    let is_negated = matches!(
+        without_parentheses(value),
+        Expr::Unary(UnaryOperator::Minus, _)
+    );
+    let is_wide = range.high.saturating_sub(range.low) == i64::from(u32::MAX);
+    is_wide && !is_negated && walk.width == Width::Method
+}
+
+/// A constant that a variable can't hold, so that another number is kept, or that is none of its
+/// enumerators. `~` says that as many bits are meant as the variable has.
+pub fn check_stored(
+    to: Target,
+    value: &Expr<Target>,
+    at: Mark<'_>,
+    walk: &Walk<'_>,
+    findings: &mut Findings,
+) -> Result<(), AllocError> {
+    let Some(variable) = variable_of(to) else {
+        return Ok(());
+    };
+    if let Expr::Unary(UnaryOperator::Complement, _) = value {
+        return Ok(());
+    }
+    let (Some(range), Some(number)) = (walk.instrument.range(variable), stored_number(value, walk))
+    else {
+        return Ok(());
+    };
+    if range.holds(number) {
+        return check_listed(variable, number, "", at, walk, findings);
+    }
+    if keeps_bits(range, value, walk) {
+        return Ok(());
+    }
+    let Range { low, high } = range;
+    let alloc = findings.alloc;
+    let message = format!(in alloc;
+        "{number} is outside of the variable's {low} to {high}, so another number is kept"
+    )?;
+    findings.add(Lint::StoreOutOfRange, at, message)
+}
+
+/// A number that is none of a variable's enumerators.
+pub fn check_listed(
+    variable: u16,
+    number: i64,
+    what: &str,
+    at: Mark<'_>,
+    walk: &Walk<'_>,
+    findings: &mut Findings,
+) -> Result<(), AllocError> {
+    if !walk.instrument.is_unlisted(variable, number) {
+        return Ok(());
+    }
+    let name = walk.instrument.name_of(variable);
+    let alloc = findings.alloc;
+    let message = format!(in alloc; "{what}{number} is no enumerator of {name}")?;
+    findings.add(Lint::UnlistedValue, at, message)
+}
+
+/// Whether a value is the place that it is assigned to.
+pub fn is_itself(to: Target, value: &Expr<Target>) -> bool {
+    match without_parentheses(value) {
+        Expr::Reference(from) => *from == to,
+        _ => false,
+    }
+}
+
+/// An assignment of a variable or a local to itself.
+pub fn check_assigned(
+    to: Target,
+    value: &Expr<Target>,
+    at: Mark<'_>,
+    findings: &mut Findings,
+) -> Result<(), AllocError> {
+    if !is_itself(to, value) {
+        return Ok(());
+    }
+    let message = String::from_str(findings.alloc, "this assigns a value to itself")?;
+    findings.add(Lint::AssignedToItself, at, message)
+}
+
+/// A plain decimal number of a method that is another one in 32 bits. What is written with `0x`
+/// is meant as bits.
+pub fn check_wrapped(
+    value: &Expr<Target>,
+    walk: &Walk<'_>,
+    findings: &mut Findings,
+) -> Result<(), AllocError> {
+    let Expr::Literal(number) = value else {
+        return Ok(());
+    };
+    if walk.width == Width::Attribute || *number <= GREATEST {
+        return Ok(());
+    }
+    // No tokens are passed: this number is the next one of its kind.
+    let mut ahead = walk.tokens_left;
+    let at = ahead.to(TokenKind::Integer(*number));
+    if at.word.unwrap_or("0").starts_with('0') {
+        return Ok(());
+    }
+    let Known::Number(kept) = evaluate(value, walk.width) else {
+        return Ok(());
+    };
+    let alloc = findings.alloc;
+    let message = format!(in alloc; "{number} is {kept} here: methods compute with 32 bits")?;
+    findings.add(Lint::WrappedNumber, at, message)
+}

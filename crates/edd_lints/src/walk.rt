@@ -1,0 +1,112 @@
+//! A way through the trees of an item, with what they read, set and ask for.
+
+use crate::constants::Width;
+use crate::instrument::Instrument;
+use crate::tokens_left::TokensLeft;
+use edd_syntax::expr::Expr;
+use edd_syntax::reference::Target;
+use std::alloc::{AllocError, Global};
+use std::collections::BTreeSet;
+
+/// What an expression does with a place.
+#[derive(Clone, Copy)]
+pub enum Use {
+    Read(Target),
+    Write(Target),
+}
+
+/// A way through the trees of an item, in the order of the source.
+#[derive(Drop)]
+pub struct Walk<'a> {
+    pub tokens_left: TokensLeft<'a>,
+    pub width: Width,
+    /// The slots of a method that are read so far.
+    pub reads: BTreeSet<u8>,
+    /// Those that are set so far.
+    pub writes: BTreeSet<u8>,
+    /// Those that were read outside of loops when nothing had set them.
+    pub early: BTreeSet<u8>,
+    /// What was read and set, in the order of the source.
+    pub uses: Vec<Use>,
+    /// How many loops are open.
+    pub loops: usize,
+    /// Whether the host was asked for something so far.
+    pub asks: bool,
+    /// Whether something was set, asked for or ended so far.
+    pub acts: bool,
+    /// Whether an abort method was added so far.
+    pub has_abort_method: bool,
+    /// What is compared twice in one condition, as with both ends of a range.
+    pub ranged: Option<Target>,
+    /// The slot whose new value is computed.
+    pub assigned: Option<Target>,
+    /// The variables that the open switches are over.
+    pub selected: Vec<Option<u16>>,
+    pub instrument: &'a Instrument,
+}
+
+impl<'a> Walk<'a> {
+    pub fn new(
+        alloc: Global,
+        tokens_left: TokensLeft<'a>,
+        width: Width,
+        instrument: &'a Instrument,
+    ) -> Walk<'a> {
+        Walk {
+            tokens_left,
+            width,
+            reads: BTreeSet::new(alloc),
+            writes: BTreeSet::new(alloc),
+            early: BTreeSet::new(alloc),
+            uses: Vec::new(alloc),
+            loops: 0,
+            asks: false,
+            acts: false,
+            has_abort_method: false,
+            ranged: None,
+            assigned: None,
+            selected: Vec::new(alloc),
+            instrument,
+        }
+    }
+
+    /// Notes that a place is read.
+    pub fn read(&mut self, target: Target) -> Result<(), AllocError> {
+        if let Target::Local(slot) = target {
+            self.reads.insert(slot)?;
+            let is_known = self.writes.contains(&slot) || self.assigned == Some(target);
+            if self.loops == 0 && !is_known {
+                self.early.insert(slot)?;
+            }
+        }
+        self.uses.push(Use::Read(target))?;
+        Ok(())
+    }
+
+    /// Notes that a place is set.
+    pub fn write(&mut self, target: Target) -> Result<(), AllocError> {
+        if let Target::Local(slot) = target {
+            self.writes.insert(slot)?;
+        }
+        self.acts = true;
+        self.uses.push(Use::Write(target))?;
+        Ok(())
+    }
+
+    /// Takes a local as set where a comparison is in the place of an assignment to it.
+    pub fn expect(&mut self, e: &Expr<Target>) -> Result<(), AllocError> {
+        if let Expr::Reference(Target::Local(slot)) = e {
+            self.writes.insert(*slot)?;
+        }
+        Ok(())
+    }
+
+    /// Notes that a place is changed from what it was.
+    pub fn change(&mut self, target: Target) -> Result<(), AllocError> {
+        let before = self.assigned;
+        self.assigned = Some(target);
+        self.read(target)?;
+        self.assigned = before;
+        self.write(target)
+    }
+}

@@ -1,0 +1,86 @@
+//! The labels of a `switch`, and what stands between two statements.
+
+use crate::flow::Flow;
+use crate::said::{pass, say};
+use edd_lints::lint::Lint;
+use edd_lints::operands::check_label;
+use edd_lints::tokens_left::Mark;
+use edd_lints::walk::Walk;
+use edd_lints::warning::Findings;
+use edd_syntax::reference::Target;
+use edd_syntax::stmt::{Part, Stmt};
+use edd_syntax::symbols::{Keyword, Symbol};
+use std::alloc::AllocError;
+
+/// Whether bytes between two tokens have a comment.
+pub fn has_comment(gap: &[u8]) -> bool {
+    gap.iter()
+        .any(|byte| !matches!(*byte, b' ' | b'\t' | b'\r' | b'\n'))
+}
+
+/// A label after statements that go on with it. Where it has no more than a `break` nothing is
+/// lost, and a comment says that it is meant.
+pub fn check_fall(
+    flow: Flow<'_>,
+    next: Option<&Part<Target>>,
+    walk: &Walk<'_>,
+    findings: &mut Findings,
+) -> Result<(), AllocError> {
+    let is_short = matches!(
+        next,
+        Some(Part::Statement(Stmt::Break { .. })) | Some(Part::Statement(Stmt::Return))
+    );
+    let is_remarked = flow.is_remarked || has_comment(walk.tokens_left.gap());
+    if flow.ends.is_some() || is_short || is_remarked {
+        return Ok(());
+    }
+    let message = "the case before this one goes on here: a break is missing, or a comment";
+    say(
+        Lint::FallThrough,
+        walk.tokens_left.next(),
+        message,
+        findings,
+    )
+}
+
+/// A `;` between the head of a loop and the block that looks like its body.
+pub fn check_block_after(
+    head: Option<Mark<'_>>,
+    s: &Stmt<Target>,
+    findings: &mut Findings,
+) -> Result<(), AllocError> {
+    match (head, s) {
+        (Some(at), Stmt::Block(_)) => {
+            let message = "a ; stands between this and the block after it";
+            say(Lint::EmptyBranch, at, message, findings)
+        }
+        _ => Ok(()),
+    }
+}
+
+// The label of a case.
+fn check_case(label: i64, walk: &mut Walk<'_>, findings: &mut Findings) -> Result<(), AllocError> {
+    let at = walk.tokens_left.to_word(Keyword::MethodCase);
+    pass(walk, Symbol::Colon);
+    match walk.selected.last().copied().flatten() {
+        Some(variable) => check_label(variable, label, at, walk, findings),
+        None => Ok(()),
+    }
+}
+
+/// A label, which is passed.
+pub fn check_label_part(
+    part: &Part<Target>,
+    walk: &mut Walk<'_>,
+    findings: &mut Findings,
+) -> Result<(), AllocError> {
+    match part {
+        Part::CaseLabel { label, .. } => check_case(*label, walk, findings),
+        Part::DefaultLabel { .. } => {
+            walk.tokens_left.to_word(Keyword::MethodDefault);
+            pass(walk, Symbol::Colon);
+            Ok(())
+        }
+        Part::Declare(_) | Part::Statement(_) => Ok(()),
+    }
+}

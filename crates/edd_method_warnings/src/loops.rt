@@ -1,0 +1,294 @@
+//! Loops that nothing ends, that never run, or that count away from their limits.
+
+use crate::flow::{Flow, GOES_ON};
+use crate::said::say;
+use edd_lints::constants::{Known, Width, evaluate, holds, is_literal};
+use edd_lints::lint::Lint;
+use edd_lints::operands::{referred, turned};
+use edd_lints::tokens_left::Mark;
+use edd_lints::walk::{Use, Walk};
+use edd_lints::warning::Findings;
+use edd_syntax::expr::Expr;
+use edd_syntax::numbers::ItemNo;
+use edd_syntax::operators::{Comparison, IncrementOperator, Operator};
+use edd_syntax::reference::Target;
+use edd_syntax::stmt::Stmt;
+use std::alloc::{AllocError, Global};
+use std::collections::BTreeSet;
+
+/// A loop: the places of its word and of its condition, the condition, and where in what was read
+/// and set its turns begin, and its condition begins and ends.
+#[derive(Clone, Copy)]
+pub struct Loop<'a, 'e> {
+    pub at: Mark<'a>,
+    pub test_at: Mark<'a>,
+    pub condition: Option<&'e Expr<Target>>,
+    /// Whether the condition comes after the body.
+    pub is_do: bool,
+    /// Whether the host is asked outside of the body.
+    pub asks: bool,
+    pub from: usize,
+    pub test: usize,
+    pub tested: usize,
+}
+
+// The number of a place among the slots and the variables. All elements of arrays are one place.
+fn place_of(target: Target) -> Option<u32> {
+    match target {
+        Target::Local(slot) => Some(u32::from(slot)),
+        Target::Item(ItemNo::Array(_)) => Some(ELEMENTS),
+        Target::Item(ItemNo::Variable(variable)) => {
+            Some(
+                u32::from(variable.0)
+                    .saturating_add(ELEMENTS)
+                    .saturating_add(1),
+            )
+        }
+        _ => None,
+    }
+}
+
+/// The place of all elements, after those of the slots.
+const ELEMENTS: u32 = 256;
+
+// The places that are read.
+fn places_read(alloc: Global, uses: &[Use]) -> Result<BTreeSet<u32>, AllocError> {
+    let mut places = BTreeSet::new(alloc);
+    for one in uses {
+        if let Use::Read(target) = one {
+            if let Some(place) = place_of(*target) {
+                places.insert(place)?;
+            }
+        }
+    }
+    Ok(places)
+}
+
+// Whether one of the places is set. A variable may be an element.
+fn sets(uses: &[Use], places: &BTreeSet<u32>) -> bool {
+    for one in uses {
+        if let Use::Write(target) = one {
+            let place = place_of(*target).unwrap_or(0);
+            if places.contains(&place) || (ELEMENTS < place && places.contains(&ELEMENTS)) {
+                return true;
+            }
+        }
+    }
+    false
+}
+
+// Whether nothing that the condition reads is set in the loop.
+fn is_unchanging(
+    alloc: Global,
+    looped: &Loop<'_, '_>,
+    walk: &Walk<'_>,
+) -> Result<bool, AllocError> {
+    let test = walk.uses.get(looped.test..looped.tested).unwrap_or(&[]);
+    let turns = walk.uses.get(looped.from..).unwrap_or(&[]);
+    let places = places_read(alloc, test)?;
+    Ok(!places.is_empty() && !sets(turns, &places))
+}
+
+/// What is known of the condition of a loop. A missing one always holds.
+fn known_of(condition: Option<&Expr<Target>>) -> Known {
+    match condition {
+        None => Known::Number(1),
+        Some(e) => evaluate(e, Width::Method),
+    }
+}
+
+// A condition that never changes. A plain number says so on purpose.
+fn say_constant(
+    looped: &Loop<'_, '_>,
+    number: i64,
+    findings: &mut Findings,
+) -> Result<(), AllocError> {
+    match looped.condition {
+        Some(e) if !is_literal(e) => {
+            let message = format!(in findings.alloc; "this condition is always {number}")?;
+            findings.add(Lint::ConstantCondition, looped.test_at, message)
+        }
+        _ => Ok(()),
+    }
+}
+
+/// A loop with its body.
+pub fn check_loop<'a>(
+    looped: &Loop<'a, '_>,
+    body: Flow<'a>,
+    walk: &Walk<'_>,
+    findings: &mut Findings,
+) -> Result<Flow<'a>, AllocError> {
+    let leaves = body.leaves || looped.asks;
+    let stays = !body.breaks && !leaves;
+    let mut ends = None;
+    match known_of(looped.condition) {
+        Known::Number(0) if !looped.is_do => {
+            say(Lint::DeadLoop, looped.at, "this loop never runs", findings)?;
+        }
+        Known::Number(0) => say_constant(looped, 0, findings)?,
+        Known::Number(number) => {
+            if !body.breaks {
+                ends = Some(looped.at);
+            }
+            if stays {
+                let message = "nothing ends this loop: it has no break, no return and no request";
+                say(Lint::EndlessLoop, looped.at, message, findings)?;
+            } else {
+                say_constant(looped, number, findings)?;
+            }
+        }
+        Known::Nothing if stays && is_unchanging(findings.alloc, looped, walk)? => {
+            let message = "nothing in this loop changes what its condition reads";
+            say(Lint::EndlessLoop, looped.at, message, findings)?;
+        }
+        Known::Traps(_) | Known::Nothing => {}
+    }
+    Ok(Flow {
+        ends,
+        leaves,
+        ..GOES_ON
+    })
+}
+
+// The place that the first part of a `for` sets to a constant.
+fn start_of(initial: &Option<Expr<Target>>) -> Option<(Target, i64)> {
+    match initial {
+        Some(Expr::Assign(to, value)) => match evaluate(value, Width::Method) {
+            Known::Number(number) => Some((*to, number)),
+            Known::Traps(_) | Known::Nothing => None,
+        },
+        _ => None,
+    }
+}
+
+// What the condition of a `for` compares, as if that came first.
+fn limit_of(condition: &Option<Expr<Target>>) -> Option<(Target, Comparison, &Expr<Target>)> {
+    match condition {
+        Some(Expr::Compare(comparison, first, second)) => match referred(first) {
+            Some(target) => Some((target, *comparison, second)),
+            None => Some((referred(second)?, turned(*comparison), first)),
+        },
+        _ => None,
+    }
+}
+
+// Whether a constant is added or taken away: 1 or -1.
+fn sign_of(operator: Operator, value: &Expr<Target>) -> Option<i64> {
+    let Known::Number(number) = evaluate(value, Width::Method) else {
+        return None;
+    };
+    match operator {
+        Operator::Add if 0 < number => Some(1),
+        Operator::Add if number < 0 => Some(-1),
+        Operator::Subtract if 0 < number => Some(-1),
+        Operator::Subtract if number < 0 => Some(1),
+        _ => None,
+    }
+}
+
+// The same of what a place gets that is added to or taken from what it was.
+fn counted_by(place: Target, value: &Expr<Target>) -> Option<i64> {
+    match value {
+        Expr::Binary(operator, first, second) if referred(first) == Some(place) => {
+            sign_of(*operator, second)
+        }
+        _ => None,
+    }
+}
+
+// The place that the third part of a `for` counts, and whether up or down: 1 or -1.
+fn step_of(update: &Option<Expr<Target>>) -> Option<(Target, i64)> {
+    match update {
+        Some(Expr::Increment(operator, to)) => match operator {
+            IncrementOperator::PreIncrement | IncrementOperator::PostIncrement => Some((*to, 1)),
+            IncrementOperator::PreDecrement | IncrementOperator::PostDecrement => Some((*to, -1)),
+        },
+        Some(Expr::CompoundAssign(operator, to, value)) => Some((*to, sign_of(*operator, value)?)),
+        Some(Expr::Assign(to, value)) => Some((*to, counted_by(*to, value)?)),
+        _ => None,
+    }
+}
+
+// Whether a step leads away from the limit.
+fn leads_away(comparison: Comparison, step: i64) -> bool {
+    match comparison {
+        Comparison::Less | Comparison::LessOrEqual => step < 0,
+        Comparison::Greater | Comparison::GreaterOrEqual => 0 < step,
+        Comparison::Equal | Comparison::NotEqual => false,
+    }
+}
+
+// Whether what was read and set sets a place.
+fn is_set(uses: &[Use], place: Target) -> bool {
+    uses.iter().any(|one| matches!(one, Use::Write(target) if *target == place))
+}
+
+// Whether a `for` with this condition and this third part counts to a constant.
+fn only_counts(condition: &Option<Expr<Target>>, update: &Option<Expr<Target>>) -> bool {
+    match (limit_of(condition), step_of(update)) {
+        (Some((place, _, limit)), Some((counted, _))) => {
+            counted == place && matches!(evaluate(limit, Width::Method), Known::Number(_))
+        }
+        _ => false,
+    }
+}
+
+/// Whether a loop has no body, or an `else` no statement, and it is not said of itself.
+pub fn has_no_body(s: &Stmt<Target>) -> bool {
+    match s {
+        Stmt::While(_, body) | Stmt::IfElse(_, _, body) => matches!(**body, Stmt::Empty),
+        Stmt::For {
+            condition,
+            update,
+            body,
+            ..
+        } => matches!(**body, Stmt::Empty) && !only_counts(condition, update),
+        _ => false,
+    }
+}
+
+/// The head of a `for`: whether it begins behind its limit, whether it counts away from it, and
+/// whether it counts to a constant and does no more. `body` is where in what was read and set the
+/// body begins.
+pub fn check_head(
+    at: Mark<'_>,
+    head: (
+        &Option<Expr<Target>>,
+        &Option<Expr<Target>>,
+        &Option<Expr<Target>>,
+    ),
+    body: usize,
+    is_empty: bool,
+    walk: &Walk<'_>,
+    findings: &mut Findings,
+) -> Result<(), AllocError> {
+    let (initial, condition, update) = head;
+    let Some((place, comparison, limit)) = limit_of(condition) else {
+        return Ok(());
+    };
+    if let (Some((started, start)), Known::Number(end)) = (
+        start_of(initial),
+        evaluate(limit, Width::Method),
+    ) {
+        if started == place && !holds(comparison, start, end) {
+            let alloc = findings.alloc;
+            let message = format!(in alloc; "this loop never runs: it begins at {start}")?;
+            return findings.add(Lint::DeadLoop, at, message);
+        }
+    }
+    match step_of(update) {
+        Some((counted, step)) if counted == place && leads_away(comparison, step) => {
+            if is_set(walk.uses.get(body..).unwrap_or(&[]), place) {
+                return Ok(());
+            }
+            let message = "this loop counts away from its limit";
+            say(Lint::BackwardLoop, at, message, findings)
+        }
+        _ if is_empty && only_counts(condition, update) => {
+            let message = "this loop only counts: a ; stands right after its head";
+            say(Lint::EmptyBranch, at, message, findings)
+        }
+        _ => Ok(()),
+    }
+}

@@ -1,0 +1,95 @@
+//! Formats that mean nothing.
+
+use crate::steps::{Step, push_cond};
+use edd_lints::lint::Lint;
+use edd_lints::tokens_left::first_on;
+use edd_lints::warning::Findings;
+use edd_syntax::cond::Cond;
+use edd_syntax::item::TypePart;
+use edd_syntax::numbers::Attr;
+use edd_syntax::reference::Target;
+use edd_syntax::text::Text;
+use std::alloc::AllocError;
+
+// What a format has before its letter.
+#[derive(Clone, Copy, PartialEq, Eq)]
+enum Before {
+    Signs,
+    Width,
+    Precision,
+    Letter,
+}
+
+// What comes behind a byte of a format, where it fits there.
+fn next(before: Before, byte: u8) -> Option<Before> {
+    match (before, byte) {
+        (Before::Signs, b'-' | b'+' | b' ' | b'#' | b'0') => Some(Before::Signs),
+        (Before::Signs | Before::Width, b'0'..=b'9') => Some(Before::Width),
+        (Before::Signs | Before::Width, b'.') => Some(Before::Precision),
+        (Before::Precision, b'0'..=b'9') => Some(Before::Precision),
+        (
+            Before::Signs | Before::Width | Before::Precision,
+            b'd' | b'i' | b'u' | b'o' | b'x' | b'X',
+        ) => Some(Before::Letter),
+        _ => None,
+    }
+}
+
+// Whether a text is a format of a whole number: signs, a width, a precision, and a letter.
+fn is_format(text: &str) -> bool {
+    let mut before = Before::Signs;
+    for byte in text.as_bytes() {
+        match next(before, *byte) {
+            Some(behind) => before = behind,
+            None => return false,
+        }
+    }
+    before == Before::Letter
+}
+
+fn check_format(
+    attr: Attr,
+    line: u32,
+    format: &Cond<Target, Text>,
+    findings: &mut Findings,
+) -> Result<(), AllocError> {
+    let alloc = findings.alloc;
+    let mut steps = Vec::new(alloc);
+    push_cond(format, &mut steps)?;
+    for step in &steps {
+        match step {
+            Step::Value(Text::Quoted(text)) if !is_format(text.as_str()) => {
+                let message = String::from_str(
+                    alloc,
+                    "this is no format of a whole number, as 4d or 04x is",
+                )?;
+                findings.add(
+                    Lint::MeaninglessFormat,
+                    first_on(line, attr.word()),
+                    message,
+                )?;
+            }
+            _ => {}
+        }
+    }
+    Ok(())
+}
+
+/// The formats of a type.
+pub fn check_formats(
+    parts: &[TypePart<Target>],
+    findings: &mut Findings,
+) -> Result<(), AllocError> {
+    for part in parts {
+        match part {
+            TypePart::DisplayFormat { line, format } => {
+                check_format(Attr::DisplayFormat, *line, format, findings)?;
+            }
+            TypePart::EditFormat { line, format } => {
+                check_format(Attr::EditFormat, *line, format, findings)?;
+            }
+            _ => {}
+        }
+    }
+    Ok(())
+}

@@ -1,0 +1,201 @@
+//! What a message carries twice, and masks that its variables don't have.
+
+use edd_lints::instrument::{Instrument, variable_of};
+use edd_lints::lint::Lint;
+use edd_lints::tokens_left::{Mark, TokensLeft};
+use edd_lints::warning::Findings;
+use edd_syntax::cond::{Arm, Cond};
+use edd_syntax::item::{DataItem, TransactionPart};
+use edd_syntax::reference::Target;
+use edd_syntax::symbols::Keyword;
+use std::alloc::AllocError;
+use std::collections::BTreeMap;
+
+/// What a list has of a variable so far.
+#[derive(Clone, Copy)]
+struct Carried<'a> {
+    at: Mark<'a>,
+    /// The bits of its masks.
+    bits: u32,
+    /// Whether it is there without a mask, and not for information alone.
+    is_whole: bool,
+}
+
+/// A way through the messages of a command.
+#[derive(Drop)]
+struct Messages<'a, 'i> {
+    tokens_left: TokensLeft<'a>,
+    instrument: &'i Instrument,
+    is_reply: bool,
+}
+
+// A mask of a variable that was there with other masks.
+fn check_mask(
+    mask: u32,
+    bits: u32,
+    most: i64,
+    at: Mark<'_>,
+    findings: &mut Findings,
+) -> Result<(), AllocError> {
+    let alloc = findings.alloc;
+    if most < i64::from(mask) {
+        let message = format!(in alloc;
+            "{mask} has bits that its variable, of at most {most}, does not have"
+        )?;
+        findings.add(Lint::WideMask, at, message)?;
+    }
+    if mask & bits != 0 {
+        let message = String::from_str(
+            alloc,
+            "this mask has bits that one before it has, of the same variable",
+        )?;
+        findings.add(Lint::OverlappingMasks, at, message)?;
+    }
+    Ok(())
+}
+
+impl<'a> Messages<'a, '_> {
+    // A variable of a list.
+    fn check_variable(
+        &mut self,
+        line: u32,
+        variable: u16,
+        mask: Option<u32>,
+        is_info: bool,
+        list: &mut BTreeMap<u16, Carried<'a>>,
+        findings: &mut Findings,
+    ) -> Result<(), AllocError> {
+        let at = self
+            .tokens_left
+            .to_text_on(line, self.instrument.name_of(variable));
+        let before = list.get(&variable).copied();
+        let bits = before.map(|carried| carried.bits).unwrap_or(0);
+        if let (Some(mask), Some(range)) = (mask, self.instrument.range(variable)) {
+            let most = range.high.saturating_sub(range.low);
+            check_mask(mask, bits, most, at, findings)?;
+        }
+        let is_whole = mask.is_none() && !is_info;
+        let is_twice = match before {
+            Some(carried) if carried.is_whole => !is_info,
+            Some(carried) => is_whole && carried.bits != 0,
+            None => false,
+        };
+        match before {
+            Some(carried) if self.is_reply && is_twice => {
+                let name = self.instrument.name_of(variable);
+                let alloc = findings.alloc;
+                let message = format!(in alloc; "{name} is in this reply already")?;
+                findings.add_beside(Lint::RepeatedDataItem, at, message, carried.at)?;
+            }
+            _ => {}
+        }
+        list.insert(
+            variable,
+            Carried {
+                at,
+                bits: bits | mask.unwrap_or(0),
+                is_whole: is_whole || before.map(|carried| carried.is_whole).unwrap_or(false),
+            },
+        )?;
+        Ok(())
+    }
+
+    fn check_item(
+        &mut self,
+        item: &DataItem<Target>,
+        list: &mut BTreeMap<u16, Carried<'a>>,
+        findings: &mut Findings,
+    ) -> Result<(), AllocError> {
+        let DataItem::Variable {
+            line,
+            variable,
+            mask,
+            qualifiers,
+        } = item
+        else {
+            return Ok(());
+        };
+        match variable_of(*variable) {
+            Some(number) => {
+                self.check_variable(*line, number, *mask, qualifiers.info, list, findings)
+            }
+            None => Ok(()),
+        }
+    }
+}
+
+// An element of a list. The lists of its branches are lists of their own.
+#[cycle(messages)]
+fn check_element<'a>(
+    c: &Cond<Target, DataItem<Target>>,
+    messages: &mut Messages<'a, '_>,
+    list: &mut BTreeMap<u16, Carried<'a>>,
+    findings: &mut Findings,
+) -> Result<(), AllocError> {
+    match c {
+        Cond::Value(item) => messages.check_item(item, list, findings),
+        Cond::If {
+            first,
+            otherwise,
+            ..
+        } => {
+            check_list(first, messages, findings)?;
+            check_list(otherwise, messages, findings)
+        }
+        Cond::Select { arms, .. } => check_arms(arms, messages, findings),
+    }
+}
+
+#[cycle(messages)]
+fn check_list<'a>(
+    elements: &[Cond<Target, DataItem<Target>>],
+    messages: &mut Messages<'a, '_>,
+    findings: &mut Findings,
+) -> Result<(), AllocError> {
+    let mut list = BTreeMap::new(findings.alloc);
+    for c in elements {
+        check_element(c, messages, &mut list, findings)?;
+    }
+    Ok(())
+}
+
+#[cycle(messages)]
+fn check_arms<'a>(
+    arms: &[Arm<Target, DataItem<Target>>],
+    messages: &mut Messages<'a, '_>,
+    findings: &mut Findings,
+) -> Result<(), AllocError> {
+    for arm in arms {
+        match arm {
+            Arm::Case { body, .. } | Arm::Default { body, .. } => {
+                check_list(body, messages, findings)?;
+            }
+        }
+    }
+    Ok(())
+}
+
+/// The messages of a transaction, whose tokens begin after its word.
+pub fn check_messages(
+    parts: &[TransactionPart<Target>],
+    tokens_left: TokensLeft<'_>,
+    instrument: &Instrument,
+    findings: &mut Findings,
+) -> Result<(), AllocError> {
+    for part in parts {
+        let (items, is_reply) = match part {
+            TransactionPart::Request(items) => (items, false),
+            TransactionPart::Reply(items) => (items, true),
+        };
+        let mut messages = Messages {
+            tokens_left,
+            instrument,
+            is_reply,
+        };
+        if is_reply {
+            messages.tokens_left.to_word(Keyword::Reply);
+        }
+        check_list(items, &mut messages, findings)?;
+    }
+    Ok(())
+}
