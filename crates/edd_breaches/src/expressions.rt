@@ -3,7 +3,7 @@
 use edd_lexer::token::TokenKind;
 use edd_name_meanings::references::{argument_kinds, builtin};
 use edd_syntax::expr::{Argument, Expr};
-use edd_syntax::numbers::Kind;
+use edd_syntax::numbers::{KINDS, Kind};
 use edd_syntax::operators::{Builtin, Parameter};
 use edd_syntax::reference::Path;
 use edd_trails::breach::Rule;
@@ -23,7 +23,18 @@ fn may_name<'a>(walk: &Walk<'a>, kind: Kind, argument: &'a Argument<Path>) -> bo
     }
 }
 
+// Whether an argument calls a function that does not exist, of which nothing more is known.
+fn is_unknown_call(argument: &Argument<Path>) -> bool {
+    match argument {
+        Argument::Value(Expr::Call { function, .. }) => builtin(function.base.as_str()).is_none(),
+        _ => false,
+    }
+}
+
 fn may_fit<'a>(walk: &Walk<'a>, parameter: Parameter, argument: &'a Argument<Path>) -> bool {
+    if is_unknown_call(argument) {
+        return true;
+    }
     let is_text = matches!(argument, Argument::Text(_));
     match parameter {
         Parameter::Text => is_text,
@@ -115,7 +126,12 @@ pub fn walk_expr<'a>(
             arguments,
         } => {
             walk_function(walk, function, arguments, is_statement, *line)?;
-            walk_arguments(arguments, argument_kinds(function), walk)
+            let kinds: &[Kind] = if builtin(function.base.as_str()).is_none() {
+                &KINDS
+            } else {
+                argument_kinds(function)
+            };
+            walk_arguments(arguments, kinds, walk)
         }
     }
 }

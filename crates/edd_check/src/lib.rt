@@ -9,6 +9,7 @@
 mod accepted;
 mod choices;
 mod grammar;
+mod names;
 mod refusals;
 mod remarks;
 mod reports;

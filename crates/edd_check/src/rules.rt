@@ -1,11 +1,11 @@
 //! What is said of a description that breaks rules.
 
-use crate::sources::{BUILTINS, Source};
+use crate::names::{function_of, help_kind, help_unknown, named_kind};
+use crate::sources::Source;
 use edd_breaches::{Breach, Rule};
 use edd_name_meanings::fault::NameFault;
 use edd_reports::diagnostic::{Diagnostic, Finding};
 use edd_reports::nearest::Nearest;
-use edd_slips::help_of_left_out;
 use edd_syntax::limits::Limit;
 use edd_syntax::numbers::Kind;
 use edd_syntax::operators::{Builtin, Parameter};
@@ -96,13 +96,6 @@ fn function_help(alloc: Global, function: Builtin) -> Result<String, AllocError>
     Ok(text)
 }
 
-fn function_of(word: &str) -> Option<Builtin> {
-    BUILTINS
-        .iter()
-        .copied()
-        .find(|function| function.name() == word)
-}
-
 // What helps at a function with other arguments, at the brace of an enumerator, or at an option.
 fn mismatch_help(alloc: Global, word: &str) -> Result<String, AllocError> {
     match function_of(word) {
@@ -137,95 +130,18 @@ fn limit_help(limit: Limit) -> &'static str {
     }
 }
 
-// What is said of a word that other languages have, or EDDL elsewhere.
-fn foreign_help(word: &str) -> Option<&'static str> {
-    match word {
-        "TRUE" | "true" => Some("an expression has numbers alone: write 1"),
-        "FALSE" | "false" | "NULL" | "null" => Some("an expression has numbers alone: write 0"),
-        "METHODID" | "VARID" | "ITEM_ID" | "MEMBER_ID" => {
-            Some("an item is named by itself, without a function round it")
-        }
-        "fgetval"
-        | "igetval"
-        | "lgetval"
-        | "vassign"
-        | "fassign"
-        | "fvar_value"
-        | "dassign"
-        | "float_value" => {
-            Some("a variable is read by its name and set by =, or by ivar_value and iassign")
-        }
-        "acknowledge" => Some("ACKNOWLEDGE(text) asks the user to go on"),
-        "put_message" | "display" => Some("PUT_MESSAGE(text) shows a text"),
-        "delay" => Some("DELAY(seconds, text) waits"),
-        "get_dev_var_value" => Some("GET_DEV_VAR_VALUE(text, variable) asks for a value"),
-        "select_from_list" => Some("SELECT_FROM_LIST(text, \"a;b\") asks for a choice"),
-        "printf" | "print" => Some("PUT_MESSAGE(text) shows a text"),
-        "sizeof" => Some("a size is a number that is written out"),
-        _ => None,
-    }
-}
-
-// What helps where a name means nothing: where it does, or the nearest one.
-fn help_unknown(
-    alloc: Global,
-    source: &Source<'_>,
-    name: &str,
-    found: &mut Diagnostic,
-) -> Result<(), AllocError> {
-    if let Some(item) = source.item(name) {
-        if item.kind == Kind::Method {
-            let text = format!(in alloc;
-                "{name} is a METHOD, which no method calls; it is declared"
-            )?;
-            return found.help_at(source.span(item.name), text);
-        }
-    }
-    if let Some(number) = source.declared(name) {
-        let text = format!(in alloc; "{name} means nothing here, but is declared")?;
-        return found.help_at(source.span(number), text);
-    }
-    if let Some(text) = foreign_help(name).or(help_of_left_out(name)) {
-        return found.help(String::from_str(alloc, text)?);
-    }
-    if let Some(function) = function_of(name) {
-        let text = format!(in alloc;
-            "{} is a function: its arguments stand in ( )",
-            function.name()
-        )?;
-        return found.help(text);
-    }
-    let text = match source.nearest(alloc, name)? {
-        Some(near) => format!(in alloc; "{near} may be meant")?,
-        None => format!(in alloc; "nothing is declared with the name {name}")?,
-    };
-    found.help(text)
-}
-
 // The type that is nearest to a word.
 fn type_help(alloc: Global, word: &str) -> Result<String, AllocError> {
-    let mut nearest = Nearest::to(word);
+    let mut nearest = Nearest::to_word(word);
     for of in TYPES {
         nearest.look(alloc, of)?;
     }
-    match nearest.found {
+    match nearest.alone() {
         Some(near) => format!(in alloc; "{near} may be meant"),
         None => {
             let [first, second, third, last] = TYPES;
             format!(in alloc; "the types are {first}, {second}, {third} and {last}")
         }
-    }
-}
-
-// An item of a kind, with its article.
-fn named_kind(kind: Kind) -> &'static str {
-    match kind {
-        Kind::Variable => "a VARIABLE",
-        Kind::Command => "a COMMAND",
-        Kind::Menu => "a MENU",
-        Kind::Collection => "a COLLECTION",
-        Kind::Method => "a METHOD",
-        Kind::Array => "an ARRAY",
     }
 }
 
@@ -245,14 +161,10 @@ fn help_beside(
         };
         return found.help_at(source.span(earlier), text);
     }
-    if let Rule::WrongKind(name) = breach.rule {
-        if let Some(item) = source.item(name) {
-            let kind = named_kind(item.kind);
-            let text = format!(in alloc; "{name} is {kind}, which is declared")?;
-            return found.help_at(source.span(item.name), text);
-        }
+    match (breach.rule, breach.place) {
+        (Rule::WrongKind(name), Some(number)) => help_kind(alloc, source, name, number, found),
+        _ => Ok(()),
     }
-    Ok(())
 }
 
 fn missing_help(
@@ -328,8 +240,8 @@ pub fn diagnostic(
     if let Some(text) = own_help(alloc, source, breach)? {
         found.help(text)?;
     }
-    if let Rule::UnknownName(name) = breach.rule {
-        help_unknown(alloc, source, name, &mut found)?;
+    if let (Rule::UnknownName(name), Some(number)) = (breach.rule, breach.place) {
+        help_unknown(alloc, source, name, number, &mut found)?;
     }
     help_beside(alloc, source, breach, &mut found)?;
     Ok(found)

@@ -10,6 +10,7 @@ mod marks;
 pub mod nearest;
 pub mod outline;
 mod text;
+mod typing;
 pub mod words;
 
 use diagnostic::Diagnostic;

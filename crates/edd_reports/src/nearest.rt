@@ -1,18 +1,34 @@
 //! The nearest word to one that is misspelled.
+//!
+//! A name that is proposed has to come about by a slip of typing: one that is chosen on purpose, as
+//! `upper` beside `lower` or `out_min` beside `out_max`, would give a text that means another thing.
 
+use crate::typing::{Slips, slips};
 use std::alloc::{AllocError, Global};
 use strsim::levenshtein;
 
 /// The longest word that is compared, in bytes, so that many long names take no long time.
 const LONGEST: usize = 64;
 
+/// Among what a word is looked for.
+#[derive(Clone, Copy, PartialEq, Eq)]
+enum Among {
+    /// Names that a maker has chosen.
+    Names,
+    /// The words of the language, of which the grammar takes few in a place.
+    Words,
+}
+
 // How many edits are few enough for a word: none that gives another word.
-fn most_edits(word: &str) -> usize {
-    match word.len() {
-        0..=2 => 0,
-        3..=4 => 1,
-        5..=8 => 2,
-        _ => 3,
+fn most_edits(word: &str, among: Among) -> usize {
+    match (among, word.len()) {
+        (Among::Names, 0..=3) => 0,
+        (Among::Names, 4..=5) => 1,
+        (Among::Names, _) => 2,
+        (Among::Words, 0..=2) => 0,
+        (Among::Words, 3..=4) => 1,
+        (Among::Words, 5..=8) => 2,
+        (Among::Words, _) => 3,
     }
 }
 
@@ -20,37 +36,83 @@ fn most_edits(word: &str) -> usize {
 #[derive(Clone, Copy)]
 pub struct Nearest<'w, 'a> {
     word: &'w str,
+    among: Among,
     edits: usize,
     pub found: Option<&'a str>,
+    /// Another one that is as near.
+    pub other: Option<&'a str>,
 }
 
 impl<'w, 'a> Nearest<'w, 'a> {
-    /// Of no words.
-    pub fn to(word: &'w str) -> Nearest<'w, 'a> {
+    fn of(word: &'w str, among: Among) -> Nearest<'w, 'a> {
         Nearest {
             word,
-            edits: most_edits(word),
+            among,
+            edits: most_edits(word, among),
             found: None,
+            other: None,
         }
     }
 
-    /// Looks at a further word. Of two that are as near, the first one stays.
+    /// Of no names.
+    pub fn to(word: &'w str) -> Nearest<'w, 'a> {
+        Nearest::of(word, Among::Names)
+    }
+
+    /// Of no words of the language.
+    pub fn to_word(word: &'w str) -> Nearest<'w, 'a> {
+        Nearest::of(word, Among::Words)
+    }
+
+    /// The nearest one, where no other is as near.
+    pub fn alone(&self) -> Option<&'a str> {
+        if self.other.is_some() {
+            return None;
+        }
+        self.found
+    }
+
+    // By how many edits a word differs, where it may be meant.
+    fn distance(&self, alloc: Global, word: &str) -> Result<Option<usize>, AllocError> {
+        let edits = levenshtein(alloc, word, self.word)?;
+        Ok(match slips(alloc, self.word, word, edits)? {
+            Slips::Swapped => Some(1),
+            Slips::Typed => Some(edits),
+            Slips::Chosen if self.among == Among::Words => Some(edits),
+            Slips::Chosen => None,
+        })
+    }
+
+    /// Looks at a further word.
     pub fn look(&mut self, alloc: Global, word: &'a str) -> Result<(), AllocError> {
         let longer = word.len().max(self.word.len());
         let shorter = word.len().min(self.word.len());
-        if LONGEST < longer || self.edits < longer.saturating_sub(shorter) || word == self.word {
+        let most = self.edits.max(1).saturating_add(1);
+        if LONGEST < longer || most < longer.saturating_sub(shorter) || word == self.word {
             return Ok(());
         }
         if word.eq_ignore_ascii_case(self.word) {
             self.edits = 0;
             self.found = Some(word);
+            self.other = None;
             return Ok(());
         }
-        let edits = levenshtein(alloc, word, self.word)?;
-        let is_nearer = edits < self.edits || (edits == self.edits && self.found.is_none());
-        if is_nearer {
-            self.edits = edits;
-            self.found = Some(word);
+        let Some(edits) = self.distance(alloc, word)? else {
+            return Ok(());
+        };
+        match self.found {
+            Some(found) if edits == self.edits => {
+                if found != word && 0 < edits {
+                    self.other = Some(word);
+                }
+            }
+            Some(_) if self.edits < edits => {}
+            None if self.edits < edits => {}
+            _ => {
+                self.edits = edits;
+                self.found = Some(word);
+                self.other = None;
+            }
         }
         Ok(())
     }

@@ -229,6 +229,39 @@ fn is_in_if(around: &Around<'_>) -> bool {
     }
 }
 
+// Whether a statement ends with the token before, if it ends there at all.
+fn may_end_statement(around: &Around<'_>) -> bool {
+    match around.before.kind {
+        TokenKind::Name
+        | TokenKind::Integer(_)
+        | TokenKind::Decimal
+        | TokenKind::Symbol(Symbol::CloseBracket | Symbol::Increment | Symbol::Decrement)
+        | TokenKind::Keyword(Keyword::Break | Keyword::Continue | Keyword::Return) => true,
+        TokenKind::Symbol(Symbol::CloseParenthesis) => {
+            let closing = around.at.number.saturating_sub(1);
+            match word_before(around.at.tokens, closing) {
+                Some(word) => !is_keyword(word, Keyword::MethodIf),
+                None => true,
+            }
+        }
+        _ => false,
+    }
+}
+
+// An `else` that belongs to no `if`.
+fn lone_else(around: &Around<'_>) -> Option<Slip> {
+    if may_end_statement(around) {
+        return behind(around.before, "a ; is missing here");
+    }
+    if is_symbol(around.before, Symbol::CloseParenthesis) {
+        return on(
+            around.token,
+            "a statement is missing before this else, for its if",
+        );
+    }
+    on(around.token, help_of_else(around))
+}
+
 // What is said of an `else` that belongs to no `if`.
 fn help_of_else(around: &Around<'_>) -> &'static str {
     let is_label = around
@@ -275,7 +308,7 @@ fn in_place(around: &Around<'_>) -> Option<Slip> {
         TokenKind::Symbol(Symbol::CloseParenthesis) | TokenKind::Keyword(Keyword::MethodElse)
     );
     match around.token.kind {
-        TokenKind::Keyword(Keyword::MethodElse) => on(around.token, help_of_else(around)),
+        TokenKind::Keyword(Keyword::MethodElse) => lone_else(around),
         TokenKind::Keyword(Keyword::Int | Keyword::Long) if begins => {
             on(
                 around.token,

@@ -2,6 +2,7 @@
 
 use crate::around::{Around, At, Slip, is_joined, is_symbol, on, open_brace, open_parenthesis};
 use crate::bodies::statement_slip;
+use crate::shapes::shape_slip;
 use edd_lexer::token::{Token, TokenKind};
 use edd_reports::words::{Span, is_sign, is_word, item_kind};
 use edd_syntax::operators::Operator;
@@ -308,13 +309,6 @@ impl<'a> Around<'a> {
             "INTEGER" | "UNSIGNED_INTEGER" | "ENUMERATED" | "BIT_ENUMERATED"
         );
         match self.token.kind {
-            TokenKind::Keyword(Keyword::Int | Keyword::Long)
-                if self.before.kind == TokenKind::Keyword(Keyword::Type) => {
-                on(
-                    self.token,
-                    "the type of a variable is INTEGER or UNSIGNED_INTEGER",
-                )
-            }
             TokenKind::Integer(_)
                 if matches!(self.before.kind, TokenKind::Integer(_))
                     && self.word(self.token).len() == 3 => {
@@ -473,6 +467,9 @@ pub fn slip_at(at: At<'_>) -> Option<Slip> {
         return Some(slip);
     }
     if let Some(slip) = around.marks() {
+        return Some(slip);
+    }
+    if let Some(slip) = shape_slip(&around) {
         return Some(slip);
     }
     if let Some(slip) = around.signs() {
