@@ -43,6 +43,10 @@ fn foreign_help(word: &str) -> Option<&'static str> {
         "get_dev_var_value" => Some("GET_DEV_VAR_VALUE(text, variable) asks for a value"),
         "select_from_list" => Some("SELECT_FROM_LIST(text, \"a;b\") asks for a choice"),
         "printf" | "print" => Some("PUT_MESSAGE(text) shows a text"),
+        "READ_ONLY" | "HIDDEN" | "REVIEW" | "DISPLAY_VALUE" => {
+            Some("a qualifier stands in parentheses, as in p (READ_ONLY)")
+        }
+        "INFO" | "INDEX" => Some("a qualifier stands in parentheses, as in p (INDEX)"),
         "sizeof" => Some("a size is a number that is written out"),
         _ => None,
     }

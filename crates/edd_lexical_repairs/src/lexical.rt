@@ -188,8 +188,11 @@ fn help_of_number(word: &str, before: u8) -> &'static str {
     if word.contains("..") {
         return "a number is one: a range has a CASE for each";
     }
-    if is_based || word.contains('.') {
+    if is_based {
         return NUMBER;
+    }
+    if word.contains('.') {
+        return "numbers are whole, without a point or letters behind it: take a smaller unit";
     }
     if is_of(word, "0123456789uUlL") && !is_of(word, "0123456789") {
         return "a number has no letters behind it";

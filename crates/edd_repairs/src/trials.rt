@@ -73,6 +73,16 @@ impl<'a> Misfit<'a> {
         self.line.line.saturating_add(behind)
     }
 
+    // The line of the token after it in the spread text.
+    fn line_after(&self) -> u32 {
+        let next = self.number.saturating_add(1);
+        let lines = match self.tokens.get(next) {
+            Some(token) if self.line.behind <= next => token.line.saturating_sub(self.line.line),
+            _ => 0,
+        };
+        self.own_line().saturating_add(1).saturating_add(lines)
+    }
+
     // Whether the token or the one after it is this word.
     fn is_near(&self, word: &str) -> bool {
         for token in self.tokens.iter().skip(self.number).take(2) {
@@ -106,6 +116,9 @@ impl<'a> Misfit<'a> {
         let edit = Some(edit_of(self.number, change));
         let text = spread(alloc, self.text, self.tokens, self.line, edit)?;
         let reached = self.line_reached::<G>(alloc, &text)?;
+        if matches!(change, Change::LeaveOut) && reached <= self.line_after() {
+            return Ok(());
+        }
         if best.line < reached {
             best.line = reached;
             best.change = Some(change);

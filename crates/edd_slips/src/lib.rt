@@ -5,6 +5,7 @@
 mod around;
 mod bodies;
 mod left_out;
+mod lists;
 mod shapes;
 mod slips;
 mod values;

@@ -156,6 +156,52 @@ fn type_of_c(around: &Around<'_>) -> Option<Slip> {
     }
 }
 
+// What goes on after the word of a type.
+fn after_type(around: &Around<'_>) -> Option<Slip> {
+    let is_type = matches!(
+        around.word(around.before),
+        "INTEGER" | "UNSIGNED_INTEGER" | "ENUMERATED" | "BIT_ENUMERATED"
+    );
+    if !is_type || around.back(2)?.kind != TokenKind::Keyword(Keyword::Type) {
+        return None;
+    }
+    match around.token.kind {
+        TokenKind::Symbol(Symbol::Equals) => {
+            on(
+                around.token,
+                "a default stands in braces after the type, as in INTEGER { DEFAULT_VALUE 5; }",
+            )
+        }
+        TokenKind::Name | TokenKind::Keyword(Keyword::Unsigned | Keyword::Signed | Keyword::Int) =>
+            {
+                on(
+                    around.token,
+                    "a type is one word: INTEGER, UNSIGNED_INTEGER, ENUMERATED or BIT_ENUMERATED",
+                )
+            }
+        _ => None,
+    }
+}
+
+// Something else than an integer for a label.
+fn label(around: &Around<'_>) -> Option<Slip> {
+    let is_case = matches!(
+        around.before.kind,
+        TokenKind::Keyword(Keyword::Case | Keyword::MethodCase)
+    );
+    let is_other = matches!(
+        around.token.kind,
+        TokenKind::Name | TokenKind::String | TokenKind::Symbol(Symbol::OpenParenthesis)
+    );
+    if is_case && is_other {
+        return on(
+            around.token,
+            "a label of a case is one integer, with or without a sign",
+        );
+    }
+    None
+}
+
 // An element that is written as a member.
 fn element(around: &Around<'_>) -> Option<Slip> {
     let is_first = around.before.kind == TokenKind::Name && is_joined(around.before, around.token);
@@ -180,6 +226,12 @@ pub fn shape_slip(around: &Around<'_>) -> Option<Slip> {
         return Some(slip);
     }
     if let Some(slip) = type_of_c(around) {
+        return Some(slip);
+    }
+    if let Some(slip) = after_type(around) {
+        return Some(slip);
+    }
+    if let Some(slip) = label(around) {
         return Some(slip);
     }
     element(around)

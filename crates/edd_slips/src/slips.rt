@@ -2,6 +2,7 @@
 
 use crate::around::{Around, At, Slip, is_joined, is_symbol, on, open_brace, open_parenthesis};
 use crate::bodies::statement_slip;
+use crate::lists::list_slip;
 use crate::shapes::shape_slip;
 use edd_lexer::token::{Token, TokenKind};
 use edd_reports::words::{Span, is_sign, is_word, item_kind};
@@ -470,6 +471,9 @@ pub fn slip_at(at: At<'_>) -> Option<Slip> {
         return Some(slip);
     }
     if let Some(slip) = shape_slip(&around) {
+        return Some(slip);
+    }
+    if let Some(slip) = list_slip(&around) {
         return Some(slip);
     }
     if let Some(slip) = around.signs() {

@@ -1,6 +1,6 @@
 //! Slips in the values of methods, and in what functions take.
 
-use crate::around::{Around, Slip, behind, is_symbol, on, open_parenthesis};
+use crate::around::{Around, Slip, behind, is_symbol, on, open_parenthesis, word_before};
 use edd_lexer::token::TokenKind;
 use edd_reports::words::is_sign;
 use edd_syntax::symbols::Symbol;
@@ -122,12 +122,55 @@ fn side_by_side(around: &Around<'_>) -> Option<Slip> {
     }
 }
 
+// A value right after parentheses, or parentheses right after a number.
+fn beside_parentheses(around: &Around<'_>) -> Option<Slip> {
+    if around.before.line != around.token.line {
+        return None;
+    }
+    let is_open = is_symbol(around.token, Symbol::OpenParenthesis);
+    if is_open && matches!(around.before.kind, TokenKind::Integer(_)) {
+        return on(around.token, "an operator is missing before this");
+    }
+    if !is_symbol(around.before, Symbol::CloseParenthesis) {
+        return None;
+    }
+    let closing = around.at.number.checked_sub(1)?;
+    let is_branch = match word_before(around.at.tokens, closing) {
+        Some(word) => matches!(word.kind, TokenKind::Keyword(_)),
+        None => false,
+    };
+    let is_value = is_open || matches!(around.token.kind, TokenKind::Integer(_));
+    if is_branch || !is_value {
+        return None;
+    }
+    on(around.token, "an operator or a ; is missing before this")
+}
+
+// Several values for one local.
+fn many_values(around: &Around<'_>) -> Option<Slip> {
+    let is_list = is_symbol(around.token, Symbol::OpenBrace)
+        && is_symbol(around.before, Symbol::Equals);
+    if is_list {
+        return on(
+            around.token,
+            "a local has one value: arrays have variables alone",
+        );
+    }
+    None
+}
+
 /// A slip in a value of a method.
 pub fn value_slip(around: &Around<'_>) -> Option<Slip> {
     if let Some(slip) = unclosed(around) {
         return Some(slip);
     }
     if let Some(slip) = signs(around) {
+        return Some(slip);
+    }
+    if let Some(slip) = many_values(around) {
+        return Some(slip);
+    }
+    if let Some(slip) = beside_parentheses(around) {
         return Some(slip);
     }
     side_by_side(around)
