@@ -3,7 +3,7 @@
 use edd_lexer::token::TokenKind;
 use edd_name_meanings::references::{argument_kinds, builtin};
 use edd_syntax::expr::{Argument, Expr};
-use edd_syntax::numbers::{KINDS, Kind};
+use edd_syntax::numbers::Kind;
 use edd_syntax::operators::{Builtin, Parameter};
 use edd_syntax::reference::Path;
 use edd_trails::breach::Rule;
@@ -85,6 +85,24 @@ fn walk_function<'a>(
     }
 }
 
+/// What a function takes that does not exist.
+const ALL: &[Kind] = &[
+    Kind::Variable,
+    Kind::Command,
+    Kind::Menu,
+    Kind::Collection,
+    Kind::Method,
+    Kind::Array,
+];
+
+// The kinds of items that a function may be given by their names.
+fn kinds_of(function: &Path) -> &'static [Kind] {
+    match builtin(function.base.as_str()) {
+        Some(_) => argument_kinds(function),
+        None => ALL,
+    }
+}
+
 /// Walks over an expression, which may be a whole statement.
 #[cycle(expressions)]
 pub fn walk_expr<'a>(
@@ -126,12 +144,7 @@ pub fn walk_expr<'a>(
             arguments,
         } => {
             walk_function(walk, function, arguments, is_statement, *line)?;
-            let kinds: &[Kind] = if builtin(function.base.as_str()).is_none() {
-                &KINDS
-            } else {
-                argument_kinds(function)
-            };
-            walk_arguments(arguments, kinds, walk)
+            walk_arguments(arguments, kinds_of(function), walk)
         }
     }
 }

@@ -190,11 +190,12 @@ fn help_known(
         return Ok(false);
     };
     let name = function.name();
-    found.help(if function.parameters().is_empty() {
+    let text = if function.parameters().is_empty() {
         format!(in alloc; "a function is called with parentheses: {name}();")?
     } else {
         format!(in alloc; "{name} is a function: its arguments stand in ( )")?
-    })?;
+    };
+    found.help(text)?;
     Ok(true)
 }
 
@@ -234,14 +235,14 @@ pub fn help_kind(
 ) -> Result<(), AllocError> {
     let tokens = source.tokens();
     if is_sign(tokens, number.saturating_sub(1), Symbol::Dot) {
-        let goes_on = is_sign(tokens, number.saturating_add(1), Symbol::Dot);
-        return found.help(if goes_on {
+        let text = if is_sign(tokens, number.saturating_add(1), Symbol::Dot) {
             format!(in alloc;
                 "{name} has no members: only those of a COLLECTION OF COLLECTION have"
             )?
         } else {
             format!(in alloc; "the member {name} is of another kind than fits here")?
-        });
+        };
+        return found.help(text);
     }
     let Some(item) = source.item(name) else {
         return Ok(());

@@ -5,6 +5,7 @@
 
 use crate::characters::help_of_character;
 use crate::finding::Found;
+use crate::quotes::{is_before_quote, missing_quote};
 use crate::scanning::{Scanned, Shape, byte_at, piece_at};
 use edd_lexer::fault::LexFault;
 use edd_lexer::lex;
@@ -362,6 +363,48 @@ pub fn help_long_string(
     }
 }
 
+// Whether a fault is that of a word or a sign outside of strings.
+fn is_outside(fault: &LexFault) -> bool {
+    match fault {
+        LexFault::BadCharacter { .. } | LexFault::BadNumber { .. } => true,
+        _ => false,
+    }
+}
+
+// Says what helps at a fault, or the quote that is missing before it.
+fn help_fault(
+    alloc: Global,
+    text: &[u8],
+    fault: &LexFault,
+    help: String,
+    found: &mut Diagnostic,
+) -> Result<(), AllocError> {
+    let place = found.place;
+    let quote = match place {
+        Some(place) if may_miss_quote(fault) => missing_quote(text, place.start),
+        _ => None,
+    };
+    let is_open = matches!(fault, LexFault::OpenString { .. });
+    if let Some(quote) = quote {
+        if is_open {
+            found.help(help)?;
+        }
+        let text = String::from_str(alloc, quote.help)?;
+        return found.help_at(Some(quote.string), text);
+    }
+    found.help(help)?;
+    if is_open {
+        return help_long_string(alloc, text, place, true, found);
+    }
+    match place {
+        Some(place) if is_outside(fault) && is_before_quote(text, place.end) => {
+            let help = "a quote may be missing before this, at the beginning of a text";
+            found.help(String::from_str(alloc, help)?)
+        }
+        _ => Ok(()),
+    }
+}
+
 /// What is said of a text that has no tokens.
 pub fn found_in(
     alloc: Global,
@@ -394,12 +437,7 @@ pub fn found_in(
         Some(help) => help,
         None => String::from_str(alloc, help_of(fault, word, before, after))?,
     };
-    diagnostic.help(help)?;
-    if may_miss_quote(fault) {
-        let place = diagnostic.place;
-        let any = matches!(fault, LexFault::OpenString { .. });
-        help_long_string(alloc, text, place, any, &mut diagnostic)?;
-    }
+    help_fault(alloc, text, fault, help, &mut diagnostic)?;
     Ok(Found {
         diagnostic,
         goes_on,

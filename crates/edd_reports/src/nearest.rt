@@ -19,16 +19,30 @@ enum Among {
     Words,
 }
 
-// How many edits are few enough for a word: none that gives another word.
+// How many edits are few enough for a name.
+fn most_of_name(length: usize) -> usize {
+    match length {
+        0..=3 => 0,
+        4..=5 => 1,
+        _ => 2,
+    }
+}
+
+// How many are for a word of the language.
+fn most_of_word(length: usize) -> usize {
+    match length {
+        0..=2 => 0,
+        3..=4 => 1,
+        5..=8 => 2,
+        _ => 3,
+    }
+}
+
+// How many edits are few enough: none that gives another word.
 fn most_edits(word: &str, among: Among) -> usize {
-    match (among, word.len()) {
-        (Among::Names, 0..=3) => 0,
-        (Among::Names, 4..=5) => 1,
-        (Among::Names, _) => 2,
-        (Among::Words, 0..=2) => 0,
-        (Among::Words, 3..=4) => 1,
-        (Among::Words, 5..=8) => 2,
-        (Among::Words, _) => 3,
+    match among {
+        Among::Names => most_of_name(word.len()),
+        Among::Words => most_of_word(word.len()),
     }
 }
 

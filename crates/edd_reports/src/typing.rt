@@ -30,14 +30,16 @@ fn places(one: &str, other: &str) -> Places {
         last: 0,
         are_swapped: false,
     };
-    let mut before = (0, 0);
+    let mut one_before = 0;
+    let mut other_before = 0;
     for (number, (a, b)) in one.bytes().zip(other.bytes()).enumerate() {
         if a != b {
             found.count = found.count.saturating_add(1);
             found.last = number;
-            found.are_swapped = before == (b, a);
+            found.are_swapped = one_before == b && other_before == a;
         }
-        before = (a, b);
+        one_before = a;
+        other_before = b;
     }
     found
 }
