@@ -47,6 +47,11 @@ fn foreign_help(word: &str) -> Option<&'static str> {
             Some("a qualifier stands in parentheses, as in p (READ_ONLY)")
         }
         "INFO" | "INDEX" => Some("a qualifier stands in parentheses, as in p (INDEX)"),
+        "SUCCESS" | "BI_SUCCESS" | "BLTIN_SUCCESS" => {
+            Some("a code is compared with its number: 0 is that of success")
+        }
+        "exit" | "quit" | "stop" | "throw" => Some("abort() ends a method"),
+        "sleep" | "wait" => Some("DELAY(seconds, text) waits"),
         "sizeof" => Some("a size is a number that is written out"),
         _ => None,
     }
@@ -254,6 +259,9 @@ pub fn help_kind(
         )?,
         Kind::Collection if is_read => format!(in alloc;
             "a member of a COLLECTION is read as {name}.member; {name} is declared"
+        )?,
+        Kind::Command if source.is_in_body(number) => format!(in alloc;
+            "a command is sent by its NUMBER, as in send_command(1); {name} is declared"
         )?,
         kind => {
             let kind = named_kind(kind);

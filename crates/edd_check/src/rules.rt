@@ -6,6 +6,7 @@ use edd_breaches::{Breach, Rule};
 use edd_name_meanings::fault::NameFault;
 use edd_reports::diagnostic::{Diagnostic, Finding};
 use edd_reports::nearest::Nearest;
+use edd_reports::words::kind_word;
 use edd_syntax::limits::Limit;
 use edd_syntax::numbers::Kind;
 use edd_syntax::operators::{Builtin, Parameter};
@@ -130,8 +131,31 @@ fn limit_help(limit: Limit) -> &'static str {
     }
 }
 
+// What is said of a type that other languages have, or full EDDL.
+fn help_of_type(word: &str) -> Option<&'static str> {
+    match word {
+        "SIGNED_INTEGER" | "SIGNED" | "INT" | "LONG" | "SHORT" | "INT8" | "INT16" | "INT32" => {
+            Some("INTEGER may be meant")
+        }
+        "UNSIGNED" | "UINT" | "UINT8" | "UINT16" | "UINT32" | "BYTE" | "WORD" | "DWORD" | "OCTET" =>
+            Some("UNSIGNED_INTEGER may be meant"),
+        "ENUM" | "ENUMERATION" | "BOOL" | "BOOLEAN" => Some("ENUMERATED may be meant"),
+        "BIT_ENUM" | "BITFIELD" | "BIT_FIELD" | "BITS" => Some("BIT_ENUMERATED may be meant"),
+        "ASCII" | "PACKED_ASCII" | "PASSWORD" | "VISIBLE" | "EUC" | "BITSTRING" => {
+            Some("no variable of this profile of EDDL holds a text: leave it out")
+        }
+        "DATE" | "TIME" | "TIME_VALUE" | "DATE_AND_TIME" | "DURATION" => {
+            Some("this profile of EDDL has no dates and times: take UNSIGNED_INTEGER (4)")
+        }
+        _ => None,
+    }
+}
+
 // The type that is nearest to a word.
 fn type_help(alloc: Global, word: &str) -> Result<String, AllocError> {
+    if let Some(help) = help_of_type(word) {
+        return String::from_str(alloc, help);
+    }
     let mut nearest = Nearest::to_word(word);
     for of in TYPES {
         nearest.look(alloc, of)?;
@@ -142,6 +166,24 @@ fn type_help(alloc: Global, word: &str) -> Result<String, AllocError> {
             let [first, second, third, last] = TYPES;
             format!(in alloc; "the types are {first}, {second}, {third} and {last}")
         }
+    }
+}
+
+// In which item there is too much.
+fn excess_help(
+    alloc: Global,
+    source: &Source<'_>,
+    limit: Limit,
+    item: usize,
+) -> Result<String, AllocError> {
+    let name = source.word(item);
+    let kind = match source.item_at(item) {
+        Some(item) => kind_word(item.kind),
+        None => "item",
+    };
+    match limit {
+        Limit::Items => format!(in alloc; "the first {kind} too many is {name}"),
+        _ => format!(in alloc; "the {kind} {name} has more"),
     }
 }
 
@@ -157,6 +199,7 @@ fn help_beside(
             Rule::DuplicateCase(_) => String::from_str(alloc, "this case is there already")?,
             Rule::DuplicateElement(_) => String::from_str(alloc, "this number is there already")?,
             Rule::WrongKind(name) => format!(in alloc; "{name} is a local, which is declared")?,
+            Rule::TooMany(limit) => excess_help(alloc, source, limit, earlier)?,
             _ => format!(in alloc; "{} is there already", source.word(earlier))?,
         };
         return found.help_at(source.span(earlier), text);

@@ -180,6 +180,9 @@ const NUMBER: &str = "a number has no 0 in front, unless it is as 0x1F, and is a
 // What helps where a word that begins with a digit is no number.
 fn help_of_number(word: &str, before: u8) -> &'static str {
     let is_based = word.starts_with("0x") || word.starts_with("0X");
+    if before == b',' && word.len() == 3 && is_of(word, "0123456789") {
+        return "the digits of a number stand side by side, without a sign";
+    }
     if before == b'%' {
         return "a format is a text: it stands between two \"";
     }
@@ -371,6 +374,44 @@ fn is_outside(fault: &LexFault) -> bool {
     }
 }
 
+/// The words of a preprocessor.
+const DIRECTIVES: [&str; 13] = [
+    "include", "define", "undef", "if", "else", "elif", "endif", "pragma", "line", "error",
+    "warning", "import", "!",
+];
+
+// Whether a `#` begins no line of a preprocessor but a remark, as in other languages.
+fn is_remark(text: &[u8], fault: &LexFault, place: Option<Span>) -> bool {
+    let (LexFault::Directive { .. }, Some(place)) = (fault, place) else {
+        return false;
+    };
+    let end = end_of_line(text, place.start);
+    let words = text_in(
+        text,
+        Span {
+            start: place.start.saturating_add(1),
+            end,
+        },
+    )
+    .trim_start();
+    for word in DIRECTIVES {
+        if words.starts_with(word) {
+            return false;
+        }
+    }
+    !words.is_empty()
+}
+
+// Where the line of a place ends.
+fn end_of_line(text: &[u8], place: usize) -> usize {
+    for (number, byte) in text.iter().enumerate().skip(place) {
+        if *byte == b'\n' {
+            return number;
+        }
+    }
+    text.len()
+}
+
 // Says what helps at a fault, or the quote that is missing before it.
 fn help_fault(
     alloc: Global,
@@ -434,6 +475,9 @@ pub fn found_in(
         None => 0,
     };
     let help = match named_character(alloc, fault, word)? {
+        None if is_remark(text, fault, diagnostic.place) => {
+            String::from_str(alloc, "a comment is written // .. or /* .. */")?
+        }
         Some(help) => help,
         None => String::from_str(alloc, help_of(fault, word, before, after))?,
     };

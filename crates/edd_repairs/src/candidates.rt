@@ -303,6 +303,7 @@ pub fn word_for(word: &str) -> Option<&'static str> {
         "SHL" | "shl" => Some("<<"),
         "SHR" | "shr" => Some(">>"),
         "SWITCH" => Some("SELECT"),
+        "SELECT" => Some("switch"),
         "ELIF" | "ELSIF" | "ELSEIF" => Some("ELSE IF"),
         "ELSE" | "OTHERWISE" => Some("DEFAULT"),
         "EXECUTE" | "RUN" => Some("COMMAND"),

@@ -79,7 +79,7 @@ fn called(spelling: &'static str) -> &'static str {
         "SUCCESS" => {
             "SUCCESS, MISC_WARNING, DATA_ENTRY_WARNING, DATA_ENTRY_ERROR, MODE_ERROR, PROCESS_ERROR or MISC_ERROR"
         }
-        "READ_ONLY" => "a word such as READ_ONLY",
+        "READ_ONLY" => "READ_ONLY, HIDDEN, REVIEW or DISPLAY_VALUE",
         "LABEL" => "an attribute such as LABEL",
         "MAX_VALUE" => "an option such as MAX_VALUE",
         itself => itself,

@@ -11,7 +11,7 @@ use edd_lexical_repairs::{Found, help_long_string};
 use edd_reports::diagnostic::{Diagnostic, Finding};
 use edd_reports::outline::Outline;
 use edd_reports::words::{Span, item_kind, kind_word, span_of, word_of};
-use edd_slips::{early_end, help_of_left_out, open_parenthesis, slip_at};
+use edd_slips::{early_end, help_of_left_out, open_bracket, open_parenthesis, slip_at};
 use edd_syntax::numbers::{ATTRIBUTES, Attr, KINDS, Kind};
 use edd_syntax::symbols::{Keyword, Symbol};
 use edd_token_reader::fault::ParseFault;
@@ -111,6 +111,16 @@ fn help_attribute(
     Ok(true)
 }
 
+// A bracket that is open, if more than one token is after it, so that it may end at several.
+fn far_bracket(at: Misfit<'_>) -> Option<Span> {
+    let open = open_bracket(at.place())?;
+    let near = at.tokens.get(at.number.checked_sub(2)?)?;
+    if open == span_of(near) {
+        return None;
+    }
+    Some(open)
+}
+
 // Says what a change of the token is.
 fn help_change(
     alloc: Global,
@@ -126,6 +136,10 @@ fn help_change(
         Change::Behind(sign) => {
             if let Some(place) = at.end_before() {
                 found.place = Some(place);
+            }
+            if let ("]", Some(open)) = (sign, far_bracket(at)) {
+                let text = "a ] is missing, up to here, for the [ that is open";
+                return found.help_at(Some(open), String::from_str(alloc, text)?);
             }
             if let (")", Some(open)) = (sign, open_parenthesis(at.place())) {
                 let text = "a ) is missing, up to here, for the ( that is open";

@@ -8,7 +8,7 @@ const SHORT: usize = 3;
 /// How two words differ.
 #[derive(Clone, Copy)]
 pub enum Slips {
-    /// Two neighbours are swapped.
+    /// Two neighbours are swapped, or words are joined in another way, as by capitals.
     Swapped,
     /// As by typing.
     Typed,
@@ -55,6 +55,17 @@ fn digits(alloc: Global, word: &str) -> Result<String, AllocError> {
     Ok(found)
 }
 
+// A word without `_`.
+fn letters(alloc: Global, word: &str) -> Result<String, AllocError> {
+    let mut found = String::new(alloc);
+    for letter in word.chars() {
+        if letter != '_' {
+            found.push(letter)?;
+        }
+    }
+    Ok(found)
+}
+
 // Whether the short parts between `_` are the same.
 fn has_short_parts_of(one: &str, other: &str) -> bool {
     for (a, b) in one.split('_').zip(other.split('_')) {
@@ -67,6 +78,14 @@ fn has_short_parts_of(one: &str, other: &str) -> bool {
 
 /// How two words differ which so many edits part.
 pub fn slips(alloc: Global, one: &str, other: &str, edits: usize) -> Result<Slips, AllocError> {
+    let one_letters = letters(alloc, one)?;
+    let other_letters = letters(alloc, other)?;
+    if one_letters
+        .as_str()
+        .eq_ignore_ascii_case(other_letters.as_str())
+    {
+        return Ok(Slips::Swapped);
+    }
     if one.len() == other.len() {
         let found = places(one, other);
         let is_inside = 0 < found.last && found.last.saturating_add(1) < one.len();

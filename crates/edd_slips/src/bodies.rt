@@ -3,6 +3,7 @@
 use crate::around::{
     Around, At, Slip, behind, is_joined, is_symbol, on, open_brace, opener, word_before,
 };
+use crate::branches::{lone_else, no_condition};
 use crate::values::value_slip;
 use edd_lexer::token::{Token, TokenKind};
 use edd_reports::outline::Outline;
@@ -64,9 +65,12 @@ fn part_of_for(around: &Around<'_>) -> Option<Slip> {
     let help = match around.token.kind {
         TokenKind::Symbol(Symbol::Semicolon) => "a for has three parts",
         TokenKind::Symbol(Symbol::Colon) => "a for has three parts, as in for (i = 0; i < 3; i++)",
-        TokenKind::Symbol(Symbol::CloseParenthesis)
-            if is_symbol(around.before, Symbol::OpenParenthesis) =>
-            "a for has three parts, as in for (i = 0; i < 3; i++)",
+        TokenKind::Symbol(Symbol::CloseParenthesis) => {
+            "a for has three parts, as in for (i = 0; i < 3; i++)"
+        }
+        TokenKind::Name if matches!(around.word(around.token), "in" | "of" | "to") => {
+            "a for has three parts, as in for (i = 0; i < 3; i++)"
+        }
         TokenKind::Symbol(Symbol::Comma) =>
             "one expression stands in each part of a for, and ; parts them",
         _ => return None,
@@ -217,70 +221,20 @@ fn after_word(around: &Around<'_>) -> Option<Slip> {
     }
 }
 
-// Whether the innermost braces around the token are those of an `if`.
-fn is_in_if(around: &Around<'_>) -> bool {
-    let tokens = around.at.tokens;
-    let Some(brace) = open_brace(tokens, around.at.number) else {
-        return false;
-    };
-    match word_before(tokens, brace.saturating_sub(1)) {
-        Some(word) => is_keyword(word, Keyword::MethodIf),
-        None => false,
-    }
-}
-
-// Whether a statement ends with the token before, if it ends there at all.
-fn may_end_statement(around: &Around<'_>) -> bool {
-    match around.before.kind {
-        TokenKind::Name
-        | TokenKind::Integer(_)
-        | TokenKind::Decimal
-        | TokenKind::Symbol(Symbol::CloseBracket | Symbol::Increment | Symbol::Decrement)
-        | TokenKind::Keyword(Keyword::Break | Keyword::Continue | Keyword::Return) => true,
-        TokenKind::Symbol(Symbol::CloseParenthesis) => {
-            let closing = around.at.number.saturating_sub(1);
-            match word_before(around.at.tokens, closing) {
-                Some(word) => !is_keyword(word, Keyword::MethodIf),
-                None => true,
-            }
-        }
-        _ => false,
-    }
-}
-
-// An `else` that belongs to no `if`.
-fn lone_else(around: &Around<'_>) -> Option<Slip> {
-    if may_end_statement(around) {
-        return behind(around.before, "a ; is missing here");
-    }
-    if is_symbol(around.before, Symbol::CloseParenthesis) {
-        return on(
-            around.token,
-            "a statement is missing before this else, for its if",
-        );
-    }
-    on(around.token, help_of_else(around))
-}
-
-// What is said of an `else` that belongs to no `if`.
-fn help_of_else(around: &Around<'_>) -> &'static str {
-    let is_label = around
-        .ahead()
-        .is_some_and(|next| is_symbol(next, Symbol::Colon));
-    if is_label {
-        return "default may be meant in place of else";
-    }
-    if is_in_if(around) && !is_symbol(around.before, Symbol::CloseBrace) {
-        return "a } is missing before this else, for the { of its if";
-    }
-    let ends_two = is_symbol(around.before, Symbol::CloseBrace)
-        && around
-            .back(2)
-            .is_some_and(|token| is_symbol(token, Symbol::CloseBrace));
-    if ends_two {
-        return "this else belongs to no if: one closing brace may be too many before it";
-    }
-    "this else belongs to no if: between an if and its else stands one statement, or one block"
+// Whether the token goes on with a value and begins no statement.
+fn goes_on_with_value(around: &Around<'_>) -> bool {
+    matches!(
+        around.token.kind,
+        TokenKind::Symbol(
+            Symbol::LogicalAnd
+                | Symbol::LogicalOr
+                | Symbol::Comparison(_)
+                | Symbol::Question
+                | Symbol::Operator(
+                    Operator::And | Operator::Or | Operator::Multiply | Operator::Divide
+                )
+        )
+    )
 }
 
 // What is said where a statement follows parentheses.
@@ -289,6 +243,13 @@ fn after_parentheses(around: &Around<'_>) -> Option<Slip> {
     match word.kind {
         TokenKind::Keyword(Keyword::MethodElse) => on(word, "an if is missing after this else"),
         TokenKind::Name => on(word, help_of_word(around.word(word))?),
+        TokenKind::Keyword(Keyword::MethodIf | Keyword::While | Keyword::Switch)
+            if goes_on_with_value(around) => {
+            on(
+                around.token,
+                "the ) before this ends the condition: parentheses stand around all of it",
+            )
+        }
         TokenKind::Keyword(Keyword::MethodIf | Keyword::While | Keyword::For | Keyword::Switch)
             if is_symbol(around.token, Symbol::Colon) => {
             on(
@@ -302,6 +263,9 @@ fn after_parentheses(around: &Around<'_>) -> Option<Slip> {
 
 // What may not stand in the place of a statement or of an argument.
 fn in_place(around: &Around<'_>) -> Option<Slip> {
+    if let Some(slip) = no_condition(around) {
+        return Some(slip);
+    }
     let after = around.before.kind;
     let begins = matches!(
         after,

@@ -4,6 +4,7 @@ use crate::around::{Around, Slip, behind, is_joined, is_symbol, on};
 use edd_lexer::token::TokenKind;
 use edd_reports::words::item_kind;
 use edd_syntax::numbers::Kind;
+use edd_syntax::operators::Operator;
 use edd_syntax::symbols::{Keyword, Symbol};
 
 // The kind of the item whose name is the token before.
@@ -36,6 +37,27 @@ fn help_of_item(kind: Kind) -> &'static str {
     }
 }
 
+// OF after the name of an item.
+fn late_of(around: &Around<'_>) -> Option<Slip> {
+    let is_late = around.token.kind == TokenKind::Name
+        && around.ahead()?.kind == TokenKind::Keyword(Keyword::Of);
+    match around.before.kind {
+        TokenKind::Keyword(Keyword::Array) if is_late => {
+            on(
+                around.token,
+                "OF stands before the name: ARRAY OF VARIABLE a { .. }",
+            )
+        }
+        TokenKind::Keyword(Keyword::Collection) if is_late => {
+            on(
+                around.token,
+                "OF stands before the name: COLLECTION OF VARIABLE c { .. }",
+            )
+        }
+        _ => None,
+    }
+}
+
 // An item that ends after its name.
 fn item(around: &Around<'_>) -> Option<Slip> {
     let kind = kind_named(around)?;
@@ -44,6 +66,12 @@ fn item(around: &Around<'_>) -> Option<Slip> {
             Some(next) if is_symbol(next, Symbol::OpenBrace) => None,
             _ => on(around.token, help_of_item(kind)),
         },
+        TokenKind::Symbol(Symbol::OpenBracket) if kind == Kind::Array => {
+            on(
+                around.token,
+                "an ARRAY has no size: its elements stand in ELEMENTS { 1, p; }",
+            )
+        }
         TokenKind::Symbol(Symbol::OpenParenthesis) if kind == Kind::Method => {
             on(
                 around.token,
@@ -53,6 +81,30 @@ fn item(around: &Around<'_>) -> Option<Slip> {
         _ if item_kind(around.token).is_some() => behind(around.before, help_of_item(kind)),
         _ => None,
     }
+}
+
+// The word of a list alone.
+fn no_list(around: &Around<'_>) -> Option<Slip> {
+    let is_list = matches!(
+        around.before.kind,
+        TokenKind::Keyword(
+            Keyword::Items
+                | Keyword::Elements
+                | Keyword::Members
+                | Keyword::Request
+                | Keyword::Reply
+                | Keyword::ResponseCodes
+                | Keyword::Transaction
+                | Keyword::Definition
+        )
+    );
+    if is_list && is_symbol(around.token, Symbol::Semicolon) {
+        return on(
+            around.token,
+            "braces are missing here, as in REQUEST { }, with what belongs in them",
+        );
+    }
+    None
 }
 
 // A list in other brackets than braces.
@@ -156,6 +208,19 @@ fn type_of_c(around: &Around<'_>) -> Option<Slip> {
     }
 }
 
+// A `;` between a type and its braces.
+fn parted_type(around: &Around<'_>) -> Option<Slip> {
+    if !is_symbol(around.token, Symbol::OpenBrace) || !is_symbol(around.before, Symbol::Semicolon) {
+        return None;
+    }
+    let is_sized = is_symbol(around.back(2)?, Symbol::CloseParenthesis);
+    let word = if is_sized { 6 } else { 3 };
+    if around.back(word)?.kind == TokenKind::Keyword(Keyword::Type) {
+        return on(around.before, "; may be left out");
+    }
+    None
+}
+
 // What goes on after the word of a type.
 fn after_type(around: &Around<'_>) -> Option<Slip> {
     let is_type = matches!(
@@ -189,11 +254,29 @@ fn label(around: &Around<'_>) -> Option<Slip> {
         around.before.kind,
         TokenKind::Keyword(Keyword::Case | Keyword::MethodCase)
     );
-    let is_other = matches!(
+    let is_number = matches!(
         around.token.kind,
-        TokenKind::Name | TokenKind::String | TokenKind::Symbol(Symbol::OpenParenthesis)
+        TokenKind::Integer(_) | TokenKind::Symbol(Symbol::Operator(Operator::Subtract))
     );
-    if is_case && is_other {
+    let is_default = matches!(
+        around.token.kind,
+        TokenKind::Keyword(Keyword::Default | Keyword::MethodDefault)
+    );
+    if is_case && is_default {
+        return on(around.before, "this word has no case before it: default:");
+    }
+    let is_range = is_symbol(around.token, Symbol::Dot)
+        && matches!(
+            around.back(2)?.kind,
+            TokenKind::Keyword(Keyword::Case | Keyword::MethodCase)
+        );
+    if is_range {
+        return on(
+            around.token,
+            "a label is one number: a range has a case for each",
+        );
+    }
+    if is_case && !is_number {
         return on(
             around.token,
             "a label of a case is one integer, with or without a sign",
@@ -216,7 +299,13 @@ fn element(around: &Around<'_>) -> Option<Slip> {
 
 /// A slip in the shape of an item, of an attribute or of a type.
 pub fn shape_slip(around: &Around<'_>) -> Option<Slip> {
+    if let Some(slip) = late_of(around) {
+        return Some(slip);
+    }
     if let Some(slip) = item(around) {
+        return Some(slip);
+    }
+    if let Some(slip) = no_list(around) {
         return Some(slip);
     }
     if let Some(slip) = list(around) {
@@ -226,6 +315,9 @@ pub fn shape_slip(around: &Around<'_>) -> Option<Slip> {
         return Some(slip);
     }
     if let Some(slip) = type_of_c(around) {
+        return Some(slip);
+    }
+    if let Some(slip) = parted_type(around) {
         return Some(slip);
     }
     if let Some(slip) = after_type(around) {

@@ -4,41 +4,11 @@ use crate::around::{Around, At, Slip, is_joined, is_symbol, on, open_brace, open
 use crate::bodies::statement_slip;
 use crate::lists::list_slip;
 use crate::shapes::shape_slip;
+use crate::signs::{are_one_sign, help_of_signs};
 use edd_lexer::token::{Token, TokenKind};
 use edd_reports::words::{Span, is_sign, is_word, item_kind};
 use edd_syntax::operators::Operator;
 use edd_syntax::symbols::{Keyword, Symbol};
-
-// What two signs that are joined are meant as.
-fn help_of_signs(before: &str, sign: &str) -> Option<&'static str> {
-    match (before, sign) {
-        ("=", "<") => Some("less or equal is written <="),
-        ("=", ">") => Some("greater or equal is written >="),
-        ("<", ">") => Some("not equal is written !="),
-        ("*", "*") => Some("there is no power: a square is a * a"),
-        (">>", ">") => Some("a shift to the right is written >>"),
-        ("^", "^") => Some("there is no ^^: ^ takes bit by bit"),
-        ("-", ">") | (":", ":") => Some("a member is written c.m"),
-        ("=", "!") => Some("not equal is written !="),
-        ("==", "=") => Some("equal is written =="),
-        ("<<", "<") => Some("a shift to the left is written <<"),
-        ("&&", "&") => Some("both conditions are written &&"),
-        ("||", "|") => Some("one of two conditions is written ||"),
-        _ => None,
-    }
-}
-
-// Whether two signs with a space between them are meant as one.
-fn are_one_sign(before: &str, sign: &str) -> bool {
-    matches!(
-        (before, sign),
-        ("&", "&")
-            | ("|", "|")
-            | ("<", "<" | "=")
-            | (">", ">" | "=")
-            | ("=" | "!" | "+" | "-" | "*" | "/", "=")
-    )
-}
 
 /// Words before a name that other languages have there.
 fn help_of_type(word: &str) -> Option<&'static str> {
@@ -178,6 +148,9 @@ impl<'a> Around<'a> {
             self.token.kind,
             TokenKind::Keyword(Keyword::Int | Keyword::Long)
         );
+        if is_type && self.before.kind == TokenKind::Name && self.is_in_method() && is_on_line {
+            return on(self.token, "the type stands before the name, as in int k;");
+        }
         if is_type && self.before.kind == TokenKind::Keyword(Keyword::Method) {
             return on(self.token, "a METHOD has a name alone, and no type");
         }
