@@ -167,6 +167,9 @@ fn help_known(
     );
     if let Some(item) = source.item(name) {
         let text = match item.kind {
+            Kind::Method if parameter_at(source, number).is_some() => format!(in alloc;
+                "a METHOD is named here without parentheses; {name} is declared"
+            )?,
             Kind::Method => format!(in alloc;
                 "{name} is a METHOD, which no method calls; it is declared"
             )?,

@@ -103,6 +103,10 @@ fn mismatch_help(alloc: Global, word: &str) -> Result<String, AllocError> {
         Some(Builtin::Abort | Builtin::ProcessAbort) => {
             format!(in alloc; "{word} takes nothing and is a statement of its own")
         }
+        Some(Builtin::SelectFromList) => String::from_str(
+            alloc,
+            "SELECT_FROM_LIST takes a text, and one text with all choices, as in \"Yes;No\"",
+        ),
         Some(function) => function_help(alloc, function),
         None if word == "{" => String::from_str(
             alloc,

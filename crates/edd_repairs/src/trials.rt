@@ -273,6 +273,10 @@ impl<'a> Misfit<'a> {
             self.attempt::<G>(alloc, &mut best, Change::Behind("&"))?;
             self.attempt::<G>(alloc, &mut best, Change::Instead("&"))?;
         }
+        // Of two that lead as far `,` is nearer to `;` than nothing.
+        if is_sign(self.tokens, self.number, Symbol::Semicolon) {
+            self.attempt_signs::<G>(alloc, &mut best)?;
+        }
         if self.is_idle() {
             self.attempt::<G>(alloc, &mut best, Change::LeaveOut)?;
         }

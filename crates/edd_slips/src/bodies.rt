@@ -237,12 +237,48 @@ fn goes_on_with_value(around: &Around<'_>) -> bool {
     )
 }
 
+// A call after which no `;` comes: a branch whose word is another one, or in capitals.
+fn after_call(around: &Around<'_>, word: &Token) -> Option<Slip> {
+    let name = around.word(word);
+    if let Some(help) = help_of_word(name) {
+        return on(word, help);
+    }
+    for (branch, help) in BRANCHES {
+        if name.eq_ignore_ascii_case(branch) {
+            return on(word, help);
+        }
+    }
+    let closing = around.at.number.checked_sub(1)?;
+    let open = opener(
+        around.at.tokens,
+        closing,
+        Symbol::OpenParenthesis,
+        Symbol::CloseParenthesis,
+    )?;
+    let is_first = around.statement().saturating_add(1) == open;
+    if is_first && is_symbol(around.token, Symbol::OpenBrace) {
+        return on(
+            word,
+            "no branch and no loop begins with this word, but with if, while, for or switch",
+        );
+    }
+    None
+}
+
+/// The words of branches and loops, which are written in small letters.
+const BRANCHES: [(&str, &str); 4] = [
+    ("if", "if may be meant"),
+    ("while", "while may be meant"),
+    ("for", "for may be meant"),
+    ("switch", "switch may be meant"),
+];
+
 // What is said where a statement follows parentheses.
 fn after_parentheses(around: &Around<'_>) -> Option<Slip> {
     let word = word_before(around.at.tokens, around.at.number.checked_sub(1)?)?;
     match word.kind {
         TokenKind::Keyword(Keyword::MethodElse) => on(word, "an if is missing after this else"),
-        TokenKind::Name => on(word, help_of_word(around.word(word))?),
+        TokenKind::Name => after_call(around, word),
         TokenKind::Keyword(Keyword::MethodIf | Keyword::While | Keyword::Switch)
             if goes_on_with_value(around) => {
             on(

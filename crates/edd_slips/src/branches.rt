@@ -113,7 +113,7 @@ pub fn no_condition(around: &Around<'_>) -> Option<Slip> {
     if is_word && is_symbol(around.token, Symbol::OpenBrace) && !closes_parenthesis(around) {
         return behind(
             around.before,
-            "a condition in parentheses is missing here, as in if (k == 1) { .. }",
+            "a condition in parentheses belongs here, as in if (k == 1) { .. }",
         );
     }
     None

@@ -94,12 +94,38 @@ fn help_of_first(list: List, token: TokenKind) -> Option<&'static str> {
     }
 }
 
+// Whether one name alone is before the comma in the entry so far.
+fn has_one_name(around: &Around<'_>) -> bool {
+    let begins = around.back(3).is_some_and(|token| {
+        is_symbol(token, Symbol::OpenBrace) || is_symbol(token, Symbol::Semicolon)
+    });
+    begins && is_symbol(around.before, Symbol::Comma)
+}
+
+// Whether two texts with a comma between them are before the token.
+fn has_two_texts(around: &Around<'_>) -> bool {
+    let is_second = around
+        .back(2)
+        .is_some_and(|token| is_symbol(token, Symbol::Comma));
+    let is_first = around
+        .back(3)
+        .is_some_and(|token| token.kind == TokenKind::String);
+    is_first && is_second && around.before.kind == TokenKind::String
+}
+
 // What goes on in an entry of a list.
 fn help_of_next(around: &Around<'_>, list: List) -> Option<&'static str> {
     match (list, around.token.kind) {
         (List::Codes, TokenKind::Symbol(Symbol::Semicolon))
             if around.before.kind == TokenKind::Name => {
             Some("a text is missing here, as in 0, SUCCESS, \"OK\";")
+        }
+        (List::Members, TokenKind::String) if has_one_name(around) => {
+            Some("a member begins with a name of its own, as in value, p;")
+        }
+        (List::Members | List::Elements, TokenKind::Symbol(Symbol::Comma))
+            if has_two_texts(around) => {
+            Some("after its name there are a text and a help, and nothing after them")
         }
         (List::Items, TokenKind::Symbol(Symbol::Operator(_) | Symbol::Comparison(_))) => {
             Some("a menu shows items and texts alone, and no expressions")
@@ -136,8 +162,6 @@ fn enumerator(around: &Around<'_>) -> Option<Slip> {
         word
     };
     enumerators(around, word)?;
-    let is_long = around.before.kind == TokenKind::String
-        && is_symbol(around.back(2)?, Symbol::Comma);
     match around.token.kind {
         TokenKind::Symbol(Symbol::Operator(_))
             if matches!(around.before.kind, TokenKind::Integer(_)) => {
@@ -146,13 +170,12 @@ fn enumerator(around: &Around<'_>) -> Option<Slip> {
                 "the value of an enumerator is one integer that is written out",
             )
         }
-        TokenKind::Symbol(Symbol::Comma) if is_long && around.back(3)?.kind == TokenKind::String =>
-            {
-                on(
-                    around.token,
-                    "an enumerator has a text and a help, and nothing after them",
-                )
-            }
+        TokenKind::Symbol(Symbol::Comma) if has_two_texts(around) => {
+            on(
+                around.token,
+                "an enumerator has a text and a help, and nothing after them",
+            )
+        }
         TokenKind::Name
             if is_symbol(around.before, Symbol::Comma)
                 && around.back(2)?.kind == TokenKind::String => {

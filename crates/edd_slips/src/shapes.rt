@@ -126,6 +126,10 @@ fn list(around: &Around<'_>) -> Option<Slip> {
         TokenKind::Keyword(Keyword::ResponseCodes) => {
             "a list stands in braces, as in RESPONSE_CODES { 0, SUCCESS, \"OK\"; }"
         }
+        TokenKind::Keyword(Keyword::Transaction)
+            if matches!(around.ahead()?.kind, TokenKind::Integer(_)) => {
+            "the number of a TRANSACTION stands without brackets, as in TRANSACTION 0 { .. }"
+        }
         TokenKind::Keyword(Keyword::Transaction) => {
             "messages stand in braces, as in TRANSACTION { REQUEST { .. } REPLY { .. } }"
         }

@@ -148,6 +148,20 @@ impl<'a> Around<'a> {
             self.token.kind,
             TokenKind::Keyword(Keyword::Int | Keyword::Long)
         );
+        let is_after_type = matches!(
+            self.before.kind,
+            TokenKind::Keyword(Keyword::Int | Keyword::Long)
+        );
+        if is_type && is_after_type {
+            return on(self.token, "a local is of one type, as in long k;");
+        }
+        if is_symbol(self.before, Symbol::OpenParenthesis)
+            && self.is_in_method()
+            && is_type
+            && is_symbol(self.ahead()?, Symbol::CloseParenthesis)
+        {
+            return on(self.token, "there are no casts: all locals have 32 bits");
+        }
         if is_type && self.before.kind == TokenKind::Name && self.is_in_method() && is_on_line {
             return on(self.token, "the type stands before the name, as in int k;");
         }

@@ -128,6 +128,16 @@ fn beside_parentheses(around: &Around<'_>) -> Option<Slip> {
         return None;
     }
     let is_open = is_symbol(around.token, Symbol::OpenParenthesis);
+    let is_operand = is_open
+        || matches!(around.token.kind, TokenKind::Integer(_) | TokenKind::Name);
+    let is_step = is_symbol(around.before, Symbol::Increment)
+        || is_symbol(around.before, Symbol::Decrement);
+    if is_step && is_operand && has_sign(around, Symbol::Equals) {
+        return on(
+            around.token,
+            "an operator is missing before this: ++ and -- stand at one variable",
+        );
+    }
     if is_open && matches!(around.before.kind, TokenKind::Integer(_)) {
         return on(around.token, "an operator is missing before this");
     }
