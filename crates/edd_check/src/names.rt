@@ -2,6 +2,7 @@
 
 use crate::sources::{BUILTINS, Source};
 use edd_reports::diagnostic::Diagnostic;
+use edd_reports::nearest::Nearest;
 use edd_reports::words::{is_sign, item_kind, kind_word};
 use edd_slips::help_of_left_out;
 use edd_syntax::numbers::Kind;
@@ -127,6 +128,29 @@ fn shape_of(kind: Kind) -> (&'static str, &'static str) {
     }
 }
 
+// The word of a statement that is misspelled, where a name stands alone as one.
+fn statement_meant(
+    alloc: Global,
+    source: &Source<'_>,
+    name: &str,
+    number: usize,
+) -> Result<Option<&'static str>, AllocError> {
+    let is_alone = is_sign(source.tokens(), number.saturating_add(1), Symbol::Semicolon);
+    let before = number.saturating_sub(1);
+    let begins = is_sign(source.tokens(), before, Symbol::Semicolon)
+        || is_sign(source.tokens(), before, Symbol::OpenBrace)
+        || is_sign(source.tokens(), before, Symbol::CloseBrace)
+        || is_sign(source.tokens(), before, Symbol::CloseParenthesis);
+    if !is_alone || !begins || !source.is_in_body(number) {
+        return Ok(None);
+    }
+    let mut nearest = Nearest::to_word(name);
+    for word in ["break", "continue", "return"] {
+        nearest.look(alloc, word)?;
+    }
+    Ok(nearest.alone())
+}
+
 // How a name is declared that nothing has, where it is used.
 fn help_declare(
     alloc: Global,
@@ -224,9 +248,13 @@ pub fn help_unknown(
     } else {
         source.nearest(alloc, name)?
     };
+    let statement = statement_meant(alloc, source, name, number)?;
     let text = match (nearest.found, nearest.other) {
         (Some(near), None) => format!(in alloc; "{near} may be meant")?,
         (Some(near), Some(other)) => format!(in alloc; "{near} or {other} may be meant")?,
+        (None, None) if statement.is_some() => {
+            format!(in alloc; "{} may be meant", statement.unwrap_or(""))?
+        }
         (None, _) if is_member => format!(in alloc; "the collection has no member {name}")?,
         (None, _) => help_declare(alloc, source, name, number)?,
     };

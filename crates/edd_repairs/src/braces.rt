@@ -19,6 +19,8 @@ struct Crooked {
     close: usize,
     /// How far in the line of the opening brace begins.
     indent: usize,
+    /// How far in it stands itself.
+    own: usize,
     /// Whether it stands further in than the opening one's line.
     is_inside: bool,
 }
@@ -74,6 +76,7 @@ fn first_crooked(
                         open: opening,
                         close: place,
                         indent: other,
+                        own,
                         is_inside: other < own,
                     }));
                 }
@@ -129,6 +132,52 @@ fn missing_before(text: &[u8], tokens: &[Token], crooked: Crooked) -> usize {
     crooked.close
 }
 
+// The last token of the line that the closing brace closes by the layout, where that is one after
+// which an opening brace belongs.
+fn head_before(text: &[u8], tokens: &[Token], crooked: Crooked) -> Option<Token> {
+    let mut line = 0;
+    let mut is_head = false;
+    let mut last = None;
+    for token in tokens.iter().take(crooked.close).skip(crooked.open) {
+        if token.line != line {
+            line = token.line;
+            match indent_before(text, token.start as usize) {
+                Some(indent) if indent <= crooked.own => is_head = indent == crooked.own,
+                _ => is_head = false,
+            }
+            if is_head {
+                last = None;
+            }
+        }
+        if is_head {
+            last = Some(*token);
+        }
+    }
+    let last = last?;
+    let opens = matches!(
+        last.kind,
+        TokenKind::Symbol(Symbol::CloseParenthesis)
+            | TokenKind::Keyword(Keyword::MethodElse | Keyword::Do | Keyword::Else)
+    );
+    if opens { Some(last) } else { None }
+}
+
+// Says that an opening brace is missing after a token.
+fn help_open(
+    alloc: Global,
+    tokens: &[Token],
+    head: Token,
+    crooked: Crooked,
+    found: &mut Diagnostic,
+) -> Result<(), AllocError> {
+    let end = head.end as usize;
+    found.place = Some(Span { start: end, end });
+    found.help(String::from_str(alloc, "a { is missing here")?)?;
+    let closed = tokens.get(crooked.close).map(span_of);
+    let text = "by the layout it is closed by the brace";
+    found.help_at(closed, String::from_str(alloc, text)?)
+}
+
 // Says that a closing brace is missing before a token, for one that is open.
 fn help_missing(
     alloc: Global,
@@ -178,7 +227,10 @@ pub fn help_braces(
     };
     match (open, crooked.is_inside) {
         (None, true) if crooked.close < number => {
-            help_too_many(alloc, tokens, crooked, found)?;
+            match head_before(text, tokens, crooked) {
+                Some(head) => help_open(alloc, tokens, head, crooked, found)?,
+                None => help_too_many(alloc, tokens, crooked, found)?,
+            }
             Ok(true)
         }
         (Some(_), false) => {

@@ -302,7 +302,7 @@ pub fn word_for(word: &str) -> Option<&'static str> {
         "DIV" | "div" => Some("/"),
         "SHL" | "shl" => Some("<<"),
         "SHR" | "shr" => Some(">>"),
-        "SWITCH" => Some("SELECT"),
+        "SWITCH" | "switch" => Some("SELECT"),
         "SELECT" => Some("switch"),
         "ELIF" | "ELSIF" | "ELSEIF" => Some("ELSE IF"),
         "ELSE" | "OTHERWISE" => Some("DEFAULT"),

@@ -164,8 +164,27 @@ impl<'a> Misfit<'a> {
         Ok(())
     }
 
+    // Whether a value has to come after the token before.
+    fn is_after_operator(&self) -> bool {
+        matches!(
+            self.kind_before(),
+            Some(TokenKind::Symbol(
+                Symbol::Operator(_)
+                    | Symbol::Comparison(_)
+                    | Symbol::CompoundAssign(_)
+                    | Symbol::Equals
+                    | Symbol::LogicalAnd
+                    | Symbol::LogicalOr
+                    | Symbol::Question
+            ))
+        )
+    }
+
     // Whether the token is a sign without a value of its own: it may be one too many.
     fn is_idle(&self) -> bool {
+        if self.is_after_operator() {
+            return false;
+        }
         let Some(token) = self.tokens.get(self.number) else {
             return false;
         };
@@ -202,6 +221,11 @@ impl<'a> Misfit<'a> {
 
     // Whether the token is among the words of CLASS or HANDLING, which `&` joins.
     fn is_between_words(&self) -> bool {
+        if let Some(before) = self.before() {
+            if matches!(word_of(self.text, before), "READ" | "WRITE") {
+                return true;
+            }
+        }
         for count in 1..=self.number {
             let Some(token) = self.tokens.get(self.number.saturating_sub(count)) else {
                 return false;

@@ -29,6 +29,10 @@ fn help_of_word(word: &str) -> Option<&'static str> {
         "unless" => Some("there is no unless: the opposite is written if (!(..))"),
         "foreach" | "loop" => Some("a loop is written for (..; ..; ..) or while (..)"),
         "set" | "let" | "call" => Some("this word may be left out"),
+        "then" => Some("then may be left out"),
+        "THEN" => Some("THEN may be left out"),
+        "otherwise" => Some("the other branch begins with else"),
+        "exit" | "leave" => Some("a loop is left by break;"),
         "this" | "self" => Some("a variable or a function is named alone"),
         "enum" | "struct" | "union" | "typedef" => Some(
             "a method declares numbers alone, as in int k = 1;",
@@ -411,6 +415,33 @@ fn begins_statement(at: At<'_>) -> bool {
     }
 }
 
+// Whether an attribute begins with a token, and nothing else.
+fn begins_attribute(at: At<'_>) -> bool {
+    match at.tokens.get(at.number) {
+        Some(token) => matches!(
+            token.kind,
+            TokenKind::Keyword(
+                Keyword::Label
+                    | Keyword::Help
+                    | Keyword::Class
+                    | Keyword::Handling
+                    | Keyword::ConstantUnit
+                    | Keyword::Validity
+                    | Keyword::Type
+                    | Keyword::Number
+                    | Keyword::Operation
+                    | Keyword::Transaction
+                    | Keyword::ResponseCodes
+                    | Keyword::Items
+                    | Keyword::Members
+                    | Keyword::Definition
+                    | Keyword::Elements
+            )
+        ),
+        None => false,
+    }
+}
+
 // The kind of the last item before a token.
 fn last_item(at: At<'_>, outline: &Outline) -> Option<Kind> {
     let mut last = None;
@@ -425,6 +456,15 @@ fn last_item(at: At<'_>, outline: &Outline) -> Option<Kind> {
 /// The brace that ends a method or its body too early, where statements go on after it.
 pub fn early_end(at: At<'_>, outline: &Outline) -> Option<Slip> {
     let brace = at.tokens.get(at.number.checked_sub(1)?)?;
+    if begins_attribute(at) && is_symbol(brace, Symbol::CloseBrace) {
+        if outline.opened(at.tokens, at.number).is_none() {
+            return on(
+                brace,
+                "this brace ends the item: one closing brace may be too many up to here",
+            );
+        }
+        return None;
+    }
     if !begins_statement(at) || !is_symbol(brace, Symbol::CloseBrace) {
         return None;
     }

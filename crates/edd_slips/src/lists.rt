@@ -45,6 +45,7 @@ fn enumerators(around: &Around<'_>, token: &Token) -> Option<List> {
 
 // An item with the word of its kind, where items are named.
 fn named_with_kind(around: &Around<'_>) -> Option<Slip> {
+    open_brace(around.at.tokens, around.at.number)?;
     let name = around.ahead()?;
     let next = around.at.tokens.get(around.at.number.saturating_add(2))?;
     let is_named = item_kind(around.token).is_some()
@@ -116,6 +117,13 @@ fn has_two_texts(around: &Around<'_>) -> bool {
 // What goes on in an entry of a list.
 fn help_of_next(around: &Around<'_>, list: List) -> Option<&'static str> {
     match (list, around.token.kind) {
+        (List::Codes, TokenKind::String)
+            if is_symbol(around.before, Symbol::Comma)
+                && around
+                    .back(2)
+                    .is_some_and(|token| token.kind == TokenKind::String) => {
+            Some("a response code has one text, in all its languages")
+        }
         (List::Codes, TokenKind::Symbol(Symbol::Semicolon))
             if around.before.kind == TokenKind::Name => {
             Some("a text is missing here, as in 0, SUCCESS, \"OK\";")
@@ -204,6 +212,11 @@ pub fn list_slip(around: &Around<'_>) -> Option<Slip> {
     if let Some(slip) = enumerator(around) {
         return Some(slip);
     }
+    if !around.is_in_method() {
+        if let Some(slip) = named_with_kind(around) {
+            return Some(slip);
+        }
+    }
     let list = list_around(around)?;
     if list == List::Elements {
         if let Some(slip) = comma(around) {
@@ -212,11 +225,6 @@ pub fn list_slip(around: &Around<'_>) -> Option<Slip> {
     }
     if list == List::Message {
         if let Some(slip) = mask(around) {
-            return Some(slip);
-        }
-    }
-    if list == List::Items || list == List::Message {
-        if let Some(slip) = named_with_kind(around) {
             return Some(slip);
         }
     }

@@ -148,6 +148,19 @@ fn list(around: &Around<'_>) -> Option<Slip> {
     on(around.token, help)
 }
 
+// Braces around what a CASE gives.
+fn of_case(around: &Around<'_>) -> Option<Slip> {
+    let is_brace = is_symbol(around.token, Symbol::OpenBrace)
+        && is_symbol(around.before, Symbol::Colon);
+    if is_brace && !around.is_in_method() {
+        return on(
+            around.token,
+            "what a CASE gives stands without braces, as in CASE 0: \"..\";",
+        );
+    }
+    None
+}
+
 // A single value in brackets.
 fn value(around: &Around<'_>) -> Option<Slip> {
     let is_brace = is_symbol(around.token, Symbol::OpenBrace);
@@ -266,6 +279,14 @@ fn label(around: &Around<'_>) -> Option<Slip> {
         around.token.kind,
         TokenKind::Keyword(Keyword::Default | Keyword::MethodDefault)
     );
+    if is_symbol(around.token, Symbol::Comma)
+        && around.back(2)?.kind == TokenKind::Keyword(Keyword::Case)
+    {
+        return on(
+            around.token,
+            "each label has a CASE of its own, with what it gives",
+        );
+    }
     if is_case && is_default {
         return on(around.before, "this word has no case before it: default:");
     }
@@ -313,6 +334,9 @@ pub fn shape_slip(around: &Around<'_>) -> Option<Slip> {
         return Some(slip);
     }
     if let Some(slip) = list(around) {
+        return Some(slip);
+    }
+    if let Some(slip) = of_case(around) {
         return Some(slip);
     }
     if let Some(slip) = value(around) {

@@ -77,6 +77,18 @@ impl<'a> Around<'a> {
                 _ => {}
             }
         }
+        if is_symbol(self.token, Symbol::Equals) && is_joined(self.token, self.ahead()?) {
+            let next = self.ahead()?;
+            if let Some(help) = help_of_signs("=", self.word(next)) {
+                return Some(Slip {
+                    place: Span {
+                        start: self.token.start as usize,
+                        end: next.end as usize,
+                    },
+                    help,
+                });
+            }
+        }
         if !is_joined(self.before, self.token) {
             if !are_one_sign(self.word(self.before), self.word(self.token)) {
                 return None;
@@ -86,7 +98,7 @@ impl<'a> Around<'a> {
                 "a sign such as && or >= is written without a space in it",
             );
         }
-        if self.word(self.before) == "-" && self.is_call_ahead() {
+        if self.word(self.before) == "-" && self.word(self.token) == ">" && self.is_call_ahead() {
             return on(self.before, "a function is called by its name alone");
         }
         let help = help_of_signs(self.word(self.before), self.word(self.token))?;

@@ -3,7 +3,7 @@
 use crate::around::{Around, Slip, behind, is_symbol, on, open_parenthesis, word_before};
 use edd_lexer::token::TokenKind;
 use edd_reports::words::is_sign;
-use edd_syntax::symbols::Symbol;
+use edd_syntax::symbols::{Keyword, Symbol};
 
 // Whether a sign stands in the statement before the token.
 fn has_sign(around: &Around<'_>, sign: Symbol) -> bool {
@@ -70,6 +70,26 @@ fn is_unit(word: &str) -> bool {
     )
 }
 
+// Whether a word is an operator in other languages, which has words of its own.
+fn is_operator_word(word: &str) -> bool {
+    matches!(
+        word,
+        "not" | "NOT" | "and" | "AND" | "or" | "OR" | "mod" | "MOD" | "div" | "DIV" | "xor" | "XOR"
+    )
+}
+
+// An `if` in the place of a value.
+fn choice(around: &Around<'_>) -> Option<Slip> {
+    let is_if = around.token.kind == TokenKind::Keyword(Keyword::MethodIf);
+    if is_if && is_symbol(around.before, Symbol::Equals) {
+        return on(
+            around.token,
+            "a choice between two values is written a ? b : c",
+        );
+    }
+    None
+}
+
 // A value right after a value, or after a name that begins a statement.
 fn side_by_side(around: &Around<'_>) -> Option<Slip> {
     let is_number = matches!(around.token.kind, TokenKind::Integer(_));
@@ -94,6 +114,7 @@ fn side_by_side(around: &Around<'_>) -> Option<Slip> {
                 "what a function takes stands in parentheses, as in send_command(1)",
             )
         }
+        TokenKind::Name if is_operator_word(around.word(around.before)) => None,
         TokenKind::Name | TokenKind::Integer(_) if !is_first => {
             let is_value = is_number || around.token.kind == TokenKind::Name;
             let goes_on = matches!(
@@ -175,6 +196,9 @@ pub fn value_slip(around: &Around<'_>) -> Option<Slip> {
         return Some(slip);
     }
     if let Some(slip) = signs(around) {
+        return Some(slip);
+    }
+    if let Some(slip) = choice(around) {
         return Some(slip);
     }
     if let Some(slip) = many_values(around) {
