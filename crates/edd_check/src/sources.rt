@@ -167,9 +167,6 @@ impl<'a> Source<'a> {
     /// The name that is nearest to this one, of items, of functions, or of what else is declared.
     pub fn nearest<'w>(&self, alloc: Global, name: &'w str) -> Result<Nearest<'w, 'a>, AllocError> {
         let mut nearest = Nearest::to(name);
-        for item in self.items.keys().take(MOST_NAMES) {
-            nearest.look(alloc, *item)?;
-        }
         look_at_functions(alloc, &mut nearest)?;
         for other in self.names.keys().take(MOST_NAMES) {
             nearest.look(alloc, *other)?;

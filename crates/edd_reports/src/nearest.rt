@@ -46,10 +46,58 @@ fn most_edits(word: &str, among: Among) -> usize {
     }
 }
 
+/// How many of its letters a word has in each of some buckets, whatever their case.
+#[derive(Clone, Copy)]
+struct Letters {
+    counts: [u8; BUCKETS],
+}
+
+/// Into so many buckets the lowest bits of a letter put it.
+const BUCKETS: usize = 32;
+
+fn bucket_of(byte: u8) -> usize {
+    usize::from(byte % 32)
+}
+
+impl Letters {
+    fn of(word: &str) -> Letters {
+        let mut counts: [u8; BUCKETS] = [0; BUCKETS];
+        for byte in word.bytes() {
+            if let (Some(count), true) = (counts.get_mut(bucket_of(byte)), byte != b'_') {
+                *count = count.saturating_add(1);
+            }
+        }
+        Letters { counts }
+    }
+
+    // Whether a word has more than so many letters that these lack.
+    fn lack(&self, word: &str, most: usize) -> bool {
+        let mut left = self.counts;
+        let mut extra: usize = 0;
+        for byte in word.bytes() {
+            if byte == b'_' {
+                continue;
+            }
+            if let Some(count) = left.get_mut(bucket_of(byte)) {
+                if *count == 0 {
+                    extra = extra.saturating_add(1);
+                } else {
+                    *count = count.saturating_sub(1);
+                }
+            }
+            if most < extra {
+                return true;
+            }
+        }
+        false
+    }
+}
+
 /// The word that is nearest to the one that was looked for, so far.
 #[derive(Clone, Copy)]
 pub struct Nearest<'w, 'a> {
     word: &'w str,
+    letters: Letters,
     among: Among,
     edits: usize,
     pub found: Option<&'a str>,
@@ -61,6 +109,7 @@ impl<'w, 'a> Nearest<'w, 'a> {
     fn of(word: &'w str, among: Among) -> Nearest<'w, 'a> {
         Nearest {
             word,
+            letters: Letters::of(word),
             among,
             edits: most_edits(word, among),
             found: None,
@@ -103,6 +152,9 @@ impl<'w, 'a> Nearest<'w, 'a> {
         let shorter = word.len().min(self.word.len());
         let most = self.edits.max(1).saturating_add(1);
         if LONGEST < longer || most < longer.saturating_sub(shorter) || word == self.word {
+            return Ok(());
+        }
+        if self.letters.lack(word, self.edits) {
             return Ok(());
         }
         if word.eq_ignore_ascii_case(self.word) {
