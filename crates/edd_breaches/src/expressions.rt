@@ -23,7 +23,18 @@ fn may_name<'a>(walk: &Walk<'a>, kind: Kind, argument: &'a Argument<Path>) -> bo
     }
 }
 
+// Whether an argument calls a function that does not exist, of which nothing more is known.
+fn is_unknown_call(argument: &Argument<Path>) -> bool {
+    match argument {
+        Argument::Value(Expr::Call { function, .. }) => builtin(function.base.as_str()).is_none(),
+        _ => false,
+    }
+}
+
 fn may_fit<'a>(walk: &Walk<'a>, parameter: Parameter, argument: &'a Argument<Path>) -> bool {
+    if is_unknown_call(argument) {
+        return true;
+    }
     let is_text = matches!(argument, Argument::Text(_));
     match parameter {
         Parameter::Text => is_text,
@@ -74,6 +85,24 @@ fn walk_function<'a>(
     }
 }
 
+/// What a function takes that does not exist.
+const ALL: &[Kind] = &[
+    Kind::Variable,
+    Kind::Command,
+    Kind::Menu,
+    Kind::Collection,
+    Kind::Method,
+    Kind::Array,
+];
+
+// The kinds of items that a function may be given by their names.
+fn kinds_of(function: &Path) -> &'static [Kind] {
+    match builtin(function.base.as_str()) {
+        Some(_) => argument_kinds(function),
+        None => ALL,
+    }
+}
+
 /// Walks over an expression, which may be a whole statement.
 #[cycle(expressions)]
 pub fn walk_expr<'a>(
@@ -115,7 +144,7 @@ pub fn walk_expr<'a>(
             arguments,
         } => {
             walk_function(walk, function, arguments, is_statement, *line)?;
-            walk_arguments(arguments, argument_kinds(function), walk)
+            walk_arguments(arguments, kinds_of(function), walk)
         }
     }
 }

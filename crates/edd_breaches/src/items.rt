@@ -4,7 +4,7 @@ use crate::attributes::{Members, walk_attribute};
 use edd_lexer::token::Token;
 use edd_syntax::item::{Attribute, Item};
 use edd_syntax::limits::Limit;
-use edd_syntax::numbers::{Attr, KINDS, Kind};
+use edd_syntax::numbers::{Attr, Kind};
 use edd_syntax::reference::Path;
 use edd_syntax::symbols::Keyword;
 use edd_trails::breach::{Breach, RANKS, Rank, Rule};
@@ -82,11 +82,68 @@ fn has_too_many_transactions(item: &Item<Path>) -> bool {
     MOST_TRANSACTIONS < of_transactions.count()
 }
 
+/// Whether there is too much of something, and the name of the item where it is.
+#[derive(Clone, Copy)]
+struct Excess {
+    is_there: bool,
+    item: Option<usize>,
+}
+
+impl Excess {
+    fn none() -> Excess {
+        Excess {
+            is_there: false,
+            item: None,
+        }
+    }
+
+    // Notes an item; the first one stays.
+    fn note(&mut self, is_too_much: bool, item: Option<usize>) {
+        if is_too_much && !self.is_there {
+            self.is_there = true;
+            self.item = item;
+        }
+    }
+}
+
 /// What there are too many of.
 #[derive(Clone, Copy)]
 struct TooMany {
-    transactions: bool,
-    locals: bool,
+    /// How many items of each kind there are so far.
+    counts: [usize; 6],
+    items: Excess,
+    transactions: Excess,
+    locals: Excess,
+}
+
+impl TooMany {
+    fn none() -> TooMany {
+        TooMany {
+            counts: [0; 6],
+            items: Excess::none(),
+            transactions: Excess::none(),
+            locals: Excess::none(),
+        }
+    }
+
+    // Counts an item; the answer is whether it is one too many of its kind.
+    fn count(&mut self, kind: Kind) -> bool {
+        let number = match kind {
+            Kind::Variable => 0,
+            Kind::Command => 1,
+            Kind::Menu => 2,
+            Kind::Collection => 3,
+            Kind::Method => 4,
+            Kind::Array => 5,
+        };
+        match self.counts.get_mut(number) {
+            Some(count) => {
+                *count = count.saturating_add(1);
+                MOST_ITEMS < *count
+            }
+            None => false,
+        }
+    }
 }
 
 fn walk_item<'a>(
@@ -107,30 +164,26 @@ fn walk_item<'a>(
     walk.declared = 0;
     let words = walk_attributes(item, walk)?;
     note_missing(item, &words, place, walk)?;
-    too_many.locals = too_many.locals || MOST_LOCALS < walk.declared;
-    too_many.transactions = too_many.transactions || has_too_many_transactions(item);
+    let is_extra = too_many.count(item.kind());
+    too_many.items.note(is_extra, place);
+    too_many.locals.note(MOST_LOCALS < walk.declared, place);
+    too_many
+        .transactions
+        .note(has_too_many_transactions(item), place);
     Ok(())
 }
 
-fn has_too_many_of(items: &[Item<Path>], kind: Kind) -> bool {
-    MOST_ITEMS < items.iter().filter(|item| item.kind() == kind).count()
-}
-
-fn note_counts<'a>(
-    items: &'a [Item<Path>],
-    too_many: TooMany,
-    walk: &mut Walk<'a>,
-) -> Result<(), AllocError> {
-    if KINDS.iter().any(|kind| has_too_many_of(items, *kind)) {
-        walk.note(Rule::TooMany(Limit::Items), None)?;
-    }
-    if too_many.transactions {
-        walk.note(Rule::TooMany(Limit::Transactions), None)?;
-    }
-    if too_many.locals {
-        walk.note(Rule::TooMany(Limit::Locals), None)?;
+fn note_excess<'a>(limit: Limit, excess: Excess, walk: &mut Walk<'a>) -> Result<(), AllocError> {
+    if excess.is_there {
+        walk.note_clash(Rule::TooMany(limit), None, excess.item)?;
     }
     Ok(())
+}
+
+fn note_counts<'a>(too_many: TooMany, walk: &mut Walk<'a>) -> Result<(), AllocError> {
+    note_excess(Limit::Items, too_many.items, walk)?;
+    note_excess(Limit::Transactions, too_many.transactions, walk)?;
+    note_excess(Limit::Locals, too_many.locals, walk)
 }
 
 fn push_ranked<'a>(
@@ -173,13 +226,10 @@ pub fn breaches<'a>(
         found: Vec::new(alloc),
     };
     let mut names = IndexMap::new(alloc);
-    let mut too_many = TooMany {
-        transactions: false,
-        locals: false,
-    };
+    let mut too_many = TooMany::none();
     for item in items {
         walk_item(item, &mut names, &mut too_many, &mut walk)?;
     }
-    note_counts(items, too_many, &mut walk)?;
+    note_counts(too_many, &mut walk)?;
     in_order(alloc, &walk.found)
 }

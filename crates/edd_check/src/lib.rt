@@ -10,6 +10,7 @@ mod accepted;
 mod choices;
 mod grammar;
 mod look;
+mod names;
 mod refusals;
 mod remarks;
 mod reports;

@@ -4,11 +4,12 @@ use crate::grammar::Compiler;
 use crate::reports::Reports;
 use crate::rules::diagnostic;
 use crate::sources::Source;
-use edd_breaches::{Breach, breaches};
+use edd_breaches::{Breach, Rule, breaches};
 use edd_compiler::{Fault, unit_of};
 use edd_lexer::token::Token;
 use edd_repairs::{LaterFault, TextFault, explained, found_in, later_faults, tokens_of};
 use edd_reports::diagnostic::{Diagnostic, Finding};
+use indexmap::IndexMap;
 use std::alloc::{AllocError, Global};
 
 // Shows the faults of later items.
@@ -58,12 +59,19 @@ fn show_breaches(
     reports: &mut Reports,
 ) -> Result<(), AllocError> {
     let mut refusal = Some(refusal);
+    let mut told = Told {
+        names: IndexMap::new(alloc),
+    };
     for breach in found {
+        if told.has(source, breach) {
+            continue;
+        }
         if !reports.has_room() {
             reports.pass();
             continue;
         }
         let made = diagnostic(alloc, source, breach)?;
+        told.add(source, breach, &made)?;
         if let Some(first) = refusal.take() {
             if !is_refusal(&made, first.as_str()) {
                 reports.show(of_limit(alloc, first)?)?;
@@ -74,6 +82,59 @@ fn show_breaches(
     match refusal.take() {
         Some(first) => reports.show(of_limit(alloc, first)?),
         None => Ok(()),
+    }
+}
+
+/// Names that mean nothing and were told, each with the name of the item around it; with none where
+/// one change mends all uses.
+#[derive(Drop)]
+struct Told<'a> {
+    names: IndexMap<&'a str, Option<usize>>,
+}
+
+// The name of the item around a breach.
+fn item_of(source: &Source<'_>, breach: &Breach<'_>) -> Option<usize> {
+    Some(source.item_before(breach.place?)?.name)
+}
+
+// Whether a near name is told, as where it is misspelled at its declaration.
+fn has_near(found: &Diagnostic) -> bool {
+    for help in &found.helps {
+        if help.text.ends_with(" may be meant") {
+            return true;
+        }
+    }
+    false
+}
+
+impl<'a> Told<'a> {
+    // Whether a breach says once more what was told.
+    fn has(&self, source: &Source<'_>, breach: &Breach<'_>) -> bool {
+        let Rule::UnknownName(name) = breach.rule else {
+            return false;
+        };
+        match self.names.get(name).copied() {
+            Some(None) => true,
+            Some(item) => item == item_of(source, breach),
+            None => false,
+        }
+    }
+
+    fn add(
+        &mut self,
+        source: &Source<'_>,
+        breach: &Breach<'a>,
+        found: &Diagnostic,
+    ) -> Result<(), AllocError> {
+        if let Rule::UnknownName(name) = breach.rule {
+            let item = if has_near(found) {
+                None
+            } else {
+                item_of(source, breach)
+            };
+            self.names.insert(name, item)?;
+        }
+        Ok(())
     }
 }
 

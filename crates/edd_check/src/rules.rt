@@ -1,11 +1,12 @@
 //! What is said of a description that breaks rules.
 
-use crate::sources::{BUILTINS, Source};
+use crate::names::{function_of, help_kind, help_unknown, named_kind};
+use crate::sources::Source;
 use edd_breaches::{Breach, Rule};
 use edd_name_meanings::fault::NameFault;
 use edd_reports::diagnostic::{Diagnostic, Finding};
 use edd_reports::nearest::Nearest;
-use edd_slips::help_of_left_out;
+use edd_reports::words::kind_word;
 use edd_syntax::limits::Limit;
 use edd_syntax::numbers::Kind;
 use edd_syntax::operators::{Builtin, Parameter};
@@ -96,19 +97,16 @@ fn function_help(alloc: Global, function: Builtin) -> Result<String, AllocError>
     Ok(text)
 }
 
-fn function_of(word: &str) -> Option<Builtin> {
-    BUILTINS
-        .iter()
-        .copied()
-        .find(|function| function.name() == word)
-}
-
 // What helps at a function with other arguments, at the brace of an enumerator, or at an option.
 fn mismatch_help(alloc: Global, word: &str) -> Result<String, AllocError> {
     match function_of(word) {
         Some(Builtin::Abort | Builtin::ProcessAbort) => {
             format!(in alloc; "{word} takes nothing and is a statement of its own")
         }
+        Some(Builtin::SelectFromList) => String::from_str(
+            alloc,
+            "SELECT_FROM_LIST takes a text, and one text with all choices, as in \"Yes;No\"",
+        ),
         Some(function) => function_help(alloc, function),
         None if word == "{" => String::from_str(
             alloc,
@@ -137,78 +135,36 @@ fn limit_help(limit: Limit) -> &'static str {
     }
 }
 
-// What is said of a word that other languages have, or EDDL elsewhere.
-fn foreign_help(word: &str) -> Option<&'static str> {
+// What is said of a type that other languages have, or full EDDL.
+fn help_of_type(word: &str) -> Option<&'static str> {
     match word {
-        "TRUE" | "true" => Some("an expression has numbers alone: write 1"),
-        "FALSE" | "false" | "NULL" | "null" => Some("an expression has numbers alone: write 0"),
-        "METHODID" | "VARID" | "ITEM_ID" | "MEMBER_ID" => {
-            Some("an item is named by itself, without a function round it")
+        "SIGNED_INTEGER" | "SIGNED" | "INT" | "LONG" | "SHORT" | "INT8" | "INT16" | "INT32" => {
+            Some("INTEGER may be meant")
         }
-        "fgetval"
-        | "igetval"
-        | "lgetval"
-        | "vassign"
-        | "fassign"
-        | "fvar_value"
-        | "dassign"
-        | "float_value" => {
-            Some("a variable is read by its name and set by =, or by ivar_value and iassign")
+        "UNSIGNED" | "UINT" | "UINT8" | "UINT16" | "UINT32" | "BYTE" | "WORD" | "DWORD" | "OCTET" =>
+            Some("UNSIGNED_INTEGER may be meant"),
+        "ENUM" | "ENUMERATION" | "BOOL" | "BOOLEAN" => Some("ENUMERATED may be meant"),
+        "BIT_ENUM" | "BITFIELD" | "BIT_FIELD" | "BITS" => Some("BIT_ENUMERATED may be meant"),
+        "ASCII" | "PACKED_ASCII" | "PASSWORD" | "VISIBLE" | "EUC" | "BITSTRING" => {
+            Some("no variable of this profile of EDDL holds a text: leave it out")
         }
-        "acknowledge" => Some("ACKNOWLEDGE(text) asks the user to go on"),
-        "put_message" | "display" => Some("PUT_MESSAGE(text) shows a text"),
-        "delay" => Some("DELAY(seconds, text) waits"),
-        "get_dev_var_value" => Some("GET_DEV_VAR_VALUE(text, variable) asks for a value"),
-        "select_from_list" => Some("SELECT_FROM_LIST(text, \"a;b\") asks for a choice"),
-        "printf" | "print" => Some("PUT_MESSAGE(text) shows a text"),
-        "sizeof" => Some("a size is a number that is written out"),
+        "DATE" | "TIME" | "TIME_VALUE" | "DATE_AND_TIME" | "DURATION" => {
+            Some("this profile of EDDL has no dates and times: take UNSIGNED_INTEGER (4)")
+        }
         _ => None,
     }
 }
 
-// What helps where a name means nothing: where it does, or the nearest one.
-fn help_unknown(
-    alloc: Global,
-    source: &Source<'_>,
-    name: &str,
-    found: &mut Diagnostic,
-) -> Result<(), AllocError> {
-    if let Some(item) = source.item(name) {
-        if item.kind == Kind::Method {
-            let text = format!(in alloc;
-                "{name} is a METHOD, which no method calls; it is declared"
-            )?;
-            return found.help_at(source.span(item.name), text);
-        }
-    }
-    if let Some(number) = source.declared(name) {
-        let text = format!(in alloc; "{name} means nothing here, but is declared")?;
-        return found.help_at(source.span(number), text);
-    }
-    if let Some(text) = foreign_help(name).or(help_of_left_out(name)) {
-        return found.help(String::from_str(alloc, text)?);
-    }
-    if let Some(function) = function_of(name) {
-        let text = format!(in alloc;
-            "{} is a function: its arguments stand in ( )",
-            function.name()
-        )?;
-        return found.help(text);
-    }
-    let text = match source.nearest(alloc, name)? {
-        Some(near) => format!(in alloc; "{near} may be meant")?,
-        None => format!(in alloc; "nothing is declared with the name {name}")?,
-    };
-    found.help(text)
-}
-
 // The type that is nearest to a word.
 fn type_help(alloc: Global, word: &str) -> Result<String, AllocError> {
-    let mut nearest = Nearest::to(word);
+    if let Some(help) = help_of_type(word) {
+        return String::from_str(alloc, help);
+    }
+    let mut nearest = Nearest::to_word(word);
     for of in TYPES {
         nearest.look(alloc, of)?;
     }
-    match nearest.found {
+    match nearest.alone() {
         Some(near) => format!(in alloc; "{near} may be meant"),
         None => {
             let [first, second, third, last] = TYPES;
@@ -217,15 +173,21 @@ fn type_help(alloc: Global, word: &str) -> Result<String, AllocError> {
     }
 }
 
-// An item of a kind, with its article.
-fn named_kind(kind: Kind) -> &'static str {
-    match kind {
-        Kind::Variable => "a VARIABLE",
-        Kind::Command => "a COMMAND",
-        Kind::Menu => "a MENU",
-        Kind::Collection => "a COLLECTION",
-        Kind::Method => "a METHOD",
-        Kind::Array => "an ARRAY",
+// In which item there is too much.
+fn excess_help(
+    alloc: Global,
+    source: &Source<'_>,
+    limit: Limit,
+    item: usize,
+) -> Result<String, AllocError> {
+    let name = source.word(item);
+    let kind = match source.item_at(item) {
+        Some(item) => kind_word(item.kind),
+        None => "item",
+    };
+    match limit {
+        Limit::Items => format!(in alloc; "the first {kind} too many is {name}"),
+        _ => format!(in alloc; "the {kind} {name} has more"),
     }
 }
 
@@ -241,18 +203,15 @@ fn help_beside(
             Rule::DuplicateCase(_) => String::from_str(alloc, "this case is there already")?,
             Rule::DuplicateElement(_) => String::from_str(alloc, "this number is there already")?,
             Rule::WrongKind(name) => format!(in alloc; "{name} is a local, which is declared")?,
+            Rule::TooMany(limit) => excess_help(alloc, source, limit, earlier)?,
             _ => format!(in alloc; "{} is there already", source.word(earlier))?,
         };
         return found.help_at(source.span(earlier), text);
     }
-    if let Rule::WrongKind(name) = breach.rule {
-        if let Some(item) = source.item(name) {
-            let kind = named_kind(item.kind);
-            let text = format!(in alloc; "{name} is {kind}, which is declared")?;
-            return found.help_at(source.span(item.name), text);
-        }
+    match (breach.rule, breach.place) {
+        (Rule::WrongKind(name), Some(number)) => help_kind(alloc, source, name, number, found),
+        _ => Ok(()),
     }
-    Ok(())
 }
 
 fn missing_help(
@@ -328,8 +287,8 @@ pub fn diagnostic(
     if let Some(text) = own_help(alloc, source, breach)? {
         found.help(text)?;
     }
-    if let Rule::UnknownName(name) = breach.rule {
-        help_unknown(alloc, source, name, &mut found)?;
+    if let (Rule::UnknownName(name), Some(number)) = (breach.rule, breach.place) {
+        help_unknown(alloc, source, name, number, &mut found)?;
     }
     help_beside(alloc, source, breach, &mut found)?;
     Ok(found)

@@ -3,8 +3,9 @@
 use edd_lexer::token::{Token, TokenKind};
 use edd_reports::nearest::Nearest;
 use edd_reports::outline::{Declared, Outline, declares};
-use edd_reports::words::{Span, span_of, word_of};
+use edd_reports::words::{Span, is_sign, span_of, word_of};
 use edd_syntax::operators::Builtin;
+use edd_syntax::symbols::Symbol;
 use indexmap::IndexMap;
 use std::alloc::{AllocError, Global};
 
@@ -126,17 +127,51 @@ impl<'a> Source<'a> {
         self.outline.item_at(name)
     }
 
-    /// The name that is nearest to this one, of items, of functions, or of what else is declared.
-    pub fn nearest(&self, alloc: Global, name: &str) -> Result<Option<&'a str>, AllocError> {
+    /// The last item that is declared before a token.
+    pub fn item_before(&self, number: usize) -> Option<Declared> {
+        self.outline.item_before(number)
+    }
+
+    /// Whether a token is in the body of a method.
+    pub fn is_in_body(&self, number: usize) -> bool {
+        self.outline.is_in_body(self.tokens, number)
+    }
+
+    pub fn tokens(&self) -> &'a [Token] {
+        self.tokens
+    }
+
+    // Whether a token that declares a name is that of a member.
+    fn is_member(&self, number: usize) -> bool {
+        let before = number.saturating_sub(1);
+        let begins = is_sign(self.tokens, before, Symbol::OpenBrace)
+            || is_sign(self.tokens, before, Symbol::Semicolon);
+        begins && is_sign(self.tokens, number.saturating_add(1), Symbol::Comma)
+    }
+
+    /// The member whose name is nearest to this one.
+    pub fn nearest_member<'w>(
+        &self,
+        alloc: Global,
+        name: &'w str,
+    ) -> Result<Nearest<'w, 'a>, AllocError> {
         let mut nearest = Nearest::to(name);
-        for item in self.items.keys().take(MOST_NAMES) {
-            nearest.look(alloc, *item)?;
+        for (other, number) in self.names.iter().take(MOST_NAMES) {
+            if self.is_member(*number) {
+                nearest.look(alloc, *other)?;
+            }
         }
+        Ok(nearest)
+    }
+
+    /// The name that is nearest to this one, of items, of functions, or of what else is declared.
+    pub fn nearest<'w>(&self, alloc: Global, name: &'w str) -> Result<Nearest<'w, 'a>, AllocError> {
+        let mut nearest = Nearest::to(name);
         look_at_functions(alloc, &mut nearest)?;
         for other in self.names.keys().take(MOST_NAMES) {
             nearest.look(alloc, *other)?;
         }
-        Ok(nearest.found)
+        Ok(nearest)
     }
 }
 

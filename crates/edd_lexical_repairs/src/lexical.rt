@@ -5,6 +5,7 @@
 
 use crate::characters::help_of_character;
 use crate::finding::Found;
+use crate::quotes::{is_before_quote, missing_quote};
 use crate::scanning::{Scanned, Shape, byte_at, piece_at};
 use edd_lexer::fault::LexFault;
 use edd_lexer::lex;
@@ -179,6 +180,9 @@ const NUMBER: &str = "a number has no 0 in front, unless it is as 0x1F, and is a
 // What helps where a word that begins with a digit is no number.
 fn help_of_number(word: &str, before: u8) -> &'static str {
     let is_based = word.starts_with("0x") || word.starts_with("0X");
+    if before == b',' && word.len() == 3 && is_of(word, "0123456789") {
+        return "the digits of a number stand side by side, without a sign";
+    }
     if before == b'%' {
         return "a format is a text: it stands between two \"";
     }
@@ -188,8 +192,11 @@ fn help_of_number(word: &str, before: u8) -> &'static str {
     if word.contains("..") {
         return "a number is one: a range has a CASE for each";
     }
-    if is_based || word.contains('.') {
+    if is_based {
         return NUMBER;
+    }
+    if word.contains('.') {
+        return "numbers are whole, without a point or letters behind it: take a smaller unit";
     }
     if is_of(word, "0123456789uUlL") && !is_of(word, "0123456789") {
         return "a number has no letters behind it";
@@ -359,6 +366,86 @@ pub fn help_long_string(
     }
 }
 
+// Whether a fault is that of a word or a sign outside of strings.
+fn is_outside(fault: &LexFault) -> bool {
+    match fault {
+        LexFault::BadCharacter { .. } | LexFault::BadNumber { .. } => true,
+        _ => false,
+    }
+}
+
+/// The words of a preprocessor.
+const DIRECTIVES: [&str; 13] = [
+    "include", "define", "undef", "if", "else", "elif", "endif", "pragma", "line", "error",
+    "warning", "import", "!",
+];
+
+// Whether a `#` begins no line of a preprocessor but a remark, as in other languages.
+fn is_remark(text: &[u8], fault: &LexFault, place: Option<Span>) -> bool {
+    let (LexFault::Directive { .. }, Some(place)) = (fault, place) else {
+        return false;
+    };
+    let end = end_of_line(text, place.start);
+    let words = text_in(
+        text,
+        Span {
+            start: place.start.saturating_add(1),
+            end,
+        },
+    )
+    .trim_start();
+    for word in DIRECTIVES {
+        if words.starts_with(word) {
+            return false;
+        }
+    }
+    !words.is_empty()
+}
+
+// Where the line of a place ends.
+fn end_of_line(text: &[u8], place: usize) -> usize {
+    for (number, byte) in text.iter().enumerate().skip(place) {
+        if *byte == b'\n' {
+            return number;
+        }
+    }
+    text.len()
+}
+
+// Says what helps at a fault, or the quote that is missing before it.
+fn help_fault(
+    alloc: Global,
+    text: &[u8],
+    fault: &LexFault,
+    help: String,
+    found: &mut Diagnostic,
+) -> Result<(), AllocError> {
+    let place = found.place;
+    let quote = match place {
+        Some(place) if may_miss_quote(fault) => missing_quote(text, place.start),
+        _ => None,
+    };
+    let is_open = matches!(fault, LexFault::OpenString { .. });
+    if let Some(quote) = quote {
+        if is_open {
+            found.help(help)?;
+        }
+        let text = String::from_str(alloc, quote.help)?;
+        return found.help_at(Some(quote.string), text);
+    }
+    found.help(help)?;
+    if is_open {
+        return help_long_string(alloc, text, place, true, found);
+    }
+    match place {
+        Some(place) if is_outside(fault) && is_before_quote(text, place.end) => {
+            let help = "a quote may be missing before this, at the beginning of a text";
+            found.help(String::from_str(alloc, help)?)
+        }
+        _ => Ok(()),
+    }
+}
+
 /// What is said of a text that has no tokens.
 pub fn found_in(
     alloc: Global,
@@ -388,15 +475,13 @@ pub fn found_in(
         None => 0,
     };
     let help = match named_character(alloc, fault, word)? {
+        None if is_remark(text, fault, diagnostic.place) => {
+            String::from_str(alloc, "a comment is written // .. or /* .. */")?
+        }
         Some(help) => help,
         None => String::from_str(alloc, help_of(fault, word, before, after))?,
     };
-    diagnostic.help(help)?;
-    if may_miss_quote(fault) {
-        let place = diagnostic.place;
-        let any = matches!(fault, LexFault::OpenString { .. });
-        help_long_string(alloc, text, place, any, &mut diagnostic)?;
-    }
+    help_fault(alloc, text, fault, help, &mut diagnostic)?;
     Ok(Found {
         diagnostic,
         goes_on,

@@ -5,6 +5,7 @@
 mod characters;
 mod finding;
 mod lexical;
+mod quotes;
 pub mod scanning;
 
 pub use finding::Found;

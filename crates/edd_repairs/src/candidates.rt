@@ -277,16 +277,17 @@ const NAMES: [&str; 17] = [
     "REVIEW",
 ];
 
-/// The word that is nearest to a word, of those for which the grammar asks.
+/// The word that is nearest to a word, of those for which the grammar asks. Of two that are as near,
+/// as MIN_VALUE and MAX_VALUE may be, none is meant for sure.
 pub fn nearest_word(alloc: Global, word: &str) -> Result<Option<&'static str>, AllocError> {
-    let mut nearest = Nearest::to(word);
+    let mut nearest = Nearest::to_word(word);
     for keyword in WORDS {
         nearest.look(alloc, keyword.spelling())?;
     }
     for name in NAMES {
         nearest.look(alloc, name)?;
     }
-    Ok(nearest.found)
+    Ok(nearest.alone())
 }
 
 /// What EDDL has for a word of another language; for some it is nothing.
@@ -301,7 +302,8 @@ pub fn word_for(word: &str) -> Option<&'static str> {
         "DIV" | "div" => Some("/"),
         "SHL" | "shl" => Some("<<"),
         "SHR" | "shr" => Some(">>"),
-        "SWITCH" => Some("SELECT"),
+        "SWITCH" | "switch" => Some("SELECT"),
+        "SELECT" => Some("switch"),
         "ELIF" | "ELSIF" | "ELSEIF" => Some("ELSE IF"),
         "ELSE" | "OTHERWISE" => Some("DEFAULT"),
         "EXECUTE" | "RUN" => Some("COMMAND"),

@@ -76,8 +76,10 @@ fn called(spelling: &'static str) -> &'static str {
         NUMBER => "a number",
         TEXT => "a text",
         OPERATOR => "an operator",
-        "SUCCESS" => "a class such as SUCCESS",
-        "READ_ONLY" => "a word such as READ_ONLY",
+        "SUCCESS" => {
+            "SUCCESS, MISC_WARNING, DATA_ENTRY_WARNING, DATA_ENTRY_ERROR, MODE_ERROR, PROCESS_ERROR or MISC_ERROR"
+        }
+        "READ_ONLY" => "READ_ONLY, HIDDEN, REVIEW or DISPLAY_VALUE",
         "LABEL" => "an attribute such as LABEL",
         "MAX_VALUE" => "an option such as MAX_VALUE",
         itself => itself,

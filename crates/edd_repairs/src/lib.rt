@@ -3,6 +3,7 @@
 //! ends.
 #![tactic(auto)]
 
+mod braces;
 mod candidates;
 mod fitting;
 mod grammar;

@@ -1,5 +1,6 @@
 //! What is said of a text that spells no unit.
 
+use crate::braces::{help_braces, help_response_codes, number_at};
 use crate::fitting::what_fits;
 use crate::grammar::{Grammar, TextFault};
 use crate::located::{Where, located, place_on, tokens_on};
@@ -10,9 +11,9 @@ use edd_lexical_repairs::{Found, help_long_string};
 use edd_reports::diagnostic::{Diagnostic, Finding};
 use edd_reports::outline::Outline;
 use edd_reports::words::{Span, item_kind, kind_word, span_of, word_of};
-use edd_slips::{early_end, help_of_left_out, open_parenthesis, slip_at};
+use edd_slips::{early_end, help_of_left_out, open_bracket, open_parenthesis, slip_at};
 use edd_syntax::numbers::{ATTRIBUTES, Attr, KINDS, Kind};
-use edd_syntax::symbols::Keyword;
+use edd_syntax::symbols::{Keyword, Symbol};
 use edd_token_reader::fault::ParseFault;
 use std::alloc::{AllocError, Global};
 
@@ -110,6 +111,16 @@ fn help_attribute(
     Ok(true)
 }
 
+// A bracket that is open, if more than one token is after it, so that it may end at several.
+fn far_bracket(at: Misfit<'_>) -> Option<Span> {
+    let open = open_bracket(at.place())?;
+    let near = at.tokens.get(at.number.checked_sub(2)?)?;
+    if open == span_of(near) {
+        return None;
+    }
+    Some(open)
+}
+
 // Says what a change of the token is.
 fn help_change(
     alloc: Global,
@@ -125,6 +136,10 @@ fn help_change(
         Change::Behind(sign) => {
             if let Some(place) = at.end_before() {
                 found.place = Some(place);
+            }
+            if let ("]", Some(open)) = (sign, far_bracket(at)) {
+                let text = "a ] is missing, up to here, for the [ that is open";
+                return found.help_at(Some(open), String::from_str(alloc, text)?);
             }
             if let (")", Some(open)) = (sign, open_parenthesis(at.place())) {
                 let text = "a ) is missing, up to here, for the ( that is open";
@@ -197,6 +212,23 @@ fn help_misfit<G: Grammar>(
     Ok(())
 }
 
+// Whether a token may be one that does not fit since a brace before it is missing or too much.
+fn may_be_braces(at: Misfit<'_>, outline: &Outline) -> bool {
+    let Some(token) = at.tokens.get(at.number) else {
+        return false;
+    };
+    let is_last_brace = token.kind == TokenKind::Symbol(Symbol::CloseBrace)
+        && outline.opened(at.tokens, at.number).is_none();
+    is_last_brace
+        || item_kind(token).is_some()
+        || attribute_of(word_of(at.text, token)).is_some()
+        || matches!(
+            token.kind,
+            TokenKind::Keyword(Keyword::MethodCase | Keyword::MethodDefault)
+        )
+        || early_end(at.place(), outline).is_some()
+}
+
 fn misfit<G: Grammar>(
     alloc: Global,
     at: Misfit<'_>,
@@ -204,9 +236,12 @@ fn misfit<G: Grammar>(
 ) -> Result<(), AllocError> {
     let outline = Outline::of(alloc, at.tokens)?;
     let Some(token) = at.tokens.get(at.number) else {
-        return help_end(alloc, at.tokens, &outline, found);
+        return help_end(alloc, at.text, at.tokens, &outline, found);
     };
     found.place = Some(span_of(token));
+    if may_be_braces(at, &outline) && help_braces(alloc, at.text, at.tokens, at.number, found)? {
+        return Ok(());
+    }
     if let Some(slip) = slip_at(at.place()) {
         found.place = Some(slip.place);
         return found.help(String::from_str(alloc, slip.help)?);
@@ -244,10 +279,14 @@ const CONDITION: &str =
 // What helps where the text ends too early.
 fn help_end(
     alloc: Global,
+    text: &[u8],
     tokens: &[Token],
     outline: &Outline,
     found: &mut Diagnostic,
 ) -> Result<(), AllocError> {
+    if help_braces(alloc, text, tokens, tokens.len(), found)? {
+        return Ok(());
+    }
     found.place = end_of(tokens);
     let text = if tokens.is_empty() {
         IDENTIFICATION
@@ -324,11 +363,6 @@ fn place_left_out<G: Grammar>(
 
 // The word of a kind of item is left out after ARRAY OF alone.
 fn help_left_out(alloc: Global, word: &str, found: &mut Diagnostic) -> Result<(), AllocError> {
-    if word == Keyword::ResponseCodes.spelling() {
-        let help =
-            "response codes stand in the braces of a COMMAND: a closing brace may be missing before";
-        return found.help(String::from_str(alloc, help)?);
-    }
     if is_item_word(word) {
         let help = "this profile of EDDL has arrays of VARIABLE alone";
         return found.help(String::from_str(alloc, help)?);
@@ -423,7 +457,13 @@ fn unsupported<G: Grammar>(
 ) -> Result<Option<usize>, AllocError> {
     let place = place_left_out::<G>(alloc, text, tokens, word)?;
     found.place = place;
-    help_left_out(alloc, word, found)?;
+    match place {
+        Some(place) if word == Keyword::ResponseCodes.spelling() => {
+            let number = number_at(tokens, place);
+            help_response_codes(alloc, text, tokens, number, found)?;
+        }
+        _ => help_left_out(alloc, word, found)?,
+    }
     match place {
         Some(place) => Ok(Some(place.start)),
         None => Ok(None),

@@ -73,6 +73,16 @@ impl<'a> Misfit<'a> {
         self.line.line.saturating_add(behind)
     }
 
+    // The line of the token after it in the spread text.
+    fn line_after(&self) -> u32 {
+        let next = self.number.saturating_add(1);
+        let lines = match self.tokens.get(next) {
+            Some(token) if self.line.behind <= next => token.line.saturating_sub(self.line.line),
+            _ => 0,
+        };
+        self.own_line().saturating_add(1).saturating_add(lines)
+    }
+
     // Whether the token or the one after it is this word.
     fn is_near(&self, word: &str) -> bool {
         for token in self.tokens.iter().skip(self.number).take(2) {
@@ -106,6 +116,9 @@ impl<'a> Misfit<'a> {
         let edit = Some(edit_of(self.number, change));
         let text = spread(alloc, self.text, self.tokens, self.line, edit)?;
         let reached = self.line_reached::<G>(alloc, &text)?;
+        if matches!(change, Change::LeaveOut) && reached <= self.line_after() {
+            return Ok(());
+        }
         if best.line < reached {
             best.line = reached;
             best.change = Some(change);
@@ -151,8 +164,27 @@ impl<'a> Misfit<'a> {
         Ok(())
     }
 
+    // Whether a value has to come after the token before.
+    fn is_after_operator(&self) -> bool {
+        matches!(
+            self.kind_before(),
+            Some(TokenKind::Symbol(
+                Symbol::Operator(_)
+                    | Symbol::Comparison(_)
+                    | Symbol::CompoundAssign(_)
+                    | Symbol::Equals
+                    | Symbol::LogicalAnd
+                    | Symbol::LogicalOr
+                    | Symbol::Question
+            ))
+        )
+    }
+
     // Whether the token is a sign without a value of its own: it may be one too many.
     fn is_idle(&self) -> bool {
+        if self.is_after_operator() {
+            return false;
+        }
         let Some(token) = self.tokens.get(self.number) else {
             return false;
         };
@@ -189,6 +221,11 @@ impl<'a> Misfit<'a> {
 
     // Whether the token is among the words of CLASS or HANDLING, which `&` joins.
     fn is_between_words(&self) -> bool {
+        if let Some(before) = self.before() {
+            if matches!(word_of(self.text, before), "READ" | "WRITE") {
+                return true;
+            }
+        }
         for count in 1..=self.number {
             let Some(token) = self.tokens.get(self.number.saturating_sub(count)) else {
                 return false;
@@ -259,6 +296,10 @@ impl<'a> Misfit<'a> {
         if self.is_between_words() {
             self.attempt::<G>(alloc, &mut best, Change::Behind("&"))?;
             self.attempt::<G>(alloc, &mut best, Change::Instead("&"))?;
+        }
+        // Of two that lead as far `,` is nearer to `;` than nothing.
+        if is_sign(self.tokens, self.number, Symbol::Semicolon) {
+            self.attempt_signs::<G>(alloc, &mut best)?;
         }
         if self.is_idle() {
             self.attempt::<G>(alloc, &mut best, Change::LeaveOut)?;

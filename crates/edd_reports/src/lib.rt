@@ -15,6 +15,7 @@ pub mod outline;
 mod sarif;
 mod spots;
 mod text;
+mod typing;
 pub mod words;
 
 use colours::{COLOURED, PLAIN};

@@ -165,13 +165,22 @@ pub fn open_brace(tokens: &[Token], number: usize) -> Option<usize> {
 
 /// The last parenthesis of the statement before a token that is not closed.
 pub fn open_parenthesis(at: At<'_>) -> Option<Span> {
+    open_sign(at, Symbol::OpenParenthesis, Symbol::CloseParenthesis)
+}
+
+/// The last bracket of the statement before a token that is not closed.
+pub fn open_bracket(at: At<'_>) -> Option<Span> {
+    open_sign(at, Symbol::OpenBracket, Symbol::CloseBracket)
+}
+
+fn open_sign(at: At<'_>, opens: Symbol, closes: Symbol) -> Option<Span> {
     let around = Around::of(at)?;
     let mut closed: usize = 0;
     for count in 1..=at.number.saturating_sub(around.statement()) {
         let token = around.back(count)?;
-        if is_symbol(token, Symbol::CloseParenthesis) {
+        if is_symbol(token, closes) {
             closed = closed.saturating_add(1);
-        } else if is_symbol(token, Symbol::OpenParenthesis) {
+        } else if is_symbol(token, opens) {
             if closed == 0 {
                 return Some(span_of(token));
             }

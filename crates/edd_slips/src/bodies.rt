@@ -3,6 +3,7 @@
 use crate::around::{
     Around, At, Slip, behind, is_joined, is_symbol, on, open_brace, opener, word_before,
 };
+use crate::branches::{lone_else, no_condition};
 use crate::values::value_slip;
 use edd_lexer::token::{Token, TokenKind};
 use edd_reports::outline::Outline;
@@ -28,6 +29,10 @@ fn help_of_word(word: &str) -> Option<&'static str> {
         "unless" => Some("there is no unless: the opposite is written if (!(..))"),
         "foreach" | "loop" => Some("a loop is written for (..; ..; ..) or while (..)"),
         "set" | "let" | "call" => Some("this word may be left out"),
+        "then" => Some("then may be left out"),
+        "THEN" => Some("THEN may be left out"),
+        "otherwise" => Some("the other branch begins with else"),
+        "exit" | "leave" => Some("a loop is left by break;"),
         "this" | "self" => Some("a variable or a function is named alone"),
         "enum" | "struct" | "union" | "typedef" => Some(
             "a method declares numbers alone, as in int k = 1;",
@@ -64,9 +69,12 @@ fn part_of_for(around: &Around<'_>) -> Option<Slip> {
     let help = match around.token.kind {
         TokenKind::Symbol(Symbol::Semicolon) => "a for has three parts",
         TokenKind::Symbol(Symbol::Colon) => "a for has three parts, as in for (i = 0; i < 3; i++)",
-        TokenKind::Symbol(Symbol::CloseParenthesis)
-            if is_symbol(around.before, Symbol::OpenParenthesis) =>
-            "a for has three parts, as in for (i = 0; i < 3; i++)",
+        TokenKind::Symbol(Symbol::CloseParenthesis) => {
+            "a for has three parts, as in for (i = 0; i < 3; i++)"
+        }
+        TokenKind::Name if matches!(around.word(around.token), "in" | "of" | "to") => {
+            "a for has three parts, as in for (i = 0; i < 3; i++)"
+        }
         TokenKind::Symbol(Symbol::Comma) =>
             "one expression stands in each part of a for, and ; parts them",
         _ => return None,
@@ -217,45 +225,71 @@ fn after_word(around: &Around<'_>) -> Option<Slip> {
     }
 }
 
-// Whether the innermost braces around the token are those of an `if`.
-fn is_in_if(around: &Around<'_>) -> bool {
-    let tokens = around.at.tokens;
-    let Some(brace) = open_brace(tokens, around.at.number) else {
-        return false;
-    };
-    match word_before(tokens, brace.saturating_sub(1)) {
-        Some(word) => is_keyword(word, Keyword::MethodIf),
-        None => false,
-    }
+// Whether the token goes on with a value and begins no statement.
+fn goes_on_with_value(around: &Around<'_>) -> bool {
+    matches!(
+        around.token.kind,
+        TokenKind::Symbol(
+            Symbol::LogicalAnd
+                | Symbol::LogicalOr
+                | Symbol::Comparison(_)
+                | Symbol::Question
+                | Symbol::Operator(
+                    Operator::And | Operator::Or | Operator::Multiply | Operator::Divide
+                )
+        )
+    )
 }
 
-// What is said of an `else` that belongs to no `if`.
-fn help_of_else(around: &Around<'_>) -> &'static str {
-    let is_label = around
-        .ahead()
-        .is_some_and(|next| is_symbol(next, Symbol::Colon));
-    if is_label {
-        return "default may be meant in place of else";
+// A call after which no `;` comes: a branch whose word is another one, or in capitals.
+fn after_call(around: &Around<'_>, word: &Token) -> Option<Slip> {
+    let name = around.word(word);
+    if let Some(help) = help_of_word(name) {
+        return on(word, help);
     }
-    if is_in_if(around) && !is_symbol(around.before, Symbol::CloseBrace) {
-        return "a } is missing before this else, for the { of its if";
+    for (branch, help) in BRANCHES {
+        if name.eq_ignore_ascii_case(branch) {
+            return on(word, help);
+        }
     }
-    let ends_two = is_symbol(around.before, Symbol::CloseBrace)
-        && around
-            .back(2)
-            .is_some_and(|token| is_symbol(token, Symbol::CloseBrace));
-    if ends_two {
-        return "this else belongs to no if: one closing brace may be too many before it";
+    let closing = around.at.number.checked_sub(1)?;
+    let open = opener(
+        around.at.tokens,
+        closing,
+        Symbol::OpenParenthesis,
+        Symbol::CloseParenthesis,
+    )?;
+    let is_first = around.statement().saturating_add(1) == open;
+    if is_first && is_symbol(around.token, Symbol::OpenBrace) {
+        return on(
+            word,
+            "no branch and no loop begins with this word, but with if, while, for or switch",
+        );
     }
-    "this else belongs to no if: between an if and its else stands one statement, or one block"
+    None
 }
+
+/// The words of branches and loops, which are written in small letters.
+const BRANCHES: [(&str, &str); 4] = [
+    ("if", "if may be meant"),
+    ("while", "while may be meant"),
+    ("for", "for may be meant"),
+    ("switch", "switch may be meant"),
+];
 
 // What is said where a statement follows parentheses.
 fn after_parentheses(around: &Around<'_>) -> Option<Slip> {
     let word = word_before(around.at.tokens, around.at.number.checked_sub(1)?)?;
     match word.kind {
         TokenKind::Keyword(Keyword::MethodElse) => on(word, "an if is missing after this else"),
-        TokenKind::Name => on(word, help_of_word(around.word(word))?),
+        TokenKind::Name => after_call(around, word),
+        TokenKind::Keyword(Keyword::MethodIf | Keyword::While | Keyword::Switch)
+            if goes_on_with_value(around) => {
+            on(
+                around.token,
+                "the ) before this ends the condition: parentheses stand around all of it",
+            )
+        }
         TokenKind::Keyword(Keyword::MethodIf | Keyword::While | Keyword::For | Keyword::Switch)
             if is_symbol(around.token, Symbol::Colon) => {
             on(
@@ -269,13 +303,16 @@ fn after_parentheses(around: &Around<'_>) -> Option<Slip> {
 
 // What may not stand in the place of a statement or of an argument.
 fn in_place(around: &Around<'_>) -> Option<Slip> {
+    if let Some(slip) = no_condition(around) {
+        return Some(slip);
+    }
     let after = around.before.kind;
     let begins = matches!(
         after,
         TokenKind::Symbol(Symbol::CloseParenthesis) | TokenKind::Keyword(Keyword::MethodElse)
     );
     match around.token.kind {
-        TokenKind::Keyword(Keyword::MethodElse) => on(around.token, help_of_else(around)),
+        TokenKind::Keyword(Keyword::MethodElse) => lone_else(around),
         TokenKind::Keyword(Keyword::Int | Keyword::Long) if begins => {
             on(
                 around.token,
@@ -378,6 +415,33 @@ fn begins_statement(at: At<'_>) -> bool {
     }
 }
 
+// Whether an attribute begins with a token, and nothing else.
+fn begins_attribute(at: At<'_>) -> bool {
+    match at.tokens.get(at.number) {
+        Some(token) => matches!(
+            token.kind,
+            TokenKind::Keyword(
+                Keyword::Label
+                    | Keyword::Help
+                    | Keyword::Class
+                    | Keyword::Handling
+                    | Keyword::ConstantUnit
+                    | Keyword::Validity
+                    | Keyword::Type
+                    | Keyword::Number
+                    | Keyword::Operation
+                    | Keyword::Transaction
+                    | Keyword::ResponseCodes
+                    | Keyword::Items
+                    | Keyword::Members
+                    | Keyword::Definition
+                    | Keyword::Elements
+            )
+        ),
+        None => false,
+    }
+}
+
 // The kind of the last item before a token.
 fn last_item(at: At<'_>, outline: &Outline) -> Option<Kind> {
     let mut last = None;
@@ -392,6 +456,15 @@ fn last_item(at: At<'_>, outline: &Outline) -> Option<Kind> {
 /// The brace that ends a method or its body too early, where statements go on after it.
 pub fn early_end(at: At<'_>, outline: &Outline) -> Option<Slip> {
     let brace = at.tokens.get(at.number.checked_sub(1)?)?;
+    if begins_attribute(at) && is_symbol(brace, Symbol::CloseBrace) {
+        if outline.opened(at.tokens, at.number).is_none() {
+            return on(
+                brace,
+                "this brace ends the item: one closing brace may be too many up to here",
+            );
+        }
+        return None;
+    }
     if !begins_statement(at) || !is_symbol(brace, Symbol::CloseBrace) {
         return None;
     }

@@ -4,11 +4,15 @@
 
 mod around;
 mod bodies;
+mod branches;
 mod left_out;
+mod lists;
+mod shapes;
+mod signs;
 mod slips;
 mod values;
 
-pub use around::{At, Slip, open_parenthesis};
+pub use around::{At, Slip, open_bracket, open_parenthesis};
 pub use bodies::early_end;
 pub use left_out::help_of_left_out;
 pub use slips::slip_at;

@@ -2,41 +2,13 @@
 
 use crate::around::{Around, At, Slip, is_joined, is_symbol, on, open_brace, open_parenthesis};
 use crate::bodies::statement_slip;
+use crate::lists::list_slip;
+use crate::shapes::shape_slip;
+use crate::signs::{are_one_sign, help_of_signs};
 use edd_lexer::token::{Token, TokenKind};
 use edd_reports::words::{Span, is_sign, is_word, item_kind};
 use edd_syntax::operators::Operator;
 use edd_syntax::symbols::{Keyword, Symbol};
-
-// What two signs that are joined are meant as.
-fn help_of_signs(before: &str, sign: &str) -> Option<&'static str> {
-    match (before, sign) {
-        ("=", "<") => Some("less or equal is written <="),
-        ("=", ">") => Some("greater or equal is written >="),
-        ("<", ">") => Some("not equal is written !="),
-        ("*", "*") => Some("there is no power: a square is a * a"),
-        (">>", ">") => Some("a shift to the right is written >>"),
-        ("^", "^") => Some("there is no ^^: ^ takes bit by bit"),
-        ("-", ">") | (":", ":") => Some("a member is written c.m"),
-        ("=", "!") => Some("not equal is written !="),
-        ("==", "=") => Some("equal is written =="),
-        ("<<", "<") => Some("a shift to the left is written <<"),
-        ("&&", "&") => Some("both conditions are written &&"),
-        ("||", "|") => Some("one of two conditions is written ||"),
-        _ => None,
-    }
-}
-
-// Whether two signs with a space between them are meant as one.
-fn are_one_sign(before: &str, sign: &str) -> bool {
-    matches!(
-        (before, sign),
-        ("&", "&")
-            | ("|", "|")
-            | ("<", "<" | "=")
-            | (">", ">" | "=")
-            | ("=" | "!" | "+" | "-" | "*" | "/", "=")
-    )
-}
 
 /// Words before a name that other languages have there.
 fn help_of_type(word: &str) -> Option<&'static str> {
@@ -105,6 +77,18 @@ impl<'a> Around<'a> {
                 _ => {}
             }
         }
+        if is_symbol(self.token, Symbol::Equals) && is_joined(self.token, self.ahead()?) {
+            let next = self.ahead()?;
+            if let Some(help) = help_of_signs("=", self.word(next)) {
+                return Some(Slip {
+                    place: Span {
+                        start: self.token.start as usize,
+                        end: next.end as usize,
+                    },
+                    help,
+                });
+            }
+        }
         if !is_joined(self.before, self.token) {
             if !are_one_sign(self.word(self.before), self.word(self.token)) {
                 return None;
@@ -114,7 +98,7 @@ impl<'a> Around<'a> {
                 "a sign such as && or >= is written without a space in it",
             );
         }
-        if self.word(self.before) == "-" && self.is_call_ahead() {
+        if self.word(self.before) == "-" && self.word(self.token) == ">" && self.is_call_ahead() {
             return on(self.before, "a function is called by its name alone");
         }
         let help = help_of_signs(self.word(self.before), self.word(self.token))?;
@@ -176,6 +160,23 @@ impl<'a> Around<'a> {
             self.token.kind,
             TokenKind::Keyword(Keyword::Int | Keyword::Long)
         );
+        let is_after_type = matches!(
+            self.before.kind,
+            TokenKind::Keyword(Keyword::Int | Keyword::Long)
+        );
+        if is_type && is_after_type {
+            return on(self.token, "a local is of one type, as in long k;");
+        }
+        if is_symbol(self.before, Symbol::OpenParenthesis)
+            && self.is_in_method()
+            && is_type
+            && is_symbol(self.ahead()?, Symbol::CloseParenthesis)
+        {
+            return on(self.token, "there are no casts: all locals have 32 bits");
+        }
+        if is_type && self.before.kind == TokenKind::Name && self.is_in_method() && is_on_line {
+            return on(self.token, "the type stands before the name, as in int k;");
+        }
         if is_type && self.before.kind == TokenKind::Keyword(Keyword::Method) {
             return on(self.token, "a METHOD has a name alone, and no type");
         }
@@ -308,13 +309,6 @@ impl<'a> Around<'a> {
             "INTEGER" | "UNSIGNED_INTEGER" | "ENUMERATED" | "BIT_ENUMERATED"
         );
         match self.token.kind {
-            TokenKind::Keyword(Keyword::Int | Keyword::Long)
-                if self.before.kind == TokenKind::Keyword(Keyword::Type) => {
-                on(
-                    self.token,
-                    "the type of a variable is INTEGER or UNSIGNED_INTEGER",
-                )
-            }
             TokenKind::Integer(_)
                 if matches!(self.before.kind, TokenKind::Integer(_))
                     && self.word(self.token).len() == 3 => {
@@ -473,6 +467,12 @@ pub fn slip_at(at: At<'_>) -> Option<Slip> {
         return Some(slip);
     }
     if let Some(slip) = around.marks() {
+        return Some(slip);
+    }
+    if let Some(slip) = shape_slip(&around) {
+        return Some(slip);
+    }
+    if let Some(slip) = list_slip(&around) {
         return Some(slip);
     }
     if let Some(slip) = around.signs() {

@@ -1,9 +1,9 @@
 //! Slips in the values of methods, and in what functions take.
 
-use crate::around::{Around, Slip, behind, is_symbol, on, open_parenthesis};
+use crate::around::{Around, Slip, behind, is_symbol, on, open_parenthesis, word_before};
 use edd_lexer::token::TokenKind;
 use edd_reports::words::is_sign;
-use edd_syntax::symbols::Symbol;
+use edd_syntax::symbols::{Keyword, Symbol};
 
 // Whether a sign stands in the statement before the token.
 fn has_sign(around: &Around<'_>, sign: Symbol) -> bool {
@@ -70,6 +70,26 @@ fn is_unit(word: &str) -> bool {
     )
 }
 
+// Whether a word is an operator in other languages, which has words of its own.
+fn is_operator_word(word: &str) -> bool {
+    matches!(
+        word,
+        "not" | "NOT" | "and" | "AND" | "or" | "OR" | "mod" | "MOD" | "div" | "DIV" | "xor" | "XOR"
+    )
+}
+
+// An `if` in the place of a value.
+fn choice(around: &Around<'_>) -> Option<Slip> {
+    let is_if = around.token.kind == TokenKind::Keyword(Keyword::MethodIf);
+    if is_if && is_symbol(around.before, Symbol::Equals) {
+        return on(
+            around.token,
+            "a choice between two values is written a ? b : c",
+        );
+    }
+    None
+}
+
 // A value right after a value, or after a name that begins a statement.
 fn side_by_side(around: &Around<'_>) -> Option<Slip> {
     let is_number = matches!(around.token.kind, TokenKind::Integer(_));
@@ -94,6 +114,7 @@ fn side_by_side(around: &Around<'_>) -> Option<Slip> {
                 "what a function takes stands in parentheses, as in send_command(1)",
             )
         }
+        TokenKind::Name if is_operator_word(around.word(around.before)) => None,
         TokenKind::Name | TokenKind::Integer(_) if !is_first => {
             let is_value = is_number || around.token.kind == TokenKind::Name;
             let goes_on = matches!(
@@ -122,12 +143,68 @@ fn side_by_side(around: &Around<'_>) -> Option<Slip> {
     }
 }
 
+// A value right after parentheses, or parentheses right after a number.
+fn beside_parentheses(around: &Around<'_>) -> Option<Slip> {
+    if around.before.line != around.token.line {
+        return None;
+    }
+    let is_open = is_symbol(around.token, Symbol::OpenParenthesis);
+    let is_operand = is_open
+        || matches!(around.token.kind, TokenKind::Integer(_) | TokenKind::Name);
+    let is_step = is_symbol(around.before, Symbol::Increment)
+        || is_symbol(around.before, Symbol::Decrement);
+    if is_step && is_operand && has_sign(around, Symbol::Equals) {
+        return on(
+            around.token,
+            "an operator is missing before this: ++ and -- stand at one variable",
+        );
+    }
+    if is_open && matches!(around.before.kind, TokenKind::Integer(_)) {
+        return on(around.token, "an operator is missing before this");
+    }
+    if !is_symbol(around.before, Symbol::CloseParenthesis) {
+        return None;
+    }
+    let closing = around.at.number.checked_sub(1)?;
+    let is_branch = match word_before(around.at.tokens, closing) {
+        Some(word) => matches!(word.kind, TokenKind::Keyword(_)),
+        None => false,
+    };
+    let is_value = is_open || matches!(around.token.kind, TokenKind::Integer(_));
+    if is_branch || !is_value {
+        return None;
+    }
+    on(around.token, "an operator or a ; is missing before this")
+}
+
+// Several values for one local.
+fn many_values(around: &Around<'_>) -> Option<Slip> {
+    let is_list = is_symbol(around.token, Symbol::OpenBrace)
+        && is_symbol(around.before, Symbol::Equals);
+    if is_list {
+        return on(
+            around.token,
+            "a local has one value: arrays have variables alone",
+        );
+    }
+    None
+}
+
 /// A slip in a value of a method.
 pub fn value_slip(around: &Around<'_>) -> Option<Slip> {
     if let Some(slip) = unclosed(around) {
         return Some(slip);
     }
     if let Some(slip) = signs(around) {
+        return Some(slip);
+    }
+    if let Some(slip) = choice(around) {
+        return Some(slip);
+    }
+    if let Some(slip) = many_values(around) {
+        return Some(slip);
+    }
+    if let Some(slip) = beside_parentheses(around) {
         return Some(slip);
     }
     side_by_side(around)
