@@ -1,5 +1,5 @@
-//! The effects of expressions, in the order of their code. Each sign that belongs to an expression is
-//! passed, so that none is taken for another one.
+//! The effects of expressions, in the order of their code. Each sign that belongs to an expression
+//! is passed, so that none is taken for another one.
 
 use crate::effect::{of_call, of_element, of_operator, of_store};
 use crate::walk::Walk;

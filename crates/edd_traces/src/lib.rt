@@ -1,10 +1,10 @@
-//! Where in a source the effects of a method's code are: its requests, its changes of variables, and
-//! what can trap.
+//! Where in a source the effects of a method's code are: its requests, its changes of variables,
+//! and what can trap.
 //!
 //! The code of a method has its effects in the order in which the lowering goes through the tree. A
 //! walk in the same order, which goes through the tokens of the source at the same time, gives a
-//! token for each of them. Where both lists differ nothing is said. Proved is that all of it is safe
-//! and ends.
+//! token for each of them. Where both lists differ nothing is said. Proved is that all of it is
+//! safe and ends.
 #![tactic(auto)]
 
 mod code;
