@@ -7,9 +7,9 @@ use edd_reports::diagnostic::Diagnostic;
 use edd_reports::lines::Lines;
 use edd_reports::words::Span;
 use edd_reports::{
-    Findings, Format, Originals, ReportFault, Source, Spot, print_diagnostic, print_more,
-    print_sarif, spot_of,
+    Format, Originals, ReportFault, Source, Spot, print_diagnostic, print_more, spot_of,
 };
+use edd_sarif::{Findings, print_sarif};
 use std::alloc::{AllocError, Global};
 use std::io::Write;
 

@@ -2,10 +2,10 @@
 
 use crate::flow::Flow;
 use crate::said::{pass, say};
+use edd_expression_warnings::operands::check_label;
+use edd_expression_warnings::walk::Walk;
 use edd_lints::lint::Lint;
-use edd_lints::operands::check_label;
 use edd_lints::tokens_left::Mark;
-use edd_lints::walk::Walk;
 use edd_lints::warning::Findings;
 use edd_syntax::reference::Target;
 use edd_syntax::stmt::{Part, Stmt};

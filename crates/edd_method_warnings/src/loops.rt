@@ -2,11 +2,11 @@
 
 use crate::flow::{Flow, GOES_ON};
 use crate::said::say;
+use edd_expression_warnings::operands::{referred, turned};
+use edd_expression_warnings::walk::{Use, Walk};
 use edd_lints::constants::{Known, Width, evaluate, holds, is_literal};
 use edd_lints::lint::Lint;
-use edd_lints::operands::{referred, turned};
 use edd_lints::tokens_left::Mark;
-use edd_lints::walk::{Use, Walk};
 use edd_lints::warning::Findings;
 use edd_syntax::expr::Expr;
 use edd_syntax::numbers::ItemNo;

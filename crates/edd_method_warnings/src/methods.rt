@@ -1,12 +1,12 @@
 //! The body of a method, its locals, and the abort methods that it adds.
 
 use crate::statements::check_parts;
+use edd_expression_warnings::walk::Walk;
 use edd_lexer::token::{Token, TokenKind};
 use edd_lints::constants::Width;
 use edd_lints::instrument::Instrument;
 use edd_lints::lint::Lint;
 use edd_lints::tokens_left::{Mark, TokensLeft, first_on, mark_of};
-use edd_lints::walk::Walk;
 use edd_lints::warning::Findings;
 use edd_syntax::expr::Expr;
 use edd_syntax::item::Attribute;

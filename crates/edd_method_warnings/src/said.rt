@@ -1,9 +1,9 @@
 //! What the walk through a body passes, and what it says.
 
+use edd_expression_warnings::walk::Walk;
 use edd_lexer::token::TokenKind;
 use edd_lints::lint::Lint;
 use edd_lints::tokens_left::Mark;
-use edd_lints::walk::Walk;
 use edd_lints::warning::Findings;
 use edd_syntax::symbols::Symbol;
 use std::alloc::AllocError;

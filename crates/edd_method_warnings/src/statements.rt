@@ -4,13 +4,15 @@ use crate::cases::{check_block_after, check_fall, check_label_part, has_comment}
 use crate::flow::{Flow, GOES_ON, abort_of, counts, is_empty_block, joined, leaving};
 use crate::loops::{Loop, check_head, check_loop, has_no_body};
 use crate::said::{pass, say};
+use edd_expression_warnings::expressions::{
+    COMPARED, SELECTED, check_condition, check_expression, check_tested,
+};
+use edd_expression_warnings::operands::selected_variable;
+use edd_expression_warnings::stores::{check_wrapped, without_parentheses};
+use edd_expression_warnings::walk::Walk;
 use edd_lexer::token::TokenKind;
-use edd_lints::expressions::{COMPARED, SELECTED, check_condition, check_expression, check_tested};
 use edd_lints::lint::Lint;
-use edd_lints::operands::selected_variable;
-use edd_lints::stores::{check_wrapped, without_parentheses};
 use edd_lints::tokens_left::Mark;
-use edd_lints::walk::Walk;
 use edd_lints::warning::Findings;
 use edd_syntax::expr::Expr;
 use edd_syntax::reference::Target;

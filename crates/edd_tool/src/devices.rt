@@ -2,27 +2,16 @@
 
 use crate::playing::method_named;
 use crate::requests::Stop;
-use crate::script;
 use edd_command_line::Run;
 use edd_compiler::{Fault, compile};
 use edd_device::{Device, DeviceFault, Trial};
 use edd_display::show_play;
 use edd_loader::{Image, load};
 use edd_machine::Values;
-use edd_syntax::answer::Trap;
 use edd_syntax::numbers::ItemNo;
+use edd_tracing::trap_word;
 use std::alloc::{AllocError, Global};
 use std::io::Write;
-
-/// The word of a trap.
-pub fn trap_word(why: Trap) -> &'static str {
-    match why {
-        Trap::DivZero => "DIV_ZERO",
-        Trap::DivOverflow => "DIV_OVERFLOW",
-        Trap::BadShift => "BAD_SHIFT",
-        Trap::NoElement => "NO_ELEMENT",
-    }
-}
 
 fn name_in<'b>(image: &Image<'b>, item: ItemNo) -> &'b str {
     image.name(item).unwrap_or("")
@@ -70,7 +59,7 @@ fn tried<'a>(
     script: &[u8],
     run: Run<'a>,
 ) -> Result<Trial, Stop<'a>> {
-    let script = script::parse(alloc, instrument, script)?;
+    let script = edd_script::parse(alloc, instrument, script)?;
     let method = method_named(instrument, run.method)?;
     let values = Values::new(alloc, instrument, &script.values)?;
     let steps = u32::try_from(run.steps).unwrap_or(u32::MAX);

@@ -3,13 +3,13 @@
 use crate::checking::add_originals;
 use crate::files::Files;
 use crate::requests::{Stop, report};
-use crate::script_slips::{Wrong, slip_in};
 use edd_check::{Choices, Diagnostic, Finding, Format, Look, Reports, Span};
 use edd_compiler::{Fault, compile};
 use edd_display::print;
 use edd_loader::{LoadFault, load};
 use edd_machine::ValuesFault;
 use edd_port::PlayFault;
+use edd_script::{Wrong, slip_in};
 use std::alloc::Global;
 use std::io::Write;
 

@@ -19,13 +19,9 @@ mod playing;
 mod reasons;
 mod requests;
 mod running;
-mod script;
-mod script_slips;
 mod serving;
 mod system;
 mod testing;
-mod trace_lines;
-mod tracing;
 
 pub use edd_compiler::{Fault, compile};
 use edd_display::ShowFault;

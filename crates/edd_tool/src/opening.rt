@@ -7,7 +7,6 @@ use crate::input::Lines;
 use crate::keys::{Terminal, converse_by_keys};
 use crate::requests::{Stop, of_file, read, read_script};
 use crate::running::read_device;
-use crate::script::parse_sets;
 use edd_command_line::{Opening, RawTerminal};
 use edd_compiler::compile;
 use edd_device::Device;
@@ -15,6 +14,7 @@ use edd_loader::{Image, load};
 use edd_machine::ValuesFault;
 use edd_panel::{Panel, start_values};
 use edd_panel_lines::push_start;
+use edd_script::parse_sets;
 use std::alloc::Global;
 use std::io::{Read, Write};
 

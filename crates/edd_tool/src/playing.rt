@@ -1,7 +1,6 @@
 //! What the program does to run a method.
 
 use crate::requests::Stop;
-use crate::script;
 use edd_command_line::Run;
 use edd_display::show_play;
 use edd_loader::{Image, load};
@@ -26,7 +25,7 @@ fn played<'a>(
     script: &[u8],
     run: Run<'a>,
 ) -> Result<Transcript, Stop<'a>> {
-    let script = script::parse(alloc, image, script)?;
+    let script = edd_script::parse(alloc, image, script)?;
     let method = method_named(image, run.method)?;
     let values = Values::new(alloc, image, &script.values)?;
     Ok(play(alloc, image, method, values, &script.answers, run.steps)?)

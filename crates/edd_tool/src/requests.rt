@@ -11,7 +11,6 @@ use crate::formatting::format_files;
 use crate::opening::{INPUT, OUTPUT, open};
 use crate::reasons::{reason_of, told};
 use crate::running::{play_file, try_source};
-use crate::script::{self, ScriptFault};
 use crate::serving::serve;
 use crate::testing::test_files;
 use crate::{COMMAND_LINE, DONE, FILE, MEMORY, REFUSED};
@@ -22,6 +21,7 @@ use edd_dump::dump;
 use edd_loader::{Image, LoadFault, load};
 use edd_machine::{Values, ValuesFault};
 use edd_port::PlayFault;
+use edd_script::ScriptFault;
 use std::alloc::{AllocError, AllocFailed, Global};
 use std::io::Write;
 
@@ -234,7 +234,7 @@ fn show_under<'a, W: Write>(
     language: &str,
     out: &mut W,
 ) -> Result<(), Stop<'a>> {
-    let script = script::parse(alloc, image, script)?;
+    let script = edd_script::parse(alloc, image, script)?;
     let values = Values::new(alloc, image, &script.values)?;
     show(alloc, image, &values, language, out)?;
     Ok(())

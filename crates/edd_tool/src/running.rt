@@ -1,14 +1,17 @@
 //! What the program does to run a method of a source or an image.
 
-use crate::devices::play_with_device;
+use crate::devices::{compiled, play_with_device};
 use crate::explained::{
     Instead, image_of_source, with_command_named, with_device_shown, with_script_shown,
 };
 use crate::files::Files;
-use crate::playing::play_bytes;
+use crate::playing::{method_named, play_bytes};
 use crate::requests::{Stop, read, read_script};
-use crate::tracing::trace;
 use edd_command_line::Run;
+use edd_device::Device;
+use edd_loader::load;
+use edd_script::parse;
+use edd_tracing::{Followed, trace};
 use std::alloc::Global;
 use std::io::Write;
 
@@ -76,6 +79,35 @@ pub fn play_file<'a, F: Files, W: Write>(
     )
 }
 
+// Tells of the run of a method of a source that was compiled to these bytes.
+fn trace_run<'a, W: Write>(
+    alloc: Global,
+    source: (&'a str, &[u8]),
+    bytes: &[u8],
+    device: Option<(&'a str, &[u8])>,
+    script: &[u8],
+    run: Run<'a>,
+    out: &mut W,
+) -> Result<(), Stop<'a>> {
+    let image = load(alloc, bytes)?;
+    let read = parse(alloc, &image, script)?;
+    let of = Followed {
+        name: source.0,
+        text: source.1,
+        script: &read,
+        script_text: script,
+        method: method_named(&image, run.method)?,
+        steps: run.steps,
+    };
+    let Some((device_name, device_text)) = device else {
+        return Ok(trace(alloc, &image, of, None, out)?);
+    };
+    let device_bytes = compiled(alloc, device_name, device_text)?;
+    let device_image = load(alloc, &device_bytes)?;
+    let device = Device::new(alloc, &image, &device_image)?;
+    Ok(trace(alloc, &image, of, Some(device), out)?)
+}
+
 /// Compiles a source, and runs a method of it.
 pub fn try_source<'a, F: Files, W: Write>(
     alloc: Global,
@@ -91,7 +123,7 @@ pub fn try_source<'a, F: Files, W: Write>(
     let bytes = image_of_source(alloc, source, &text, run.is_explained, files, out)?;
     let answer = run_method(alloc, &bytes, lent(&device), &script, run, out);
     if is_traced && matches!(answer, Ok(()) | Err(Stop::Device(_))) {
-        trace(
+        trace_run(
             alloc,
             (source, &text),
             &bytes,

@@ -2,13 +2,13 @@
 
 use crate::repeats::Numbers;
 use crate::steps::{Step, push_cond, push_conds};
+use edd_expression_warnings::expressions::{COMPARED, check_condition, check_expression};
+use edd_expression_warnings::operands::{check_label, selected_variable};
+use edd_expression_warnings::walk::Walk;
 use edd_lints::constants::Width;
-use edd_lints::expressions::{COMPARED, check_condition, check_expression};
 use edd_lints::instrument::Instrument;
 use edd_lints::lint::Lint;
-use edd_lints::operands::{check_label, selected_variable};
 use edd_lints::tokens_left::TokensLeft;
-use edd_lints::walk::Walk;
 use edd_lints::warning::Findings;
 use edd_syntax::cond::Cond;
 use edd_syntax::expr::Expr;

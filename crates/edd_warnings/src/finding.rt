@@ -2,25 +2,20 @@
 
 use crate::abort_methods::check_abort_methods;
 use crate::branches::check_branches;
-use crate::classes::check_classes;
 use crate::commands::{check_command, command_numbers};
 use crate::conditions::check_conditionals;
-use crate::entries::check_entries;
-use crate::languages::check_languages;
-use crate::menus::check_menus;
 use crate::repeats::Numbers;
-use crate::signs::check_signs;
-use crate::texts::texts_of;
-use crate::unused::check_uses;
 use crate::variables::check_type;
 use edd_lexer::token::Token;
 use edd_lints::instrument::Instrument;
 use edd_lints::tokens_left::{TokensLeft, items_of};
 use edd_lints::warning::{Findings, Warning};
+use edd_menu_warnings::check_uses;
 use edd_method_warnings::check_method;
 use edd_syntax::checked::Checked;
 use edd_syntax::item::{Attribute, Item};
 use edd_syntax::reference::Target;
+use edd_text_warnings::check_texts;
 use std::alloc::{AllocError, Global};
 
 /// What is gathered of the items so far.
@@ -94,13 +89,8 @@ pub fn warnings(
     for (item, own) in checked.items.iter().zip(&items) {
         check_item(item, text, own, &instrument, &mut gathered, &mut findings)?;
     }
-    let texts = texts_of(alloc, text, tokens)?;
-    check_languages(&texts, &mut findings)?;
-    check_signs(&texts, &mut findings)?;
-    check_classes(text, tokens, &mut findings)?;
+    check_texts(text, tokens, &mut findings)?;
     check_abort_methods(text, tokens, &mut findings)?;
-    check_menus(text, &checked.items, &items, &mut findings)?;
-    check_entries(text, &checked.items, &items, &mut findings)?;
     check_uses(text, tokens, &checked.items, &items, &mut findings)?;
     findings.sorted()
 }

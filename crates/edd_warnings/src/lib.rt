@@ -6,23 +6,15 @@
 
 mod abort_methods;
 mod branches;
-mod classes;
 mod commands;
 mod conditions;
-mod entries;
 mod enumerators;
 mod finding;
 mod formats;
-mod languages;
-mod menus;
 mod messages;
 mod repeats;
-mod signs;
 mod steps;
-mod texts;
-mod unused;
 mod variables;
-mod variants;
 
 pub use edd_lints::lint::{LINTS, Lint};
 pub use edd_lints::warning::{Spot, Warning};

@@ -84,7 +84,11 @@ pub fn warnings_of_items(alloc: Global, items: &str) -> Result<String, AllocErro
 
 // The items of a body.
 fn items_around(alloc: Global, asked: &str, body: &str) -> Result<String, AllocError> {
-    let (before, after) = if asked == "instrument" { INSTRUMENT } else { AROUND };
+    let (before, after) = if asked == "instrument" {
+        INSTRUMENT
+    } else {
+        AROUND
+    };
     format!(in alloc; "{before}{body}\n{after}")
 }
 

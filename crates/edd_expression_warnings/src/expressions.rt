@@ -2,17 +2,17 @@
 //! and ask for.
 
 use crate::calls::{asks, check_call};
-use crate::constants::{Known, Width, evaluate, is_literal, trap_of};
-use crate::lint::Lint;
 use crate::operands::{
     check_bits, check_chosen, check_compared, check_logical, check_operands, check_settled,
     ranged_place,
 };
 use crate::stores::{check_assigned, check_stored, check_wrapped, is_itself};
-use crate::tokens_left::{Mark, first_on};
 use crate::walk::Walk;
-use crate::warning::Findings;
 use edd_lexer::token::TokenKind;
+use edd_lints::constants::{Known, Width, evaluate, is_literal, trap_of};
+use edd_lints::lint::Lint;
+use edd_lints::tokens_left::{Mark, first_on};
+use edd_lints::warning::Findings;
 use edd_syntax::answer::Trap;
 use edd_syntax::expr::{Argument, Expr};
 use edd_syntax::numbers::ItemNo;

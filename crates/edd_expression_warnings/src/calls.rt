@@ -1,12 +1,12 @@
 //! Calls of functions: commands and transactions that are not there, and what can't be written.
 
-use crate::constants::{Known, Width, evaluate};
-use crate::instrument::variable_of;
-use crate::lint::Lint;
 use crate::stores::{check_assigned, check_stored};
-use crate::tokens_left::Mark;
 use crate::walk::Walk;
-use crate::warning::Findings;
+use edd_lints::constants::{Known, Width, evaluate};
+use edd_lints::instrument::variable_of;
+use edd_lints::lint::Lint;
+use edd_lints::tokens_left::Mark;
+use edd_lints::warning::Findings;
 use edd_syntax::expr::{Argument, Expr};
 use edd_syntax::operators::Builtin;
 use edd_syntax::reference::Target;

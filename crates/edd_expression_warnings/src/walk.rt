@@ -1,8 +1,8 @@
 //! A way through the trees of an item, with what they read, set and ask for.
 
-use crate::constants::Width;
-use crate::instrument::Instrument;
-use crate::tokens_left::TokensLeft;
+use edd_lints::constants::Width;
+use edd_lints::instrument::Instrument;
+use edd_lints::tokens_left::TokensLeft;
 use edd_syntax::expr::Expr;
 use edd_syntax::reference::Target;
 use std::alloc::{AllocError, Global};

@@ -1,10 +1,9 @@
 //! One document of SARIF 2.1.0 over all sources.
 
-use crate::diagnostic::{Diagnostic, Help};
-use crate::json::{print_value, words_of};
-use crate::spots::spot_of;
-use crate::words::Span;
-use crate::{ReportFault, Source};
+use edd_reports::diagnostic::{Diagnostic, Help};
+use edd_reports::json::{print_value, words_of};
+use edd_reports::words::Span;
+use edd_reports::{ReportFault, Source, spot_of};
 use serde::Serialize;
 use std::alloc::{AllocError, Global};
 use std::io::Write;

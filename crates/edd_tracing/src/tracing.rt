@@ -1,21 +1,18 @@
 //! What the program tells of a run besides its transcript: the run once more, an instruction at a
 //! time, with the places of the source.
 
-use crate::devices::compiled;
-use crate::playing::method_named;
-use crate::requests::Stop;
-use crate::script::{self, answer_line};
-use crate::trace_lines::Telling;
+use crate::lines::Telling;
 use edd_check::{Look, Reports, Span};
-use edd_command_line::Run;
-use edd_compiler::checked_of;
+use edd_compiler::{Fault, checked_of};
 use edd_device::{Device, DeviceFault};
+use edd_display::ShowFault;
 use edd_instructions::Request;
 use edd_lexer::lex;
 use edd_lexer::token::Token;
-use edd_loader::{Image, load};
-use edd_machine::{CodeUnit, Values, find_body};
+use edd_loader::Image;
+use edd_machine::{CodeUnit, Values, ValuesFault, find_body};
 use edd_port::{Session, Turn};
+use edd_script::{Script, answer_line};
 use edd_syntax::answer::Answer;
 use edd_syntax::checked::Checked;
 use edd_syntax::numbers::{MethNo, VarNo};
@@ -72,12 +69,16 @@ fn places_in(
 }
 
 // The methods of a source that was compiled to an image.
-fn methods_of<'a>(alloc: Global, image: &Image<'_>, text: &[u8]) -> Result<Methods, Stop<'a>> {
-    let checked = checked_of(alloc, text)?;
-    let Ok(tokens) = lex(alloc, text) else {
-        return Err(Stop::Memory);
-    };
+fn methods_of(alloc: Global, image: &Image<'_>, text: &[u8]) -> Result<Methods, ShowFault> {
     let mut places = Vec::new(alloc);
+    let Ok(tokens) = lex(alloc, text) else {
+        return Err(ShowFault::Memory);
+    };
+    let checked = match checked_of(alloc, text) {
+        Ok(checked) => checked,
+        Err(Fault::Memory) => return Err(ShowFault::Memory),
+        Err(_) => return Ok(Methods { tokens, places }),
+    };
     for number in 0..image.counts().methods {
         let of_method = places_in(alloc, image, &tokens, &checked, MethNo(number))?;
         places.push(of_method)?;
@@ -104,30 +105,30 @@ fn value_of(session: &Session<'_, '_>, variable: VarNo) -> i64 {
 }
 
 // What a device answers, if it does. Where it has a fault the method is aborted.
-fn ask_device<'a>(
+fn ask_device(
     alloc: Global,
     request: Request,
     values: &Values,
     device: &mut Device<'_, '_>,
-) -> Result<Option<Answer>, Stop<'a>> {
+) -> Result<Option<Answer>, ShowFault> {
     let instrument = device.instrument();
     if !values.are_of(instrument) {
         return Ok(None);
     }
     match device.reply(alloc, &request, values) {
         Ok(answer) => Ok(answer),
-        Err(DeviceFault::Memory) => Err(Stop::Memory),
+        Err(DeviceFault::Memory) => Err(ShowFault::Memory),
         Err(_) => Ok(Some(Answer::Abort)),
     }
 }
 
 // What the device answers, if there is one.
-fn reply_of<'a>(
+fn reply_of(
     alloc: Global,
     request: Request,
     values: &Values,
     device: &mut Option<Device<'_, '_>>,
-) -> Result<Option<Answer>, Stop<'a>> {
+) -> Result<Option<Answer>, ShowFault> {
     match device {
         Some(device) => ask_device(alloc, request, values, device),
         None => Ok(None),
@@ -135,12 +136,12 @@ fn reply_of<'a>(
 }
 
 // Tells what the sets of an answer change.
-fn tell_sets<'a, W: Write>(
+fn tell_sets<W: Write>(
     telling: &mut Telling<'_, '_, W>,
     session: &Session<'_, '_>,
     place: Option<Span>,
     answer: &Answer,
-) -> Result<(), Stop<'a>> {
+) -> Result<(), ShowFault> {
     let Answer::Go { code: _, sets } = answer else {
         return Ok(());
     };
@@ -153,13 +154,13 @@ fn tell_sets<'a, W: Write>(
 }
 
 // Warns of what a technician could not have entered.
-fn tell_entered<'a, W: Write>(
+fn tell_entered<W: Write>(
     telling: &mut Telling<'_, '_, W>,
     session: &Session<'_, '_>,
     place: Option<Span>,
     request: Request,
     answer: &Answer,
-) -> Result<(), Stop<'a>> {
+) -> Result<(), ShowFault> {
     let (Request::GetDevVarValue(_, asked), Answer::Go { code: _, sets }) = (request, answer) else {
         return Ok(());
     };
@@ -173,13 +174,13 @@ fn tell_entered<'a, W: Write>(
 }
 
 // Meets the pending request, and says whether that could be done.
-fn meet<'a, W: Write>(
+fn meet<W: Write>(
     telling: &mut Telling<'_, '_, W>,
     session: &mut Session<'_, '_>,
     request: Request,
     user: &mut User<'_, '_, '_>,
     progress: &mut Progress,
-) -> Result<bool, Stop<'a>> {
+) -> Result<bool, ShowFault> {
     progress.requests = progress.requests.saturating_add(1);
     let place = progress.place;
     telling.request(place, request, progress.requests)?;
@@ -198,12 +199,12 @@ fn meet<'a, W: Write>(
 }
 
 // Executes an instruction, and tells what it changed or why it trapped.
-fn step<'a, W: Write>(
+fn step<W: Write>(
     telling: &mut Telling<'_, '_, W>,
     session: &mut Session<'_, '_>,
     here: Option<(Effect, Span)>,
     progress: &mut Progress,
-) -> Result<(), Stop<'a>> {
+) -> Result<(), ShowFault> {
     progress.left = progress.left.saturating_sub(1);
     let place = match here {
         Some((_, span)) => Some(span),
@@ -222,14 +223,14 @@ fn step<'a, W: Write>(
 }
 
 // Lets the session do one thing more. Nothing is left of it where it is over.
-fn go_on<'a, 'i, 'b, W: Write>(
+fn go_on<'i, 'b, W: Write>(
     telling: &mut Telling<'_, '_, W>,
     methods: &Methods,
     image: &'i Image<'b>,
     mut session: Session<'i, 'b>,
     user: &mut User<'_, '_, '_>,
     progress: &mut Progress,
-) -> Result<Option<Session<'i, 'b>>, Stop<'a>> {
+) -> Result<Option<Session<'i, 'b>>, ShowFault> {
     match session.turn() {
         Turn::Asks(request) => {
             if meet(telling, &mut session, request, user, progress)? {
@@ -251,14 +252,14 @@ fn go_on<'a, 'i, 'b, W: Write>(
 }
 
 // Follows a run to its end.
-fn follow<'a, 'i, 'b, W: Write>(
+fn follow<'i, 'b, W: Write>(
     telling: &mut Telling<'_, '_, W>,
     methods: &Methods,
     image: &'i Image<'b>,
     start: Session<'i, 'b>,
     user: &mut User<'_, '_, '_>,
     progress: &mut Progress,
-) -> Result<(), Stop<'a>> {
+) -> Result<(), ShowFault> {
     let mut session = start;
     for _ in 0..MOST {
         match go_on(telling, methods, image, session, user, progress)? {
@@ -269,65 +270,73 @@ fn follow<'a, 'i, 'b, W: Write>(
     telling.cut(MOST)
 }
 
-// The run under a script, with a device where there is one.
-fn follow_script<'a, W: Write>(
+/// A run that is told of: the name and the text of its source, its script, read and as it was, its
+/// method, and how many instructions it may execute.
+#[derive(Clone, Copy)]
+pub struct Followed<'f> {
+    pub name: &'f str,
+    pub text: &'f [u8],
+    pub script: &'f Script,
+    pub script_text: &'f [u8],
+    pub method: MethNo,
+    pub steps: u64,
+}
+
+// Warns of answers that no request has met.
+fn tell_left<W: Write>(
     telling: &mut Telling<'_, '_, W>,
-    image: &Image<'_>,
-    text: &[u8],
-    device: Option<Device<'_, '_>>,
-    bytes: &[u8],
-    run: Run<'a>,
-) -> Result<(), Stop<'a>> {
-    let alloc = telling.alloc;
-    let methods = methods_of(alloc, image, text)?;
-    let script = script::parse(alloc, image, bytes)?;
-    let method = method_named(image, run.method)?;
-    let values = Values::new(alloc, image, &script.values)?;
-    let Ok(session) = Session::start(image, method, values) else {
-        return Ok(());
-    };
-    let mut user = User {
-        answers: &script.answers,
-        next: 0,
-        device,
-    };
-    let mut progress = Progress {
-        left: run.steps,
-        requests: 0,
-        place: None,
-    };
-    follow(telling, &methods, image, session, &mut user, &mut progress)?;
-    let count = script.answers.len().saturating_sub(user.next);
-    match answer_line(alloc, image, bytes, user.next)? {
+    of: Followed<'_>,
+    met: usize,
+) -> Result<(), ShowFault> {
+    let count = of.script.answers.len().saturating_sub(met);
+    match answer_line(telling.alloc, telling.image, of.script_text, met)? {
         Some(line) if 0 < count => telling.left_over(count, line),
         _ => Ok(()),
     }
 }
 
-/// Tells of a run of a method of a source: where it asks, changes variables and traps.
-pub fn trace<'a, W: Write>(
+/// Tells of a run of a method of an image, with a device where there is one: where its source asks,
+/// changes variables and traps.
+pub fn trace<W: Write>(
     alloc: Global,
-    source: (&'a str, &[u8]),
-    bytes: &[u8],
-    device: Option<(&'a str, &[u8])>,
-    script: &[u8],
-    run: Run<'a>,
+    image: &Image<'_>,
+    of: Followed<'_>,
+    device: Option<Device<'_, '_>>,
     out: &mut W,
-) -> Result<(), Stop<'a>> {
-    let (name, text) = source;
-    let look = Look::of(alloc, name, text, Reports::new(alloc))?;
-    let image = load(alloc, bytes)?;
+) -> Result<(), ShowFault> {
+    let look = Look::of(alloc, of.name, of.text, Reports::new(alloc))?;
+    let methods = methods_of(alloc, image, of.text)?;
     let mut telling = Telling {
         alloc,
         look: &look,
-        image: &image,
+        image,
         out,
     };
-    let Some((device_name, device_text)) = device else {
-        return follow_script(&mut telling, &image, text, None, script, run);
+    let values = match Values::new(alloc, image, &of.script.values) {
+        Ok(values) => values,
+        Err(ValuesFault::Memory) => return Err(ShowFault::Memory),
+        Err(_) => return Ok(()),
     };
-    let device_bytes = compiled(alloc, device_name, device_text)?;
-    let device_image = load(alloc, &device_bytes)?;
-    let device = Device::new(alloc, &image, &device_image)?;
-    follow_script(&mut telling, &image, text, Some(device), script, run)
+    let Ok(session) = Session::start(image, of.method, values) else {
+        return Ok(());
+    };
+    let mut user = User {
+        answers: &of.script.answers,
+        next: 0,
+        device,
+    };
+    let mut progress = Progress {
+        left: of.steps,
+        requests: 0,
+        place: None,
+    };
+    follow(
+        &mut telling,
+        &methods,
+        image,
+        session,
+        &mut user,
+        &mut progress,
+    )?;
+    tell_left(&mut telling, of, user.next)
 }

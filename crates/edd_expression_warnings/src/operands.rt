@@ -1,13 +1,13 @@
 //! Operators that bind otherwise than they look, and those whose operands settle what they give.
 
-use crate::constants::{Known, Width, evaluate, holds};
-use crate::instrument::variable_of;
-use crate::lint::Lint;
-use crate::range::Range;
 use crate::stores::{check_listed, without_parentheses};
-use crate::tokens_left::Mark;
 use crate::walk::Walk;
-use crate::warning::Findings;
+use edd_lints::constants::{Known, Width, evaluate, holds};
+use edd_lints::instrument::variable_of;
+use edd_lints::lint::Lint;
+use edd_lints::range::Range;
+use edd_lints::tokens_left::Mark;
+use edd_lints::warning::Findings;
 use edd_syntax::expr::Expr;
 use edd_syntax::operators::{Comparison, Operator, UnaryOperator};
 use edd_syntax::reference::Target;

@@ -1,13 +1,13 @@
 //! Constants that what they are assigned to doesn't hold, and numbers of more than 32 bits.
 
-use crate::constants::{Known, Width, evaluate};
-use crate::instrument::variable_of;
-use crate::lint::Lint;
-use crate::range::Range;
-use crate::tokens_left::Mark;
 use crate::walk::Walk;
-use crate::warning::Findings;
 use edd_lexer::token::TokenKind;
+use edd_lints::constants::{Known, Width, evaluate};
+use edd_lints::instrument::variable_of;
+use edd_lints::lint::Lint;
+use edd_lints::range::Range;
+use edd_lints::tokens_left::Mark;
+use edd_lints::warning::Findings;
 use edd_syntax::expr::Expr;
 use edd_syntax::operators::UnaryOperator;
 use edd_syntax::reference::Target;

@@ -1,9 +1,7 @@
 //! The lines of a trace. Each begins with `trace`, as no line of a run does.
 
-use crate::devices::trap_word;
-use crate::requests::Stop;
 use edd_check::{Look, Span};
-use edd_display::print;
+use edd_display::{ShowFault, print};
 use edd_instructions::{Record, Request};
 use edd_loader::Image;
 use edd_machine::{ReadFault, Values, attribute};
@@ -22,6 +20,16 @@ pub struct Telling<'t, 's, W> {
     pub look: &'t Look<'s>,
     pub image: &'t Image<'t>,
     pub out: &'t mut W,
+}
+
+/// The word of a trap.
+pub fn trap_word(why: Trap) -> &'static str {
+    match why {
+        Trap::DivZero => "DIV_ZERO",
+        Trap::DivOverflow => "DIV_OVERFLOW",
+        Trap::BadShift => "BAD_SHIFT",
+        Trap::NoElement => "NO_ELEMENT",
+    }
 }
 
 /// The function that makes a request.
@@ -68,7 +76,7 @@ fn is_named(kind: VarType, records: &[Record], number: i64) -> bool {
 }
 
 impl<W: Write> Telling<'_, '_, W> {
-    fn line<'a>(&mut self, place: Option<Span>, what: &str) -> Result<(), Stop<'a>> {
+    fn line(&mut self, place: Option<Span>, what: &str) -> Result<(), ShowFault> {
         let (alloc, look) = (self.alloc, self.look);
         match place {
             Some(place) => {
@@ -90,25 +98,25 @@ impl<W: Write> Telling<'_, '_, W> {
     }
 
     /// A request, by its number.
-    pub fn request<'a>(
+    pub fn request(
         &mut self,
         place: Option<Span>,
         request: Request,
         number: usize,
-    ) -> Result<(), Stop<'a>> {
+    ) -> Result<(), ShowFault> {
         let name = function_of(request).name();
         let what = format!(in self.alloc; "request {number} {name}")?;
         self.line(place, &what)
     }
 
     /// A change of a variable by the method, or by an answer.
-    pub fn change<'a>(
+    pub fn change(
         &mut self,
         place: Option<Span>,
         variable: VarNo,
         change: (i64, i64),
         by: &str,
-    ) -> Result<(), Stop<'a>> {
+    ) -> Result<(), ShowFault> {
         let (old, new) = change;
         if old == new {
             return Ok(());
@@ -119,7 +127,7 @@ impl<W: Write> Telling<'_, '_, W> {
     }
 
     /// A trap, with the line of the source.
-    pub fn trap<'a>(&mut self, place: Option<Span>, why: Trap) -> Result<(), Stop<'a>> {
+    pub fn trap(&mut self, place: Option<Span>, why: Trap) -> Result<(), ShowFault> {
         let word = trap_word(why);
         let text = match place {
             Some(place) => self.look.spot(place).text.trim(),
@@ -134,13 +142,13 @@ impl<W: Write> Telling<'_, '_, W> {
     }
 
     /// Warns of a value that a technician could not have entered.
-    pub fn entered<'a>(
+    pub fn entered(
         &mut self,
         place: Option<Span>,
         values: &Values,
         variable: VarNo,
         number: i64,
-    ) -> Result<(), Stop<'a>> {
+    ) -> Result<(), ShowFault> {
         let (alloc, image) = (self.alloc, self.image);
         let name = image.name(ItemNo::Variable(variable)).unwrap_or("");
         let lowest = records_of(alloc, image, values, variable, Attr::MinValue)?;
@@ -164,13 +172,13 @@ impl<W: Write> Telling<'_, '_, W> {
         self.enumerated(place, values, variable, number)
     }
 
-    fn enumerated<'a>(
+    fn enumerated(
         &mut self,
         place: Option<Span>,
         values: &Values,
         variable: VarNo,
         number: i64,
-    ) -> Result<(), Stop<'a>> {
+    ) -> Result<(), ShowFault> {
         let (alloc, image) = (self.alloc, self.image);
         let named = records_of(alloc, image, values, variable, Attr::Enumerators)?;
         let Some(kind) = image.variable(variable) else {
@@ -185,7 +193,7 @@ impl<W: Write> Telling<'_, '_, W> {
     }
 
     /// Warns of answers that no request has met.
-    pub fn left_over<'a>(&mut self, count: usize, line: usize) -> Result<(), Stop<'a>> {
+    pub fn left_over(&mut self, count: usize, line: usize) -> Result<(), ShowFault> {
         let what = if count == 1 {
             format!(in self.alloc; "warning: the answer on line {line} of the script is left over")?
         } else {
@@ -197,7 +205,7 @@ impl<W: Write> Telling<'_, '_, W> {
     }
 
     /// Says that the run is followed no further.
-    pub fn cut<'a>(&mut self, steps: u64) -> Result<(), Stop<'a>> {
+    pub fn cut(&mut self, steps: u64) -> Result<(), ShowFault> {
         let what = format!(in self.alloc; "no more than {steps} instructions are followed")?;
         self.line(None, &what)
     }
