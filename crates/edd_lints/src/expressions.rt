@@ -9,7 +9,7 @@ use crate::operands::{
     ranged_place,
 };
 use crate::stores::{check_assigned, check_stored, check_wrapped, is_itself};
-use crate::tokens_left::{Mark, first_on};
+use crate::tokens_left::Mark;
 use crate::walk::Walk;
 use crate::warning::Findings;
 use edd_lexer::token::TokenKind;
@@ -254,14 +254,14 @@ pub fn check_expression(
             function,
             arguments,
         } => {
+            let Target::Function(function) = *function else {
+                return check_arguments(arguments, walk, findings);
+            };
+            let at = walk.tokens_left.to_text_on(*line, function.name());
             check_arguments(arguments, walk, findings)?;
-            if let Target::Function(function) = *function {
-                walk.asks = walk.asks || asks(function);
-                walk.acts = walk.acts || asks(function);
-                let at = first_on(*line, function.name());
-                check_call(function, arguments, at, walk, findings)?;
-            }
-            Ok(())
+            walk.asks = walk.asks || asks(function);
+            walk.acts = walk.acts || asks(function);
+            check_call(function, arguments, at, walk, findings)
         }
     }
 }
