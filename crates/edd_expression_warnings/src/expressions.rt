@@ -11,7 +11,7 @@ use crate::walk::Walk;
 use edd_lexer::token::TokenKind;
 use edd_lints::constants::{Known, Width, evaluate, is_literal, trap_of};
 use edd_lints::lint::Lint;
-use edd_lints::tokens_left::{Mark, first_on};
+use edd_lints::tokens_left::Mark;
 use edd_lints::warning::Findings;
 use edd_syntax::answer::Trap;
 use edd_syntax::expr::{Argument, Expr};
@@ -254,14 +254,14 @@ pub fn check_expression(
             function,
             arguments,
         } => {
+            let Target::Function(function) = *function else {
+                return check_arguments(arguments, walk, findings);
+            };
+            let at = walk.tokens_left.to_text_on(*line, function.name());
             check_arguments(arguments, walk, findings)?;
-            if let Target::Function(function) = *function {
-                walk.asks = walk.asks || asks(function);
-                walk.acts = walk.acts || asks(function);
-                let at = first_on(*line, function.name());
-                check_call(function, arguments, at, walk, findings)?;
-            }
-            Ok(())
+            walk.asks = walk.asks || asks(function);
+            walk.acts = walk.acts || asks(function);
+            check_call(function, arguments, at, walk, findings)
         }
     }
 }

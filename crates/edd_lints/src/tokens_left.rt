@@ -62,6 +62,9 @@ pub fn items_of<'a>(alloc: Global, tokens: &'a [Token]) -> Result<Vec<&'a [Token
     Ok(items)
 }
 
+/// How many tokens ahead a text is looked for, so that all of them are looked at a few times.
+const NEAR: usize = 256;
+
 /// The tokens of an item that are not passed yet.
 #[derive(Clone, Copy)]
 pub struct TokensLeft<'a> {
@@ -147,10 +150,14 @@ impl<'a> TokensLeft<'a> {
         &text[start..end]
     }
 
-    /// Passes the next token with this text, and gives its place.
+    /// Passes a token with this text that is among the next ones, and gives its place; where there
+    /// is none, that of the token that was passed last.
     pub fn to_text(&mut self, word: &str) -> Mark<'a> {
         let rest = self.rest;
         for (number, token) in rest.iter().enumerate() {
+            if NEAR <= number {
+                break;
+            }
             if word_of(self.text, token) == word {
                 self.rest = &rest[number + 1..];
                 self.last = mark_of(self.text, token);
@@ -160,18 +167,13 @@ impl<'a> TokensLeft<'a> {
         self.last
     }
 
-    /// Passes the next token with this text on a line, and gives its place.
+    /// The same on a line; where there is none, the place of the line.
     pub fn to_text_on(&mut self, line: u32, word: &str) -> Mark<'a> {
-        let rest = self.rest;
-        for (number, token) in rest.iter().enumerate() {
-            if line < token.line {
-                break;
-            }
-            if token.line == line && word_of(self.text, token) == word {
-                self.rest = &rest[number + 1..];
-                self.last = mark_of(self.text, token);
-                return self.last;
-            }
+        let mut ahead = *self;
+        let mark = ahead.to_text(word);
+        if mark.line == line && mark.word == Some(word) {
+            *self = ahead;
+            return mark;
         }
         Mark {
             line,

@@ -129,20 +129,6 @@ fn has_label(attributes: &[Attribute<Target>]) -> bool {
     ))
 }
 
-// An entry that its list has already.
-fn add_repeated(
-    name: &str,
-    tokens_left: TokensLeft<'_>,
-    findings: &mut Findings,
-) -> Result<(), AllocError> {
-    let mut tokens_left = tokens_left;
-    tokens_left.to_word(Keyword::Items);
-    let other = tokens_left.to_text(name);
-    let at = tokens_left.to_text(name);
-    let message = format!(in findings.alloc; "{name} is in this list already")?;
-    findings.add_beside(Lint::RepeatedEntry, at, message, other)
-}
-
 /// An item with its key and its tokens.
 #[derive(Clone, Copy)]
 struct Placed<'i, 'a> {
@@ -229,15 +215,22 @@ impl<'i, 'a> Shown<'i, 'a> {
         tokens_left: TokensLeft<'_>,
         findings: &mut Findings,
     ) -> Result<(), AllocError> {
+        let mut tokens_left = tokens_left;
+        tokens_left.to_word(Keyword::Items);
         let mut seen = BTreeMap::new(findings.alloc);
         for entry in entries {
             if let Target::Item(item) = entry.to {
+                let name = self.names.get(&key_of(item)).copied().unwrap_or("");
+                let at = tokens_left.to_text(name);
                 let place = (entry.list, key_of(item));
-                if seen.get(&place).copied() == Some(entry.qualifiers) {
-                    let name = self.names.get(&key_of(item)).copied().unwrap_or("");
-                    add_repeated(name, tokens_left, findings)?;
+                match seen.get(&place).copied() {
+                    Some((qualifiers, earlier)) if qualifiers == entry.qualifiers => {
+                        let message = format!(in findings.alloc; "{name} is in this list already")?;
+                        findings.add_beside(Lint::RepeatedEntry, at, message, earlier)?;
+                    }
+                    _ => {}
                 }
-                seen.insert(place, entry.qualifiers)?;
+                seen.insert(place, (entry.qualifiers, at))?;
             }
         }
         Ok(())

@@ -6,7 +6,7 @@ use edd_lexer::token::{Token, TokenKind};
 use edd_lints::constants::Width;
 use edd_lints::instrument::Instrument;
 use edd_lints::lint::Lint;
-use edd_lints::tokens_left::{Mark, TokensLeft, first_on, mark_of};
+use edd_lints::tokens_left::{Mark, TokensLeft, mark_of};
 use edd_lints::warning::Findings;
 use edd_syntax::expr::Expr;
 use edd_syntax::item::Attribute;
@@ -102,15 +102,20 @@ fn added_at(part: &Part<Target>) -> Option<u32> {
 const MOST: usize = 8;
 
 // A warning on each statement of a body that adds an abort method when there are eight.
-fn check_added(parts: &[Part<Target>], findings: &mut Findings) -> Result<(), AllocError> {
+fn check_added(
+    parts: &[Part<Target>],
+    tokens_left: TokensLeft<'_>,
+    findings: &mut Findings,
+) -> Result<(), AllocError> {
+    let mut tokens_left = tokens_left;
     let mut added = 0usize;
     for part in parts {
         if let Some(line) = added_at(part) {
             added = added.saturating_add(1);
+            let at = tokens_left.to_text_on(line, Builtin::AddAbortMethod.name());
             if MOST < added {
                 let alloc = findings.alloc;
                 let message = String::from_str(alloc, "this lists nothing: eight are listed")?;
-                let at = first_on(line, Builtin::AddAbortMethod.name());
                 findings.add(Lint::AbortMethodLimit, at, message)?;
             }
         }
@@ -134,7 +139,7 @@ pub fn check_method(
             walk.tokens_left.to_word(Keyword::Definition);
             walk.tokens_left.to(TokenKind::Symbol(Symbol::OpenBrace));
             check_parts(parts, &mut walk, findings)?;
-            check_added(parts, findings)?;
+            check_added(parts, tokens_left, findings)?;
         }
     }
     check_locals(&locals, &walk, findings)
