@@ -35,6 +35,9 @@ fn missing(help: &str) -> Option<&str> {
     let behind = help.strip_prefix("a ")?;
     let (sign, place) = behind.split_once(" is missing ")?;
     let sign = one_word(sign)?;
+    if matches!(sign, "name" | "value" | "text" | "type") {
+        return None;
+    }
     if place == "here" {
         Some(sign)
     } else if place.starts_with("before ") {

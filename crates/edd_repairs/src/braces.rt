@@ -70,6 +70,13 @@ fn first_crooked(
             let Some((opening, indent)) = open.pop() else {
                 return Ok(None);
             };
+            let is_far = tokens
+                .get(opening)
+                .is_some_and(|other| other.line != token.line);
+            // Of one at the end of a line the layout says nothing, nor of those after it.
+            if is_far && !begins {
+                return Ok(None);
+            }
             if let (true, Some(own), Some(other)) = (begins, last.indent, indent) {
                 if own != other {
                     return Ok(Some(Crooked {

@@ -7,7 +7,7 @@ use crate::grammar::{Grammar, TextFault};
 use crate::located::{Edit, LineTokens, line_of, spread};
 use edd_lexer::token::{Token, TokenKind};
 use edd_reports::words::{Span, is_sign, item_kind, word_of};
-use edd_slips::At;
+use edd_slips::{At, is_in_body};
 use edd_syntax::operators::{Comparison, Operator};
 use edd_syntax::symbols::{Keyword, Symbol};
 use edd_token_reader::fault::ParseFault;
@@ -182,7 +182,11 @@ impl<'a> Misfit<'a> {
 
     // Whether the token is a sign without a value of its own: it may be one too many.
     fn is_idle(&self) -> bool {
-        if self.is_after_operator() {
+        let is_declared = matches!(
+            self.kind_before(),
+            Some(TokenKind::Keyword(Keyword::Int | Keyword::Long))
+        );
+        if is_declared || self.is_after_operator() {
             return false;
         }
         let Some(token) = self.tokens.get(self.number) else {
@@ -216,7 +220,9 @@ impl<'a> Misfit<'a> {
     fn closes_mask(&self) -> bool {
         let opens = self.number.saturating_sub(2);
         let is_number = matches!(self.kind_before(), Some(TokenKind::Integer(_)));
-        is_number && is_sign(self.tokens, opens, Symbol::Comparison(Comparison::Less))
+        is_number
+            && is_sign(self.tokens, opens, Symbol::Comparison(Comparison::Less))
+            && !is_in_body(self.place())
     }
 
     // Whether the token is among the words of CLASS or HANDLING, which `&` joins.

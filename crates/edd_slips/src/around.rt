@@ -32,6 +32,14 @@ pub struct Around<'a> {
     pub before: &'a Token,
 }
 
+/// Whether the token that does not fit is in the body of a method.
+pub fn is_in_body(at: At<'_>) -> bool {
+    match Around::of(at) {
+        Some(around) => around.is_in_method(),
+        None => false,
+    }
+}
+
 pub fn on(token: &Token, help: &'static str) -> Option<Slip> {
     Some(Slip {
         place: span_of(token),

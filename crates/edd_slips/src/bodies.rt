@@ -3,7 +3,7 @@
 use crate::around::{
     Around, At, Slip, behind, is_joined, is_symbol, on, open_brace, opener, word_before,
 };
-use crate::branches::{lone_else, no_condition};
+use crate::branches::{lone_else, no_condition, no_word};
 use crate::values::value_slip;
 use edd_lexer::token::{Token, TokenKind};
 use edd_reports::outline::Outline;
@@ -361,6 +361,9 @@ pub fn statement_slip(around: &Around<'_>) -> Option<Slip> {
         return None;
     }
     if let Some(slip) = in_place(around) {
+        return Some(slip);
+    }
+    if let Some(slip) = no_word(around) {
         return Some(slip);
     }
     if let Some(slip) = after_parentheses(around) {

@@ -1,6 +1,6 @@
 //! Slips at `else` and at conditions.
 
-use crate::around::{Around, Slip, behind, is_symbol, on, open_brace, word_before};
+use crate::around::{Around, Slip, behind, is_symbol, on, open_brace, opener, word_before};
 use edd_lexer::token::{Token, TokenKind};
 use edd_syntax::symbols::{Keyword, Symbol};
 
@@ -102,6 +102,50 @@ fn closes_parenthesis(around: &Around<'_>) -> bool {
         }
     }
     false
+}
+
+/// A condition without its word, and a label without its own.
+pub fn no_word(around: &Around<'_>) -> Option<Slip> {
+    if is_symbol(around.token, Symbol::Colon) {
+        return no_case(around);
+    }
+    if !is_symbol(around.token, Symbol::OpenBrace)
+        || !is_symbol(around.before, Symbol::CloseParenthesis)
+    {
+        return None;
+    }
+    let open = opener(
+        around.at.tokens,
+        around.at.number.checked_sub(1)?,
+        Symbol::OpenParenthesis,
+        Symbol::CloseParenthesis,
+    )?;
+    if around.statement() == open {
+        return on(
+            around.at.tokens.get(open)?,
+            "if, while or another word is missing before these parentheses",
+        );
+    }
+    None
+}
+
+fn ends_before(token: &Token) -> bool {
+    is_symbol(token, Symbol::Semicolon)
+        || is_symbol(token, Symbol::OpenBrace)
+        || is_symbol(token, Symbol::CloseBrace)
+        || is_symbol(token, Symbol::Colon)
+}
+
+// A `:` without the word of its label.
+fn no_case(around: &Around<'_>) -> Option<Slip> {
+    if ends_before(around.before) {
+        return on(around.token, "default is missing before this :");
+    }
+    let is_label = matches!(around.before.kind, TokenKind::Integer(_));
+    if is_label && ends_before(around.back(2)?) {
+        return on(around.before, "case is missing before this label");
+    }
+    None
 }
 
 /// A branch or a loop without its condition.

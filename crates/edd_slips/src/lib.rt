@@ -12,7 +12,7 @@ mod signs;
 mod slips;
 mod values;
 
-pub use around::{At, Slip, open_bracket, open_parenthesis};
+pub use around::{At, Slip, is_in_body, open_bracket, open_parenthesis};
 pub use bodies::early_end;
 pub use left_out::help_of_left_out;
 pub use slips::slip_at;

@@ -207,8 +207,24 @@ fn mask(around: &Around<'_>) -> Option<Slip> {
     None
 }
 
+// A comma before which nothing stands.
+fn lone_comma(around: &Around<'_>) -> Option<Slip> {
+    let is_lone = is_symbol(around.token, Symbol::Comma)
+        && (is_symbol(around.before, Symbol::OpenBrace) || is_symbol(around.before, Symbol::Comma));
+    if is_lone && !around.is_in_method() {
+        return on(
+            around.token,
+            "something is missing before this comma, or it is one too many",
+        );
+    }
+    None
+}
+
 /// A slip in a list.
 pub fn list_slip(around: &Around<'_>) -> Option<Slip> {
+    if let Some(slip) = lone_comma(around) {
+        return Some(slip);
+    }
     if let Some(slip) = enumerator(around) {
         return Some(slip);
     }

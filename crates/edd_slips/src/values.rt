@@ -78,6 +78,25 @@ fn is_operator_word(word: &str) -> bool {
     )
 }
 
+// Whether a word is `int` or `long` by a slip of typing.
+fn is_misspelled_type(word: &str) -> bool {
+    matches!(
+        word,
+        "Int"
+            | "INT"
+            | "in"
+            | "itn"
+            | "nit"
+            | "ints"
+            | "Long"
+            | "LONG"
+            | "lng"
+            | "lon"
+            | "logn"
+            | "longs"
+    )
+}
+
 // An `if` in the place of a value.
 fn choice(around: &Around<'_>) -> Option<Slip> {
     let is_if = around.token.kind == TokenKind::Keyword(Keyword::MethodIf);
@@ -115,6 +134,17 @@ fn side_by_side(around: &Around<'_>) -> Option<Slip> {
             )
         }
         TokenKind::Name if is_operator_word(around.word(around.before)) => None,
+        TokenKind::Name
+            if is_first
+                && around.token.kind == TokenKind::Name
+                && around.before.line == around.token.line
+                && !is_misspelled_type(around.word(around.before))
+                && !is_operator_word(around.word(around.token)) => {
+            on(
+                around.token,
+                "= or another operator, or a ; is missing before this",
+            )
+        }
         TokenKind::Name | TokenKind::Integer(_) if !is_first => {
             let is_value = is_number || around.token.kind == TokenKind::Name;
             let goes_on = matches!(
