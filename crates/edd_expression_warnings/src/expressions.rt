@@ -121,6 +121,14 @@ fn sign_before(operator: UnaryOperator) -> Symbol {
     }
 }
 
+// The sign of `&&`, or else `||`.
+fn logical_sign(e: &Expr<Target>) -> Symbol {
+    match e {
+        Expr::LogicalAnd(_, _) => Symbol::LogicalAnd,
+        _ => Symbol::LogicalOr,
+    }
+}
+
 // A comparison, whose sign is at a place.
 fn check_comparison(
     compared: &Expr<Target>,
@@ -218,11 +226,16 @@ pub fn check_expression(
             check_comparison(e, at, is_statement, walk, findings)?;
             check_expression(second, false, walk, findings)
         }
-        Expr::LogicalAnd(first, second) => {
-            check_both(first, second, Symbol::LogicalAnd, walk, findings)
-        }
-        Expr::LogicalOr(first, second) => {
-            check_both(first, second, Symbol::LogicalOr, walk, findings)
+        Expr::LogicalAnd(first, second) | Expr::LogicalOr(first, second) => {
+            let sign = logical_sign(e);
+            let before = walk.ranged;
+            walk.ranged = ranged_place(first, second, sign).or(before);
+            check_expression(first, false, walk, findings)?;
+            let at = walk.tokens_left.to(TokenKind::Symbol(sign));
+            check_logical(first, second, sign, at, walk.width, findings)?;
+            check_expression(second, false, walk, findings)?;
+            walk.ranged = before;
+            Ok(())
         }
         Expr::Conditional(test, first, second) => {
             check_expression(test, false, walk, findings)?;
@@ -235,7 +248,10 @@ pub fn check_expression(
         Expr::Assign(to, value) => {
             let at = walk.tokens_left.to(TokenKind::Symbol(Symbol::Equals));
             check_assignment(*to, value, at, walk, findings)?;
-            check_new_value(value, *to, walk, findings)?;
+            let before = walk.assigned;
+            walk.assigned = Some(*to);
+            check_expression(value, false, walk, findings)?;
+            walk.assigned = before;
             walk.write(*to)?;
             if is_statement {
                 return Ok(());
@@ -264,42 +280,6 @@ pub fn check_expression(
             check_call(function, arguments, at, walk, findings)
         }
     }
-}
-
-// The value that a place gets. What it was before may be part of it.
-#[cycle(expressions)]
-fn check_new_value(
-    value: &Expr<Target>,
-    to: Target,
-    walk: &mut Walk<'_>,
-    findings: &mut Findings,
-) -> Result<(), AllocError> {
-    let before = walk.assigned;
-    walk.assigned = Some(to);
-    check_expression(value, false, walk, findings)?;
-    walk.assigned = before;
-    Ok(())
-}
-
-// Both operands of `&&` or `||`.
-#[cycle(expressions)]
-fn check_both(
-    first: &Expr<Target>,
-    second: &Expr<Target>,
-    sign: Symbol,
-    walk: &mut Walk<'_>,
-    findings: &mut Findings,
-) -> Result<(), AllocError> {
-    let before = walk.ranged;
-    if let Some(place) = ranged_place(first, second, sign) {
-        walk.ranged = Some(place);
-    }
-    check_expression(first, false, walk, findings)?;
-    let at = walk.tokens_left.to(TokenKind::Symbol(sign));
-    check_logical(first, second, sign, at, walk.width, findings)?;
-    check_expression(second, false, walk, findings)?;
-    walk.ranged = before;
-    Ok(())
 }
 
 /// What an assignment as a condition may be meant as.

@@ -142,7 +142,9 @@ pub fn check_parts<'a>(
     let mut has_statement = false;
     let mut is_dead = false;
     let mut head = None;
-    for (number, part) in parts.iter().enumerate() {
+    let mut behind = 0usize;
+    for part in parts {
+        behind = behind.saturating_add(1);
         match part {
             Part::Declare(declarators) => {
                 let asks = check_declarators(declarators, walk, findings)?;
@@ -158,8 +160,7 @@ pub fn check_parts<'a>(
             }
             Part::CaseLabel { .. } | Part::DefaultLabel { .. } => {
                 if has_statement && !is_dead {
-                    let next = parts.get(number.saturating_add(1));
-                    check_fall(flow, next, walk, findings)?;
+                    check_fall(flow, parts.get(behind), walk, findings)?;
                 }
                 check_label_part(part, walk, findings)?;
                 flow.ends = None;

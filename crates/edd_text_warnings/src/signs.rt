@@ -20,22 +20,25 @@ fn width_len(here: &[u8]) -> usize {
     count
 }
 
+// Whether what comes behind a letter lets it be that of a placeholder, and not of a word.
+fn ends_word(behind: &[u8]) -> bool {
+    !matches!(
+        behind,
+        [b'a'..=b'z', ..] | [b'A'..=b'Z', ..] | [b'.', b'a'..=b'z', ..]
+    )
+}
+
 // Whether what comes behind a percent sign makes it a placeholder, as `{..}`, `[..]`, `d` or `4.1f`.
 fn is_placeholder(behind: &[u8]) -> bool {
-    let letters = behind.get(width_len(behind)..).unwrap_or(b"");
-    match (behind, letters) {
-        ([b'{' | b'[', ..], _) => true,
-        (_, [b'l' | b'h', b'd' | b'u' | b'x' | b'i', rest @ ..])
-        | (
-            _,
-            [
-                b'd' | b'i' | b'u' | b'x' | b'X' | b'f' | b's' | b'c',
-                rest @ ..,
-            ],
-        ) => match rest {
-            [b'a'..=b'z' | b'A'..=b'Z', ..] | [b'.', b'a'..=b'z', ..] => false,
-            _ => true,
-        },
+    if matches!(behind, [b'{', ..] | [b'[', ..]) {
+        return true;
+    }
+    match behind.get(width_len(behind)..).unwrap_or(b"") {
+        [b'l' | b'h', b'd' | b'u' | b'x' | b'i', rest @ ..] => ends_word(rest),
+        [
+            b'd' | b'i' | b'u' | b'x' | b'X' | b'f' | b's' | b'c',
+            rest @ ..,
+        ] => ends_word(rest),
         _ => false,
     }
 }
