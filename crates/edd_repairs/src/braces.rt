@@ -29,7 +29,7 @@ struct Crooked {
 fn indent_before(text: &[u8], place: usize) -> Option<usize> {
     let mut count: usize = 0;
     for step in 1..=place {
-        match text.get(place.saturating_sub(step)) {
+        match text.get(place.saturating_sub(step)).copied() {
             Some(b'\n') => return Some(count),
             Some(b' ' | b'\t' | b'\r') => count = count.saturating_add(1),
             _ => return None,

@@ -63,7 +63,10 @@ impl Letters {
     fn of(word: &str) -> Letters {
         let mut counts: [u8; BUCKETS] = [0; BUCKETS];
         for byte in word.bytes() {
-            if let (Some(count), true) = (counts.get_mut(bucket_of(byte)), byte != b'_') {
+            if byte == b'_' {
+                continue;
+            }
+            if let Some(count) = counts.get_mut(bucket_of(byte)) {
                 *count = count.saturating_add(1);
             }
         }
