@@ -138,7 +138,7 @@ struct Placed<'i, 'a> {
 }
 
 // The items with their keys, which count the items of each kind.
-fn placed<'i, 'a>(
+fn all_placed<'i, 'a>(
     alloc: Global,
     text: &'a [u8],
     items: &'i [Item<Target>],
@@ -272,7 +272,7 @@ fn kind_number(kind: Kind) -> u8 {
 }
 
 // Notes what all items are called and what all menus show.
-fn shown<'i, 'a>(
+fn all_shown<'i, 'a>(
     all: &[Placed<'i, 'a>],
     findings: &mut Findings,
 ) -> Result<Shown<'i, 'a>, AllocError> {
@@ -301,8 +301,8 @@ pub fn check_entries(
     item_tokens: &[&[Token]],
     findings: &mut Findings,
 ) -> Result<(), AllocError> {
-    let all = placed(findings.alloc, text, items, item_tokens)?;
-    let shown = shown(&all, findings)?;
+    let all = all_placed(findings.alloc, text, items, item_tokens)?;
+    let shown = all_shown(&all, findings)?;
     for one in &all {
         if !matches!(one.item, Item::Command(_)) {
             shown.check(one, findings)?;

@@ -56,7 +56,7 @@ struct Around {
     first_menu: Option<usize>,
 }
 
-fn around(items: &[Item<Target>]) -> Around {
+fn around_items(items: &[Item<Target>]) -> Around {
     let mut found = Around {
         has_users: false,
         has_entries: false,
@@ -124,7 +124,7 @@ pub fn check_uses<'a>(
     findings: &mut Findings,
 ) -> Result<(), AllocError> {
     let uses = uses_of(findings.alloc, text, tokens)?;
-    let around = around(items);
+    let around = around_items(items);
     for (number, (item, own)) in items.iter().zip(item_tokens).enumerate() {
         if let Some(lint) = lint_of(item.kind(), number, around) {
             check_item(item, lint, TokensLeft::new(text, own), &uses, findings)?;

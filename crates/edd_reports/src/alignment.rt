@@ -199,7 +199,7 @@ fn only_place(line: &[u8], within: Span, word: &[u8]) -> Option<usize> {
 
 /// Where a part of the line `made` is in the line that it was made from. In what a macro may have
 /// become it is looked for as it is.
-pub fn aligned(line: &str, made: &str, part: Span) -> Aligned {
+pub fn alignment_of(line: &str, made: &str, part: Span) -> Aligned {
     let (line, made) = (line.as_bytes(), made.as_bytes());
     let start = start_of(line, made, part);
     let end = end_of(line, made, part);

@@ -3,7 +3,7 @@
 //! A name that is proposed has to come about by a slip of typing: one that is chosen on purpose, as
 //! `upper` beside `lower` or `out_min` beside `out_max`, would give a text that means another thing.
 
-use crate::typing::{Slips, slips};
+use crate::typing::{Slips, slips_between};
 use std::alloc::{AllocError, Global};
 use strsim::levenshtein;
 
@@ -141,7 +141,7 @@ impl<'w, 'a> Nearest<'w, 'a> {
     // By how many edits a word differs, where it may be meant.
     fn distance(&self, alloc: Global, word: &str) -> Result<Option<usize>, AllocError> {
         let edits = levenshtein(alloc, word, self.word)?;
-        Ok(match slips(alloc, self.word, word, edits)? {
+        Ok(match slips_between(alloc, self.word, word, edits)? {
             Slips::Swapped => Some(1),
             Slips::Typed => Some(edits),
             Slips::Chosen if self.among == Among::Words => Some(edits),

@@ -1,7 +1,7 @@
 //! Where a finding is shown: in the text, or in the file that a preprocessor has made it from.
 
 use crate::Source;
-use crate::alignment::aligned;
+use crate::alignment::alignment_of;
 use crate::words::{Span, text_in};
 
 /// Where something is, as a reader is told.
@@ -40,7 +40,7 @@ fn in_original<'a>(spot: Spot<'a>, line: &'a str, length: usize) -> Spot<'a> {
         start,
         end: start.saturating_add(length).min(spot.text.len()),
     };
-    let found = aligned(line, spot.text, part);
+    let found = alignment_of(line, spot.text, part);
     let before = line.get(..found.place.start).unwrap_or("");
     let there = text_in(line.as_bytes(), found.place);
     let word = text_in(spot.text.as_bytes(), part);

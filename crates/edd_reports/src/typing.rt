@@ -24,7 +24,7 @@ struct Places {
     are_swapped: bool,
 }
 
-fn places(one: &str, other: &str) -> Places {
+fn places_in(one: &str, other: &str) -> Places {
     let mut found = Places {
         count: 0,
         last: 0,
@@ -77,7 +77,12 @@ fn has_short_parts_of(one: &str, other: &str) -> bool {
 }
 
 /// How two words differ which so many edits part.
-pub fn slips(alloc: Global, one: &str, other: &str, edits: usize) -> Result<Slips, AllocError> {
+pub fn slips_between(
+    alloc: Global,
+    one: &str,
+    other: &str,
+    edits: usize,
+) -> Result<Slips, AllocError> {
     let one_letters = letters(alloc, one)?;
     let other_letters = letters(alloc, other)?;
     if one_letters
@@ -87,7 +92,7 @@ pub fn slips(alloc: Global, one: &str, other: &str, edits: usize) -> Result<Slip
         return Ok(Slips::Swapped);
     }
     if one.len() == other.len() {
-        let found = places(one, other);
+        let found = places_in(one, other);
         let is_inside = 0 < found.last && found.last.saturating_add(1) < one.len();
         match found.count {
             1 if !is_inside => return Ok(Slips::Chosen),

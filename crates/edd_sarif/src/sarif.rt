@@ -137,7 +137,7 @@ fn uri_of(alloc: Global, name: &str) -> Result<String, AllocError> {
     Ok(uri)
 }
 
-fn location(
+fn location_of(
     alloc: Global,
     file: &str,
     region: Option<Region>,
@@ -181,7 +181,7 @@ fn location_in_origin(
             .is_original
             .then_some(spot.column.saturating_add(spot.width)),
     };
-    location(alloc, spot.file, Some(region), message)
+    location_of(alloc, spot.file, Some(region), message)
 }
 
 fn is_marked(source: Source<'_>, place: Span) -> bool {
@@ -201,7 +201,7 @@ fn location_at(
         return location_in_origin(alloc, source, place, message);
     }
     let region = region_in_text(source, place);
-    location(alloc, source.name, Some(region), message)
+    location_of(alloc, source.name, Some(region), message)
 }
 
 // Where it is: without a place, in the source.
@@ -213,7 +213,7 @@ fn locations_of(
     let mut made = Vec::new(alloc);
     let at = match found.place {
         Some(place) => location_at(alloc, source, place, None)?,
-        None => location(alloc, source.name, None, None)?,
+        None => location_of(alloc, source.name, None, None)?,
     };
     made.push(at)?;
     Ok(made)
@@ -230,7 +230,7 @@ fn related_of(
         if is_marked(source, place) {
             let text = String::from_str(alloc, "the place in the text that was read")?;
             let region = region_in_text(source, place);
-            let at = location(alloc, source.name, Some(region), Some(Text { text }))?;
+            let at = location_of(alloc, source.name, Some(region), Some(Text { text }))?;
             made.push(at)?;
         }
     }

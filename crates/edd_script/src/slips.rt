@@ -139,7 +139,7 @@ fn name_reason(alloc: Global, image: &Image<'_>, word: &str) -> Result<String, A
     }
 }
 
-fn slip(word: Word<'_>, reason: String) -> Slip {
+fn slip_of(word: Word<'_>, reason: String) -> Slip {
     Slip {
         start: word.start,
         end: word.start.saturating_add(word.text.len()),
@@ -148,7 +148,7 @@ fn slip(word: Word<'_>, reason: String) -> Slip {
 }
 
 fn slip_as(alloc: Global, word: Word<'_>, reason: &str) -> Result<Slip, AllocError> {
-    Ok(slip(word, String::from_str(alloc, reason)?))
+    Ok(slip_of(word, String::from_str(alloc, reason)?))
 }
 
 fn word_at<'a>(words: &[Word<'a>], place: usize) -> Word<'a> {
@@ -173,13 +173,13 @@ fn slip_of_set(alloc: Global, image: &Image<'_>, words: &[Word<'_>]) -> Result<S
         return slip_as(alloc, name, NO_EQUALS);
     }
     if variable(image, name.text).is_none() {
-        return Ok(slip(name, name_reason(alloc, image, name.text)?));
+        return Ok(slip_of(name, name_reason(alloc, image, name.text)?));
     }
     if value.text.is_empty() {
         return slip_as(alloc, value, VALUE_MISSING);
     }
     if number(value.text).is_none() {
-        return Ok(slip(value, number_reason(alloc, value.text)?));
+        return Ok(slip_of(value, number_reason(alloc, value.text)?));
     }
     slip_as(alloc, word_at(words, 3), SET_ENDS)
 }
@@ -204,7 +204,7 @@ fn slip_of_setting(
         start: word.start,
     };
     if variable(image, name).is_none() {
-        return Ok(Some(slip(named, name_reason(alloc, image, name)?)));
+        return Ok(Some(slip_of(named, name_reason(alloc, image, name)?)));
     }
     let valued = Word {
         text: value,
@@ -212,7 +212,7 @@ fn slip_of_setting(
     };
     match number(value) {
         Some(_) => Ok(None),
-        None => Ok(Some(slip(valued, number_reason(alloc, value)?))),
+        None => Ok(Some(slip_of(valued, number_reason(alloc, value)?))),
     }
 }
 
@@ -225,7 +225,7 @@ fn slip_of_code(alloc: Global, word: Word<'_>) -> Result<Slip, AllocError> {
     let reason = format!(in alloc;
         "`{text}` is no code, a decimal number of 32 bits: `answer CODE NAME=N ..`"
     )?;
-    Ok(slip(word, reason))
+    Ok(slip_of(word, reason))
 }
 
 // What is wrong with a line that begins with `answer`: its code, or the first setting that can't be
@@ -262,7 +262,7 @@ fn slip_of_first(alloc: Global, word: Word<'_>) -> Result<Slip, AllocError> {
             reason.push_str(", in small letters")?;
         }
     }
-    Ok(slip(word, reason))
+    Ok(slip_of(word, reason))
 }
 
 // What is wrong with a line that can't be read.
@@ -285,7 +285,7 @@ fn slip_of_value(
     variable: VarNo,
 ) -> Result<Slip, AllocError> {
     let words = words_of(alloc, line)?;
-    Ok(slip(word_at(&words, 2), range_reason(alloc, image, variable)?))
+    Ok(slip_of(word_at(&words, 2), range_reason(alloc, image, variable)?))
 }
 
 // The first setting of an answer that is out of the range of its variable.
@@ -299,7 +299,7 @@ fn slip_of_sets(
     for (word, set) in words.iter().skip(2).zip(sets.iter()) {
         let (variable, value) = *set;
         if is_out_of_range(image, variable, value) {
-            return Ok(Some(slip(*word, range_reason(alloc, image, variable)?)));
+            return Ok(Some(slip_of(*word, range_reason(alloc, image, variable)?)));
         }
     }
     Ok(None)
