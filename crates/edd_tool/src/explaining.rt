@@ -27,6 +27,13 @@ fn print_lint<'a, W: Write>(alloc: Global, lint: Lint, out: &mut W) -> Result<()
     Ok(())
 }
 
+fn print_lints<'a, W: Write>(alloc: Global, out: &mut W) -> Result<(), Stop<'a>> {
+    for lint in LINTS {
+        print_lint(alloc, lint, out)?;
+    }
+    Ok(())
+}
+
 // The numbers and names of all refusals, and all lints.
 fn print_all<'a, W: Write>(alloc: Global, out: &mut W) -> Result<(), Stop<'a>> {
     for number in 1..=LAST {
@@ -34,10 +41,7 @@ fn print_all<'a, W: Write>(alloc: Global, out: &mut W) -> Result<(), Stop<'a>> {
             print(alloc, out, format_args!("{number} {}", one.name))?;
         }
     }
-    for lint in LINTS {
-        print_lint(alloc, lint, out)?;
-    }
-    Ok(())
+    print_lints(alloc, out)
 }
 
 // The refusal with a number or a name.
@@ -48,8 +52,8 @@ fn refusal_of(what: &str) -> Option<&'static Explanation> {
     }
 }
 
-/// Prints what a refusal means, or what a lint finds; without one, all there are.
-pub fn print_explanation<'a, W: Write>(
+// What a refusal means, or what a lint finds; without one, all there are.
+fn print_explanation<'a, W: Write>(
     alloc: Global,
     what: Option<&'a str>,
     out: &mut W,
@@ -62,4 +66,17 @@ pub fn print_explanation<'a, W: Write>(
         (None, Some(lint)) => print_lint(alloc, lint, out),
         (None, None) => Err(Stop::NoRefusal(what)),
     }
+}
+
+/// Prints what a refusal means, or what a lint finds; without one, all there are, or the lints alone.
+pub fn print_asked<'a, W: Write>(
+    alloc: Global,
+    what: Option<&'a str>,
+    is_of_lints: bool,
+    out: &mut W,
+) -> Result<(), Stop<'a>> {
+    if is_of_lints && what.is_none() {
+        return print_lints(alloc, out);
+    }
+    print_explanation(alloc, what, out)
 }

@@ -5,7 +5,7 @@ ghost use Rattle.std.specs.Prelude.{◌≤◌};
 use crate::checking::{check_sources, push_lints};
 use crate::differing::diff_files;
 use crate::explained::{Instead, image_of_source, with_command_named, with_script_shown};
-use crate::explaining::print_explanation;
+use crate::explaining::print_asked;
 use crate::files::{FileFault, Files, read_all};
 use crate::formatting::format_files;
 use crate::opening::{INPUT, OUTPUT, open};
@@ -339,7 +339,7 @@ pub fn answer<'a, F: Files, W: Write>(
         Request::Format { names, is_check } => format_files(alloc, &names, is_check, files, out),
         Request::Diff { old, new, form } => diff_files(alloc, old, new, form, files, out),
         Request::Dump { image } => dump_file(alloc, image, files, out),
-        Request::Explain { what } => print_explanation(alloc, what, out),
+        Request::Explain { what, is_of_lints } => print_asked(alloc, what, is_of_lints, out),
         Request::Serve => serve(alloc, files, out),
     }
 }
