@@ -26,25 +26,24 @@ const COLORS: &[&str] = &[AUTO, ALWAYS, "never"];
 pub fn diff_form<'a>(alloc: Global) -> Arg<'a> {
     form(
         alloc,
-        FORMS,
         "Lines for a reader, or an object of JSON on each line",
     )
+    .value_parser(FORMS)
 }
 
 /// The form of what `check` prints.
 pub fn check_form<'a>(alloc: Global) -> Arg<'a> {
     form(
         alloc,
-        CHECK_FORMS,
         "Lines for a reader, an object of JSON on each line, or a document of SARIF",
     )
+    .value_parser(CHECK_FORMS)
 }
 
-fn form<'a>(alloc: Global, forms: &'static [&'static str], help: &'a str) -> Arg<'a> {
+fn form<'a>(alloc: Global, help: &'a str) -> Arg<'a> {
     Arg::new(alloc, "format")
         .long("format")
         .value_name("FORM")
-        .value_parser(forms)
         .default_value(TEXT)
         .help(help)
 }

@@ -196,10 +196,10 @@ impl<'r> Counts<'r> {
     }
 }
 
-fn check_missing(
+fn check_missing<'r>(
     at: Mark<'_>,
-    languages: &BTreeSet<&str>,
-    usual: &[&str],
+    languages: &BTreeSet<&'r str>,
+    usual: &[&'r str],
     findings: &mut Findings,
 ) -> Result<(), AllocError> {
     if languages.len() < 2 {
