@@ -23,7 +23,7 @@ struct Document<'a> {
     #[serde(rename = "$schema")]
     schema: &'static str,
     version: &'static str,
-    runs: [Run<'a>; 1],
+    runs: Vec<Run<'a>>,
 }
 
 #[derive(Drop, Serialize)]
@@ -31,7 +31,7 @@ struct Document<'a> {
 struct Run<'a> {
     tool: Tool<'a>,
     column_kind: &'static str,
-    invocations: [Invocation; 1],
+    invocations: Vec<Invocation>,
     results: Vec<Outcome<'a>>,
 }
 
@@ -344,17 +344,21 @@ pub fn print_sarif<W: Write>(
         execution_successful: true,
         tool_execution_notifications: notices_of(alloc, all)?,
     };
+    let mut invocations = Vec::new(alloc);
+    invocations.push(invocation)?;
     let driver = Driver { name: "edd", rules };
     let run = Run {
         tool: Tool { driver },
         column_kind: "unicodeCodePoints",
-        invocations: [invocation],
+        invocations,
         results,
     };
+    let mut runs = Vec::new(alloc);
+    runs.push(run)?;
     let document = Document {
         schema: SCHEMA,
         version: "2.1.0",
-        runs: [run],
+        runs,
     };
     print_value(alloc, &document, out)
 }

@@ -41,23 +41,30 @@ pub fn walk_expr(e: &Expr<Target>, walk: &mut Walk<'_>) -> Result<(), AllocError
             walk_expr(inner, walk)
         }
         Expr::Binary(op, left, right) => {
-            let token = walk_pair(left, Symbol::Operator(*op), right, walk)?;
+            walk_expr(left, walk)?;
+            let token = walk.cursor.sign(Symbol::Operator(*op));
+            walk_expr(right, walk)?;
             walk.note(of_operator(*op), token)
         }
         Expr::Compare(by, left, right) => {
-            walk_pair(left, Symbol::Comparison(*by), right, walk)?;
-            Ok(())
+            walk_expr(left, walk)?;
+            walk.cursor.sign(Symbol::Comparison(*by));
+            walk_expr(right, walk)
         }
         Expr::LogicalAnd(left, right) => {
-            walk_pair(left, Symbol::LogicalAnd, right, walk)?;
-            Ok(())
+            walk_expr(left, walk)?;
+            walk.cursor.sign(Symbol::LogicalAnd);
+            walk_expr(right, walk)
         }
         Expr::LogicalOr(left, right) => {
-            walk_pair(left, Symbol::LogicalOr, right, walk)?;
-            Ok(())
+            walk_expr(left, walk)?;
+            walk.cursor.sign(Symbol::LogicalOr);
+            walk_expr(right, walk)
         }
         Expr::Conditional(test, first, second) => {
-            walk_pair(test, Symbol::Question, first, walk)?;
+            walk_expr(test, walk)?;
+            walk.cursor.sign(Symbol::Question);
+            walk_expr(first, walk)?;
             walk.cursor.sign(Symbol::Colon);
             walk_expr(second, walk)
         }
@@ -82,20 +89,6 @@ pub fn walk_expr(e: &Expr<Target>, walk: &mut Walk<'_>) -> Result<(), AllocError
             ..
         } => walk_call(*function, arguments, walk),
     }
-}
-
-// What is before a sign, the sign, whose token is the answer, and what is behind it.
-#[cycle(expressions)]
-fn walk_pair(
-    left: &Expr<Target>,
-    sign: Symbol,
-    right: &Expr<Target>,
-    walk: &mut Walk<'_>,
-) -> Result<usize, AllocError> {
-    walk_expr(left, walk)?;
-    let token = walk.cursor.sign(sign);
-    walk_expr(right, walk)?;
-    Ok(token)
 }
 
 // A first argument that is a plain reference.
