@@ -92,16 +92,16 @@ pub fn add_originals<'t, 'a, F: Files>(
 }
 
 // Looks at all sources.
-fn looks_at<'t, 'a, F: Files>(
+fn looks_at<'t, 'n, 'a, F: Files>(
     alloc: Global,
-    names: &[&'t str],
+    names: &'t [&'n str],
     texts: &'t [Vec<u8>],
     choices: &Choices,
     files: &mut F,
 ) -> Result<Vec<Look<'t>>, Stop<'a>> {
     let mut looks = Vec::with_capacity(alloc, names.len())?;
     for (name, text) in names.iter().zip(texts.iter()) {
-        let mut look = Look::at(alloc, *name, text, choices)?;
+        let mut look = Look::at(alloc, &**name, text, choices)?;
         add_originals(alloc, &mut look, files)?;
         looks.push(look)?;
     }

@@ -29,7 +29,7 @@ fn explain_source<'a, F: Files, W: Write>(
     out: &mut W,
 ) -> Result<(), Stop<'a>> {
     let choices = Choices::new(alloc);
-    let mut look = Look::at(alloc, source, text, &choices)?;
+    let mut look = Look::at(alloc, &*source, &*text, &choices)?;
     add_originals(alloc, &mut look, files)?;
     look.print(alloc, Format::Text, out)?;
     Ok(())
@@ -111,7 +111,7 @@ fn explain_script<'a, W: Write>(
     found.help(slip.reason)?;
     let mut reports = Reports::new(alloc);
     reports.show(found)?;
-    let look = Look::of(alloc, name, script, reports)?;
+    let look = Look::of(alloc, &*name, &*script, reports)?;
     look.print(alloc, Format::Text, out)?;
     Ok(())
 }

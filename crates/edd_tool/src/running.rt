@@ -61,14 +61,15 @@ pub fn play_file<'a, F: Files, W: Write>(
     let bytes = read(alloc, files, image)?;
     let device = read_device(alloc, files, run.device)?;
     let script = read_script(alloc, files, run.script)?;
-    let ran = run_method(alloc, &bytes, lent(&device), &script, run, out);
+    let given = lent(&device);
+    let ran = run_method(alloc, &bytes, given, &script, run, out);
     let answer = if run.is_explained {
         with_command_named(alloc, ran, image, &bytes, Instead::Try, out)
     } else {
         ran
     };
     let is_explained = run.is_explained;
-    let answer = with_device_shown(alloc, answer, lent(&device), is_explained, files, out);
+    let answer = with_device_shown(alloc, answer, given, is_explained, files, out);
     with_script_shown(
         alloc,
         answer,
@@ -91,14 +92,9 @@ fn trace_run<'a, W: Write>(
 ) -> Result<(), Stop<'a>> {
     let image = load(alloc, bytes)?;
     let read = parse(alloc, &image, script)?;
-    let of = Followed {
-        name: source.0,
-        text: source.1,
-        script: &read,
-        script_text: script,
-        method: method_named(&image, run.method)?,
-        steps: run.steps,
-    };
+    let (name, text) = source;
+    let method = method_named(&image, run.method)?;
+    let of = Followed::new(&*name, &*text, &read, &*script, method, run.steps);
     let Some((device_name, device_text)) = device else {
         return Ok(trace(alloc, &image, of, None, out)?);
     };
@@ -120,21 +116,14 @@ pub fn try_source<'a, F: Files, W: Write>(
     let text = read(alloc, files, source)?;
     let device = read_device(alloc, files, run.device)?;
     let script = read_script(alloc, files, run.script)?;
+    let given = lent(&device);
     let bytes = image_of_source(alloc, source, &text, run.is_explained, files, out)?;
-    let answer = run_method(alloc, &bytes, lent(&device), &script, run, out);
+    let answer = run_method(alloc, &bytes, given, &script, run, out);
     if is_traced && matches!(answer, Ok(()) | Err(Stop::Device(_))) {
-        trace_run(
-            alloc,
-            (source, &text),
-            &bytes,
-            lent(&device),
-            &script,
-            run,
-            out,
-        )?;
+        trace_run(alloc, (source, &text), &bytes, given, &script, run, out)?;
     }
     let is_explained = run.is_explained;
-    let answer = with_device_shown(alloc, answer, lent(&device), is_explained, files, out);
+    let answer = with_device_shown(alloc, answer, given, is_explained, files, out);
     with_script_shown(
         alloc,
         answer,

@@ -87,7 +87,8 @@ fn run_case<'a, F: Files>(
                 steps: case.steps,
                 is_explained: false,
             };
-            run_method(alloc, &image, lent(&device), script, run, out)
+            let given = lent(&device);
+            run_method(alloc, &image, given, script, run, out)
         }
         Kind::Show => show_bytes(alloc, &image, script, case.language, out),
         Kind::Open => {

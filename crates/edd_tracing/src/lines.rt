@@ -15,11 +15,27 @@ use std::io::Write;
 
 /// Where the lines of a trace go, and whose places they have.
 #[derive(Drop)]
-pub struct Telling<'t, 's, W> {
+pub struct Telling<'t, 's, 'b, W> {
     pub alloc: Global,
     pub look: &'t Look<'s>,
-    pub image: &'t Image<'t>,
+    pub image: &'t Image<'b>,
     pub out: &'t mut W,
+}
+
+impl<'t, 's, 'b, W> Telling<'t, 's, 'b, W> {
+    pub fn new(
+        alloc: Global,
+        look: &'t Look<'s>,
+        image: &'t Image<'b>,
+        out: &'t mut W,
+    ) -> Telling<'t, 's, 'b, W> {
+        Telling {
+            alloc,
+            look,
+            image,
+            out,
+        }
+    }
 }
 
 /// The word of a trap.
@@ -75,7 +91,7 @@ fn is_named(kind: VarType, records: &[Record], number: i64) -> bool {
     kind == VarType::BitEnumerated && bits_of(number) & !bits == 0
 }
 
-impl<W: Write> Telling<'_, '_, W> {
+impl<W: Write> Telling<'_, '_, '_, W> {
     fn line(&mut self, place: Option<Span>, what: &str) -> Result<(), ShowFault> {
         let (alloc, look) = (self.alloc, self.look);
         match place {
@@ -91,10 +107,6 @@ impl<W: Write> Telling<'_, '_, W> {
             None => print(alloc, self.out, format_args!("trace: {what}"))?,
         }
         Ok(())
-    }
-
-    fn name(&self, variable: VarNo) -> &str {
-        self.image.name(ItemNo::Variable(variable)).unwrap_or("")
     }
 
     /// A request, by its number.
@@ -121,7 +133,8 @@ impl<W: Write> Telling<'_, '_, W> {
         if old == new {
             return Ok(());
         }
-        let name = self.name(variable);
+        let image = self.image;
+        let name = image.name(ItemNo::Variable(variable)).unwrap_or("");
         let what = format!(in self.alloc; "{name} from {old} to {new}{by}")?;
         self.line(place, &what)
     }

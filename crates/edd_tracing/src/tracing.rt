@@ -137,7 +137,7 @@ fn reply_of(
 
 // Tells what the sets of an answer change.
 fn tell_sets<W: Write>(
-    telling: &mut Telling<'_, '_, W>,
+    telling: &mut Telling<'_, '_, '_, W>,
     session: &Session<'_, '_>,
     place: Option<Span>,
     answer: &Answer,
@@ -155,7 +155,7 @@ fn tell_sets<W: Write>(
 
 // Warns of what a technician could not have entered.
 fn tell_entered<W: Write>(
-    telling: &mut Telling<'_, '_, W>,
+    telling: &mut Telling<'_, '_, '_, W>,
     session: &Session<'_, '_>,
     place: Option<Span>,
     request: Request,
@@ -175,7 +175,7 @@ fn tell_entered<W: Write>(
 
 // Meets the pending request, and says whether that could be done.
 fn meet<W: Write>(
-    telling: &mut Telling<'_, '_, W>,
+    telling: &mut Telling<'_, '_, '_, W>,
     session: &mut Session<'_, '_>,
     request: Request,
     user: &mut User<'_, '_, '_>,
@@ -200,7 +200,7 @@ fn meet<W: Write>(
 
 // Executes an instruction, and tells what it changed or why it trapped.
 fn step<W: Write>(
-    telling: &mut Telling<'_, '_, W>,
+    telling: &mut Telling<'_, '_, '_, W>,
     session: &mut Session<'_, '_>,
     here: Option<(Effect, Span)>,
     progress: &mut Progress,
@@ -224,7 +224,7 @@ fn step<W: Write>(
 
 // Lets the session do one thing more. Nothing is left of it where it is over.
 fn go_on<'i, 'b, W: Write>(
-    telling: &mut Telling<'_, '_, W>,
+    telling: &mut Telling<'_, '_, '_, W>,
     methods: &Methods,
     image: &'i Image<'b>,
     mut session: Session<'i, 'b>,
@@ -253,7 +253,7 @@ fn go_on<'i, 'b, W: Write>(
 
 // Follows a run to its end.
 fn follow<'i, 'b, W: Write>(
-    telling: &mut Telling<'_, '_, W>,
+    telling: &mut Telling<'_, '_, '_, W>,
     methods: &Methods,
     image: &'i Image<'b>,
     start: Session<'i, 'b>,
@@ -282,9 +282,29 @@ pub struct Followed<'f> {
     pub steps: u64,
 }
 
+impl<'f> Followed<'f> {
+    pub fn new(
+        name: &'f str,
+        text: &'f [u8],
+        script: &'f Script,
+        script_text: &'f [u8],
+        method: MethNo,
+        steps: u64,
+    ) -> Followed<'f> {
+        Followed {
+            name,
+            text,
+            script,
+            script_text,
+            method,
+            steps,
+        }
+    }
+}
+
 // Warns of answers that no request has met.
 fn tell_left<W: Write>(
-    telling: &mut Telling<'_, '_, W>,
+    telling: &mut Telling<'_, '_, '_, W>,
     of: Followed<'_>,
     met: usize,
 ) -> Result<(), ShowFault> {
@@ -306,12 +326,7 @@ pub fn trace<W: Write>(
 ) -> Result<(), ShowFault> {
     let look = Look::of(alloc, of.name, of.text, Reports::new(alloc))?;
     let methods = methods_of(alloc, image, of.text)?;
-    let mut telling = Telling {
-        alloc,
-        look: &look,
-        image,
-        out,
-    };
+    let mut telling = Telling::new(alloc, &look, &*image, &mut *out);
     let values = match Values::new(alloc, image, &of.script.values) {
         Ok(values) => values,
         Err(ValuesFault::Memory) => return Err(ShowFault::Memory),
