@@ -101,10 +101,13 @@ fn is_inner_else(unit: &Unit) -> bool {
 
 pub fn inner_else(alloc: Global, body: &str) -> Result<String, AllocError> {
     let items = format!(in alloc; "METHOD m {{ DEFINITION {{ {body} }} }}")?;
-    let answer = match unit_of_items(alloc, items.as_str()) {
-        Some(unit) if is_inner_else(&unit) => "inner",
-        Some(_) => "outer",
-        None => "refused",
+    let Some(unit) = unit_of_items(alloc, items.as_str()) else {
+        return String::from_str(alloc, "refused");
+    };
+    let answer = if is_inner_else(&unit) {
+        "inner"
+    } else {
+        "outer"
     };
     String::from_str(alloc, answer)
 }

