@@ -1,5 +1,5 @@
 -- Which way bytes are written, by what is at their place.
-use Rattle.std.specs.Prelude.{List, ⊤}
+use Rattle.std.specs.Prelude.{List, [], ◌∷◌, ◌++◌, Option, Some, None, ⊤}
 use Rattle.std.specs.List.{Contains}
 use Rattle.edd_system.specs.declared.way.Identity.{Identity}
 use Rattle.edd_system.specs.declared.way.Standing.{Standing}
@@ -27,3 +27,8 @@ abbrev pub IsWay : Standing → List Identity → Way → Type 0
 IsWay standing opened Refused = IsOpened standing opened
 IsWay standing opened Beside = ¬ (IsOpened standing opened) × IsReplaceable standing
 IsWay standing opened AsItIs = ¬ (IsOpened standing opened) × ¬ (IsReplaceable standing)
+
+-- the opened files after one more was opened, if it is a file
+abbrev pub with_opened : Option Identity → List Identity → List Identity
+with_opened None opened = opened
+with_opened (Some identity) opened = opened ++ identity ∷ []

@@ -1,92 +1,78 @@
-//! The files of the system by their names.
+//! The files of a disk by their names, of which none is replaced that is in use.
 
-ghost use Rattle.std.specs.Prelude.{◌≡◌, ◌+◌, OnOk};
-ghost use Rattle.std.specs.Vec.{vec_len};
+ghost use Rattle.std.specs.Prelude.{◌≡◌, [], IfOk, IfSome, OnErr, OnOk};
+ghost use Rattle.edd_system.specs.Disks.{HasNoneBeside, Saved};
+ghost use Rattle.edd_system.specs.Ways.{with_opened};
 
+use crate::disk::Disk;
 use crate::saving;
-use crate::system::{SystemDisk, identity_of};
 use crate::way::Identity;
-use std::fs::OpenFile;
-use std::io::Read;
-use std::rt::Files;
-use std::{fs, io};
+use std::alloc::{AllocError, Global};
+use std::io;
 
-/// The name under which the standard input is read.
-const INPUT: &str = "/dev/stdin";
-
-/// A file or the standard input.
+/// The files of a disk, and which of them were opened.
 #[derive(Drop)]
-pub enum Opened<F: Drop, I: Drop> {
-    File(F),
-    Input(I),
+pub struct DiskFiles<D: Drop> {
+    pub disk: D,
+    pub opened: Vec<Identity>,
 }
 
-impl<F: Read + Drop, I: Read + Drop> Read for Opened<F, I> {
-    fn read(&mut self, buf: &mut [u8]) -> io::Result<usize> {
-        match self {
-            Opened::File(file) => file.read(buf),
-            Opened::Input(input) => input.read(buf),
-        }
+// Remembers a file, if it is one.
+fn remember(opened: &mut Vec<Identity>, found: Option<Identity>) -> Result<(), AllocError>
+    ensures { OnOk result (opened.new.items ≡ with_opened found opened.old.items) }
+{
+    match found {
+        Some(identity) => Ok(opened.push(identity)?),
+        None => Ok(()),
     }
 }
 
-/// Files by their paths. The name `/dev/stdin` is the standard input, which is read as it is:
-/// a pipe that belongs to another user could not be opened by that name.
-#[derive(Drop)]
-pub struct SystemFiles<'a, R> {
-    rt: &'a R,
-    opened: Vec<Identity>,
-}
-
-impl<'a, R: Files + Input + Print + AllocGlobal> SystemFiles<'a, R> {
-    pub fn new(rt: &'a R) -> SystemFiles<'a, R> {
-        SystemFiles {
-            rt,
-            opened: Vec::new(rt.alloc()),
-        }
-    }
-
-    /// Opens a file to read it, and remembers which one it is.
-    pub fn open(&mut self, name: &str) -> io::Result<Opened<R::File, R::Reader>> {
-        if name == INPUT {
-            self.remember_input()?;
-            return Ok(Opened::Input(self.rt.reader()));
-        }
-        Ok(Opened::File(self.open_file(name)?))
-    }
-
-    // The standard input has no identity where the system gives it no name.
-    fn remember_input(&mut self) -> io::Result<()> {
-        if let Ok(found) = fs::metadata(self.rt, INPUT) {
-            self.opened.push(identity_of(&found))?;
-        }
-        Ok(())
-    }
-
-    fn open_file(&mut self, name: &str) -> io::Result<R::File>
-        ensures remembered { OnOk result (vec_len self.new.opened ≡ vec_len self.old.opened + 1) }
+impl<D: Disk + Drop> DiskFiles<D> {
+    /// Those of a disk of which none is open.
+    pub fn new(alloc: Global, disk: D) -> DiskFiles<D>
+        ensures disk { result.disk ≡ disk }
+        ensures none { result.opened.items ≡ [] }
     {
-        let file = fs::open(self.rt, name)?;
-        let found = file.metadata()?;
-        if found.is_dir() {
-            return Err(io::Error::from(io::ErrorKind::IsADirectory));
+        DiskFiles {
+            disk,
+            opened: Vec::new(alloc),
         }
-        self.opened.push(identity_of(&found))?;
+    }
+
+    /// Opens a file or a stream to read it, and remembers which file it is.
+    pub fn open(&mut self, name: &str) -> io::Result<D::Opened>
+        ensures remembered { IfOk result (λ file. IfSome (D.identity file)
+            (λ is. self.new.opened.items ≡ with_opened is self.old.opened.items)) }
+        ensures kept { self.new.disk ≡ self.old.disk }
+    {
+        let file = self.disk.open(name)?;
+        let found = self.disk.identity_of(&file)?;
+        remember(&mut self.opened, found)?;
         Ok(file)
     }
 
-    /// Opens a plain file, and nothing that gives bytes without an end or waits, as a pipe.
-    pub fn open_plain(&mut self, name: &str) -> io::Result<Opened<R::File, R::Reader>> {
-        let found = fs::metadata(self.rt, name)?;
-        if !found.is_file() {
-            return Err(io::Error::from(io::ErrorKind::InvalidInput));
-        }
-        Ok(Opened::File(self.open_file(name)?))
+    /// The same of a plain file; anything else is refused.
+    pub fn open_plain(&mut self, name: &str) -> io::Result<D::Opened>
+        ensures remembered { IfOk result (λ file. IfSome (D.identity file)
+            (λ is. self.new.opened.items ≡ with_opened is self.old.opened.items)) }
+        ensures kept { self.new.disk ≡ self.old.disk }
+    {
+        let file = self.disk.open_plain(name)?;
+        let found = self.disk.identity_of(&file)?;
+        remember(&mut self.opened, found)?;
+        Ok(file)
     }
 
     /// Writes a file as `save` does, but none that was opened.
-    pub fn save(&mut self, name: &str, bytes: &[u8]) -> io::Result<()> {
-        let mut disk = SystemDisk { rt: self.rt };
-        saving::save(&mut disk, &self.opened, name, bytes)
+    pub fn save(&mut self, name: &str, bytes: &[u8]) -> io::Result<()>
+        ensures sound { OnOk result (IfSome (D.files self.old.disk)
+            (λ files. IfSome (D.standing self.old.disk) (λ standing.
+            Saved self.old.opened.items name.now bytes.now standing files (D.files self.new.disk)
+            (D.given self.old.disk) (D.given self.new.disk)))) }
+        ensures kept { OnErr result (HasNoneBeside (D.files self.old.disk)
+            → D.files self.new.disk ≡ D.files self.old.disk) }
+        ensures same { self.new.opened ≡ self.old.opened }
+    {
+        saving::save(&mut self.disk, &self.opened, name, bytes)
     }
 }

@@ -10,7 +10,7 @@ mod system;
 mod way;
 
 pub use disk::Disk;
-pub use files::{Opened, SystemFiles};
+pub use files::DiskFiles;
 pub use saving::save;
-pub use system::{NewFile, SystemDisk};
+pub use system::{NewFile, Opened, SystemDisk};
 pub use way::{Identity, Standing, Way, choose_way};

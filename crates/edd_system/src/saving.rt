@@ -18,6 +18,9 @@ fn save_beside<D: Disk>(disk: &mut D, place: &str, bytes: &[u8]) -> io::Result<(
     let mut new = disk.create_beside(place)?;
     let mut written = disk.fill(&mut new, bytes);
     if written.is_ok() {
+        written = disk.sync(&mut new);
+    }
+    if written.is_ok() {
         written = disk.put(&mut new, place);
     }
     if written.is_err() {

@@ -5,9 +5,12 @@ use crate::links::{find, folder_of, follow};
 use crate::way::{Identity, Standing};
 use std::fs::{self, Metadata, OpenFile, OpenOptions, Permissions};
 use std::io;
-use std::io::Write;
+use std::io::{Read, Write};
 use std::os::unix::fs::{FileTypeExt, MetadataExt};
 use std::rt::Files;
+
+/// The name under which the standard input is read.
+const INPUT: &str = "/dev/stdin";
 
 /// The name under which the standard output is written.
 const OUTPUT: &str = "/dev/stdout";
@@ -23,15 +26,33 @@ pub struct NewFile<F: Drop> {
     permissions: Option<Permissions>,
 }
 
-/// The system's files. The name `/dev/stdout` is the standard output, which is written as it
-/// is: what comes after the bytes is then after them.
+/// A file or the standard input.
+#[derive(Drop)]
+pub enum Opened<F: Drop, I: Drop> {
+    File(F),
+    Input(I),
+}
+
+impl<F: Read + Drop, I: Read + Drop> Read for Opened<F, I> {
+    fn read(&mut self, buf: &mut [u8]) -> io::Result<usize> {
+        match self {
+            Opened::File(file) => file.read(buf),
+            Opened::Input(input) => input.read(buf),
+        }
+    }
+}
+
+/// The system's files by their paths. The name `/dev/stdin` is the standard input, which is read as
+/// it is, since a pipe that belongs to another user could not be opened by that name; the name
+/// `/dev/stdout` is the standard output, which is written as it is: what comes after the bytes is
+/// then after them.
 #[derive(Clone, Copy)]
 pub struct SystemDisk<'a, R> {
     pub rt: &'a R,
 }
 
-/// Which file it is of which the system says this.
-pub fn identity_of(found: &Metadata) -> Identity {
+// Which file it is of which the system says this.
+fn identity_of(found: &Metadata) -> Identity {
     Identity {
         device: found.dev(),
         number: found.ino(),
@@ -99,8 +120,44 @@ fn create_in_folder<R: Files + AllocGlobal>(rt: &R, place: &str) -> io::Result<(
     fault(io::ErrorKind::AlreadyExists)
 }
 
-impl<R: Files + Print + AllocGlobal> Disk for SystemDisk<'_, R> {
+// Opens a file, and no folder.
+fn open_file<R: Files>(rt: &R, name: &str) -> io::Result<R::File> {
+    let file = fs::open(rt, name)?;
+    if file.metadata()?.is_dir() {
+        return fault(io::ErrorKind::IsADirectory);
+    }
+    Ok(file)
+}
+
+impl<R: Files + Input + Print + AllocGlobal> Disk for SystemDisk<'_, R> {
     type New = NewFile<R::File>;
+
+    type Opened = Opened<R::File, R::Reader>;
+
+    fn open(&self, name: &str) -> io::Result<Self::Opened> {
+        if name == INPUT {
+            return Ok(Opened::Input(self.rt.reader()));
+        }
+        Ok(Opened::File(open_file(self.rt, name)?))
+    }
+
+    fn open_plain(&self, name: &str) -> io::Result<Self::Opened> {
+        if !fs::metadata(self.rt, name)?.is_file() {
+            return fault(io::ErrorKind::InvalidInput);
+        }
+        Ok(Opened::File(open_file(self.rt, name)?))
+    }
+
+    // The standard input is a file where the system gives it a name.
+    fn identity_of(&self, opened: &Self::Opened) -> io::Result<Option<Identity>> {
+        match opened {
+            Opened::File(file) => Ok(Some(identity_of(&file.metadata()?))),
+            Opened::Input(_) => match fs::metadata(self.rt, INPUT) {
+                Ok(found) => Ok(Some(identity_of(&found))),
+                Err(_) => Ok(None),
+            },
+        }
+    }
 
     fn place_of(&self, name: &str) -> io::Result<String> {
         if name == OUTPUT {
@@ -137,7 +194,10 @@ impl<R: Files + Print + AllocGlobal> Disk for SystemDisk<'_, R> {
         if let Some(permissions) = new.permissions.take() {
             new.file.set_permissions(permissions)?;
         }
-        new.file.write_all(bytes)?;
+        new.file.write_all(bytes)
+    }
+
+    fn sync(&mut self, new: &mut NewFile<R::File>) -> io::Result<()> {
         new.file.sync_all()
     }
 

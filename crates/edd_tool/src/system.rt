@@ -4,23 +4,19 @@ ghost use Rattle.std.specs.Prelude.{◌≤◌};
 
 use crate::opening::INPUT;
 use crate::{FileFault, Files};
-use edd_system::{Opened, SystemFiles};
+use edd_system::{DiskFiles, Opened, SystemDisk};
 use std::io::Write;
 use std::{io, rt};
 
 #[derive(Drop)]
 struct ProgramFiles<'a, R> {
     rt: &'a R,
-    files: SystemFiles<'a, R>,
+    files: DiskFiles<SystemDisk<'a, R>>,
 }
 
-impl<'a, R: rt::Files + Input + Print + AllocGlobal> ProgramFiles<'a, R> {
-    fn new(rt: &'a R) -> ProgramFiles<'a, R> {
-        ProgramFiles {
-            rt,
-            files: SystemFiles::new(rt),
-        }
-    }
+// The files of the system, of which none is open.
+fn system_files<R: AllocGlobal>(rt: &R) -> DiskFiles<SystemDisk<'_, R>> {
+    DiskFiles::new(rt.alloc(), SystemDisk { rt })
 }
 
 // Why a file could not be read.
@@ -68,7 +64,7 @@ impl<R: rt::Files + Input + Print + AllocGlobal> Files for ProgramFiles<'_, R> {
         if name == INPUT {
             return Err(FileFault::Failed);
         }
-        let mut files = SystemFiles::new(self.rt);
+        let mut files = system_files(self.rt);
         files.save(name, bytes).map_err(|error| of_writing(&error))
     }
 }
@@ -82,6 +78,9 @@ pub fn run_on_system<R: rt::Files + Input + Print + AllocGlobal, W: Write>(
 ) -> u8
     ensures { result ≤ 4 }
 {
-    let mut files = ProgramFiles::new(rt);
+    let mut files = ProgramFiles {
+        rt,
+        files: system_files(rt),
+    };
     crate::run(rt.alloc(), words, &mut files, out)
 }
