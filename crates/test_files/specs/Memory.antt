@@ -4,7 +4,8 @@ use Rattle.std.specs.Option.{option_map}
 use Rattle.std.specs.Str.{bytes_eq}
 use Rattle.edd_system.specs.declared.way.Standing.{Standing}
 use Rattle.edd_system.specs.declared.way.Standing.TheVariants.{Plain, Stream}
-use Rattle.edd_system.specs.Disks.{PlainFiles}
+use Rattle.edd_system.specs.Disks.{NewFile, PlainFiles}
+use Rattle.test_files.specs.declared.memory.Beside.{Beside}
 use Rattle.test_files.specs.declared.memory.MemoryDisk.{MemoryDisk}
 
 -- the name `i`
@@ -15,12 +16,16 @@ file_name = 105 ∷ []
 abbrev pub link_name : List ℕ
 link_name = 108 ∷ []
 
+-- a new file, without its memory
+abbrev pub new_file_of : Beside → NewFile
+new_file_of new = record { bytes = new.bytes.items; is_lasting = new.is_lasting }
+
 -- the link leads to the file, each other name to its own place; the file alone has bytes
 abbrev pub files_of : MemoryDisk → PlainFiles
 files_of d = record {
   place = λ name. if bytes_eq name link_name then file_name else name;
   bytes = λ place. if bytes_eq place file_name then Some d.old.items else None;
-  beside = option_map (λ v. v.items) d.new;
+  beside = option_map new_file_of d.new;
 }
 
 -- the file is a plain one, and there are streams at all other places

@@ -1,11 +1,12 @@
 //! A disk in memory with a plain file `i`, a link `l` to it, and streams under all other names.
 
-ghost use Rattle.std.specs.Prelude.{Some};
-ghost use Rattle.test_files.specs.Memory.{files_of, standing_at, given_of};
+ghost use Rattle.std.specs.Prelude.{◌≡◌, false, IfOk, Some};
+ghost use Rattle.test_files.specs.Memory.{files_of, new_file_of, standing_at, given_of};
 
 use edd_system::{Disk, Identity, Standing};
 use std::alloc::{AllocError, Global};
 use std::cell::Cell;
+use std::io::Read;
 use std::{fmt, io};
 
 const FILE: &str = "i";
@@ -18,11 +19,28 @@ pub const IDENTITY: Identity = Identity {
     number: 2,
 };
 
+/// A new file beside `i`.
+#[derive(Drop)]
+pub struct Beside {
+    bytes: Vec<u8>,
+    is_lasting: bool,
+}
+
+/// A file that is read to its end.
+#[derive(Drop)]
+pub struct Ended;
+
+impl Read for Ended {
+    fn read(&mut self, _buf: &mut [u8]) -> io::Result<usize> {
+        Ok(0)
+    }
+}
+
 #[derive(Drop)]
 pub struct MemoryDisk {
     alloc: Global,
     old: Vec<u8>,
-    new: Option<Vec<u8>>,
+    new: Option<Beside>,
     given: Vec<u8>,
     /// How many further calls pass.
     left: Cell<u32>,
@@ -52,14 +70,41 @@ impl MemoryDisk {
     }
 }
 
+// A new file whose bytes may be lost.
+fn beside(alloc: Global, bytes: &[u8]) -> Result<Beside, AllocError>
+    ensures { IfOk result (λ new. new_file_of new
+        ≡ record { bytes = bytes.now; is_lasting = false }) }
+{
+    Ok(Beside {
+        bytes: Vec::from_slice(alloc, bytes)?,
+        is_lasting: false,
+    })
+}
+
 impl Disk for MemoryDisk {
     type New = ();
+
+    type Opened = Ended;
 
     ghost files = { λ d. Some (files_of d) };
 
     ghost standing = { λ _. Some standing_at };
 
     ghost given = { λ d. Some (given_of d) };
+
+    fn open(&self, _name: &str) -> io::Result<Ended> {
+        self.pass()?;
+        Ok(Ended)
+    }
+
+    fn open_plain(&self, _name: &str) -> io::Result<Ended> {
+        self.pass()?;
+        Ok(Ended)
+    }
+
+    fn identity_of(&self, _opened: &Ended) -> io::Result<Option<Identity>> {
+        Ok(Some(IDENTITY))
+    }
 
     fn place_of(&self, name: &str) -> io::Result<String> {
         self.pass()?;
@@ -79,15 +124,23 @@ impl Disk for MemoryDisk {
     fn create_beside(&mut self, _place: &str) -> io::Result<()> {
         self.new = None;
         self.pass()?;
-        self.new = Some(Vec::new(self.alloc));
+        self.new = Some(beside(self.alloc, &[])?);
         Ok(())
     }
 
     // Where it fails, the new file has a part of the bytes.
     fn fill(&mut self, _new: &mut (), bytes: &[u8]) -> io::Result<()> {
-        self.new = Some(Vec::from_slice(self.alloc, &bytes[..bytes.len() / 2])?);
+        self.new = Some(beside(self.alloc, &bytes[..bytes.len() / 2])?);
         self.pass()?;
-        self.new = Some(Vec::from_slice(self.alloc, bytes)?);
+        self.new = Some(beside(self.alloc, bytes)?);
+        Ok(())
+    }
+
+    fn sync(&mut self, _new: &mut ()) -> io::Result<()> {
+        self.pass()?;
+        if let Some(new) = &mut self.new {
+            new.is_lasting = true;
+        }
         Ok(())
     }
 
@@ -97,11 +150,17 @@ impl Disk for MemoryDisk {
             return Err(io::Error::from(io::ErrorKind::NotFound));
         }
         match self.new.take() {
-            Some(bytes) => {
+            Some(Beside {
+                bytes,
+                is_lasting: true,
+            }) => {
                 self.old = bytes;
                 Ok(())
             }
-            None => Err(io::Error::from(io::ErrorKind::NotFound)),
+            other => {
+                self.new = other;
+                Err(io::Error::from(io::ErrorKind::NotFound))
+            }
         }
     }
 

@@ -6,7 +6,7 @@ use edd_system::{Identity, save};
 use std::io;
 
 /// More calls than a saving makes.
-const MOST_CALLS: u32 = 7;
+const MOST_CALLS: u32 = 8;
 
 /// Saves under the name with none, one and more calls passing, and prints what is there then.
 pub fn save_each(rt: HostRuntime, name: &str, opened: &[Identity]) -> io::Result<()> {
