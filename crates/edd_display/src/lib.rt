@@ -16,4 +16,4 @@ pub use lines::{print, print_text};
 pub use page::push_quoted;
 pub use plays::show_play;
 pub use records::push_qualifiers;
-pub use words::{DATA_QUALIFIERS, MENU_QUALIFIERS, class_word, type_word};
+pub use words::{DATA_QUALIFIERS, MENU_QUALIFIERS, class_word, trap_word, type_word};

@@ -5,15 +5,12 @@
 ghost use Rattle.std.specs.Prelude.{◌≤◌};
 
 mod checking;
-mod conversation;
 mod devices;
 mod differing;
 mod explained;
 mod explaining;
 mod files;
 mod formatting;
-mod input;
-mod keys;
 mod opening;
 mod playing;
 mod reasons;

@@ -1,10 +1,7 @@
 //! What the program does to open a description.
 
-use crate::conversation::{Console, converse};
 use crate::devices::compiled;
-use crate::files::Files;
-use crate::input::Lines;
-use crate::keys::{Terminal, converse_by_keys};
+use crate::files::{FileFault, Files};
 use crate::requests::{Stop, of_file, read, read_script};
 use crate::running::read_device;
 use edd_command_line::{Opening, RawTerminal};
@@ -15,6 +12,7 @@ use edd_machine::ValuesFault;
 use edd_panel::{Panel, start_values};
 use edd_panel_lines::push_start;
 use edd_script::parse_sets;
+use edd_sitting::{Console, Lines, SittingFault, Size, Terminal, converse, converse_by_keys};
 use std::alloc::Global;
 use std::io::{Read, Write};
 
@@ -26,6 +24,16 @@ pub const OUTPUT: &str = "/dev/stdout";
 
 /// What an image begins with, and no source does.
 const MAGIC: &[u8] = b"EDI1";
+
+impl From<SittingFault> for Stop<'_> {
+    fn from(fault: SittingFault) -> Self {
+        match fault {
+            SittingFault::Input => Stop::File(INPUT, FileFault::Failed),
+            SittingFault::Output => Stop::Output,
+            SittingFault::Memory => Stop::Memory,
+        }
+    }
+}
 
 /// How a user is talked to.
 #[derive(Clone, Copy)]
@@ -67,7 +75,11 @@ fn talk<'a, R: Read + Drop, W: Write>(
     };
     match manner.keys {
         Some(keys) => {
-            let mut terminal = Terminal::new(input, keys, out);
+            let size = Size {
+                rows: keys.size.rows,
+                columns: keys.size.columns,
+            };
+            let mut terminal = Terminal::new(input, size, keys.has_seconds, out);
             converse_by_keys(alloc, &mut panel, &mut device, &mut terminal, &mut noted)?;
         }
         None => {

@@ -15,7 +15,9 @@ struct ProgramFiles<'a, R> {
 }
 
 // The files of the system, of which none is open.
-fn system_files<R: AllocGlobal>(rt: &R) -> DiskFiles<SystemDisk<'_, R>> {
+fn system_files<R: rt::Files + Input + Print + AllocGlobal>(
+    rt: &R,
+) -> DiskFiles<SystemDisk<'_, R>> {
     DiskFiles::new(rt.alloc(), SystemDisk { rt })
 }
 

@@ -150,10 +150,12 @@ impl Disk for MemoryDisk {
             return Err(io::Error::from(io::ErrorKind::NotFound));
         }
         match self.new.take() {
-            Some(Beside {
-                bytes,
-                is_lasting: true,
-            }) => {
+            Some(
+                Beside {
+                    bytes,
+                    is_lasting: true,
+                },
+            ) => {
                 self.old = bytes;
                 Ok(())
             }

@@ -1,9 +1,8 @@
 //! The lines of a user, one after the other, and what the program answers.
 
-use crate::devices::fault_text;
+use crate::device_faults::fault_text;
+use crate::fault::SittingFault;
 use crate::input::Lines;
-use crate::opening::INPUT;
-use crate::requests::{Stop, of_file};
 use edd_device::{Device, DeviceFault};
 use edd_display::print_text;
 use edd_instructions::Request;
@@ -54,23 +53,23 @@ pub enum Next {
 }
 
 // The next line, or nothing at the end. A line that is no text is one that means nothing.
-fn next_line<'a, R: Read>(alloc: Global, input: &mut Lines<R>) -> Result<Option<String>, Stop<'a>> {
+fn next_line<R: Read>(alloc: Global, input: &mut Lines<R>) -> Result<Option<String>, SittingFault> {
     let line = match input.next(alloc) {
         Ok(Some(line)) => line,
         Ok(None) => return Ok(None),
-        Err(fault) => return Err(of_file(INPUT, fault)),
+        Err(fault) => return Err(SittingFault::from(fault)),
     };
     let text = str::from_utf8(&line).unwrap_or("\0");
     Ok(Some(String::from_str(alloc, text)?))
 }
 
 // What the device does with a request.
-fn ask_device<'a>(
+fn ask_device(
     alloc: Global,
     panel: &Panel<'_, '_>,
     request: Request,
     device: &mut Device<'_, '_>,
-) -> Result<Reply, Stop<'a>> {
+) -> Result<Reply, SittingFault> {
     let values = panel.values();
     let instrument = device.instrument();
     if !values.are_of(instrument) {
@@ -79,20 +78,20 @@ fn ask_device<'a>(
     match device.reply(alloc, &request, values) {
         Ok(Some(answer)) => Ok(Reply::Given(answer)),
         Ok(None) => Ok(Reply::User),
-        Err(DeviceFault::Memory) => Err(Stop::Memory),
+        Err(DeviceFault::Memory) => Err(SittingFault::Memory),
         Err(fault) => Ok(Reply::Fault(fault_text(alloc, instrument, device.image(), fault)?)),
     }
 }
 
 // Who answers a request: a message is answered at once, and a device, where there is one, answers
 // what needs no user. A delay that is held is left to the user.
-fn reply_to<'a>(
+fn reply_to(
     alloc: Global,
     panel: &Panel<'_, '_>,
     request: Request,
     device: &mut Option<Device<'_, '_>>,
     holds_delays: bool,
-) -> Result<Reply, Stop<'a>> {
+) -> Result<Reply, SittingFault> {
     match (request, device) {
         (Request::PutMessage(_), _) => Ok(Reply::Given(Answer::Go {
             code: 0,
@@ -105,14 +104,14 @@ fn reply_to<'a>(
 }
 
 // Shows a request and gives it an answer.
-fn give<'a, W: Write>(
+fn give<W: Write>(
     alloc: Global,
     panel: &mut Panel<'_, '_>,
     request: Request,
     answer: &Answer,
     out: &mut W,
     noted: &mut String,
-) -> Result<(), Stop<'a>> {
+) -> Result<(), SittingFault> {
     let mut lines = String::new(alloc);
     push_asked(alloc, &mut lines, panel, request)?;
     print_text(out, &lines)?;
@@ -122,7 +121,7 @@ fn give<'a, W: Write>(
     Ok(())
 }
 
-fn show_end<'a, W: Write>(alloc: Global, turn: Turn, out: &mut W) -> Result<(), Stop<'a>> {
+fn show_end<W: Write>(alloc: Global, turn: Turn, out: &mut W) -> Result<(), SittingFault> {
     let mut lines = String::new(alloc);
     push_end(&mut lines, turn)?;
     print_text(out, &lines)?;
@@ -130,14 +129,14 @@ fn show_end<'a, W: Write>(alloc: Global, turn: Turn, out: &mut W) -> Result<(), 
 }
 
 // Aborts the method, whose device has no answer, and says why.
-fn give_up<'a, W: Write>(
+fn give_up<W: Write>(
     alloc: Global,
     panel: &mut Panel<'_, '_>,
     request: Request,
     why: &str,
     out: &mut W,
     noted: &mut String,
-) -> Result<(), Stop<'a>> {
+) -> Result<(), SittingFault> {
     give(alloc, panel, request, &Answer::Abort, out, noted)?;
     let line = format!(in alloc; "refused {why}\n")?;
     print_text(out, &line)?;
@@ -145,14 +144,14 @@ fn give_up<'a, W: Write>(
 }
 
 /// Gives the pending request its answer, and says whether it needed no user.
-pub fn meet<'a, W: Write>(
+pub fn meet<W: Write>(
     alloc: Global,
     panel: &mut Panel<'_, '_>,
     device: &mut Option<Device<'_, '_>>,
     holds_delays: bool,
     out: &mut W,
     noted: &mut String,
-) -> Result<bool, Stop<'a>> {
+) -> Result<bool, SittingFault> {
     let Some(Turn::Asks(request)) = panel.turn() else {
         return Ok(false);
     };
@@ -166,14 +165,14 @@ pub fn meet<'a, W: Write>(
 
 /// Lets the method go on until it asks the user or is over, and says where it is. A delay is the
 /// user's where delays are held.
-pub fn settle<'a, W: Write>(
+pub fn settle<W: Write>(
     alloc: Global,
     panel: &mut Panel<'_, '_>,
     device: &mut Option<Device<'_, '_>>,
     holds_delays: bool,
     out: &mut W,
     noted: &mut String,
-) -> Result<Option<Turn>, Stop<'a>> {
+) -> Result<Option<Turn>, SittingFault> {
     for _ in 0..MESSAGES {
         let Some(turn) = panel.advance(STEPS) else {
             return Ok(None);
@@ -190,12 +189,12 @@ pub fn settle<'a, W: Write>(
 }
 
 // What was done, on a line where that isn't shown by itself.
-fn show_happened<'a, W: Write>(
+fn show_happened<W: Write>(
     alloc: Global,
     panel: &Panel<'_, '_>,
     happened: &Happened,
     out: &mut W,
-) -> Result<(), Stop<'a>> {
+) -> Result<(), SittingFault> {
     let mut lines = String::new(alloc);
     if let Happened::Edited(variable, number) = happened {
         push_set(&mut lines, panel.image(), *variable, *number)?;
@@ -205,13 +204,13 @@ fn show_happened<'a, W: Write>(
     Ok(())
 }
 
-fn take<'a, W: Write>(
+fn take<W: Write>(
     alloc: Global,
     panel: &mut Panel<'_, '_>,
     command: Command,
     out: &mut W,
     noted: &mut String,
-) -> Result<Next, Stop<'a>> {
+) -> Result<Next, SittingFault> {
     let happened = panel.take(alloc, command)?;
     push_done(noted, panel.image(), &happened)?;
     show_happened(alloc, panel, &happened, out)?;
@@ -229,12 +228,12 @@ fn take<'a, W: Write>(
     }
 }
 
-fn show_help<'a, W: Write>(
+fn show_help<W: Write>(
     alloc: Global,
     panel: &Panel<'_, '_>,
     number: Option<i64>,
     out: &mut W,
-) -> Result<(), Stop<'a>> {
+) -> Result<(), SittingFault> {
     let help = help_of(alloc, panel, number)?;
     let mut lines = String::new(alloc);
     push_help(&mut lines, help)?;
@@ -243,13 +242,13 @@ fn show_help<'a, W: Write>(
 }
 
 /// Does what a line asks for.
-pub fn follow<'a, W: Write>(
+pub fn follow<W: Write>(
     alloc: Global,
     panel: &mut Panel<'_, '_>,
     line: Line,
     out: &mut W,
     noted: &mut String,
-) -> Result<Next, Stop<'a>> {
+) -> Result<Next, SittingFault> {
     match line {
         Line::Command(command) => take(alloc, panel, command, out, noted),
         Line::Help(number) => {
@@ -268,19 +267,19 @@ pub fn follow<'a, W: Write>(
     }
 }
 
-fn take_line<'a, W: Write>(
+fn take_line<W: Write>(
     alloc: Global,
     panel: &mut Panel<'_, '_>,
     line: &str,
     out: &mut W,
     noted: &mut String,
-) -> Result<Next, Stop<'a>> {
+) -> Result<Next, SittingFault> {
     let line = line_of(alloc, panel, line)?;
     follow(alloc, panel, line, out, noted)
 }
 
 // Shows where the user is.
-fn show<'a, W: Write>(alloc: Global, panel: &Panel<'_, '_>, out: &mut W) -> Result<(), Stop<'a>> {
+fn show<W: Write>(alloc: Global, panel: &Panel<'_, '_>, out: &mut W) -> Result<(), SittingFault> {
     let mut lines = String::new(alloc);
     push_view(alloc, &mut lines, panel)?;
     print_text(out, &lines)?;
@@ -288,22 +287,22 @@ fn show<'a, W: Write>(alloc: Global, panel: &Panel<'_, '_>, out: &mut W) -> Resu
 }
 
 // Asks for a line and reads it.
-fn ask<'a, R: Read, W: Write>(
+fn ask<R: Read, W: Write>(
     alloc: Global,
     panel: &Panel<'_, '_>,
     console: &mut Console<'_, R, W>,
-) -> Result<Option<String>, Stop<'a>> {
+) -> Result<Option<String>, SittingFault> {
     let mut lines = String::from_str(alloc, prompt_of(panel))?;
     lines.push('\n')?;
     print_text(console.out, &lines)?;
     if console.out.flush().is_err() {
-        return Err(Stop::Output);
+        return Err(SittingFault::Output);
     }
     next_line(alloc, &mut console.input)
 }
 
 // Aborts the method that asks.
-fn abort<'a>(panel: &mut Panel<'_, '_>, noted: &mut String) -> Result<(), Stop<'a>> {
+fn abort(panel: &mut Panel<'_, '_>, noted: &mut String) -> Result<(), SittingFault> {
     if panel.answer(&Answer::Abort).is_ok() {
         push_answer(noted, panel.image(), &Answer::Abort)?;
     }
@@ -311,13 +310,13 @@ fn abort<'a>(panel: &mut Panel<'_, '_>, noted: &mut String) -> Result<(), Stop<'
 }
 
 /// Aborts the method that asks, and each of its abort methods that does.
-pub fn leave<'a, W: Write>(
+pub fn leave<W: Write>(
     alloc: Global,
     panel: &mut Panel<'_, '_>,
     device: &mut Option<Device<'_, '_>>,
     out: &mut W,
     noted: &mut String,
-) -> Result<(), Stop<'a>> {
+) -> Result<(), SittingFault> {
     for _ in 0..ABORTS {
         if !matches!(panel.turn(), Some(Turn::Asks(_))) {
             return Ok(());
@@ -333,13 +332,13 @@ pub fn leave<'a, W: Write>(
 /// Shows where the user is, takes a line, and so on, up to `q` or the end of the lines. A method
 /// that asks then is aborted. What is set and answered, by a device as well, is noted as lines of a
 /// script.
-pub fn converse<'a, R: Read, W: Write>(
+pub fn converse<R: Read, W: Write>(
     alloc: Global,
     panel: &mut Panel<'_, '_>,
     device: &mut Option<Device<'_, '_>>,
     console: &mut Console<'_, R, W>,
     noted: &mut String,
-) -> Result<(), Stop<'a>> {
+) -> Result<(), SittingFault> {
     let mut next = Next::View;
     for _ in 0..u64::MAX {
         if matches!(next, Next::View) {

@@ -3,11 +3,8 @@
 ghost use Rattle.std.specs.Prelude.{◌≡◌, ℤ, Ok, Some};
 
 use crate::conversation::{Next, follow, leave, meet, settle};
-use crate::files::FileFault;
-use crate::input::Bytes;
-use crate::opening::INPUT;
-use crate::requests::{Stop, of_file};
-use edd_command_line::{RawTerminal, Size};
+use crate::fault::SittingFault;
+use crate::input::{Bytes, InputFault};
 use edd_device::Device;
 use edd_display::print_text;
 use edd_instructions::Request;
@@ -24,6 +21,13 @@ use std::io::{Read, Write};
 
 /// After so many seconds without a key the input is at its end: a day.
 const IDLE: u32 = 86_400;
+
+/// The rows and the columns of a terminal: at least two rows, and one column.
+#[derive(Clone, Copy)]
+pub struct Size {
+    pub rows: usize,
+    pub columns: usize,
+}
 
 /// A terminal in raw mode.
 #[derive(Drop)]
@@ -48,12 +52,14 @@ enum Event {
 }
 
 impl<'t, R: Read, W: Write> Terminal<'t, R, W> {
-    pub fn new(input: R, keys: RawTerminal, out: &'t mut W) -> Terminal<'t, R, W> {
+    /// `has_seconds` says whether a read that gives nothing says that a second has passed, and not
+    /// that the input is at its end.
+    pub fn new(input: R, size: Size, has_seconds: bool, out: &'t mut W) -> Terminal<'t, R, W> {
         Terminal {
             bytes: Bytes::new(input),
             keys: KeyBytes::new(),
-            size: keys.size,
-            has_seconds: keys.has_seconds,
+            size,
+            has_seconds,
             idle: 0,
             out,
             is_drawn: false,
@@ -93,7 +99,7 @@ impl<'t, R: Read, W: Write> Terminal<'t, R, W> {
     }
 
     // What comes next; a second counts where one is waited for, and is passed over elsewhere.
-    fn next(&mut self, counts: bool) -> Result<Event, FileFault> {
+    fn next(&mut self, counts: bool) -> Result<Event, InputFault> {
         for _ in 0..u64::MAX {
             let event = match self.bytes.next()? {
                 Some(byte) => {
@@ -208,7 +214,7 @@ fn shown_of(screen: &Screen) -> Shown<'_> {
 }
 
 // Draws the screen.
-fn draw<'a, W: Write>(
+fn draw<W: Write>(
     alloc: Global,
     panel: &Panel<'_, '_>,
     screen: &Screen,
@@ -217,7 +223,7 @@ fn draw<'a, W: Write>(
     typed: &str,
     columns: usize,
     out: &mut W,
-) -> Result<(), Stop<'a>> {
+) -> Result<(), SittingFault> {
     let prompt = match (screen.stage, left) {
         (Stage::Page, _) => String::from_str(alloc, "Enter?")?,
         (_, Some(left)) => format!(in alloc; "{left} s left, Enter?")?,
@@ -235,7 +241,7 @@ fn draw<'a, W: Write>(
     push_frame(&mut text, &frame)?;
     print_text(out, &text)?;
     if out.flush().is_err() {
-        return Err(Stop::Output);
+        return Err(SittingFault::Output);
     }
     Ok(())
 }
@@ -259,9 +265,9 @@ fn line_asked(alloc: Global, panel: &Panel<'_, '_>, act: Act) -> Result<Option<L
 }
 
 // What is told is kept in memory, so a write of it fails only for lack of that.
-fn told_in_memory<'a, T>(told: Result<T, Stop<'a>>) -> Result<T, Stop<'a>> {
+fn told_in_memory<T>(told: Result<T, SittingFault>) -> Result<T, SittingFault> {
     match told {
-        Err(Stop::Output) => Err(Stop::Memory),
+        Err(SittingFault::Output) => Err(SittingFault::Memory),
         other => other,
     }
 }
@@ -282,14 +288,14 @@ impl Desk {
     }
 
     // Does what a line asks for, and lets the method that runs go on.
-    fn follow<'a>(
+    fn follow(
         &mut self,
         alloc: Global,
         panel: &mut Panel<'_, '_>,
         device: &mut Option<Device<'_, '_>>,
         line: Line,
         noted: &mut String,
-    ) -> Result<Next, Stop<'a>> {
+    ) -> Result<Next, SittingFault> {
         if matches!(line, Line::Commands) {
             print_text(&mut self.told, KEYS)?;
             return Ok(Next::Prompt);
@@ -322,7 +328,7 @@ impl Desk {
     }
 
     // Does what a key asks for where this was shown.
-    fn take<'a>(
+    fn take(
         &mut self,
         alloc: Global,
         panel: &mut Panel<'_, '_>,
@@ -330,7 +336,7 @@ impl Desk {
         stage: Stage,
         act: Act,
         noted: &mut String,
-    ) -> Result<Next, Stop<'a>> {
+    ) -> Result<Next, SittingFault> {
         if stage == Stage::Page {
             return Ok(self.read(&act));
         }
@@ -343,14 +349,14 @@ impl Desk {
 }
 
 // Draws the screen, and says which rows of it are seen.
-fn show<'a, R: Read, W: Write>(
+fn show<R: Read, W: Write>(
     alloc: Global,
     panel: &Panel<'_, '_>,
     screen: &Screen,
     left: Option<u32>,
     terminal: &mut Terminal<'_, R, W>,
     keypad: &mut Keypad,
-) -> Result<Window, Stop<'a>> {
+) -> Result<Window, SittingFault> {
     let depth = depth_of(panel, screen.stage);
     let window = keypad.arrive(depth, &shown_of(screen), screen.height)?;
     let columns = terminal.size.columns;
@@ -370,21 +376,19 @@ fn show<'a, R: Read, W: Write>(
 
 // Draws the screen, takes a key, and does what it asks for. A delay whose time is over goes on as by
 // Enter.
-fn take_key<'a, R: Read, W: Write>(
+fn take_key<R: Read, W: Write>(
     alloc: Global,
     panel: &mut Panel<'_, '_>,
     device: &mut Option<Device<'_, '_>>,
     terminal: &mut Terminal<'_, R, W>,
     desk: &mut Desk,
     noted: &mut String,
-) -> Result<Next, Stop<'a>> {
+) -> Result<Next, SittingFault> {
     let bits = desk.keypad.bits();
     let screen = screen_now(alloc, panel, bits, desk.told(), terminal.size)?;
     let left = desk.seconds_left(panel, screen.stage);
     let window = show(alloc, panel, &screen, left, terminal, &mut desk.keypad)?;
-    let event = terminal
-        .next(left.is_some())
-        .map_err(|fault| of_file(INPUT, fault))?;
+    let event = terminal.next(left.is_some())?;
     let act = match event {
         Event::End => return Ok(Next::End),
         Event::Second => {
@@ -405,13 +409,13 @@ fn take_key<'a, R: Read, W: Write>(
     desk.take(alloc, panel, device, screen.stage, act, noted)
 }
 
-fn take_keys<'a, R: Read, W: Write>(
+fn take_keys<R: Read, W: Write>(
     alloc: Global,
     panel: &mut Panel<'_, '_>,
     device: &mut Option<Device<'_, '_>>,
     terminal: &mut Terminal<'_, R, W>,
     noted: &mut String,
-) -> Result<(), Stop<'a>> {
+) -> Result<(), SittingFault> {
     let mut desk = Desk {
         keypad: Keypad::new(alloc),
         told: Vec::new(alloc),
@@ -429,15 +433,15 @@ fn take_keys<'a, R: Read, W: Write>(
 
 /// Draws where the user is, takes a key, and so on, up to the key that ends or the end of the
 /// input. What comes then, and what is noted, is as where a user types lines.
-pub fn converse_by_keys<'a, R: Read, W: Write>(
+pub fn converse_by_keys<R: Read, W: Write>(
     alloc: Global,
     panel: &mut Panel<'_, '_>,
     device: &mut Option<Device<'_, '_>>,
     terminal: &mut Terminal<'_, R, W>,
     noted: &mut String,
-) -> Result<(), Stop<'a>> {
+) -> Result<(), SittingFault> {
     let ended = take_keys(alloc, panel, device, terminal, noted);
-    if terminal.is_drawn && !matches!(ended, Err(Stop::Output)) {
+    if terminal.is_drawn && !matches!(ended, Err(SittingFault::Output)) {
         print_text(terminal.out, "\n")?;
     }
     ended?;

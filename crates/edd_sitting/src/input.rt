@@ -1,6 +1,5 @@
 //! What a user types: bytes, and lines of them.
 
-use crate::files::FileFault;
 use std::alloc::Global;
 use std::io::Read;
 
@@ -8,6 +7,14 @@ use std::io::Read;
 const LONGEST: u32 = 1_048_576;
 
 const PIECE: usize = 512;
+
+/// Why nothing is read.
+#[derive(Clone, Copy)]
+pub enum InputFault {
+    /// The input could not be read.
+    Failed,
+    Memory,
+}
 
 /// Bytes that are read from their file when they are asked for, and not before.
 #[derive(Drop)]
@@ -36,10 +43,10 @@ impl<R: Read> Bytes<R> {
     }
 
     /// The next byte, or nothing at the end.
-    pub fn next(&mut self) -> Result<Option<u8>, FileFault> {
+    pub fn next(&mut self) -> Result<Option<u8>, InputFault> {
         if self.next >= self.end {
             let Ok(count) = self.input.read(&mut self.piece) else {
-                return Err(FileFault::Failed);
+                return Err(InputFault::Failed);
             };
             if count == 0 {
                 return Ok(None);
@@ -71,7 +78,7 @@ impl<R: Read> Lines<R> {
     }
 
     /// The next line without its end, or nothing at the end of the file.
-    pub fn next(&mut self, alloc: Global) -> Result<Option<Vec<u8>>, FileFault> {
+    pub fn next(&mut self, alloc: Global) -> Result<Option<Vec<u8>>, InputFault> {
         let mut line = Vec::new(alloc);
         for _ in 0..LONGEST {
             let Some(byte) = self.bytes.next()? else {
@@ -85,7 +92,7 @@ impl<R: Read> Lines<R> {
                 return Ok(Some(line));
             }
             if line.push(byte).is_err() {
-                return Err(FileFault::Memory);
+                return Err(InputFault::Memory);
             }
         }
         Ok(Some(line))
