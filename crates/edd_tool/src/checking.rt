@@ -1,7 +1,10 @@
 //! What the program does to check a source.
 
+ghost use Rattle.std.specs.Prelude.{◌≡◌};
+
 use crate::files::{FileFault, Files};
-use crate::requests::{Stop, read_each, read_marked};
+use crate::reading::{Source, read_marked, read_sources};
+use crate::requests::Stop;
 use edd_check::{Choices, Format, LINTS, Lint, Look, ReportFault, print_document};
 use edd_command_line::{Checking, Form, Lints};
 use std::alloc::{AllocError, Global};
@@ -79,7 +82,9 @@ pub fn add_originals<'t, 'a, F: Files>(
     alloc: Global,
     look: &mut Look<'t>,
     files: &mut F,
-) -> Result<(), Stop<'a>> {
+) -> Result<(), Stop<'a>>
+    ensures kept { F.account files.new ≡ F.account files.old }
+{
     let names = look.marked_files(alloc)?;
     for name in names {
         match read_marked(alloc, files, name) {
@@ -94,14 +99,15 @@ pub fn add_originals<'t, 'a, F: Files>(
 // Looks at all sources.
 fn looks_at<'t, 'n, 'a, F: Files>(
     alloc: Global,
-    names: &'t [&'n str],
-    texts: &'t [Vec<u8>],
+    sources: &'t [Source<'n>],
     choices: &Choices,
     files: &mut F,
-) -> Result<Vec<Look<'t>>, Stop<'a>> {
-    let mut looks = Vec::with_capacity(alloc, names.len())?;
-    for (name, text) in names.iter().zip(texts.iter()) {
-        let mut look = Look::at(alloc, &**name, text, choices)?;
+) -> Result<Vec<Look<'t>>, Stop<'a>>
+    ensures kept { F.account files.new ≡ F.account files.old }
+{
+    let mut looks = Vec::with_capacity(alloc, sources.len())?;
+    for source in sources {
+        let mut look = Look::at(alloc, source.name, &source.text, choices)?;
         add_originals(alloc, &mut look, files)?;
         looks.push(look)?;
     }
@@ -142,10 +148,12 @@ pub fn check_sources<'a, F: Files, W: Write>(
     checking: &Checking<'a>,
     files: &mut F,
     out: &mut W,
-) -> Result<(), Stop<'a>> {
+) -> Result<(), Stop<'a>>
+    ensures kept { F.account files.new ≡ F.account files.old }
+{
     let choices = choices_of(alloc, &checking.lints)?;
-    let texts = read_each(alloc, files, &checking.names)?;
-    let looks = looks_at(alloc, &checking.names, &texts, &choices, files)?;
+    let sources = read_sources(alloc, &checking.names, files)?;
+    let looks = looks_at(alloc, &sources, &choices, files)?;
     print_looks(alloc, &looks, checking.form, checking.is_coloured, out)?;
     if looks.iter().any(|look| look.is_refused()) {
         Err(Stop::Shown)

@@ -1,9 +1,12 @@
 //! What the program does to say what differs between two descriptions.
 
+ghost use Rattle.std.specs.Prelude.{◌≡◌};
+
 use crate::devices::compiled;
 use crate::files::Files;
 use crate::opening::is_image;
-use crate::requests::{Stop, read};
+use crate::reading::read;
+use crate::requests::Stop;
 use edd_command_line::Form;
 use edd_differences::{differences, print_lines, print_objects};
 use edd_loader::{Image, LoadFault, load};
@@ -34,7 +37,9 @@ pub fn diff_files<'a, F: Files, W: Write>(
     form: Form,
     files: &mut F,
     out: &mut W,
-) -> Result<(), Stop<'a>> {
+) -> Result<(), Stop<'a>>
+    ensures kept { F.account files.new ≡ F.account files.old }
+{
     let old_bytes = read(alloc, files, old)?;
     let new_bytes = read(alloc, files, new)?;
     let old_bytes = image_bytes(alloc, old, old_bytes)?;

@@ -1,5 +1,8 @@
 //! What the program adds to a refusal where it is to be explained.
 
+ghost use Rattle.std.specs.Prelude.{◌≡◌, IfOk};
+ghost use Rattle.edd_compiler.specs.Images.{IsImageOf};
+
 use crate::checking::add_originals;
 use crate::files::Files;
 use crate::requests::{Stop, report};
@@ -27,7 +30,9 @@ fn explain_source<'a, F: Files, W: Write>(
     text: &[u8],
     files: &mut F,
     out: &mut W,
-) -> Result<(), Stop<'a>> {
+) -> Result<(), Stop<'a>>
+    ensures kept { F.account files.new ≡ F.account files.old }
+{
     let choices = Choices::new(alloc);
     let mut look = Look::at(alloc, &*source, &*text, &choices)?;
     add_originals(alloc, &mut look, files)?;
@@ -44,7 +49,10 @@ pub fn image_of_source<'a, F: Files, W: Write>(
     is_explained: bool,
     files: &mut F,
     out: &mut W,
-) -> Result<Vec<u8>, Stop<'a>> {
+) -> Result<Vec<u8>, Stop<'a>>
+    ensures sound { IfOk result (λ bytes. IsImageOf text.now bytes.items) }
+    ensures kept { F.account files.new ≡ F.account files.old }
+{
     let fault = match compile(alloc, text) {
         Ok(bytes) => return Ok(bytes),
         Err(Fault::Memory) => return Err(Stop::Memory),
@@ -67,7 +75,9 @@ pub fn with_device_shown<'a, F: Files, W: Write>(
     is_explained: bool,
     files: &mut F,
     out: &mut W,
-) -> Result<(), Stop<'a>> {
+) -> Result<(), Stop<'a>>
+    ensures kept { F.account files.new ≡ F.account files.old }
+{
     let is_refused = matches!(answer, Err(Stop::NoSource(_, _)));
     let (true, Some((name, text))) = (is_explained && is_refused, device) else {
         return answer;

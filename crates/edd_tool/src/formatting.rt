@@ -1,16 +1,32 @@
 //! What the program does to lay sources out.
 
-use crate::files::Files;
-use crate::opening::INPUT;
-use crate::requests::{STANDARD, Stop, of_file, read, read_each};
+ghost use Rattle.std.specs.Prelude.{◌≡◌, IfOk, IfSome, List, OnOk, Option, map, string_bytes, ℕ};
+ghost use Rattle.std.specs.List.{All};
+ghost use Rattle.edd_layout.specs.Same.{HaveSameBytes, SameTokens};
+ghost use Rattle.edd_tool.specs.Saves.{Account, IsLayoutSaving, IsRead, SavesEach, saving_of};
+
+use crate::files::{FileFault, Files};
+use crate::naming::are_words;
+use crate::reading::{INPUT, STANDARD, Source, input_of, of_file, read, read_sources};
+use crate::requests::Stop;
 use edd_compiler::Fault;
 use edd_display::print;
 use edd_layout::laid_out;
 use std::alloc::Global;
 use std::io::Write;
 
+/// A layout, which is another one than its source has.
+#[derive(Drop)]
+pub struct Layout<'a> {
+    pub name: &'a str,
+    pub bytes: Vec<u8>,
+}
+
 // What the layout of a source is, where it is another one than the source has.
-fn layout_of<'a>(alloc: Global, name: &'a str, text: &[u8]) -> Result<Option<Vec<u8>>, Stop<'a>> {
+fn layout_of<'a>(alloc: Global, name: &'a str, text: &[u8]) -> Result<Option<Vec<u8>>, Stop<'a>>
+    ensures { IfOk result (λ found. IfSome found
+        (λ bytes. SameTokens text.now bytes.items × HaveSameBytes text.now bytes.items)) }
+{
     match laid_out(alloc, text) {
         Ok(layout) if layout.as_slice() == text => Ok(None),
         Ok(layout) => Ok(Some(layout)),
@@ -21,15 +37,35 @@ fn layout_of<'a>(alloc: Global, name: &'a str, text: &[u8]) -> Result<Option<Vec
     }
 }
 
-// The layouts of all sources, before any of them is written.
-fn layouts_of<'a>(
+// Adds the layout of a source, where it is another one than the source has.
+fn push_layout<'a>(
     alloc: Global,
-    names: &[&'a str],
-    texts: &[Vec<u8>],
-) -> Result<Vec<Option<Vec<u8>>>, Stop<'a>> {
-    let mut layouts = Vec::with_capacity(alloc, names.len())?;
-    for (name, text) in names.iter().zip(texts.iter()) {
-        layouts.push(layout_of(alloc, *name, text)?)?;
+    source: &Source<'a>,
+    layouts: &mut Vec<Layout<'a>>,
+) -> Result<(), Stop<'a>>
+    ensures { (account : Option Account) (names : List (List ℕ))
+        → IsRead account names source.now
+        → All (λ l. IsLayoutSaving account names (saving_of l)) layouts.old.items
+        → OnOk result (All (λ l. IsLayoutSaving account names (saving_of l)) layouts.new.items) }
+{
+    let name = source.name;
+    let Some(bytes) = layout_of(alloc, name, &source.text)? else {
+        return Ok(());
+    };
+    layouts.push(Layout { name, bytes })?;
+    Ok(())
+}
+
+// The layouts of all sources, before any of them is written.
+fn layouts_of<'a>(alloc: Global, sources: &[Source<'a>]) -> Result<Vec<Layout<'a>>, Stop<'a>>
+    ensures { (account : Option Account) (names : List (List ℕ))
+        → All (IsRead account names) sources.now
+        → IfOk result (λ layouts. All (λ l. IsLayoutSaving account names (saving_of l))
+        layouts.items) }
+{
+    let mut layouts = Vec::with_capacity(alloc, sources.len())?;
+    for source in sources {
+        push_layout(alloc, source, &mut layouts)?;
     }
     Ok(layouts)
 }
@@ -37,13 +73,16 @@ fn layouts_of<'a>(
 // Writes a layout in the place of its source.
 fn write_layout<'a, F: Files, W: Write>(
     alloc: Global,
-    name: &'a str,
-    layout: &[u8],
+    layout: &Layout<'a>,
     files: &mut F,
     out: &mut W,
-) -> Result<(), Stop<'a>> {
+) -> Result<(), Stop<'a>>
+    ensures saves { SavesEach (λ s. s ≡ saving_of layout.now) (F.account files.old)
+        (F.account files.new) }
+{
+    let name = layout.name;
     files
-        .renew(name, layout)
+        .renew(input_of(name), &layout.bytes)
         .map_err(|fault| of_file(name, fault))?;
     print(alloc, out, format_args!("laid out {name}"))?;
     Ok(())
@@ -51,15 +90,16 @@ fn write_layout<'a, F: Files, W: Write>(
 
 fn write_all<'a, F: Files, W: Write>(
     alloc: Global,
-    names: &[&'a str],
-    layouts: &[Option<Vec<u8>>],
+    layouts: &[Layout<'a>],
     files: &mut F,
     out: &mut W,
-) -> Result<(), Stop<'a>> {
-    for (name, layout) in names.iter().zip(layouts.iter()) {
-        if let Some(layout) = layout {
-            write_layout(alloc, *name, layout, files, out)?;
-        }
+) -> Result<(), Stop<'a>>
+    ensures saves { (account : Option Account) (names : List (List ℕ))
+        → All (λ l. IsLayoutSaving account names (saving_of l)) layouts.now
+        → SavesEach (IsLayoutSaving account names) (F.account files.old) (F.account files.new) }
+{
+    for layout in layouts {
+        write_layout(alloc, layout, files, out)?;
     }
     Ok(())
 }
@@ -67,18 +107,14 @@ fn write_all<'a, F: Files, W: Write>(
 // Names the sources that are laid out otherwise.
 fn report_all<'a, W: Write>(
     alloc: Global,
-    names: &[&'a str],
-    layouts: &[Option<Vec<u8>>],
+    layouts: &[Layout<'a>],
     out: &mut W,
 ) -> Result<(), Stop<'a>> {
-    let mut is_laid_out = true;
-    for (name, layout) in names.iter().zip(layouts.iter()) {
-        if layout.is_some() {
-            print(alloc, out, format_args!("differs {name}"))?;
-            is_laid_out = false;
-        }
+    for layout in layouts {
+        let name = layout.name;
+        print(alloc, out, format_args!("differs {name}"))?;
     }
-    if is_laid_out {
+    if layouts.is_empty() {
         Ok(())
     } else {
         Err(Stop::Shown)
@@ -91,7 +127,9 @@ fn filter<'a, F: Files, W: Write>(
     name: &'a str,
     files: &mut F,
     out: &mut W,
-) -> Result<(), Stop<'a>> {
+) -> Result<(), Stop<'a>>
+    ensures kept { F.account files.new ≡ F.account files.old }
+{
     let text = read(alloc, files, name)?;
     let layout = layout_of(alloc, name, &text)?;
     let written = match &layout {
@@ -101,25 +139,56 @@ fn filter<'a, F: Files, W: Write>(
     written.map_err(|_| Stop::Output)
 }
 
-/// Lays sources out anew, or names those whose layout is another one. All are read and laid out
-/// before the first is written. The standard input alone goes to the output.
-pub fn format_files<'a, F: Files, W: Write>(
+// The name of the standard input, where it alone is named.
+fn input_alone<'a>(names: &[&'a str]) -> Option<&'a str> {
+    match names {
+        [name] if *name == INPUT || *name == STANDARD => Some(*name),
+        _ => None,
+    }
+}
+
+// Lays sources out anew, or names those whose layout is another one. All are read and laid out
+// before the first is written.
+fn format_files<'a, F: Files, W: Write>(
     alloc: Global,
     names: &[&'a str],
     is_check: bool,
     files: &mut F,
     out: &mut W,
-) -> Result<(), Stop<'a>> {
-    if let [name] = names {
-        if (*name == INPUT || *name == STANDARD) && !is_check {
-            return filter(alloc, *name, files, out);
-        }
-    }
-    let texts = read_each(alloc, files, names)?;
-    let layouts = layouts_of(alloc, names, &texts)?;
+) -> Result<(), Stop<'a>>
+    ensures saves { SavesEach
+        (IsLayoutSaving (F.account files.old) (map (λ name. name.now) names.now))
+        (F.account files.old) (F.account files.new) }
+{
+    let sources = read_sources(alloc, names, files)?;
+    let layouts = layouts_of(alloc, &sources)?;
     if is_check {
-        report_all(alloc, names, &layouts, out)
+        report_all(alloc, &layouts, out)
     } else {
-        write_all(alloc, names, &layouts, files, out)
+        write_all(alloc, &layouts, files, out)
     }
+}
+
+/// Lays sources out, or names those whose layout is another one. The names are always among the
+/// words. The standard input alone goes to the output.
+pub fn format_named<'a, F: Files, W: Write>(
+    alloc: Global,
+    words: &[String],
+    names: &[&'a str],
+    is_check: bool,
+    files: &mut F,
+    out: &mut W,
+) -> Result<(), Stop<'a>>
+    ensures saves { SavesEach
+        (IsLayoutSaving (F.account files.old) (map string_bytes words.now))
+        (F.account files.old) (F.account files.new) }
+{
+    match input_alone(names) {
+        Some(name) if !is_check => return filter(alloc, name, files, out),
+        _ => {}
+    }
+    if !are_words(words, names) {
+        return Err(Stop::File(INPUT, FileFault::Failed));
+    }
+    format_files(alloc, names, is_check, files, out)
 }

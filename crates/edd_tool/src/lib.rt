@@ -2,17 +2,21 @@
 //! call of the compiler that it makes.
 #![tactic(auto)]
 
-ghost use Rattle.std.specs.Prelude.{◌≤◌};
+ghost use Rattle.std.specs.Prelude.{◌≤◌, map, string_bytes};
+ghost use Rattle.edd_tool.specs.Saves.{MaySave};
 
 mod checking;
+mod compiling;
 mod devices;
 mod differing;
 mod explained;
 mod explaining;
 mod files;
 mod formatting;
+mod naming;
 mod opening;
 mod playing;
+mod reading;
 mod reasons;
 mod requests;
 mod running;
@@ -45,8 +49,13 @@ const HELD_BACK: usize = 65_536;
 
 /// Runs the program `edd` on the words of its command line, the program's name first. Prints to
 /// `out`, and answers the exit status.
+///
+/// What is saved is an image of what a file of the command line gave, under a name of it; or, where
+/// the words ask for that, layouts, files of tests or a record.
 pub fn run<F: Files, W: Write>(alloc: Global, words: &[String], files: &mut F, out: &mut W) -> u8
-    ensures { result ≤ 4 }
+    ensures status { result ≤ 4 }
+    ensures saves { MaySave (map string_bytes words.now) (F.account files.old)
+        (F.account files.new) }
 {
     match print_lines(alloc, words, files, out) {
         Ok(()) => DONE,
@@ -60,7 +69,10 @@ fn print_lines<'a, F: Files, W: Write>(
     words: &'a [String],
     files: &mut F,
     out: &mut W,
-) -> Result<(), Stop<'a>> {
+) -> Result<(), Stop<'a>>
+    ensures saves { MaySave (map string_bytes words.now) (F.account files.old)
+        (F.account files.new) }
+{
     let Ok(mut lines) = BufWriter::with_capacity(alloc, HELD_BACK, out) else {
         return Err(Stop::Memory);
     };

@@ -1,8 +1,13 @@
 //! What the program does to open a description.
 
+ghost use Rattle.std.specs.Prelude.{IsTrue, map, option_map, string_bytes};
+ghost use Rattle.edd_tool.specs.Saves.{IsRecord, NameRecord, SavesEach, Saving};
+
 use crate::devices::compiled;
 use crate::files::{FileFault, Files};
-use crate::requests::{Stop, of_file, read, read_script};
+use crate::naming::name_record;
+use crate::reading::{INPUT, of_file, read, read_script};
+use crate::requests::Stop;
 use crate::running::read_device;
 use edd_command_line::{Opening, RawTerminal};
 use edd_compiler::compile;
@@ -15,12 +20,6 @@ use edd_script::parse_sets;
 use edd_sitting::{Console, Lines, SittingFault, Size, Terminal, converse, converse_by_keys};
 use std::alloc::Global;
 use std::io::{Read, Write};
-
-/// The name of the file that has the user's lines.
-pub const INPUT: &str = "/dev/stdin";
-
-/// The name of the standard output as a file.
-pub const OUTPUT: &str = "/dev/stdout";
 
 /// What an image begins with, and no source does.
 const MAGIC: &[u8] = b"EDI1";
@@ -130,14 +129,34 @@ pub fn open_bytes<'a, R: Read + Drop, W: Write>(
     }
 }
 
+// Saves what was set and answered, where that is to be kept.
+fn save_record<'a, F: Files>(
+    name: Option<&'a str>,
+    noted: &str,
+    files: &mut F,
+) -> Result<(), Stop<'a>>
+    ensures saves { SavesEach (IsRecord (option_map (λ name. name.now) name.entry))
+        (F.account files.old) (F.account files.new) }
+{
+    let Some(name) = name else {
+        return Ok(());
+    };
+    files
+        .save(name, noted.as_bytes())
+        .map_err(|fault| of_file(name, fault))
+}
+
 /// Opens a source or an image, and does what the lines of the standard input say. All files are
 /// opened before anything else is done, and the record is written at the end.
-pub fn open<'a, F: Files, W: Write>(
+fn open<'a, F: Files, W: Write>(
     alloc: Global,
     opening: Opening<'a>,
     files: &mut F,
     out: &mut W,
-) -> Result<(), Stop<'a>> {
+) -> Result<(), Stop<'a>>
+    ensures saves { SavesEach (IsRecord (option_map (λ name. name.now) opening.record_file))
+        (F.account files.old) (F.account files.new) }
+{
     let bytes = read(alloc, files, opening.file)?;
     let device = read_device(alloc, files, opening.device)?;
     let script = read_script(alloc, files, opening.script)?;
@@ -148,10 +167,33 @@ pub fn open<'a, F: Files, W: Write>(
         keys: opening.keys,
     };
     let noted = open_bytes(alloc, &bytes, device, &script, manner, input, out)?;
-    match opening.record_file {
-        Some(name) => files
-            .save(name, noted.as_bytes())
-            .map_err(|fault| of_file(name, fault)),
-        None => Ok(()),
+    save_record(opening.record_file, &noted, files)
+}
+
+// Whether the words name the file for a record, if there is to be one.
+fn is_named(words: &[String], name: Option<&str>) -> bool
+    ensures { IsTrue result → (s : Saving) → IsRecord (option_map (λ name. name.now) name) s
+        → NameRecord (map string_bytes words.now) s.name }
+{
+    match name {
+        Some(name) => name_record(words, name),
+        None => true,
     }
+}
+
+/// Opens a source or an image. The name of the record's file is always among the words.
+pub fn open_named<'a, F: Files, W: Write>(
+    alloc: Global,
+    words: &[String],
+    opening: Opening<'a>,
+    files: &mut F,
+    out: &mut W,
+) -> Result<(), Stop<'a>>
+    ensures saves { SavesEach (λ s. NameRecord (map string_bytes words.now) s.name)
+        (F.account files.old) (F.account files.new) }
+{
+    if !is_named(words, opening.record_file) {
+        return Err(Stop::File(opening.file, FileFault::Failed));
+    }
+    open(alloc, opening, files, out)
 }

@@ -1,20 +1,23 @@
 //! What the program does on each command.
 
-ghost use Rattle.std.specs.Prelude.{◌≤◌};
+ghost use Rattle.std.specs.Prelude.{◌≡◌, ◌≤◌, map, string_bytes};
+ghost use Rattle.edd_tool.specs.Saves.{MaySave};
 
 use crate::checking::{check_sources, push_lints};
+use crate::compiling::compile_named;
 use crate::differing::diff_files;
 use crate::explained::{Instead, image_of_source, with_command_named, with_script_shown};
 use crate::explaining::print_asked;
-use crate::files::{FileFault, Files, read_all};
-use crate::formatting::format_files;
-use crate::opening::{INPUT, OUTPUT, open};
+use crate::files::{FileFault, Files};
+use crate::formatting::format_named;
+use crate::opening::open_named;
+use crate::reading::{read, read_script};
 use crate::reasons::{reason_of, told};
 use crate::running::{play_file, try_source};
 use crate::serving::serve;
-use crate::testing::test_files;
+use crate::testing::test_named;
 use crate::{COMMAND_LINE, DONE, FILE, MEMORY, REFUSED};
-use edd_command_line::{NoRequest, Request, Showing, Writing};
+use edd_command_line::{NoRequest, Request, Showing};
 use edd_compiler::Fault;
 use edd_display::{ShowFault, print, print_text, show};
 use edd_dump::dump;
@@ -136,97 +139,6 @@ impl<T: Drop> From<AllocFailed<T>> for Stop<'_> {
     }
 }
 
-/// The end of a program whose file failed.
-pub fn of_file<'a>(name: &'a str, fault: FileFault) -> Stop<'a> {
-    match fault {
-        FileFault::Memory => Stop::Memory,
-        fault => Stop::File(name, fault),
-    }
-}
-
-/// What stands for the standard input where a file is read, and for the output where one is
-/// written.
-pub const STANDARD: &str = "-";
-
-/// The bytes of a file, or why there are none.
-pub fn read_bytes<F: Files>(
-    alloc: Global,
-    files: &mut F,
-    name: &str,
-) -> Result<Vec<u8>, FileFault> {
-    let name = if name == STANDARD { INPUT } else { name };
-    let mut reader = files.open(name)?;
-    read_all(alloc, &mut reader)
-}
-
-/// The bytes of a plain file that a mark in a text names.
-pub fn read_marked<F: Files>(
-    alloc: Global,
-    files: &mut F,
-    name: &str,
-) -> Result<Vec<u8>, FileFault> {
-    let mut reader = files.open_plain(name)?;
-    read_all(alloc, &mut reader)
-}
-
-/// The bytes of a file.
-pub fn read<'a, F: Files>(
-    alloc: Global,
-    files: &mut F,
-    name: &'a str,
-) -> Result<Vec<u8>, Stop<'a>> {
-    read_bytes(alloc, files, name).map_err(|fault| of_file(name, fault))
-}
-
-/// The bytes of several files.
-pub fn read_each<'a, F: Files>(
-    alloc: Global,
-    files: &mut F,
-    names: &[&'a str],
-) -> Result<Vec<Vec<u8>>, Stop<'a>> {
-    let mut texts = Vec::with_capacity(alloc, names.len())?;
-    for name in names {
-        texts.push(read(alloc, files, *name)?)?;
-    }
-    Ok(texts)
-}
-
-/// The bytes of a script. No script is an empty one.
-pub fn read_script<'a, F: Files>(
-    alloc: Global,
-    files: &mut F,
-    name: Option<&'a str>,
-) -> Result<Vec<u8>, Stop<'a>> {
-    match name {
-        Some(name) => read(alloc, files, name),
-        None => Ok(Vec::new(alloc)),
-    }
-}
-
-fn write_image<'a, F: Files, W: Write>(
-    alloc: Global,
-    writing: Writing<'a>,
-    files: &mut F,
-    out: &mut W,
-) -> Result<(), Stop<'a>> {
-    let Writing {
-        source,
-        image,
-        is_quiet,
-        is_explained,
-    } = writing;
-    let text = read(alloc, files, source)?;
-    let bytes = image_of_source(alloc, source, &text, is_explained, files, out)?;
-    let file = if image == STANDARD { OUTPUT } else { image };
-    files
-        .save(file, &bytes)
-        .map_err(|fault| of_file(image, fault))?;
-    if !is_quiet {
-        print(alloc, out, format_args!("image {}", bytes.len()))?;
-    }
-    Ok(())
-}
-
 fn show_under<'a, W: Write>(
     alloc: Global,
     image: &Image<'_>,
@@ -257,7 +169,9 @@ fn view<'a, F: Files, W: Write>(
     showing: Showing<'a>,
     files: &mut F,
     out: &mut W,
-) -> Result<(), Stop<'a>> {
+) -> Result<(), Stop<'a>>
+    ensures kept { F.account files.new ≡ F.account files.old }
+{
     let Showing {
         file,
         script: name,
@@ -276,7 +190,9 @@ fn show_file<'a, F: Files, W: Write>(
     showing: Showing<'a>,
     files: &mut F,
     out: &mut W,
-) -> Result<(), Stop<'a>> {
+) -> Result<(), Stop<'a>>
+    ensures kept { F.account files.new ≡ F.account files.old }
+{
     let Showing {
         file,
         script: name,
@@ -295,7 +211,9 @@ fn dump_file<'a, F: Files, W: Write>(
     image: &'a str,
     files: &mut F,
     out: &mut W,
-) -> Result<(), Stop<'a>> {
+) -> Result<(), Stop<'a>>
+    ensures kept { F.account files.new ≡ F.account files.old }
+{
     let bytes = read(alloc, files, image)?;
     match dump(alloc, &bytes, out)? {
         Some(fault) => Err(Stop::from(fault)),
@@ -310,11 +228,14 @@ pub fn answer<'a, F: Files, W: Write>(
     words: &'a [String],
     files: &mut F,
     out: &mut W,
-) -> Result<(), Stop<'a>> {
+) -> Result<(), Stop<'a>>
+    ensures saves { MaySave (map string_bytes words.now) (F.account files.old)
+        (F.account files.new) }
+{
     match edd_command_line::parse(alloc, words)? {
         Request::Compile(writing) => {
             told(
-                write_image(alloc, writing, files, out),
+                compile_named(alloc, words, writing, files, out),
                 writing.is_explained,
             )
         }
@@ -334,9 +255,13 @@ pub fn answer<'a, F: Files, W: Write>(
             told(answer, run.is_explained)
         }
         Request::Check(checking) => told(check_sources(alloc, &checking, files, out), true),
-        Request::Open(opening) => open(alloc, opening, files, out),
-        Request::Test { names, is_update } => test_files(alloc, &names, is_update, files, out),
-        Request::Format { names, is_check } => format_files(alloc, &names, is_check, files, out),
+        Request::Open(opening) => open_named(alloc, words, opening, files, out),
+        Request::Test { names, is_update } => {
+            test_named(alloc, words, &names, is_update, files, out)
+        }
+        Request::Format { names, is_check } => {
+            format_named(alloc, words, &names, is_check, files, out)
+        }
         Request::Diff { old, new, form } => diff_files(alloc, old, new, form, files, out),
         Request::Dump { image } => dump_file(alloc, image, files, out),
         Request::Explain { what, is_of_lints } => print_asked(alloc, what, is_of_lints, out),

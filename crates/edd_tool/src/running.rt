@@ -1,12 +1,15 @@
 //! What the program does to run a method of a source or an image.
 
+ghost use Rattle.std.specs.Prelude.{◌≡◌};
+
 use crate::devices::{compiled, play_with_device};
 use crate::explained::{
     Instead, image_of_source, with_command_named, with_device_shown, with_script_shown,
 };
 use crate::files::Files;
 use crate::playing::{method_named, play_bytes};
-use crate::requests::{Stop, read, read_script};
+use crate::reading::{read, read_script};
+use crate::requests::Stop;
 use edd_command_line::Run;
 use edd_device::Device;
 use edd_loader::load;
@@ -20,7 +23,9 @@ pub fn read_device<'a, F: Files>(
     alloc: Global,
     files: &mut F,
     name: Option<&'a str>,
-) -> Result<Option<(&'a str, Vec<u8>)>, Stop<'a>> {
+) -> Result<Option<(&'a str, Vec<u8>)>, Stop<'a>>
+    ensures kept { F.account files.new ≡ F.account files.old }
+{
     match name {
         Some(name) => Ok(Some((name, read(alloc, files, name)?))),
         None => Ok(None),
@@ -57,7 +62,9 @@ pub fn play_file<'a, F: Files, W: Write>(
     run: Run<'a>,
     files: &mut F,
     out: &mut W,
-) -> Result<(), Stop<'a>> {
+) -> Result<(), Stop<'a>>
+    ensures kept { F.account files.new ≡ F.account files.old }
+{
     let bytes = read(alloc, files, image)?;
     let device = read_device(alloc, files, run.device)?;
     let script = read_script(alloc, files, run.script)?;
@@ -112,7 +119,9 @@ pub fn try_source<'a, F: Files, W: Write>(
     is_traced: bool,
     files: &mut F,
     out: &mut W,
-) -> Result<(), Stop<'a>> {
+) -> Result<(), Stop<'a>>
+    ensures kept { F.account files.new ≡ F.account files.old }
+{
     let text = read(alloc, files, source)?;
     let device = read_device(alloc, files, run.device)?;
     let script = read_script(alloc, files, run.script)?;

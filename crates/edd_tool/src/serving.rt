@@ -1,8 +1,10 @@
 //! What the program does as a language server.
 
+ghost use Rattle.std.specs.Prelude.{◌≡◌};
+
 use crate::files::{FileFault, Files};
-use crate::opening::INPUT;
-use crate::requests::{Stop, of_file};
+use crate::reading::{INPUT, of_file};
+use crate::requests::Stop;
 use edd_language_server::{Framing, Next, Server, feed};
 use std::alloc::Global;
 use std::io::{Read, Write};
@@ -46,7 +48,9 @@ pub fn serve<'a, F: Files, W: Write>(
     alloc: Global,
     files: &mut F,
     out: &mut W,
-) -> Result<(), Stop<'a>> {
+) -> Result<(), Stop<'a>>
+    ensures kept { F.account files.new ≡ F.account files.old }
+{
     let mut input = files.open(INPUT).map_err(|fault| of_file(INPUT, fault))?;
     let mut server = Server::new(alloc);
     let mut framing = Framing::new(alloc);

@@ -2,7 +2,7 @@
 
 ghost use Rattle.std.specs.Prelude.{◌≤◌};
 
-use crate::opening::INPUT;
+use crate::reading::INPUT;
 use crate::{FileFault, Files};
 use edd_system::{DiskFiles, Opened, SystemDisk};
 use std::io::Write;

@@ -1,8 +1,14 @@
 //! What the program does to run the tests of a maker.
 
+ghost use Rattle.std.specs.Prelude.{◌≡◌, ◌∷◌, [], List, Option, map, string_bytes, ℕ};
+ghost use Rattle.std.specs.List.{All};
+ghost use Rattle.edd_tool.specs.Saves.{Account, IsNamedUpdate, IsRead, IsUpdate, SavesEach};
+
 use crate::files::{FileFault, Files};
+use crate::naming::{are_words, is_word};
 use crate::opening::{Manner, open_bytes};
-use crate::requests::{Stop, of_file, read, read_bytes, report, show_bytes};
+use crate::reading::{INPUT, Source, of_file, read_bytes, read_sources};
+use crate::requests::{Stop, report, show_bytes};
 use crate::running::{lent, run_method};
 use edd_cases::{
     Case, Description, Ended, Form, Kind, Misread, Printed, Tally, TestFault, Tests, beside,
@@ -27,7 +33,9 @@ fn read_beside<'a, F: Files>(
     given: Given<'_>,
     name: &str,
     files: &mut F,
-) -> Result<Vec<u8>, Stop<'a>> {
+) -> Result<Vec<u8>, Stop<'a>>
+    ensures kept { F.account files.new ≡ F.account files.old }
+{
     let path = beside(alloc, given.name, name)?;
     let fault = match read_bytes(alloc, files, &path) {
         Ok(bytes) => return Ok(bytes),
@@ -45,7 +53,9 @@ fn device_of<'a, F: Files>(
     given: Given<'_>,
     case: &Case<'a>,
     files: &mut F,
-) -> Result<Option<(&'a str, Vec<u8>)>, Stop<'a>> {
+) -> Result<Option<(&'a str, Vec<u8>)>, Stop<'a>>
+    ensures kept { F.account files.new ≡ F.account files.old }
+{
     match (case.kind, case.device) {
         (Kind::Show, _) | (_, None) => Ok(None),
         (_, Some(name)) => Ok(Some((name, read_beside(alloc, given, name, files)?))),
@@ -71,7 +81,9 @@ fn run_case<'a, F: Files>(
     case: &Case<'a>,
     files: &mut F,
     out: &mut Printed,
-) -> Result<(), Stop<'a>> {
+) -> Result<(), Stop<'a>>
+    ensures kept { F.account files.new ≡ F.account files.old }
+{
     let bytes = read_beside(alloc, given, case.description.name(), files)?;
     let device = device_of(alloc, given, case, files)?;
     let lines = case.script(alloc)?;
@@ -111,7 +123,9 @@ fn output_of<'a, F: Files>(
     given: Given<'a>,
     case: &Case<'_>,
     files: &mut F,
-) -> Result<Printed, Stop<'a>> {
+) -> Result<Printed, Stop<'a>>
+    ensures kept { F.account files.new ≡ F.account files.old }
+{
     let mut out = Printed::nothing(alloc);
     match run_case(alloc, given, case, files, &mut out) {
         Ok(()) => Ok(out),
@@ -132,7 +146,9 @@ fn test_case<'a, F: Files, W: Write>(
     files: &mut F,
     out: &mut W,
     file: &mut String,
-) -> Result<Ended, Stop<'a>> {
+) -> Result<Ended, Stop<'a>>
+    ensures kept { F.account files.new ≡ F.account files.old }
+{
     let printed = output_of(alloc, given, case, files)?;
     let seen = printed.lines(alloc)?;
     let found = compare(case, &seen);
@@ -156,7 +172,10 @@ fn test_all<'a, F: Files, W: Write>(
     files: &mut F,
     out: &mut W,
     tally: &mut Tally,
-) -> Result<(), Stop<'a>> {
+) -> Result<(), Stop<'a>>
+    ensures saves { SavesEach (IsUpdate given.is_update (given.name.now ∷ []))
+        (F.account files.old) (F.account files.new) }
+{
     let mut file = String::new(alloc);
     push_as_it_is(&mut file, &tests.head)?;
     for case in &tests.cases {
@@ -179,7 +198,10 @@ fn test_file<'a, F: Files, W: Write>(
     files: &mut F,
     out: &mut W,
     tally: &mut Tally,
-) -> Result<(), Stop<'a>> {
+) -> Result<(), Stop<'a>>
+    ensures saves { SavesEach (IsUpdate given.is_update (given.name.now ∷ []))
+        (F.account files.old) (F.account files.new) }
+{
     let Misread { line, fault } = match read_tests(alloc, bytes) {
         Ok(tests) => return test_all(alloc, given, bytes, &tests, files, out, tally),
         Err(misread) => misread,
@@ -196,34 +218,69 @@ fn test_file<'a, F: Files, W: Write>(
     Ok(())
 }
 
-/// Runs the tests of all files, which are read before anything else is done, and says which of them
-/// passed. With `is_update` what was seen is written in place of what was expected.
-pub fn test_files<'a, F: Files, W: Write>(
+// Runs the tests of all files.
+fn test_each<'a, F: Files, W: Write>(
+    alloc: Global,
+    sources: &[Source<'a>],
+    is_update: bool,
+    files: &mut F,
+    out: &mut W,
+) -> Result<Tally, Stop<'a>>
+    ensures saves { (account : Option Account) (names : List (List ℕ))
+        → All (IsRead account names) sources.now
+        → SavesEach (IsUpdate is_update names) (F.account files.old) (F.account files.new) }
+{
+    let mut tally = Tally::nothing();
+    for source in sources {
+        let given = Given {
+            name: source.name,
+            is_update,
+        };
+        test_file(alloc, given, &source.text, files, out, &mut tally)?;
+    }
+    Ok(tally)
+}
+
+// Runs the tests of all files, which are read before anything else is done, and says which of them
+// passed. With `is_update` what was seen is written in place of what was expected.
+fn test_files<'a, F: Files, W: Write>(
     alloc: Global,
     names: &[&'a str],
     is_update: bool,
     files: &mut F,
     out: &mut W,
-) -> Result<(), Stop<'a>> {
-    let mut texts = Vec::new(alloc);
-    for name in names {
-        let bytes = read(alloc, files, *name)?;
-        if texts.push(bytes).is_err() {
-            return Err(Stop::Memory);
-        }
-    }
-    let mut tally = Tally::nothing();
-    for (name, bytes) in names.iter().zip(&texts) {
-        let given = Given {
-            name: *name,
-            is_update,
-        };
-        test_file(alloc, given, bytes, files, out, &mut tally)?;
-    }
+) -> Result<(), Stop<'a>>
+    ensures saves { SavesEach (IsUpdate is_update (map (λ name. name.now) names.now))
+        (F.account files.old) (F.account files.new) }
+{
+    let sources = read_sources(alloc, names, files)?;
+    let tally = test_each(alloc, &sources, is_update, files, out)?;
     print_text(out, &tally.line(alloc)?)?;
     if tally.has_passed() {
         Ok(())
     } else {
         Err(Stop::Shown)
     }
+}
+
+/// The option that has files of tests written anew.
+const UPDATE: &str = "--update";
+
+/// Runs the tests of all files. Their names, and the option where they are to be written anew, are
+/// always among the words.
+pub fn test_named<'a, F: Files, W: Write>(
+    alloc: Global,
+    words: &[String],
+    names: &[&'a str],
+    is_update: bool,
+    files: &mut F,
+    out: &mut W,
+) -> Result<(), Stop<'a>>
+    ensures saves { SavesEach (IsNamedUpdate (map string_bytes words.now)) (F.account files.old)
+        (F.account files.new) }
+{
+    if !are_words(words, names) || (is_update && !is_word(words, UPDATE)) {
+        return Err(Stop::File(INPUT, FileFault::Failed));
+    }
+    test_files(alloc, names, is_update, files, out)
 }

@@ -1,0 +1,12 @@
+-- What the names of a command line stand for.
+use Rattle.std.specs.Prelude.{ℕ, List, if◌then◌else◌}
+use Rattle.std.specs.Str.{bytes_eq}
+use Rattle.std.specs.Coded.{codes}
+
+-- the file that a name is read from: `-` is the standard input
+abbrev pub input_name : List ℕ → List ℕ
+input_name name = if bytes_eq name (codes "-") then codes "/dev/stdin" else name
+
+-- the file that a name is written to: `-` is the standard output
+abbrev pub output_name : List ℕ → List ℕ
+output_name name = if bytes_eq name (codes "-") then codes "/dev/stdout" else name
