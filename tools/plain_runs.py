@@ -32,15 +32,15 @@ def without_cargo(crate, words, given=""):
     return done.returncode, done.stdout
 
 
-def printed(cargo, given, said):
-    """What the program of the rows prints of these."""
+def printed(crate, cargo, given, said):
+    """What a program of tests prints of these rows or parts."""
     if not cargo:
-        return without_cargo(ROWS, ["try"], given)[1]
-    built = cargo.run(["build", "--quiet", "--offline", "--package", ROWS], ROOM)
+        return without_cargo(crate, ["try"], given)[1]
+    built = cargo.run(["build", "--quiet", "--offline", "--package", crate], ROOM)
     if built.returncode:
-        said.line(False, "cargo could not build the rows", built.stderr[-2000:])
+        said.line(False, f"cargo could not build {crate}", built.stderr[-2000:])
         return ""
-    program = os.path.join(ROOM, "target", "debug", ROWS)
+    program = os.path.join(ROOM, "target", "debug", crate)
     return subprocess.run([program], input=given, stdout=subprocess.PIPE, stderr=subprocess.STDOUT, text=True, errors="replace", check=False).stdout
 
 
@@ -51,7 +51,7 @@ def rows(words, said):
         said.line(False, f"no row of crates/{ROWS}/data/rows has the words {' '.join(words)}")
         return
     cargo = settled([ROWS], said)
-    output = printed(cargo, "@once\n" + "".join(f"@run {row.text.decode()}" for row in found), said)
+    output = printed(ROWS, cargo, "@once\n" + "".join(f"@run {row.text.decode()}" for row in found), said)
     answers = [it for it in re.split(r"^(?=ok edd|WRONG edd)", output, flags=re.M) if it.startswith(("ok edd", "WRONG edd"))]
     if len(answers) != len(found):
         said.line(False, f"{len(answers)} of {len(found)} rows ran", output[-2000:])
@@ -71,25 +71,27 @@ def show(row, answer, cargo, said):
         said.line(False, name, f"wanted: status {row.status}\n{row.lines.decode()}printed: {more}")
 
 
-def names_of_tests(crate):
-    """The names of the tests in a crate's sources."""
-    folder, found = os.path.join(TOP, "crates", crate, "src"), []
-    for name in sorted(os.listdir(folder)):
-        with open(os.path.join(folder, name), encoding="utf-8") as file:
-            found += re.findall(r"#\[test\]\s*(?:pub )?fn (\w+)", file.read())
-    return found
+def parts_of(crate):
+    """The parts of the table that a crate of tests plays, each with its name."""
+    place = os.path.join(TOP, "crates", crate, "stdin")
+    if not os.path.exists(place):
+        return []
+    with open(place, encoding="utf-8") as file:
+        parts = file.read().split("\n@")[1:]
+    return [(part.partition("\n")[0].partition(" ")[2], part) for part in parts]
 
 
 def test(crate, name, said):
-    """Runs the tests of a crate whose names contain the name; by `rt try` all of them."""
-    wanted = [it for it in names_of_tests(crate) if name in it]
+    """Plays the parts of a crate's table whose names contain the name, a line for each."""
+    parts = parts_of(crate)
+    wanted = [part for title, part in parts if name in title]
     if not wanted:
-        said.line(False, f"{crate} has no test whose name contains {name}; its tests are", "\n".join(names_of_tests(crate)))
+        said.line(False, f"{crate} has no part of a table whose name contains {name}; its parts are", "\n".join(title for title, _ in parts))
         return
-    cargo = settled([crate], said)
-    if cargo:
-        done = cargo.run(["test", "--quiet", "--offline", "--package", crate, name], ROOM)
-        status, output = done.returncode, done.stdout + done.stderr
-    else:
-        status, output = without_cargo(crate, ["try", "--test"])
-    said.line(not status, f"{crate}: {' '.join(wanted)}", output[-3000:])
+    output = printed(crate, settled([crate], said), "".join(f"\n@{part}" for part in wanted), said)
+    answers = [it for it in re.split(r"^(?=ok \d|WRONG )", output, flags=re.M) if it.startswith(("ok ", "WRONG "))]
+    for answer in answers:
+        line, _, more = answer.partition("\n")
+        said.line(line.startswith("ok "), f"{crate}: {line.partition(' ')[2]}", more)
+    if len(answers) != len(wanted):
+        said.line(False, f"{crate}: {len(answers)} of {len(wanted)} parts were played", output[-2000:])

@@ -19,7 +19,7 @@ fn is_token(text: &[u8], token: &Token, word: &str, start: Option<u32>) -> bool 
     }
 }
 
-// The token of a line that a warning points at, or the first token of the line.
+// The token of a line that a warning points at, what is at its byte, or the first token of the line.
 fn place_of(
     text: &[u8],
     tokens: &[Token],
@@ -36,6 +36,11 @@ fn place_of(
             if is_token(text, token, word.as_str(), start) {
                 return Some(span_of(token));
             }
+        }
+        if let Some(start) = start {
+            let start = start as usize;
+            let end = start.saturating_add(word.len());
+            return Some(Span { start, end });
         }
     }
     tokens.get(first).map(span_of)

@@ -9,6 +9,7 @@
 mod accepted;
 mod choices;
 mod grammar;
+mod kinds;
 mod look;
 mod names;
 mod refusals;

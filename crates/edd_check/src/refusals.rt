@@ -1,6 +1,7 @@
 //! All that is said of a text that is refused.
 
 use crate::grammar::Compiler;
+use crate::kinds::OtherKinds;
 use crate::reports::Reports;
 use crate::rules::diagnostic;
 use crate::sources::Source;
@@ -61,6 +62,7 @@ fn show_breaches(
     let mut refusal = Some(refusal);
     let mut told = Told {
         names: IndexMap::new(alloc),
+        kinds: OtherKinds::of(alloc, source, found)?,
     };
     for breach in found {
         if told.has(source, breach) {
@@ -70,8 +72,9 @@ fn show_breaches(
             reports.pass();
             continue;
         }
-        let made = diagnostic(alloc, source, breach)?;
+        let mut made = diagnostic(alloc, source, breach)?;
         told.add(source, breach, &made)?;
+        told.kinds.tell(alloc, source, breach, &mut made)?;
         if let Some(first) = refusal.take() {
             if !is_refusal(&made, first.as_str()) {
                 reports.show(of_limit(alloc, first)?)?;
@@ -85,11 +88,13 @@ fn show_breaches(
     }
 }
 
-/// Names that mean nothing and were told, each with the name of the item around it; with none where
-/// one change mends all uses.
+/// What was told and is not told again.
 #[derive(Drop)]
 struct Told<'a> {
+    /// Names that mean nothing, each with the name of the item around it; with none where one change
+    /// mends all uses.
     names: IndexMap<&'a str, Option<usize>>,
+    kinds: OtherKinds,
 }
 
 // The name of the item around a breach.
@@ -111,7 +116,7 @@ impl<'a> Told<'a> {
     // Whether a breach says once more what was told.
     fn has(&self, source: &Source<'_>, breach: &Breach<'_>) -> bool {
         let Rule::UnknownName(name) = breach.rule else {
-            return false;
+            return self.kinds.has_told(source, breach);
         };
         match self.names.get(name).copied() {
             Some(None) => true,

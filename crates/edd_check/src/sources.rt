@@ -141,8 +141,8 @@ impl<'a> Source<'a> {
         self.tokens
     }
 
-    // Whether a token that declares a name is that of a member.
-    fn is_member(&self, number: usize) -> bool {
+    /// Whether a token is the name that a member is declared by.
+    pub fn is_member(&self, number: usize) -> bool {
         let before = number.saturating_sub(1);
         let begins = is_sign(self.tokens, before, Symbol::OpenBrace)
             || is_sign(self.tokens, before, Symbol::Semicolon);

@@ -41,6 +41,7 @@ pub enum Lint {
     UnreadPlaceholder,
     JoinedTexts,
     BidirectionalText,
+    BidirectionalComment,
     UnusedItem,
     DroppedComparison,
     DroppedValue,
@@ -70,7 +71,7 @@ pub enum Lint {
 }
 
 /// The lints in their order.
-pub const LINTS: [Lint; 62] = [
+pub const LINTS: [Lint; 63] = [
     Lint::ValueOutOfRange,
     Lint::LimitsCrossed,
     Lint::DefaultOutsideLimits,
@@ -107,6 +108,7 @@ pub const LINTS: [Lint; 62] = [
     Lint::UnreadPlaceholder,
     Lint::JoinedTexts,
     Lint::BidirectionalText,
+    Lint::BidirectionalComment,
     Lint::UnusedItem,
     Lint::DroppedComparison,
     Lint::DroppedValue,

@@ -1,7 +1,7 @@
 //! The names of the lints, and what each finds.
 
 /// The name of each lint and what it finds, in the order of the lints.
-pub const WORDS: [(&str, &str); 62] = [
+pub const WORDS: [(&str, &str); 63] = [
     (
         "value-out-of-range",
         "a constant that the type and size of its variable can't hold",
@@ -130,6 +130,10 @@ pub const WORDS: [(&str, &str); 62] = [
     (
         "bidirectional-text",
         "characters in a text that turn its direction, and are not seen",
+    ),
+    (
+        "bidirectional-comment",
+        "characters in a comment that turn its direction, and are not seen",
     ),
     (
         "unused-item",

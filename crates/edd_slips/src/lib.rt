@@ -4,6 +4,7 @@
 
 mod around;
 mod bodies;
+mod brackets;
 mod branches;
 mod left_out;
 mod lists;

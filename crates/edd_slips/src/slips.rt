@@ -1,7 +1,8 @@
 //! Slips that are known by the tokens around them, each with its own words.
 
-use crate::around::{Around, At, Slip, is_joined, is_symbol, on, open_brace, open_parenthesis};
+use crate::around::{Around, At, Slip, is_joined, is_symbol, on, open_parenthesis};
 use crate::bodies::statement_slip;
+use crate::brackets::bracket_slip;
 use crate::lists::list_slip;
 use crate::shapes::shape_slip;
 use crate::signs::{are_one_sign, help_of_signs};
@@ -193,66 +194,77 @@ impl<'a> Around<'a> {
         None
     }
 
+    // A sign between texts.
+    fn joined_texts(&self) -> Option<Slip> {
+        if self.is_in_method() && self.ahead()?.kind != TokenKind::String {
+            return on(
+                self.token,
+                "a text shows no values: PUT_MESSAGE(..) takes one text",
+            );
+        }
+        if self.word(self.token) == "%" {
+            return None;
+        }
+        on(
+            self.token,
+            "texts that stand side by side are one text, without a sign between them",
+        )
+    }
+
+    // A second text of an attribute, after a comma.
+    fn second_text(&self) -> Option<Slip> {
+        if self.ahead()?.kind != TokenKind::String
+            || !matches!(self.back(2)?.kind, TokenKind::Keyword(_))
+        {
+            return None;
+        }
+        on(
+            self.token,
+            "one text has all languages, as in \"|en|Level|de|Stand\"",
+        )
+    }
+
+    // A comma inside of a number.
+    fn comma_in_number(&self) -> Option<Slip> {
+        let next = self.ahead()?;
+        let is_number = matches!(next.kind, TokenKind::Integer(_));
+        if !is_number || !is_joined(self.before, self.token) || !is_joined(self.token, next) {
+            return None;
+        }
+        let is_group = self.word(next).len() == 3;
+        on(
+            self.token,
+            if is_group {
+                "the digits of a number stand side by side, without a sign"
+            } else {
+                "numbers are whole: take a smaller unit"
+            },
+        )
+    }
+
+    // Whether the token sets what stands before it.
+    fn is_setting(&self) -> bool {
+        matches!(
+            self.token.kind,
+            TokenKind::Symbol(
+                Symbol::Equals | Symbol::CompoundAssign(_) | Symbol::Increment | Symbol::Decrement
+            )
+        )
+    }
+
     // A sign where no text, number or name has one.
     fn operand(&self) -> Option<Slip> {
-        let sign = self.word(self.token);
-        match (self.before.kind, sign) {
-            (TokenKind::String, "+" | "&" | "." | "%")
-                if self.is_in_method() && self.ahead()?.kind != TokenKind::String => {
-                on(
-                    self.token,
-                    "a text shows no values: PUT_MESSAGE(..) takes one text",
-                )
-            }
-            (TokenKind::String, "+" | "&" | ".") => {
-                on(
-                    self.token,
-                    "texts that stand side by side are one text, without a sign between them",
-                )
-            }
-            (TokenKind::Integer(_), ",") => {
-                let next = self.ahead()?;
-                let is_number = matches!(next.kind, TokenKind::Integer(_));
-                if !is_number
-                    || !is_joined(self.before, self.token)
-                    || !is_joined(self.token, next)
-                {
-                    return None;
-                }
-                let is_group = self.word(next).len() == 3;
-                on(
-                    self.token,
-                    if is_group {
-                        "the digits of a number stand side by side, without a sign"
-                    } else {
-                        "numbers are whole: take a smaller unit"
-                    },
-                )
-            }
-            (TokenKind::Symbol(Symbol::CloseBracket), _)
-                if matches!(
-                    self.token.kind,
-                    TokenKind::Symbol(
-                        Symbol::Equals
-                            | Symbol::CompoundAssign(_)
-                            | Symbol::Increment
-                            | Symbol::Decrement
-                    )
-                ) => {
+        match (self.before.kind, self.word(self.token)) {
+            (TokenKind::String, "+" | "&" | "." | "%") => self.joined_texts(),
+            (TokenKind::String, ",") => self.second_text(),
+            (TokenKind::Integer(_), ",") => self.comma_in_number(),
+            (TokenKind::Symbol(Symbol::CloseBracket), _) if self.is_setting() => {
                 on(
                     self.token,
                     "an element of an array is read alone: set the variable that it is",
                 )
             }
             (TokenKind::Keyword(_), _) => None,
-            (TokenKind::String, ",")
-                if self.ahead()?.kind == TokenKind::String
-                    && matches!(self.back(2)?.kind, TokenKind::Keyword(_)) => {
-                on(
-                    self.token,
-                    "one text has all languages, as in \"|en|Level|de|Stand\"",
-                )
-            }
             (_, "=") if !self.is_in_method() && open_parenthesis(self.at).is_some() => {
                 on(self.token, "equal is written ==")
             }
@@ -299,114 +311,6 @@ impl<'a> Around<'a> {
             );
         }
         None
-    }
-
-    // Parentheses that are missing, or that do not belong there.
-    fn parentheses(&self) -> Option<Slip> {
-        let before = self.word(self.before);
-        let is_type = matches!(
-            before,
-            "INTEGER" | "UNSIGNED_INTEGER" | "ENUMERATED" | "BIT_ENUMERATED"
-        );
-        match self.token.kind {
-            TokenKind::Integer(_)
-                if matches!(self.before.kind, TokenKind::Integer(_))
-                    && self.word(self.token).len() == 3 => {
-                on(self.token, "the digits of a number stand side by side")
-            }
-            TokenKind::Symbol(Symbol::CloseBrace)
-                if matches!(self.before.kind, TokenKind::Integer(_))
-                    && is_symbol(self.back(2)?, Symbol::OpenBrace)
-                    && !self.is_in_method() => {
-                on(self.token, "an enumerator has a text, as in { 1, \"one\" }")
-            }
-            TokenKind::Integer(_) if is_type => {
-                on(
-                    self.token,
-                    "a size stands in parentheses, as in INTEGER (2)",
-                )
-            }
-            TokenKind::String if self.before.kind == TokenKind::Name && self.is_in_method() => {
-                on(
-                    self.token,
-                    "what a function takes stands in parentheses, as in PUT_MESSAGE(..)",
-                )
-            }
-            TokenKind::Symbol(Symbol::OpenParenthesis)
-                if self.before.kind == TokenKind::String && !self.is_in_method() => {
-                on(self.token, "a text has no qualifiers")
-            }
-            TokenKind::Integer(_)
-                if is_symbol(self.before, Symbol::OpenBracket)
-                    && self.back(2)?.kind == TokenKind::Name
-                    && !self.is_in_method() => {
-                on(
-                    self.before,
-                    "a variable is named here, and no element of an array",
-                )
-            }
-            TokenKind::Symbol(Symbol::OpenBracket)
-                if self.before.kind == TokenKind::Name && self.is_in_message() => {
-                on(
-                    self.token,
-                    "a mask is written as in p <0x0F>; no message has an element of an array",
-                )
-            }
-            TokenKind::Symbol(Symbol::Operator(Operator::And) | Symbol::Colon | Symbol::OpenBrace)
-                if self.before.kind == TokenKind::Name && self.is_in_message() => {
-                on(self.token, "a mask is written as in p <0x0F>")
-            }
-            TokenKind::Symbol(Symbol::Semicolon)
-                if self.before.kind == TokenKind::Name && self.begins_member() => {
-                on(
-                    self.token,
-                    "a member has a name of its own, as in value, p;",
-                )
-            }
-            TokenKind::Symbol(Symbol::CloseParenthesis)
-                if is_symbol(self.before, Symbol::OpenParenthesis)
-                    && self.back(2)?.kind == TokenKind::Name
-                    && !self.is_in_method() => {
-                on(self.before, "a name stands here alone, without parentheses")
-            }
-            TokenKind::Symbol(Symbol::OpenParenthesis)
-                if self.before.kind == TokenKind::Name
-                    && !self.is_in_method()
-                    && !is_type
-                    && item_kind(self.back(2)?).is_none() => {
-                on(
-                    self.before,
-                    "functions are called in methods alone; an attribute reads a variable by its name",
-                )
-            }
-            _ => None,
-        }
-    }
-
-    // The word before the innermost braces around the token.
-    fn word_of_braces(&self) -> Option<TokenKind> {
-        let brace = open_brace(self.at.tokens, self.at.number)?;
-        Some(self.at.tokens.get(brace.checked_sub(1)?)?.kind)
-    }
-
-    // Whether the innermost braces around the token are those of a REQUEST or a REPLY.
-    fn is_in_message(&self) -> bool {
-        matches!(
-            self.word_of_braces(),
-            Some(TokenKind::Keyword(Keyword::Request | Keyword::Reply))
-        )
-    }
-
-    // Whether the token before is the first of a member.
-    fn begins_member(&self) -> bool {
-        let is_first = self.back(2).is_some_and(|token| {
-            is_symbol(token, Symbol::OpenBrace) || is_symbol(token, Symbol::Semicolon)
-        });
-        is_first
-            && matches!(
-                self.word_of_braces(),
-                Some(TokenKind::Keyword(Keyword::Members))
-            )
     }
 
     // What the tokens right before say.
@@ -493,5 +397,5 @@ pub fn slip_at(at: At<'_>) -> Option<Slip> {
     if let Some(slip) = around.operand() {
         return Some(slip);
     }
-    around.parentheses()
+    bracket_slip(&around)
 }

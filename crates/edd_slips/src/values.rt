@@ -109,66 +109,73 @@ fn choice(around: &Around<'_>) -> Option<Slip> {
     None
 }
 
+// What stands right after a name that begins a statement.
+fn after_first_name(around: &Around<'_>) -> Option<Slip> {
+    let is_number = matches!(around.token.kind, TokenKind::Integer(_));
+    let is_in_braces = is_symbol(around.token, Symbol::OpenBrace)
+        && matches!(around.ahead()?.kind, TokenKind::Integer(_));
+    if is_number || is_in_braces {
+        return on(
+            around.token,
+            "what a function takes stands in parentheses, as in send_command(1)",
+        );
+    }
+    let before = around.word(around.before);
+    let is_assigned = around.token.kind == TokenKind::Name
+        && around.before.line == around.token.line
+        && !is_operator_word(before)
+        && !is_misspelled_type(before)
+        && !is_operator_word(around.word(around.token));
+    if is_assigned {
+        return on(
+            around.token,
+            "= or another operator, or a ; is missing before this",
+        );
+    }
+    None
+}
+
+// Whether the token after it goes on with the value at the token.
+fn goes_on(ahead: TokenKind) -> bool {
+    matches!(
+        ahead,
+        TokenKind::Name
+            | TokenKind::Integer(_)
+            | TokenKind::Symbol(
+                Symbol::OpenParenthesis
+                    | Symbol::CloseBracket
+                    | Symbol::Equals
+                    | Symbol::CompoundAssign(_)
+                    | Symbol::Increment
+                    | Symbol::Decrement
+            )
+    )
+}
+
+// A value right after a value inside of a statement.
+fn after_value(around: &Around<'_>) -> Option<Slip> {
+    let is_value = matches!(around.token.kind, TokenKind::Integer(_) | TokenKind::Name);
+    if goes_on(around.ahead()?.kind)
+        || !is_value
+        || around.before.line != around.token.line
+        || open_parenthesis(around.at).is_some()
+    {
+        return None;
+    }
+    on(around.token, "an operator or a ; is missing before this")
+}
+
 // A value right after a value, or after a name that begins a statement.
 fn side_by_side(around: &Around<'_>) -> Option<Slip> {
-    let is_number = matches!(around.token.kind, TokenKind::Integer(_));
     let is_first = around.statement() == around.at.number.saturating_sub(1);
     match around.before.kind {
         TokenKind::Integer(_)
             if around.token.kind == TokenKind::Name && is_unit(around.word(around.token)) => {
             on(around.token, "a number stands alone, without its unit")
         }
-        TokenKind::Name if is_first && is_number => {
-            on(
-                around.token,
-                "what a function takes stands in parentheses, as in send_command(1)",
-            )
-        }
-        TokenKind::Name
-            if is_first
-                && is_symbol(around.token, Symbol::OpenBrace)
-                && matches!(around.ahead()?.kind, TokenKind::Integer(_)) => {
-            on(
-                around.token,
-                "what a function takes stands in parentheses, as in send_command(1)",
-            )
-        }
+        TokenKind::Name if is_first => after_first_name(around),
         TokenKind::Name if is_operator_word(around.word(around.before)) => None,
-        TokenKind::Name
-            if is_first
-                && around.token.kind == TokenKind::Name
-                && around.before.line == around.token.line
-                && !is_misspelled_type(around.word(around.before))
-                && !is_operator_word(around.word(around.token)) => {
-            on(
-                around.token,
-                "= or another operator, or a ; is missing before this",
-            )
-        }
-        TokenKind::Name | TokenKind::Integer(_) if !is_first => {
-            let is_value = is_number || around.token.kind == TokenKind::Name;
-            let goes_on = matches!(
-                around.ahead()?.kind,
-                TokenKind::Name
-                    | TokenKind::Integer(_)
-                    | TokenKind::Symbol(
-                        Symbol::OpenParenthesis
-                            | Symbol::CloseBracket
-                            | Symbol::Equals
-                            | Symbol::CompoundAssign(_)
-                            | Symbol::Increment
-                            | Symbol::Decrement
-                    )
-            );
-            if !is_value
-                || goes_on
-                || around.before.line != around.token.line
-                || open_parenthesis(around.at).is_some()
-            {
-                return None;
-            }
-            on(around.token, "an operator or a ; is missing before this")
-        }
+        TokenKind::Name | TokenKind::Integer(_) if !is_first => after_value(around),
         _ => None,
     }
 }

@@ -1,9 +1,10 @@
 //! What is surely not meant in the texts of a description: their languages, characters that are not seen,
-//! what looks like a placeholder; and words of CLASS that EDDL does not have. Of the warnings nothing is
+//! also in comments, what looks like a placeholder; and words of CLASS that EDDL does not have. Of the warnings nothing is
 //! proved but that they are found safely.
 #![tactic(auto)]
 
 mod classes;
+mod comments;
 mod languages;
 mod signs;
 mod texts;
@@ -13,7 +14,7 @@ use edd_lexer::token::Token;
 use edd_lints::warning::Findings;
 use std::alloc::AllocError;
 
-/// Finds the warnings on all texts and classes.
+/// Finds the warnings on all texts, comments and classes.
 pub fn check_texts(
     text: &[u8],
     tokens: &[Token],
@@ -22,5 +23,6 @@ pub fn check_texts(
     let texts = texts::texts_of(findings.alloc, text, tokens)?;
     languages::check_languages(&texts, findings)?;
     signs::check_signs(&texts, findings)?;
+    comments::check_comments(text, tokens, findings)?;
     classes::check_classes(text, tokens, findings)
 }

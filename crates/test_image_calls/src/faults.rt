@@ -1,75 +1,81 @@
-//! The faults of calls on images, as they print.
+//! `faults`: the faults of a call on images, as they print.
 
 use edd_loader::LoadFault;
 use edd_machine::{ReadFault, SetFault, ValuesFault};
 use edd_port::{AnswerFault, PlayFault, StartFault};
-use std::test::Fail;
-use test_images::first_unprinted;
+use std::alloc::{AllocError, Global};
+use std::fmt::Display;
 
-const LOAD_FAULTS: [(LoadFault, &str); 12] = [
-    (LoadFault::Short, "101 SHORT"),
-    (LoadFault::Magic, "102 MAGIC"),
-    (LoadFault::Version, "103 VERSION"),
-    (LoadFault::Length, "104 LENGTH"),
-    (LoadFault::Row, "105 ROW"),
-    (LoadFault::Name, "106 NAME"),
-    (LoadFault::Text, "107 TEXT"),
-    (LoadFault::Instruction, "108 INSTRUCTION"),
-    (LoadFault::Jump, "109 JUMP"),
-    (LoadFault::Depth, "110 DEPTH"),
-    (LoadFault::Reference, "111 REFERENCE"),
-    (LoadFault::Memory, "no memory"),
+const LOAD_FAULTS: [LoadFault; 12] = [
+    LoadFault::Short,
+    LoadFault::Magic,
+    LoadFault::Version,
+    LoadFault::Length,
+    LoadFault::Row,
+    LoadFault::Name,
+    LoadFault::Text,
+    LoadFault::Instruction,
+    LoadFault::Jump,
+    LoadFault::Depth,
+    LoadFault::Reference,
+    LoadFault::Memory,
 ];
 
-const VALUES_FAULTS: [(ValuesFault, &str); 3] = [
-    (ValuesFault::Count, "201 COUNT"),
-    (ValuesFault::Range, "202 RANGE"),
-    (ValuesFault::Memory, "no memory"),
+const VALUES_FAULTS: [ValuesFault; 3] = [
+    ValuesFault::Count,
+    ValuesFault::Range,
+    ValuesFault::Memory,
 ];
 
-const READ_FAULTS: [(ReadFault, &str); 7] = [
-    (ReadFault::NoItem, "203 NO_ITEM"),
-    (ReadFault::WrongValues, "204 WRONG_VALUES"),
-    (ReadFault::DivZero, "210 DIV_ZERO"),
-    (ReadFault::DivOverflow, "211 DIV_OVERFLOW"),
-    (ReadFault::BadShift, "212 BAD_SHIFT"),
-    (ReadFault::NoElement, "213 NO_ELEMENT"),
-    (ReadFault::Memory, "no memory"),
+const READ_FAULTS: [ReadFault; 7] = [
+    ReadFault::NoItem,
+    ReadFault::WrongValues,
+    ReadFault::DivZero,
+    ReadFault::DivOverflow,
+    ReadFault::BadShift,
+    ReadFault::NoElement,
+    ReadFault::Memory,
 ];
 
-const SET_FAULTS: [(SetFault, &str); 2] = [
-    (SetFault::BadVariable, "206 BAD_VARIABLE"),
-    (SetFault::OutOfRange, "207 OUT_OF_RANGE"),
+const SET_FAULTS: [SetFault; 2] = [SetFault::BadVariable, SetFault::OutOfRange];
+
+const START_FAULTS: [StartFault; 2] = [StartFault::NoItem, StartFault::WrongValues];
+
+const ANSWER_FAULTS: [AnswerFault; 3] = [
+    AnswerFault::NotAsking,
+    AnswerFault::BadVariable,
+    AnswerFault::OutOfRange,
 ];
 
-const START_FAULTS: [(StartFault, &str); 2] = [
-    (StartFault::NoItem, "203 NO_ITEM"),
-    (StartFault::WrongValues, "204 WRONG_VALUES"),
+const PLAY_FAULTS: [PlayFault; 5] = [
+    PlayFault::NoItem,
+    PlayFault::WrongValues,
+    PlayFault::BadVariable,
+    PlayFault::OutOfRange,
+    PlayFault::Memory,
 ];
 
-const ANSWER_FAULTS: [(AnswerFault, &str); 3] = [
-    (AnswerFault::NotAsking, "205 NOT_ASKING"),
-    (AnswerFault::BadVariable, "206 BAD_VARIABLE"),
-    (AnswerFault::OutOfRange, "207 OUT_OF_RANGE"),
-];
+// All of them, one after the other.
+fn listed<T: Display>(alloc: Global, faults: &[T]) -> Result<String, AllocError> {
+    let mut printed = String::new(alloc);
+    for fault in faults {
+        if !printed.is_empty() {
+            printed.push_str(", ")?;
+        }
+        write!(printed, "{fault}")?;
+    }
+    Ok(printed)
+}
 
-const PLAY_FAULTS: [(PlayFault, &str); 5] = [
-    (PlayFault::NoItem, "203 NO_ITEM"),
-    (PlayFault::WrongValues, "204 WRONG_VALUES"),
-    (PlayFault::BadVariable, "206 BAD_VARIABLE"),
-    (PlayFault::OutOfRange, "207 OUT_OF_RANGE"),
-    (PlayFault::Memory, "no memory"),
-];
-
-#[test]
-fn faults_print(rt: HostRuntime) -> Result<(), Fail> {
-    let alloc = rt.alloc();
-    assert_eq!(rt; first_unprinted(alloc, &LOAD_FAULTS)?, "");
-    assert_eq!(rt; first_unprinted(alloc, &VALUES_FAULTS)?, "");
-    assert_eq!(rt; first_unprinted(alloc, &READ_FAULTS)?, "");
-    assert_eq!(rt; first_unprinted(alloc, &SET_FAULTS)?, "");
-    assert_eq!(rt; first_unprinted(alloc, &START_FAULTS)?, "");
-    assert_eq!(rt; first_unprinted(alloc, &ANSWER_FAULTS)?, "");
-    assert_eq!(rt; first_unprinted(alloc, &PLAY_FAULTS)?, "");
-    Ok(())
+pub fn printed(alloc: Global, call: &str) -> Result<String, AllocError> {
+    match call {
+        "load" => listed(alloc, &LOAD_FAULTS),
+        "values" => listed(alloc, &VALUES_FAULTS),
+        "read" => listed(alloc, &READ_FAULTS),
+        "set" => listed(alloc, &SET_FAULTS),
+        "start" => listed(alloc, &START_FAULTS),
+        "answer" => listed(alloc, &ANSWER_FAULTS),
+        "play" => listed(alloc, &PLAY_FAULTS),
+        _ => String::from_str(alloc, "no call"),
+    }
 }

@@ -1,35 +1,17 @@
-//! Sessions that are suspended and resumed.
+//! Sessions that are suspended and resumed, of the method 0 of an image with one variable. `resumed`:
+//! each place where what was suspended at the start is resumed with so many operands, as `5/1`; behind
+//! ` while it asks` a session that waits for an answer. `cut`: the variable, the instructions and the
+//! status of a run that is suspended before each instruction. `changed`: whether it is resumed as
+//! another method, with other slots, with a value out of its range, and as it was.
 
+use crate::sessions::started;
 use edd_instructions::{Request, Status};
 use edd_loader::{Image, load};
-use edd_machine::{Operands, Values};
+use edd_machine::Operands;
 use edd_port::{Session, Suspended};
-use edd_syntax::numbers::{MethNo, VarNo};
+use edd_syntax::numbers::VarNo;
 use std::alloc::{AllocError, Global};
-use std::test::Fail;
-use test_images::{INTEGER, Small, image_of};
-
-// x = 2 + (x ? 1 : 2); and then code that nothing leads to.
-const CHOICE: [u8; 46] = [
-    0x01, 0, 0, 0, 2, 0x02, 0, 0, 0x31, 0, 0, 0, 23, // 2, x ?
-    0x01, 0, 0, 0, 1, 0x30, 0, 0, 0, 28, // 1 :
-    0x01, 0, 0, 0, 2, 0x10, 0x03, 0, 0, 0x06, // 2, x = ..
-    0x30, 0, 0, 0, 45, 0x00, 0x01, 0, 0, 0, 9, 0x06, 0x00,
-];
-
-// Each place with the number of operands that belongs there.
-const RUNNING: &str = "0/0 5/1 8/2 13/1 18/2 23/1 28/2 29/1 32/1 33/0 38/0 39/0 44/1 45/0 ";
-// The same before an answer, which will be one more.
-const ASKING: &str = "5/0 8/1 13/0 18/1 23/0 28/1 29/0 32/0 44/0 ";
-
-fn choice(alloc: Global) -> Result<Vec<u8>, AllocError> {
-    let small = Small {
-        variables: &[[INTEGER, 1, 0, 0]],
-        methods: 1,
-        rows: &[([5, 21, 0, 0, 0, 0], &CHOICE)],
-    };
-    image_of(alloc, small)
-}
+use test_images::image_of;
 
 // What is suspended again, and whether it was resumed.
 fn tried(image: &Image<'_>, suspended: Suspended) -> (Suspended, bool) {
@@ -39,18 +21,8 @@ fn tried(image: &Image<'_>, suspended: Suspended) -> (Suspended, bool) {
     }
 }
 
-fn set_first(suspended: &mut Suspended, value: i64) {
-    if let Some(number) = suspended.values.numbers.get_mut(0) {
-        *number = value;
-    }
-}
-
 // The places where it is resumed with so many operands of 0.
-fn resumed_at(
-    alloc: Global,
-    image: &Image<'_>,
-    suspended: Suspended,
-) -> Result<String, AllocError> {
+fn places(alloc: Global, image: &Image<'_>, suspended: Suspended) -> Result<String, AllocError> {
     let mut all = String::new(alloc);
     let mut suspended = suspended;
     for place in 0..60 {
@@ -60,95 +32,94 @@ fn resumed_at(
             let (given, is_resumed) = tried(image, suspended);
             suspended = given;
             if is_resumed {
-                let stands = format!(in alloc; "{place}/{count} ")?;
-                all.push_str(stands.as_str())?;
+                write!(all, "{place}/{count} ")?;
             }
             if suspended.machine.operands.len() < 128 {
                 suspended.machine.operands.push(0);
             }
         }
     }
-    Ok(all)
+    String::from_str(alloc, all.trim_end())
 }
 
-#[test]
-fn what_is_suspended_is_resumed_where_it_can_stand(rt: HostRuntime) -> Result<(), Fail> {
-    let alloc = rt.alloc();
-    let bytes = choice(alloc)?;
-    let image = load(alloc, &bytes)?;
-    let values = Values::new(alloc, &image, &[5])?;
-    let Ok(session) = Session::start(&image, MethNo(0), values) else {
-        return Err(Fail::from("not started"));
+pub fn resumed(alloc: Global, text: &str) -> Result<String, AllocError> {
+    let (name, is_asking) = match text.strip_suffix(" while it asks") {
+        Some(name) => (name, true),
+        None => (text, false),
     };
-    let places = resumed_at(alloc, &image, session.suspend())?;
-    assert_eq!(rt; places.as_str(), RUNNING);
-    Ok(())
-}
-
-#[test]
-fn what_asks_is_resumed_with_room_for_the_answer(rt: HostRuntime) -> Result<(), Fail> {
-    let alloc = rt.alloc();
-    let bytes = choice(alloc)?;
-    let image = load(alloc, &bytes)?;
-    let values = Values::new(alloc, &image, &[5])?;
-    let Ok(session) = Session::start(&image, MethNo(0), values) else {
-        return Err(Fail::from("not started"));
+    let bytes = image_of(alloc, name)?;
+    let Ok(image) = load(alloc, &bytes) else {
+        return String::from_str(alloc, "no image");
+    };
+    let Some(session) = started(alloc, &image, 5) else {
+        return String::from_str(alloc, "not started");
     };
     let mut suspended = session.suspend();
-    suspended.machine.status = Status::Asking(Request::SaveValues);
-    let places = resumed_at(alloc, &image, suspended)?;
-    assert_eq!(rt; places.as_str(), ASKING);
-    Ok(())
-}
-
-// A run that is suspended before each instruction is the same run.
-#[test]
-fn a_run_may_be_suspended_anywhere(rt: HostRuntime) -> Result<(), Fail> {
-    let alloc = rt.alloc();
-    let bytes = choice(alloc)?;
-    let image = load(alloc, &bytes)?;
-    let values = Values::new(alloc, &image, &[0])?;
-    let Ok(session) = Session::start(&image, MethNo(0), values) else {
-        return Err(Fail::from("not started"));
-    };
-    let mut suspended = session.suspend();
-    for _ in 0..20 {
-        let Ok(mut session) = Session::resume(&image, suspended) else {
-            return Err(Fail::from("not resumed"));
-        };
-        session.advance(1);
-        suspended = session.suspend();
+    if is_asking {
+        suspended.machine.status = Status::Asking(Request::SaveValues);
     }
-    assert_eq!(rt; suspended.values.get(VarNo(0)), Some(4));
-    assert_eq!(rt; suspended.taken, 9);
-    assert_eq!(rt; suspended.machine.status, Status::Ended);
-    Ok(())
+    places(alloc, &image, suspended)
 }
 
-// Another method, too few slots, or a value out of its range is handed back.
-#[test]
-fn what_can_be_no_run_is_handed_back(rt: HostRuntime) -> Result<(), Fail> {
-    let alloc = rt.alloc();
-    let bytes = choice(alloc)?;
-    let image = load(alloc, &bytes)?;
-    let values = Values::new(alloc, &image, &[5])?;
-    let Ok(session) = Session::start(&image, MethNo(0), values) else {
-        return Err(Fail::from("not started"));
+// What is suspended after 20 more instructions, before each of which it is resumed.
+fn run_on(image: &Image<'_>, suspended: Suspended) -> Option<Suspended> {
+    let mut suspended = suspended;
+    for _ in 0..20 {
+        match Session::resume(image, suspended) {
+            Ok(mut session) => {
+                session.advance(1);
+                suspended = session.suspend();
+            }
+            Err(_) => return None,
+        }
+    }
+    Some(suspended)
+}
+
+pub fn cut(alloc: Global, text: &str) -> Result<String, AllocError> {
+    let bytes = image_of(alloc, text)?;
+    let Ok(image) = load(alloc, &bytes) else {
+        return String::from_str(alloc, "no image");
     };
-    let mut suspended = session.suspend();
+    let Some(session) = started(alloc, &image, 0) else {
+        return String::from_str(alloc, "not started");
+    };
+    let Some(end) = run_on(&image, session.suspend()) else {
+        return String::from_str(alloc, "not resumed");
+    };
+    let x = end.values.get(VarNo(0));
+    format!(in alloc; "{x:?} {} {:?}", end.taken, end.machine.status)
+}
+
+fn set_first(suspended: &mut Suspended, value: i64) {
+    if let Some(number) = suspended.values.numbers.get_mut(0) {
+        *number = value;
+    }
+}
+
+// Whether it is resumed with each change alone, and as it was.
+fn with_changes(image: &Image<'_>, suspended: Suspended) -> [bool; 4] {
+    let mut suspended = suspended;
     suspended.machine.unit.item = 1;
-    let (mut suspended, other_method) = tried(&image, suspended);
-    assert!(rt; !other_method);
+    let (mut suspended, other_method) = tried(image, suspended);
     suspended.machine.unit.item = 0;
     suspended.machine.unit.slots = 1;
-    let (mut suspended, other_slots) = tried(&image, suspended);
-    assert!(rt; !other_slots);
+    let (mut suspended, other_slots) = tried(image, suspended);
     suspended.machine.unit.slots = 0;
     set_first(&mut suspended, 128);
-    let (mut suspended, out_of_range) = tried(&image, suspended);
-    assert!(rt; !out_of_range);
+    let (mut suspended, out_of_range) = tried(image, suspended);
     set_first(&mut suspended, 127);
-    let (_, as_it_was) = tried(&image, suspended);
-    assert!(rt; as_it_was);
-    Ok(())
+    let (_, as_it_was) = tried(image, suspended);
+    [other_method, other_slots, out_of_range, as_it_was]
+}
+
+pub fn changed(alloc: Global, text: &str) -> Result<String, AllocError> {
+    let bytes = image_of(alloc, text)?;
+    let Ok(image) = load(alloc, &bytes) else {
+        return String::from_str(alloc, "no image");
+    };
+    let Some(session) = started(alloc, &image, 5) else {
+        return String::from_str(alloc, "not started");
+    };
+    format!(in alloc; "{:?}", with_changes(&image, session.suspend()))
 }

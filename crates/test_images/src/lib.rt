@@ -3,7 +3,6 @@
 #![tactic(auto)]
 
 mod hosts;
-mod printing;
 mod session;
 mod small;
 mod steps;
@@ -12,9 +11,8 @@ mod words;
 mod worked;
 
 pub use hosts::{Device, Script};
-pub use printing::first_unprinted;
-pub use small::{INTEGER, Small, UNSIGNED, image_of, second_image_of};
+pub use small::{code_of, image_of};
 pub use steps::wrong_steps;
 pub use using::is_usable;
-pub use words::reference_of;
-pub use worked::{ABORTING, ARRAY, LABEL, LOOP};
+pub use words::{byte, count, first_of, number, numbers_of, reference_of, small};
+pub use worked::{ABORTING, ARRAY, LABEL, LOOP, worked};

@@ -55,6 +55,7 @@ fn step_on<'i, 'b>(
         "text" => text(alloc, image, words),
         "element" => element(alloc, image, words),
         "values" => values(alloc, image, words),
+        "value_of" => value_of(alloc, image, words),
         "set" => set(alloc, image, words),
         "read" => read(alloc, image, words),
         "play" => played(alloc, image, words),
@@ -88,6 +89,16 @@ fn values(alloc: Global, image: &Image<'_>, words: &str) -> Result<String, Alloc
     let numbers = numbers_of(alloc, words)?;
     match Values::new(alloc, image, &numbers) {
         Ok(values) => format!(in alloc; "{:?} {}", values.numbers, values.are_of(image)),
+        Err(fault) => format!(in alloc; "{fault:?}"),
+    }
+}
+
+// The value of a variable in values of a device: `value_of VARIABLE NUMBERS`.
+fn value_of(alloc: Global, image: &Image<'_>, words: &str) -> Result<String, AllocError> {
+    let (variable, numbers) = first_of(words);
+    let numbers = numbers_of(alloc, numbers)?;
+    match Values::new(alloc, image, &numbers) {
+        Ok(values) => format!(in alloc; "{:?}", values.get(VarNo(small(variable)))),
         Err(fault) => format!(in alloc; "{fault:?}"),
     }
 }

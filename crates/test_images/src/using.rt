@@ -7,26 +7,28 @@ use edd_machine::Values;
 use edd_port::{Drive, Session, StartFault, Turn, drive};
 use edd_syntax::numbers::{MethNo, StrNo};
 use std::alloc::Global;
-use std::test::Fail;
 
 /// The most instructions of a run.
 const STEPS: u64 = 1000;
 
-// The values of a device on which each variable is 0.
-fn zeros(alloc: Global, image: &Image) -> Result<Values, Fail> {
+// The values of a device on which each variable is 0, where there is memory for them.
+fn zeros(alloc: Global, image: &Image) -> Option<Values> {
     let mut numbers = Vec::new(alloc);
     for _ in 0..image.counts().variables {
-        numbers.push(0)?;
+        numbers.push(0).ok()?;
     }
-    Ok(Values::new(alloc, image, &numbers)?)
+    Values::new(alloc, image, &numbers).ok()
 }
 
 // Whether it is shown, with each attribute.
-fn is_shown(alloc: Global, image: &Image) -> Result<bool, Fail> {
-    let values = zeros(alloc, image)?;
+fn is_shown(alloc: Global, image: &Image) -> bool {
+    let Some(values) = zeros(alloc, image) else {
+        return false;
+    };
     let mut out: Vec<u8> = Vec::new(alloc);
-    show(alloc, image, &values, "de", &mut out)?;
-    Ok(out.starts_with(b"identification ") && out.ends_with(b"\n"))
+    show(alloc, image, &values, "de", &mut out).is_ok()
+        && out.starts_with(b"identification ")
+        && out.ends_with(b"\n")
 }
 
 // Whether each string has a text.
@@ -39,31 +41,38 @@ fn has_texts(image: &Image) -> bool {
     true
 }
 
-// Whether a method that has a body stops within its instructions, or goes on after just so many.
-fn is_run(alloc: Global, image: &Image, method: MethNo) -> Result<bool, Fail> {
-    let mut session = match Session::start(image, method, zeros(alloc, image)?) {
-        Ok(session) => session,
-        Err((fault, _)) => return Ok(fault == StartFault::NoItem),
-    };
+// Whether a session stops within its instructions, or goes on after just so many.
+fn ends(alloc: Global, session: &mut Session<'_, '_>) -> bool {
     let mut host = Device::new(alloc, 0);
-    Ok(match drive(&mut session, &mut host, STEPS) {
+    match drive(session, &mut host, STEPS) {
         Drive::Done(Turn::Spent) => session.taken() == STEPS,
         Drive::Done(Turn::Ended | Turn::Aborted | Turn::Trapped(_)) => session.taken() <= STEPS,
         _ => false,
-    })
+    }
 }
 
-fn are_run(alloc: Global, image: &Image) -> Result<bool, Fail> {
+// Whether a method runs, if it has a body.
+fn is_run(alloc: Global, image: &Image, method: MethNo) -> bool {
+    let Some(values) = zeros(alloc, image) else {
+        return false;
+    };
+    match Session::start(image, method, values) {
+        Ok(mut session) => ends(alloc, &mut session),
+        Err((fault, _)) => fault == StartFault::NoItem,
+    }
+}
+
+fn are_run(alloc: Global, image: &Image) -> bool {
     for number in 0..image.counts().methods {
-        if !is_run(alloc, image, MethNo(number))? {
-            return Ok(false);
+        if !is_run(alloc, image, MethNo(number)) {
+            return false;
         }
     }
-    Ok(true)
+    true
 }
 
 /// Whether the image is shown where each variable is 0, each of its strings has a text, and each of
 /// its methods runs.
-pub fn is_usable(alloc: Global, image: &Image) -> Result<bool, Fail> {
-    Ok(is_shown(alloc, image)? && has_texts(image) && are_run(alloc, image)?)
+pub fn is_usable(alloc: Global, image: &Image) -> bool {
+    is_shown(alloc, image) && has_texts(image) && are_run(alloc, image)
 }

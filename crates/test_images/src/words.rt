@@ -9,6 +9,11 @@ pub fn small(word: &str) -> u16 {
     word.parse::<u16>().unwrap_or(u16::MAX)
 }
 
+/// A byte; 0 in place of a word that is none.
+pub fn byte(word: &str) -> u8 {
+    word.parse::<u8>().unwrap_or(0)
+}
+
 pub fn count(word: &str) -> u32 {
     word.parse::<u32>().unwrap_or(u32::MAX)
 }

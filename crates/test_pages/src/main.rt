@@ -1,11 +1,19 @@
 //! Runs the commands of the table on the standard input as the program `edd`, over the examples and
 //! the files that the table writes, and says for each whether it prints what the table has. What
-//! README.md and docs/ show of the examples is in the table. After it comes docs/REFUSALS.md, as the
-//! program explains each refusal.
+//! README.md and docs/ show of the examples is in the table, and so are steps over real files, each
+//! of which is printed with what it results in. After it comes docs/REFUSALS.md, as the program
+//! explains each refusal.
 #![tactic(auto)]
 
+mod changes;
 mod explained;
+mod memory;
+mod one_file;
 mod refusals;
+mod running;
+mod saving;
+mod shown;
+mod steps;
 mod table;
 mod typed;
 

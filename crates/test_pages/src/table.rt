@@ -1,6 +1,8 @@
 //! The parts of the table: each begins with a word and an argument on a line that an @ begins, and
 //! has a text below.
 
+use crate::running::words_of;
+use crate::steps;
 use crate::typed::Typed;
 use std::alloc::Global;
 use std::{fs, io};
@@ -43,11 +45,7 @@ impl Printed {
 
 // Runs `edd` with these words, and lines that are typed where there are any.
 fn run(rt: HostRuntime, text: &str, typed: &str) -> io::Result<Printed> {
-    let mut words = Vec::new(rt.alloc());
-    words.push("edd".to_string(rt.alloc())?)?;
-    for word in text.split_ascii_whitespace() {
-        words.push(word.to_string(rt.alloc())?)?;
-    }
+    let words = words_of(rt, text)?;
     let mut bytes = Vec::new(rt.alloc());
     let status = if typed.is_empty() {
         edd_tool::run_on_system(&rt, &words, &mut bytes)
@@ -73,7 +71,7 @@ fn say(rt: HostRuntime, is_right: bool, printed: &Printed) -> io::Result<()> {
 /// Takes a part: `file NAME` writes its text to a file, `types` has its lines typed to the next
 /// command, `run WORDS` runs `edd`, `prints` says that these are the lines that it printed, `begins`
 /// that these are the first of them, and `shows` that these are among them, one after the other.
-/// Any other part is a heading.
+/// `steps HEADING` has steps, a line for each. Any other part is a heading.
 pub fn take(rt: HostRuntime, part: &str, printed: &mut Printed) -> io::Result<()> {
     let (head, below) = part.split_once('\n').unwrap_or((part, ""));
     let (kind, rest) = head.split_once(' ').unwrap_or((head, ""));
@@ -87,6 +85,10 @@ pub fn take(rt: HostRuntime, part: &str, printed: &mut Printed) -> io::Result<()
         "prints" => say(rt, printed.is(below), printed)?,
         "begins" => say(rt, printed.begins_with(below), printed)?,
         "shows" => say(rt, printed.has(rt.alloc(), below)?, printed)?,
+        "steps" => {
+            println!(rt; "{rest}")?;
+            steps::play(rt, below)?;
+        }
         _ => println!(rt; "{rest}")?,
     }
     Ok(())

@@ -1,12 +1,10 @@
-//! Images that are written from their parts.
+//! `written`: whether the image that is written from its parts is the one that was worked out.
 
 use edd_image::{AttributeRow, Counts, NameRow, Parts, StringRow, VarKind, Version, write};
-use edd_instructions::{Instruction, decode};
 use edd_syntax::numbers::{ArrNo, Attr, Element, ItemNo, MethNo, VarNo};
 use edd_syntax::types::VarType;
-use std::alloc::Global;
-use std::test::Fail;
-use test_images::{ARRAY, LABEL, LOOP};
+use std::alloc::{AllocError, Global};
+use test_images::worked;
 
 // The sections of an image. All names have one letter.
 #[derive(Clone, Copy)]
@@ -73,11 +71,11 @@ const NAMES: [NameRow; 4] = [
     },
 ];
 
-// The parts of these sections. What counts them has to agree with them.
-fn written(alloc: Global, sections: &Sections) -> Result<Vec<u8>, Fail> {
+// The image of these sections. What counts them has to agree with them.
+fn image_of_parts(alloc: Global, sections: &Sections) -> Result<Option<Vec<u8>>, AllocError> {
     let counts = counts_of(sections);
     let Some(names) = NAMES.get(..sections.names.len()) else {
-        return Err(Fail::from("too many names"));
+        return Ok(None);
     };
     let variables = Vec::from_slice(alloc, sections.variables)?;
     let names = Vec::from_slice(alloc, names)?;
@@ -103,7 +101,7 @@ fn written(alloc: Global, sections: &Sections) -> Result<Vec<u8>, Fail> {
         && name_bytes.len() < 1000
         && string_bytes.len() < 1000;
     if !is_counted || !is_short || sections.version == Version::One && !is_first {
-        return Err(Fail::from("other counts"));
+        return Ok(None);
     }
     let parts = Parts {
         version: sections.version,
@@ -117,10 +115,7 @@ fn written(alloc: Global, sections: &Sections) -> Result<Vec<u8>, Fail> {
         name_bytes,
         string_bytes,
     };
-    let Ok(image) = write(alloc, &parts) else {
-        return Err(Fail::from("not written"));
-    };
-    Ok(image)
+    Ok(write(alloc, &parts).ok())
 }
 
 const IDENTIFICATION: [u8; 56] = [
@@ -216,27 +211,25 @@ const WITH_ARRAY: Sections = Sections {
     ..NOTHING
 };
 
-// Sections, and their image.
-const IMAGES: [(Sections, &[u8]); 4] = [
-    (NOTHING, &IDENTIFICATION),
-    (ENDLESS_LOOP, &LOOP),
-    (LABELLED, &LABEL),
-    (WITH_ARRAY, &ARRAY),
-];
-
-#[test]
-fn images_are_written(rt: HostRuntime) -> Result<(), Fail> {
-    for (number, (sections, want)) in IMAGES.iter().enumerate() {
-        let image = written(rt.alloc(), sections)?;
-        assert_eq!(rt; image.as_slice(), *want, "image {number}");
-    }
-    Ok(())
+// The sections of this name, and their image.
+fn sections_of(name: &str) -> Option<(Sections, &'static [u8])> {
+    let sections = match name {
+        "nothing" => return Some((NOTHING, &IDENTIFICATION)),
+        "loop" => ENDLESS_LOOP,
+        "label" => LABELLED,
+        "array" => WITH_ARRAY,
+        _ => return None,
+    };
+    Some((sections, worked(name)?))
 }
 
-#[test]
-fn instructions_are_decoded(rt: HostRuntime) {
-    let jump = decode(ENDLESS_LOOP.code, 0);
-    assert_eq!(rt; jump, Some((Instruction::Jump(0), 5)));
-    let element = decode(WITH_ARRAY.code, 5);
-    assert_eq!(rt; element, Some((Instruction::ReadElement(ArrNo(0)), 8)));
+pub fn written(alloc: Global, name: &str) -> Result<String, AllocError> {
+    let Some((sections, want)) = sections_of(name) else {
+        return String::from_str(alloc, "no sections");
+    };
+    match image_of_parts(alloc, &sections)? {
+        Some(image) if image.as_slice() == want => String::from_str(alloc, "as worked out"),
+        Some(image) => format!(in alloc; "{image:?}"),
+        None => String::from_str(alloc, "not written"),
+    }
 }

@@ -5,8 +5,8 @@ use Rattle.std.specs.Str.{bytes_eq}
 use Rattle.edd_system.specs.declared.way.Standing.{Standing}
 use Rattle.edd_system.specs.declared.way.Standing.TheVariants.{Plain, Stream}
 use Rattle.edd_system.specs.Disks.{NewFile, PlainFiles}
-use Rattle.test_files.specs.declared.memory.Beside.{Beside}
-use Rattle.test_files.specs.declared.memory.MemoryDisk.{MemoryDisk}
+use Rattle.test_pages.specs.declared.memory.Beside.{Beside}
+use Rattle.test_pages.specs.declared.memory.MemoryDisk.{MemoryDisk}
 
 -- the name `i`
 abbrev pub file_name : List ℕ

@@ -1,34 +1,20 @@
-//! Runs the steps of the table on the standard input, and prints each step and what it results in.
-//! Most are over real files, in the folder where it runs: a step that makes or changes files prints
-//! nothing more, `run` and `pipe` run the program `edd`, and `show` and `list` print what is there.
-//! `one_file` runs it on a file in memory, and `save` and `save_opened` write to a disk in memory, of
-//! which each call fails in turn.
-#![tactic(auto)]
+//! Steps over real files, in the folder where the program runs, and over files and a disk in memory.
 
-mod changes;
-mod memory;
-mod one_file;
-mod running;
-mod saving;
-mod shown;
-
+use crate::{changes, one_file, running, saving, shown};
 use std::io;
-use std::io::Read;
-use std::process::ExitCode;
 
-const WRONG_STEP: u8 = 1;
-
-fn main(rt: HostRuntime) -> io::Result<ExitCode> {
-    let mut text = String::new(rt.alloc());
-    rt.stdin().read_to_string(&mut text)?;
-    for line in text.lines() {
+/// Takes the steps of these lines, and prints each and what it results in. A step that makes or
+/// changes files prints nothing more, `run` and `pipe` run the program `edd`, and `show` and `list`
+/// print what is there. `one_file` runs it on a file in memory, and `save` and `save_opened` write
+/// to a disk in memory, of which each call fails in turn.
+pub fn play(rt: HostRuntime, lines: &str) -> io::Result<()> {
+    for line in lines.lines() {
         println!(rt; "{line}")?;
         if !is_done(rt, line)? {
             println!(rt; "no step")?;
-            return Ok(ExitCode::from(WRONG_STEP));
         }
     }
-    Ok(ExitCode::SUCCESS)
+    Ok(())
 }
 
 // Takes the step of a line, if it is one. Blank lines and those that begin with a # are none, and

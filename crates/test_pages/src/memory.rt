@@ -1,7 +1,7 @@
 //! A disk in memory with a plain file `i`, a link `l` to it, and streams under all other names.
 
 ghost use Rattle.std.specs.Prelude.{◌≡◌, false, IfOk, Some};
-ghost use Rattle.test_files.specs.Memory.{files_of, new_file_of, standing_at, given_of};
+ghost use Rattle.test_pages.specs.Memory.{files_of, new_file_of, standing_at, given_of};
 
 use edd_system::{Disk, Identity, Standing};
 use std::alloc::{AllocError, Global};

@@ -1,4 +1,4 @@
-use Rattle.test_image_calls.proofs.machine.after.Goals as goal
+use Rattle.test_image_calls.proofs.stepping.after.Goals as goal
 
 pub take_steps-requires : goal.take_steps-requires
 take_steps-requires c = c.open-machine.ensures.machine c.args.image.now _ c.bytes.ensures.valid

@@ -4,8 +4,8 @@ use std::io;
 use std::io::Read;
 use std::os::fd::AsRawFd;
 
-// The words of the command line, the program's name first.
-fn words_of(rt: HostRuntime, text: &str) -> io::Result<Vec<String>> {
+/// The words of the command line, the program's name first.
+pub fn words_of(rt: HostRuntime, text: &str) -> io::Result<Vec<String>> {
     let mut words = Vec::new(rt.alloc());
     words.push("edd".to_string(rt.alloc())?)?;
     for word in text.split_ascii_whitespace() {
