@@ -1,0 +1,3 @@
+mod LineEnds
+mod Decimals
+mod WordStarts
