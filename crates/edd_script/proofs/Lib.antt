@@ -1,3 +1,4 @@
 mod LineEnds
 mod Decimals
 mod WordStarts
+mod Texts

@@ -1,11 +1,14 @@
 //! The script of a run: the values of variables and the answers to the requests of a method, as they are
-//! read from lines.
+//! read from lines. A script is what its lines say.
 #![tactic(auto)]
 
 mod lines;
 mod numbers;
+mod said;
+mod script;
+mod stub;
 mod words;
 
-pub use lines::first_line;
 pub use numbers::{code, number};
-pub use words::first_word;
+pub use said::{Line, parse_line, text_of, variable};
+pub use script::{Script, ScriptFault, answer_line, parse, parse_sets};
