@@ -1,13 +1,12 @@
 -- What `parse` reads is the decimal number.
-use Rattle.std.proofs.Common.{◌≡◌, ℕ, ◌+◌, ◌-◌, ◌^◌, ◌<◌, ◌≤◌, true, false, ◌&&◌, ◌≢◌, List, length, drop, Option, Some, None, Result, Ok, Err, ℤ, pos, refl, ap, sym, ◌∙◌, arith, inl, inr}
-use Rattle.std.specs.Prelude.{◌==◌, neg_ℤ, option_map, nat_lt, nat_le, if◌then◌else◌, slice_index, OkIff}
+use Rattle.std.proofs.Common.{◌≡◌, ℕ, ◌-◌, ◌^◌, ◌<◌, ◌≤◌, true, false, ◌&&◌, List, length, drop, Some, None, Result, Ok, Err, ℤ, pos, refl, ap, arith, inl, inr}
+use Rattle.std.specs.Prelude.{◌==◌, neg_ℤ, option_map, nat_lt, nat_le, slice_index, OkIff}
 use Rattle.std.specs.Result.{result_ok}
 use Rattle.std.specs.Int.{Width}
 use Rattle.std.specs.Str.{all_ascii_digits}
 use Rattle.std.specs.Str.Parse.{digits_value, starts_with_minus, ParsesSigned}
 use Rattle.std.proofs.lemmas.Bool.{cases_Bool, and_parts, lt-ltb, le-leb, ltb-true, leb-true, eqb-true, eqb-false}
 use Rattle.std.proofs.lemmas.Str.Parse.{IsNumeralModel, numerals_by_value, tells_all_ascii_digits, parse_signed_minus, parse_signed_plain}
-use Rattle.std.proofs.lemmas.Grind.{common_steps}
 use mir.Val.{hbits}
 use Rattle.edd_script.specs.Numbers.{decimal_of, digits_up_to}
 
@@ -25,12 +24,12 @@ passes most digits fits = rw (fits.0, lt-ltb 0 (length digits) fits.1, le-leb (d
 fails : (most : ℕ) (digits : List ℕ) → (IsUpTo most digits → ⊥) → digits_up_to most digits ≡ None
 fails most digits not = elim (cases_Bool (nat_lt 0 (length digits) && (all_ascii_digits digits
     && nat_le (digits_value 10 digits) most))) [
-  | inl all ↦
-      let parts = and_parts (nat_lt 0 (length digits)) _ all in
-      let more = and_parts (all_ascii_digits digits) _ parts.1 in
-      absurd (not (more.0, ltb-true 0 (length digits) parts.0, leb-true (digits_value 10 digits) most more.1))
-  | inr other ↦ rw other refl
-]
+      | inl all ↦
+          let parts = and_parts (nat_lt 0 (length digits)) _ all in
+          let more = and_parts (all_ascii_digits digits) _ parts.1 in
+          absurd (not (more.0, ltb-true 0 (length digits) parts.0, leb-true (digits_value 10 digits) most more.1))
+      | inr other ↦ rw other refl
+    ]
 
 digits_given : {E : Type 0} (most : ℕ) (digits : List ℕ) (f : ℕ → ℤ) (r : Result ℤ E)
     → OkIff r (IsUpTo most digits) (f (digits_value 10 digits))
@@ -53,7 +52,7 @@ parses w bits word r same some parsed plain = elim (cases_Bool (starts_with_minu
       rw (minus, same) (digits_given (2 ^ hbits w) (drop 1 word) (λ n. neg_ℤ (pos n)) r given)
   | inr other ↦
       let given = parse_signed_plain own w word r parsed (eqb-false (slice_index word 0) 43 plain)
-          (eqb-false (slice_index word 0) 45 other) in
+      (eqb-false (slice_index word 0) 45 other) in
       rw (other, same) (digits_given (2 ^ hbits w - 1) word pos r
-          (below (2 ^ hbits w) word (pos (digits_value 10 word)) r some given))
+      (below (2 ^ hbits w) word (pos (digits_value 10 word)) r some given))
 ]

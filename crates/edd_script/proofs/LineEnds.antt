@@ -1,5 +1,5 @@
 -- The first of the lines of a text.
-use Rattle.std.proofs.Common.{◌≡◌, ℕ, zero, suc, ◌+◌, ◌<◌, ◌≤◌, cond, List, [], ◌∷◌, length, take, drop, Option, Some, None, refl, ap, sym, ◌∙◌, arith, inl, inr}
+use Rattle.std.proofs.Common.{◌≡◌, ℕ, zero, suc, ◌+◌, ◌<◌, ◌≤◌, cond, List, [], ◌∷◌, length, take, drop, Some, None, refl, ap, ◌∙◌, arith, inl, inr}
 use Rattle.std.specs.Prelude.{◌==◌, ltb}
 use Rattle.std.specs.List.{position_or_len, onto_first}
 use Rattle.std.proofs.lemmas.Bool.{cases_Bool}
@@ -12,8 +12,8 @@ end_of bs = position_or_len (λ b. b == 10) bs
 
 first_of_lines : (b : ℕ) (bs : List ℕ) (place : ℕ) → place ≡ end_of (b ∷ bs) → lines (b ∷ bs)
     ≡ take (suc place) (b ∷ bs) ∷ lines (drop (suc place) (b ∷ bs))
-first_of_lines b [] zero e = elim (cases_Bool (b == 10)) [ | inl lf ↦ rw lf refl | inr other ↦ rw other refl ]
-first_of_lines b [] (suc k) e = elim (cases_Bool (b == 10)) [ | inl lf ↦ rw lf refl | inr other ↦ rw other refl ]
+first_of_lines b [] zero e = elim (cases_Bool (b == 10)) [ inl lf ↦ rw lf refl | inr other ↦ rw other refl ]
+first_of_lines b [] (suc k) e = elim (cases_Bool (b == 10)) [ inl lf ↦ rw lf refl | inr other ↦ rw other refl ]
 first_of_lines b (x ∷ xs) zero e = elim (cases_Bool (b == 10)) [
   | inl lf ↦ rw lf refl
   | inr other ↦ let further : 0 ≡ 1 + end_of (x ∷ xs) = rw other at e in absurd (omega (arith, further))

@@ -1,5 +1,5 @@
 -- When bytes are text.
-use Rattle.std.proofs.Common.{◌≡◌, ℕ, true, false, List, absurd, inl, inr}
+use Rattle.std.proofs.Common.{◌≡◌, ℕ, false, List, inl, inr}
 use Rattle.std.specs.Str.{IsUtf8, is_utf8}
 use Rattle.std.proofs.lemmas.Bool.{cases_Bool}
 use Rattle.std.proofs.lemmas.Str.{IsUtf8-from_is_utf8}

@@ -1,11 +1,10 @@
 -- The first of the words of a text.
-use Rattle.std.proofs.Common.{◌≡◌, ℕ, ◌+◌, ◌<◌, ◌≤◌, Bool, true, false, List, [], ◌∷◌, length, take, drop, refl, ap, sym, ◌∙◌, arith}
+use Rattle.std.proofs.Common.{◌≡◌, ℕ, ◌<◌, Bool, false, List, [], ◌∷◌, length, refl, ap, sym, ◌∙◌, arith}
 use Rattle.std.specs.Prelude.{◌==◌, nat_lt}
 use Rattle.std.specs.List.{All, position_or_len, before_first, after_first, slice_split, filter}
 use Rattle.std.proofs.lemmas.List.Splits.{slice_split_first, slice_split_none}
 use Rattle.std.proofs.lemmas.List.Sums.{fails_before_first}
 use Rattle.std.proofs.lemmas.Bool.{lt-ltb}
-use Rattle.std.proofs.lemmas.Grind.{common_steps}
 use Rattle.edd_script.specs.Words.{words}
 
 abbrev is_space : ℕ → Bool
@@ -33,6 +32,6 @@ pub last_word : (text : List ℕ) → position_or_len is_space text ≡ length t
     → words text ≡ text ∷ []
 last_word text none some =
     let lacks : All (λ b. is_space b ≡ false) text =
-        λ k d small. fails_before_first is_space text k d (omega (arith, none)) in
+    λ k d small. fails_before_first is_space text k d (omega (arith, none)) in
     ap (filter (λ part. nat_lt 0 (length part))) (slice_split_none is_space text lacks)
     ∙ rw (lt-ltb 0 (length text) some) refl

@@ -6,7 +6,7 @@ use Rattle.edd_script.specs.declared.script.Script as code
 use Rattle.edd_script.specs.declared.script.ScriptFault.{ScriptFault}
 use Rattle.edd_script.specs.declared.script.ScriptFault.TheVariants as fault
 use Rattle.edd_script.specs.Lines.{lines}
-use Rattle.edd_script.specs.Said.{Line, Set, Answered, Blank, line_of}
+use Rattle.edd_script.specs.Said.{Line, Set, Answered, line_of}
 
 -- f of what was read
 abbrev pub mapped : {A B : Type 0} → (A → B) → Result A ℕ → Result B ℕ

@@ -6,7 +6,6 @@ mod lines;
 mod numbers;
 mod said;
 mod script;
-mod stub;
 mod words;
 
 pub use numbers::{code, number};

@@ -10,7 +10,7 @@ ghost use Rattle.edd_script.specs.Said.{change_of, seen};
 use crate::numbers::{code, number};
 use crate::words::first_word;
 use edd_cases::without_end;
-use crate::stub::Image;
+use edd_loader::Image;
 use edd_syntax::answer::Answer;
 use edd_syntax::numbers::{ItemNo, VarNo};
 use std::alloc::{AllocError, Global};
@@ -27,8 +27,8 @@ pub enum Line {
 pub fn variable(image: &Image<'_>, name: &str) -> Option<VarNo>
     ensures { result ≡ variable_named (contents_in image.now) name.now }
 {
-    match image.find(name) {
-        Some(ItemNo::Variable(number)) => Some(number),
+    match image.find(name)? {
+        ItemNo::Variable(number) => Some(number),
         _ => None,
     }
 }

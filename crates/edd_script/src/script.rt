@@ -9,7 +9,7 @@ ghost use Rattle.edd_script.specs.Scripts.{answering, answers_in, given_by, give
 
 use crate::lines::first_line;
 use crate::said::{Line, parse_line};
-use crate::stub::Image;
+use edd_loader::Image;
 use edd_syntax::answer::Answer;
 use std::alloc::{AllocError, AllocFailed, Global};
 use thiserror::Error;

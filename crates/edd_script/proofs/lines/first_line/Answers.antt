@@ -1,4 +1,4 @@
-use Rattle.std.proofs.Common.{rules, ◌≡◌, tests, arith, sym, ◌∙◌, ap}
+use Rattle.std.proofs.Common.{rules, tests, arith, sym, ◌∙◌}
 use Rattle.std.proofs.lemmas.Grind.{common_steps}
 use Rattle.std.specs.Prelude.{◌==◌}
 use Rattle.std.proofs.lemmas.Iterator.{YieldsList-from_slice}
@@ -10,7 +10,7 @@ pub returns-in-Some-clause-sound : goal.returns-in-Some-clause-sound
 returns-in-Some-clause-sound c =
     let text = c.args.text.now in
     let found = position_from_yields_List (λ b. b == 10) _ _ _ c.position.ensures.ran
-        (YieldsList-from_slice text c.iter.ensures.rest) (λ x b q k. search (rules, tests)) in
+    (YieldsList-from_slice text c.iter.ensures.rest) (λ x b q k. search (rules, tests)) in
     to_its_end text c.in-Some.place (grind (arith, common_steps)) (sym c.in-Some.is ∙ found)
     ∙ grind (arith, common_steps)
 
@@ -18,5 +18,5 @@ pub returns-in-None-clause-sound : goal.returns-in-None-clause-sound
 returns-in-None-clause-sound c =
     let text = c.args.text.now in
     let found = position_from_yields_List (λ b. b == 10) _ _ _ c.position.ensures.ran
-        (YieldsList-from_slice text c.iter.ensures.rest) (λ x b q k. search (rules, tests)) in
+    (YieldsList-from_slice text c.iter.ensures.rest) (λ x b q k. search (rules, tests)) in
     whole_line text (grind (arith, common_steps)) (sym c.in-None.is ∙ found)

@@ -1,4 +1,4 @@
-use Rattle.std.proofs.Common.{rules, ◌≡◌, refl, sym, arith, ◌∙◌, w64}
+use Rattle.std.proofs.Common.{refl, sym, arith, ◌∙◌, w64}
 use Rattle.edd_script.proofs.Decimals.{parses}
 use Rattle.edd_script.proofs.numbers.number.Goals as goal
 
@@ -6,4 +6,4 @@ pub returns : goal.returns
 returns c =
     let first = c.starts_with.ensures.byte (omega arith) (omega arith) (λ w o h. h) in
     c.ok.ensures.value ∙ parses w64 64 c.args.word.now c.parse.result refl (omega arith)
-        c.parse.ensures.value.0 (sym first ∙ c.if-starts_with.false)
+    c.parse.ensures.value.0 (sym first ∙ c.if-starts_with.false)
