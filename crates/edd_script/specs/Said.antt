@@ -36,28 +36,28 @@ pairs_of c [] = Some []
 pairs_of c (word ∷ rest) = pair_of c word >>= λ set. option_map (λ sets. set ∷ sets) (pairs_of c rest)
 
 -- behind `set`: `NAME N`
-abbrev pub set_of : Contents → (words : List (List ℕ)) → Option Line
-set_of c (name ∷ value ∷ []) = option_map Set (setting_of c name value)
-set_of c _ = None
+abbrev pub said_set : Contents → (words : List (List ℕ)) → Option Line
+said_set c (name ∷ value ∷ []) = option_map Set (setting_of c name value)
+said_set c _ = None
 
 -- behind `answer`: `CODE NAME=N ..`
-abbrev pub answer_in : Contents → (words : List (List ℕ)) → Option Line
-answer_in c [] = None
-answer_in c (code ∷ rest) = decimal_of 32 code >>= λ number.
+abbrev pub said_answer : Contents → (words : List (List ℕ)) → Option Line
+said_answer c [] = None
+said_answer c (code ∷ rest) = decimal_of 32 code >>= λ number.
     option_map (λ sets. Answered (Go number sets)) (pairs_of c rest)
 
 -- behind `abort`: nothing
-abbrev pub abort_in : (words : List (List ℕ)) → Option Line
-abort_in [] = Some (Answered Abort)
-abort_in (word ∷ rest) = None
+abbrev pub said_abort : (words : List (List ℕ)) → Option Line
+said_abort [] = Some (Answered Abort)
+said_abort (word ∷ rest) = None
 
 -- what the words of a line say
 abbrev pub said_by : Contents → (words : List (List ℕ)) → Option Line
 said_by c [] = Some Blank
 said_by c (word ∷ rest) =
-    if bytes_eq word (codes "set") then set_of c rest
-    else if bytes_eq word (codes "answer") then answer_in c rest
-    else if bytes_eq word (codes "abort") then abort_in rest
+    if bytes_eq word (codes "set") then said_set c rest
+    else if bytes_eq word (codes "answer") then said_answer c rest
+    else if bytes_eq word (codes "abort") then said_abort rest
     else None
 
 -- the text of a line, without its end, if it is text at all

@@ -74,7 +74,7 @@ fn pairs(
 
 // Behind `set`: `NAME N`
 fn set_of(image: &Image<'_>, text: &str) -> Option<Line>
-    ensures { option_map seen result ≡ said.set_of (contents_in image.now) (words text.now) }
+    ensures { option_map seen result ≡ said.said_set (contents_in image.now) (words text.now) }
 {
     let (name, behind) = first_word(text)?;
     let (value, rest) = first_word(behind)?;
@@ -89,7 +89,7 @@ fn set_of(image: &Image<'_>, text: &str) -> Option<Line>
 
 // Behind `answer`: `CODE NAME=N ..`
 fn answer_of(alloc: Global, image: &Image<'_>, text: &str) -> Result<Option<Line>, AllocError>
-    ensures { IfOk result (λ line. option_map seen line ≡ said.answer_in (contents_in image.now)
+    ensures { IfOk result (λ line. option_map seen line ≡ said.said_answer (contents_in image.now)
         (words text.now)) }
 {
     let Some((word, rest)) = first_word(text) else {
@@ -106,7 +106,7 @@ fn answer_of(alloc: Global, image: &Image<'_>, text: &str) -> Result<Option<Line
 
 // Behind `abort`: nothing
 fn abort_of(text: &str) -> Option<Line>
-    ensures { option_map seen result ≡ said.abort_in (words text.now) }
+    ensures { option_map seen result ≡ said.said_abort (words text.now) }
 {
     match first_word(text) {
         None => Some(Line::Answer(Answer::Abort)),
