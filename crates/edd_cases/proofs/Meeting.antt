@@ -1,5 +1,5 @@
 -- A test passes where its first line is met and the others pass behind it.
-use Rattle.std.proofs.Common.{◌≡◌, ℕ, Bool, true, false, ◌&&◌, if◌then◌else◌, List, [], ◌∷◌, Option, Some, None, refl}
+use Rattle.std.proofs.Common.{◌≡◌, ℕ, true, false, ◌&&◌, if◌then◌else◌, List, [], ◌∷◌, Some, None, refl}
 use Rattle.std.specs.Str.{bytes_eq}
 use Rattle.std.specs.List.{cons_option}
 use Rattle.edd_cases.specs.declared.lines.Line.{Line}
@@ -7,7 +7,7 @@ use Rattle.edd_cases.specs.declared.lines.Says.{Says}
 use Rattle.edd_cases.specs.declared.lines.Says.TheVariants as says
 use Rattle.edd_cases.specs.declared.settings.Form.{Form}
 use Rattle.edd_cases.specs.declared.settings.Form.TheVariants as form
-use Rattle.edd_cases.specs.Expected.{whole, part, wholes, parts, same, holds, behind, passes}
+use Rattle.edd_cases.specs.Expected.{whole, part, wholes, parts, same, holds, passes}
 use Rattle.edd_cases.specs.Steps.{behind_next, past}
 
 same_first : (text line : List ℕ) (expected printed : List (List ℕ))

@@ -1,5 +1,5 @@
 -- What is taken of a list, and what a piece that is added changes of it.
-use Rattle.std.proofs.Common.{◌≡◌, ℕ, List, [], ◌∷◌, ◌++◌, Option, Some, None, refl, ap, ◌∙◌, append-nil}
+use Rattle.std.proofs.Common.{◌≡◌, List, [], ◌∷◌, ◌++◌, Option, Some, None, refl, ap, ◌∙◌, append-nil}
 use Rattle.std.specs.List.{filter_map, cons_option}
 use Rattle.edd_cases.specs.declared.renewing.Piece.{Piece}
 use Rattle.edd_cases.specs.declared.renewing.Piece.TheVariants as piece

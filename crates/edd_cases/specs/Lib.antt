@@ -1,3 +1,4 @@
+pub mod Ends
 pub mod Expected
 pub mod Renewed
 pub mod Steps

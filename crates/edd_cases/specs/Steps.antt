@@ -1,5 +1,5 @@
 -- A test line by line: what is left of the printed lines behind what a line expects of them.
-use Rattle.std.specs.Prelude.{ℕ, Bool, if◌then◌else◌, List, [], ◌∷◌, Option, Some, None}
+use Rattle.std.specs.Prelude.{ℕ, if◌then◌else◌, List, [], ◌∷◌, Option, Some, None}
 use Rattle.std.specs.Str.{bytes_eq}
 use Rattle.edd_cases.specs.declared.lines.Says.{Says}
 use Rattle.edd_cases.specs.declared.lines.Says.TheVariants as says

@@ -1,5 +1,8 @@
 //! The lines of a file of tests.
 
+ghost use Rattle.std.specs.Prelude.{◌≡◌};
+ghost use Rattle.edd_cases.specs.Ends.{without_end};
+
 use crate::fault::{Misread, TestFault};
 use std::alloc::Global;
 
@@ -47,7 +50,9 @@ pub struct Line<'a> {
 }
 
 /// The text of a line without its end. A CR belongs to the end only before an LF.
-pub fn without_end(line: &str) -> &str {
+pub fn without_end(line: &str) -> &str
+    ensures { result.now ≡ without_end line.now }
+{
     match line.strip_suffix('\n') {
         None => line,
         Some(text) => text.strip_suffix('\r').unwrap_or(text),

@@ -1,9 +1,16 @@
 //! The script of a run: the values of variables, and the answers to the requests of a method.
 
-use edd_cases::without_end;
+ghost use Rattle.std.specs.Prelude.{◌≡◌, ◌++◌, ◌∷◌, [], IfErr, IfOk, IfSome, None, Ok, Err, OnOk, map, option_map, pos, replicate, slice_get};
+ghost use Rattle.edd_syntax.specs.Answers.{answer_of, values_set};
+ghost use Rattle.edd_image.specs.Contents.{contents_in};
+ghost use Rattle.edd_script.specs.Lines.{lines};
+ghost use Rattle.edd_script.specs.Said.{seen};
+ghost use Rattle.edd_script.specs.Scripts.{answering, answers_in, given_by, given_set, line_in, said_in, script_of, sets_in};
+
+use crate::lines::first_line;
+use crate::said::{Line, parse_line};
 use edd_loader::Image;
 use edd_syntax::answer::Answer;
-use edd_syntax::numbers::{ItemNo, VarNo};
 use std::alloc::{AllocError, AllocFailed, Global};
 use thiserror::Error;
 
@@ -17,121 +24,24 @@ pub enum ScriptFault {
 }
 
 impl From<AllocError> for ScriptFault {
+    ghost use Rattle.std.specs.Prelude.{◌≡◌};
+    ghost use Rattle.edd_script.specs.declared.script.ScriptFault.TheVariants.{Memory};
+
+    ghost from_gives = { λ _ fault. fault ≡ Memory };
+
     fn from(_error: AllocError) -> ScriptFault {
         ScriptFault::Memory
     }
 }
 
 impl<T: Drop> From<AllocFailed<T>> for ScriptFault {
+    ghost use Rattle.std.specs.Prelude.{◌≡◌};
+    ghost use Rattle.edd_script.specs.declared.script.ScriptFault.TheVariants.{Memory};
+
+    ghost from_gives = { λ _ fault. fault ≡ Memory };
+
     fn from(_error: AllocFailed<T>) -> ScriptFault {
         ScriptFault::Memory
-    }
-}
-
-/// Digits with an optional minus.
-pub fn number(word: &str) -> Option<i64> {
-    if word.starts_with('+') {
-        return None;
-    }
-    word.parse::<i64>().ok()
-}
-
-/// The same of 32 bits.
-pub fn code(word: &str) -> Option<i32> {
-    if word.starts_with('+') {
-        return None;
-    }
-    word.parse::<i32>().ok()
-}
-
-/// The variable of a name.
-pub fn variable(image: &Image<'_>, name: &str) -> Option<VarNo> {
-    match image.find(name) {
-        Some(ItemNo::Variable(number)) => Some(number),
-        _ => None,
-    }
-}
-
-// `NAME N`
-fn setting<'a>(
-    image: &Image<'_>,
-    name: Option<&'a str>,
-    value: Option<&'a str>,
-) -> Option<(VarNo, i64)> {
-    Some((variable(image, name?)?, number(value?)?))
-}
-
-// `answer CODE NAME=N ..`
-fn answer_of(alloc: Global, image: &Image<'_>, line: &str) -> Result<Option<Answer>, AllocError> {
-    let mut words = line.split(' ').filter(|word| !word.is_empty()).skip(1);
-    let Some(code) = words.next().and_then(code) else {
-        return Ok(None);
-    };
-    let mut sets = Vec::new(alloc);
-    for word in words {
-        let Some((name, value)) = word.split_once('=') else {
-            return Ok(None);
-        };
-        let Some(set) = setting(image, Some(name), Some(value)) else {
-            return Ok(None);
-        };
-        sets.push(set)?;
-    }
-    Ok(Some(Answer::Go { code, sets }))
-}
-
-/// A line of a script.
-#[derive(Drop)]
-pub enum Line {
-    Set(VarNo, i64),
-    Answer(Answer),
-    Blank,
-}
-
-// `set NAME N`
-fn set_of(image: &Image<'_>, line: &str) -> Option<Line> {
-    let mut words = line.split(' ').filter(|word| !word.is_empty()).skip(1);
-    let (variable, value) = setting(image, words.next(), words.next())?;
-    match words.next() {
-        None => Some(Line::Set(variable, value)),
-        Some(_) => None,
-    }
-}
-
-// `abort`
-fn abort_of(line: &str) -> Option<Line> {
-    let mut words = line.split(' ').filter(|word| !word.is_empty()).skip(1);
-    match words.next() {
-        None => Some(Line::Answer(Answer::Abort)),
-        Some(_) => None,
-    }
-}
-
-fn line_of(alloc: Global, image: &Image<'_>, text: &str) -> Result<Option<Line>, AllocError> {
-    let mut words = text.split(' ').filter(|word| !word.is_empty());
-    match words.next() {
-        None => Ok(Some(Line::Blank)),
-        Some("set") => Ok(set_of(image, text)),
-        Some("answer") => Ok(answer_of(alloc, image, text)?.map(Line::Answer)),
-        Some("abort") => Ok(abort_of(text)),
-        Some(_) => Ok(None),
-    }
-}
-
-/// The text of a line, without its end.
-pub fn text_of(bytes: &[u8]) -> Option<&str> {
-    Some(without_end(str::from_utf8(bytes).ok()?))
-}
-
-/// What a line says, if it can be read.
-pub fn parse_line(
-    alloc: Global,
-    image: &Image<'_>,
-    bytes: &[u8],
-) -> Result<Option<Line>, AllocError> {
-    match text_of(bytes) {
-        Some(text) => line_of(alloc, image, text),
-        None => Ok(None),
     }
 }
 
@@ -144,7 +54,12 @@ pub struct Script {
 }
 
 impl Script {
-    fn new(alloc: Global, image: &Image<'_>) -> Result<Script, AllocError> {
+    #[tactic(auto, unfolding(edd_image::specs::Contents::contents_in))]
+    fn new(alloc: Global, image: &Image<'_>) -> Result<Script, AllocError>
+        ensures values { IfOk result (λ made. made.values.items
+            ≡ replicate (contents_in image.now).counts.variables (pos 0)) }
+        ensures answers { IfOk result (λ made. made.answers.items ≡ []) }
+    {
         let count = usize::from(image.counts().variables);
         let mut values = Vec::with_capacity(alloc, count)?;
         values.resize(count, 0)?;
@@ -155,7 +70,12 @@ impl Script {
     }
 
     // The last setting of a variable counts.
-    fn add(&mut self, line: Line) -> Result<(), AllocError> {
+    fn add(&mut self, line: Line) -> Result<(), AllocError>
+        ensures values { OnOk result (self.new.values.items
+            ≡ values_set self.old.values.items (sets_in (seen line ∷ []))) }
+        ensures answers { OnOk result (map answer_of self.new.answers.items
+            ≡ map answer_of self.old.answers.items ++ answers_in (seen line ∷ [])) }
+    {
         match line {
             Line::Set(variable, value) => {
                 if let Some(place) = self.values.get_mut(usize::from(variable.0)) {
@@ -170,39 +90,57 @@ impl Script {
 }
 
 /// Reads a script for an image, by whose names it sets variables.
-pub fn parse(alloc: Global, image: &Image<'_>, script: &[u8]) -> Result<Script, ScriptFault> {
+pub fn parse(alloc: Global, image: &Image<'_>, script: &[u8]) -> Result<Script, ScriptFault>
+    ensures sound { IfOk result (λ made. script_of (contents_in image.now) script.now
+        ≡ Ok (said_in made)) }
+    ensures refused { IfErr result (λ fault. IfSome (line_in fault) (λ line.
+        script_of (contents_in image.now) script.now ≡ Err line)) }
+{
     let mut made = Script::new(alloc, image)?;
-    for (before, bytes) in script.split_inclusive(|byte| *byte == b'\n').enumerate() {
-        let line = before.saturating_add(1);
+    let mut before: usize = 0;
+    let mut rest = script;
+    while let Some((bytes, behind)) = first_line(rest) {
         match parse_line(alloc, image, bytes)? {
-            None => return Err(ScriptFault::Line { line }),
+            None => return Err(ScriptFault::Line { line: before + 1 }),
             Some(read) => made.add(read)?,
         }
+        before += 1;
+        rest = behind;
     }
     Ok(made)
 }
 
-/// The line, counted from 1, of an answer of a script, by its number among them.
+/// The line, counted from 1, of an answer of a script, by its number among them. Lines that can't be
+/// read are passed over.
 pub fn answer_line(
     alloc: Global,
     image: &Image<'_>,
     script: &[u8],
     number: usize,
-) -> Result<Option<usize>, AllocError> {
+) -> Result<Option<usize>, AllocError>
+    ensures { IfOk result (λ line. line ≡ slice_get (answering (contents_in image.now) 1
+        (lines script.now)) number) }
+{
+    let mut left = number;
     let mut before: usize = 0;
-    for (above, bytes) in script.split_inclusive(|byte| *byte == b'\n').enumerate() {
+    let mut rest = script;
+    while let Some((bytes, behind)) = first_line(rest) {
         if let Some(Line::Answer(_)) = parse_line(alloc, image, bytes)? {
-            if before == number {
-                return Ok(Some(above.saturating_add(1)));
+            if left == 0 {
+                return Ok(Some(before + 1));
             }
-            before = before.saturating_add(1);
+            left -= 1;
         }
+        before += 1;
+        rest = behind;
     }
     Ok(None)
 }
 
 // The last setting of a variable counts.
-fn note_set(given: &mut [Option<i64>], line: &Line) {
+fn note_set(given: &mut Vec<Option<i64>>, line: &Line)
+    ensures { given.new.items ≡ given_set given.old.items (sets_in (seen line.now ∷ [])) }
+{
     if let Line::Set(variable, value) = line
         && let Some(place) = given.get_mut(usize::from(variable.0))
     {
@@ -210,21 +148,38 @@ fn note_set(given: &mut [Option<i64>], line: &Line) {
     }
 }
 
+#[tactic(auto, unfolding(edd_image::specs::Contents::contents_in))]
+fn none_given(alloc: Global, image: &Image<'_>) -> Result<Vec<Option<i64>>, AllocError>
+    ensures { IfOk result (λ given. given.items
+        ≡ replicate (contents_in image.now).counts.variables None) }
+{
+    let count = usize::from(image.counts().variables);
+    let mut given = Vec::with_capacity(alloc, count)?;
+    given.resize(count, None)?;
+    Ok(given)
+}
+
 /// Reads the values that a script sets, by the variables' numbers. Its answers are passed over.
 pub fn parse_sets(
     alloc: Global,
     image: &Image<'_>,
     script: &[u8],
-) -> Result<Vec<Option<i64>>, ScriptFault> {
-    let count = usize::from(image.counts().variables);
-    let mut given = Vec::with_capacity(alloc, count)?;
-    given.resize(count, None)?;
-    for (before, bytes) in script.split_inclusive(|byte| *byte == b'\n').enumerate() {
-        let line = before.saturating_add(1);
+) -> Result<Vec<Option<i64>>, ScriptFault>
+    ensures sound { IfOk result (λ given. given_by (contents_in image.now) script.now
+        ≡ Ok given.items) }
+    ensures refused { IfErr result (λ fault. IfSome (line_in fault) (λ line.
+        given_by (contents_in image.now) script.now ≡ Err line)) }
+{
+    let mut given = none_given(alloc, image)?;
+    let mut before: usize = 0;
+    let mut rest = script;
+    while let Some((bytes, behind)) = first_line(rest) {
         match parse_line(alloc, image, bytes)? {
-            None => return Err(ScriptFault::Line { line }),
-            Some(read) => note_set(given.as_mut_slice(), &read),
+            None => return Err(ScriptFault::Line { line: before + 1 }),
+            Some(read) => note_set(&mut given, &read),
         }
+        before += 1;
+        rest = behind;
     }
     Ok(given)
 }

@@ -12,7 +12,7 @@ use edd_display::print;
 use edd_loader::{LoadFault, load};
 use edd_machine::ValuesFault;
 use edd_port::PlayFault;
-use edd_script::{Wrong, slip_in};
+use edd_script_slips::{Wrong, slip_in};
 use std::alloc::Global;
 use std::io::Write;
 

@@ -1,10 +1,10 @@
 //! Which word of a script is wrong, and why.
 
-use crate::script::{Line, code as code_of, number, parse_line, text_of, variable};
 use edd_display::type_word;
 use edd_image::VarKind;
 use edd_loader::Image;
 use edd_reports::nearest::Nearest;
+use edd_script::{Line, code as code_of, number, parse_line, text_of, variable};
 use edd_syntax::answer::Answer;
 use edd_syntax::numbers::{ItemNo, VarNo};
 use edd_syntax::types::VarType;

@@ -1,0 +1,6 @@
+mod LineEnds
+mod Decimals
+mod WordStarts
+mod NameLaws
+mod Texts
+mod Turns

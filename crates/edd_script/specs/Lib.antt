@@ -1,0 +1,6 @@
+pub mod Lines
+pub mod Named
+pub mod Numbers
+pub mod Said
+pub mod Scripts
+pub mod Words
