@@ -1,7 +1,6 @@
 -- What the names of a command line stand for.
-use Rattle.std.specs.Prelude.{ℕ, List, if◌then◌else◌}
+use Rattle.std.specs.Prelude.{ℕ, List, codes, if◌then◌else◌}
 use Rattle.std.specs.Str.{bytes_eq}
-use Rattle.std.specs.Coded.{codes}
 
 -- the file that a name is read from: `-` is the standard input
 abbrev pub input_name : List ℕ → List ℕ

@@ -1,7 +1,6 @@
 -- What the program may save.
-use Rattle.std.specs.Prelude.{◌≡◌, ◌⊎◌, ℕ, Bool, List, [], ◌∷◌, ◌++◌, Option, Some, None, IfSome, IsTrue}
+use Rattle.std.specs.Prelude.{◌≡◌, ◌⊎◌, ℕ, Bool, List, [], ◌∷◌, ◌++◌, Option, Some, None, IfSome, IsTrue, codes}
 use Rattle.std.specs.List.{All, Contains}
-use Rattle.std.specs.Coded.{codes}
 use Rattle.edd_compiler.specs.Images.{IsImageOf}
 use Rattle.edd_layout.specs.Same.{HaveSameBytes, SameTokens}
 use Rattle.edd_tool.specs.declared.formatting.Layout.{Layout}
@@ -61,6 +60,10 @@ IsLayoutSaving account names s = (name : List ℕ) × Contains names name
 -- a file of tests, where they are to be written anew
 abbrev pub IsUpdate : Bool → (names : List (List ℕ)) → Saving → Type 0
 IsUpdate is_update names s = IsTrue is_update × Contains names s.name
+
+-- this file of tests, where it is to be written anew
+abbrev pub IsUpdateOf : Bool → (name : List ℕ) → Saving → Type 0
+IsUpdateOf is_update name s = IsTrue is_update × (s.name ≡ name)
 
 -- what was typed, where that is to be kept
 abbrev pub IsRecord : Option (List ℕ) → Saving → Type 0

@@ -25,6 +25,7 @@ fn output_of(name: &str) -> &str
 }
 
 // Saves the image of a source.
+#[tactic(auto, using(crate::proofs::SavesLaws::saves_none, crate::proofs::SavesLaws::saves_this))]
 fn save_image<'a, F: Files, W: Write>(
     alloc: Global,
     writing: Writing<'a>,
@@ -32,7 +33,7 @@ fn save_image<'a, F: Files, W: Write>(
     out: &mut W,
 ) -> Result<usize, Stop<'a>>
     ensures saves { SavesOne
-        (IsImageSaving (F.account files.old) writing.source.now writing.image.now)
+        (IsImageSaving (F.account files.old) writing.entry.source.now writing.entry.image.now)
         (F.account files.old) (F.account files.new) }
 {
     let text = read(alloc, files, writing.source)?;
@@ -57,7 +58,7 @@ fn write_image<'a, F: Files, W: Write>(
     out: &mut W,
 ) -> Result<(), Stop<'a>>
     ensures saves { SavesOne
-        (IsImageSaving (F.account files.old) writing.source.now writing.image.now)
+        (IsImageSaving (F.account files.old) writing.entry.source.now writing.entry.image.now)
         (F.account files.old) (F.account files.new) }
 {
     let length = save_image(alloc, writing, files, out)?;
@@ -68,6 +69,7 @@ fn write_image<'a, F: Files, W: Write>(
 }
 
 /// Writes the image of a source. Both names are always among the words.
+#[tactic(auto, using(crate::proofs::SavesLaws::saves_none, crate::proofs::SavesLaws::saves_this_such))]
 pub fn compile_named<'a, F: Files, W: Write>(
     alloc: Global,
     words: &[String],
@@ -78,8 +80,8 @@ pub fn compile_named<'a, F: Files, W: Write>(
     ensures saves { SavesOne (IsNamedImage (map string_bytes words.now) (F.account files.old))
         (F.account files.old) (F.account files.new) }
 {
-    if !is_word(words, writing.source) || !is_word(words, writing.image) {
-        return Err(Stop::File(writing.image, FileFault::Failed));
+    if is_word(words, writing.source) && is_word(words, writing.image) {
+        return write_image(alloc, writing, files, out);
     }
-    write_image(alloc, writing, files, out)
+    Err(Stop::File(writing.image, FileFault::Failed))
 }

@@ -71,6 +71,7 @@ fn layouts_of<'a>(alloc: Global, sources: &[Source<'a>]) -> Result<Vec<Layout<'a
 }
 
 // Writes a layout in the place of its source.
+#[tactic(auto, using(crate::proofs::SavesLaws::saves_nothing, crate::proofs::SavesLaws::saves_one))]
 fn write_layout<'a, F: Files, W: Write>(
     alloc: Global,
     layout: &Layout<'a>,
@@ -149,6 +150,7 @@ fn input_alone<'a>(names: &[&'a str]) -> Option<&'a str> {
 
 // Lays sources out anew, or names those whose layout is another one. All are read and laid out
 // before the first is written.
+#[tactic(auto, using(crate::proofs::SavesLaws::saves_nothing))]
 fn format_files<'a, F: Files, W: Write>(
     alloc: Global,
     names: &[&'a str],
@@ -171,6 +173,7 @@ fn format_files<'a, F: Files, W: Write>(
 
 /// Lays sources out, or names those whose layout is another one. The names are always among the
 /// words. The standard input alone goes to the output.
+#[tactic(auto, using(crate::proofs::SavesLaws::saves_nothing))]
 pub fn format_named<'a, F: Files, W: Write>(
     alloc: Global,
     words: &[String],

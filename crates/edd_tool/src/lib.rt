@@ -64,6 +64,7 @@ pub fn run<F: Files, W: Write>(alloc: Global, words: &[String], files: &mut F, o
 }
 
 // All lines are written before the answer, but where a write failed: after that none is tried.
+#[tactic(auto, using(crate::proofs::SavesLaws::may_nothing))]
 fn print_lines<'a, F: Files, W: Write>(
     alloc: Global,
     words: &'a [String],

@@ -1,16 +1,22 @@
 //! Whether the words of a command line have a name, so that it can be proved that nothing is saved
 //! under another one.
 
-ghost use Rattle.std.specs.Prelude.{IsTrue, List, map, string_bytes, ℕ};
-ghost use Rattle.std.specs.List.{Contains};
+ghost use Rattle.std.specs.Prelude.{◌≡◌, ◌++◌, IfSome, IsTrue, codes, map, string_bytes};
+ghost use Rattle.std.specs.List.{All, Contains};
 ghost use Rattle.edd_tool.specs.Saves.{NameRecord};
+
+fn is_same(word: &str, name: &str) -> bool
+    ensures { IsTrue result → word.now ≡ name.now }
+{
+    word == name
+}
 
 /// Whether this is one of the words.
 pub fn is_word(words: &[String], name: &str) -> bool
     ensures { IsTrue result → Contains (map string_bytes words.now) name.now }
 {
     for word in words {
-        if word.as_str() == name {
+        if is_same(word.as_str(), name) {
             return true;
         }
     }
@@ -19,8 +25,8 @@ pub fn is_word(words: &[String], name: &str) -> bool
 
 /// Whether all these are words.
 pub fn are_words(words: &[String], names: &[&str]) -> bool
-    ensures { IsTrue result → (name : List ℕ) → Contains (map (λ name. name.now) names.now) name
-        → Contains (map string_bytes words.now) name }
+    ensures { IsTrue result → All (λ name. Contains (map string_bytes words.now) name.now)
+        names.now }
 {
     for name in names {
         if !is_word(words, *name) {
@@ -33,22 +39,41 @@ pub fn are_words(words: &[String], names: &[&str]) -> bool
 /// The option for a record.
 const RECORD: &str = "--record";
 
+// The name behind the option for a record and an equals sign.
+fn record_in(word: &str) -> Option<&str>
+    ensures { IfSome result (λ name. word.now ≡ codes "--record=" ++ name.now) }
+{
+    word.strip_prefix("--record=")
+}
+
 // Whether the word is the option for a record, an equals sign and this name.
-fn is_record_word(word: &str, name: &str) -> bool {
-    match word.strip_prefix("--record=") {
+fn is_record_word(word: &str, name: &str) -> bool
+    ensures { IsTrue result → word.now ≡ codes "--record=" ++ name.now }
+{
+    match record_in(word) {
         Some(rest) => rest == name,
         None => false,
     }
+}
+
+// Whether a word is the option for a record, an equals sign and this name.
+fn has_record_word(words: &[String], name: &str) -> bool
+    ensures { IsTrue result → Contains (map string_bytes words.now) (codes "--record=" ++ name.now) }
+{
+    for word in words {
+        if is_record_word(word.as_str(), name) {
+            return true;
+        }
+    }
+    false
 }
 
 /// Whether the words name the file for a record.
 pub fn name_record(words: &[String], name: &str) -> bool
     ensures { IsTrue result → NameRecord (map string_bytes words.now) name.now }
 {
-    for word in words {
-        if is_record_word(word.as_str(), name) {
-            return true;
-        }
+    if has_record_word(words, name) {
+        return true;
     }
     is_word(words, RECORD) && is_word(words, name)
 }

@@ -130,6 +130,7 @@ pub fn open_bytes<'a, R: Read + Drop, W: Write>(
 }
 
 // Saves what was set and answered, where that is to be kept.
+#[tactic(auto, using(crate::proofs::SavesLaws::saves_nothing, crate::proofs::SavesLaws::saves_one))]
 fn save_record<'a, F: Files>(
     name: Option<&'a str>,
     noted: &str,
@@ -146,15 +147,16 @@ fn save_record<'a, F: Files>(
         .map_err(|fault| of_file(name, fault))
 }
 
-/// Opens a source or an image, and does what the lines of the standard input say. All files are
-/// opened before anything else is done, and the record is written at the end.
+// Opens a source or an image, and does what the lines of the standard input say. All files are
+// opened before anything else is done, and the record is written at the end.
+#[tactic(auto, using(crate::proofs::SavesLaws::saves_nothing))]
 fn open<'a, F: Files, W: Write>(
     alloc: Global,
     opening: Opening<'a>,
     files: &mut F,
     out: &mut W,
 ) -> Result<(), Stop<'a>>
-    ensures saves { SavesEach (IsRecord (option_map (λ name. name.now) opening.record_file))
+    ensures saves { SavesEach (IsRecord (option_map (λ name. name.now) opening.entry.record_file))
         (F.account files.old) (F.account files.new) }
 {
     let bytes = read(alloc, files, opening.file)?;
@@ -172,7 +174,7 @@ fn open<'a, F: Files, W: Write>(
 
 // Whether the words name the file for a record, if there is to be one.
 fn is_named(words: &[String], name: Option<&str>) -> bool
-    ensures { IsTrue result → (s : Saving) → IsRecord (option_map (λ name. name.now) name) s
+    ensures { IsTrue result → (s : Saving) → IsRecord (option_map (λ name. name.now) name.entry) s
         → NameRecord (map string_bytes words.now) s.name }
 {
     match name {
@@ -182,6 +184,7 @@ fn is_named(words: &[String], name: Option<&str>) -> bool
 }
 
 /// Opens a source or an image. The name of the record's file is always among the words.
+#[tactic(auto, using(crate::proofs::SavesLaws::saves_nothing, crate::proofs::SavesLaws::saves_such))]
 pub fn open_named<'a, F: Files, W: Write>(
     alloc: Global,
     words: &[String],

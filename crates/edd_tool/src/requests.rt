@@ -223,6 +223,7 @@ fn dump_file<'a, F: Files, W: Write>(
 
 /// Does what the words of the command line ask for. All files are read before anything else is
 /// done.
+#[tactic(auto, using(crate::proofs::SavesLaws::may_nothing, crate::proofs::SavesLaws::may_image, crate::proofs::SavesLaws::may_layout, crate::proofs::SavesLaws::may_update, crate::proofs::SavesLaws::may_record))]
 pub fn answer<'a, F: Files, W: Write>(
     alloc: Global,
     words: &'a [String],

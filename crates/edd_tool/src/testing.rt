@@ -1,8 +1,8 @@
 //! What the program does to run the tests of a maker.
 
-ghost use Rattle.std.specs.Prelude.{◌≡◌, ◌∷◌, [], List, Option, map, string_bytes, ℕ};
-ghost use Rattle.std.specs.List.{All};
-ghost use Rattle.edd_tool.specs.Saves.{Account, IsNamedUpdate, IsRead, IsUpdate, SavesEach};
+ghost use Rattle.std.specs.Prelude.{◌≡◌, IsTrue, List, Option, codes, map, string_bytes, ℕ};
+ghost use Rattle.std.specs.List.{All, Contains};
+ghost use Rattle.edd_tool.specs.Saves.{Account, IsNamedUpdate, IsRead, IsUpdate, IsUpdateOf, SavesEach};
 
 use crate::files::{FileFault, Files};
 use crate::naming::{are_words, is_word};
@@ -164,6 +164,7 @@ fn test_case<'a, F: Files, W: Write>(
 }
 
 // Runs the tests of a file, and writes it anew where what was seen in it differs.
+#[tactic(auto, using(crate::proofs::SavesLaws::saves_nothing, crate::proofs::SavesLaws::saves_one))]
 fn test_all<'a, F: Files, W: Write>(
     alloc: Global,
     given: Given<'a>,
@@ -173,7 +174,7 @@ fn test_all<'a, F: Files, W: Write>(
     out: &mut W,
     tally: &mut Tally,
 ) -> Result<(), Stop<'a>>
-    ensures saves { SavesEach (IsUpdate given.is_update (given.name.now ∷ []))
+    ensures saves { SavesEach (IsUpdateOf given.entry.is_update given.entry.name.now)
         (F.account files.old) (F.account files.new) }
 {
     let mut file = String::new(alloc);
@@ -191,6 +192,7 @@ fn test_all<'a, F: Files, W: Write>(
 }
 
 // Runs the tests of a file, or says why it is not read.
+#[tactic(auto, using(crate::proofs::SavesLaws::saves_nothing))]
 fn test_file<'a, F: Files, W: Write>(
     alloc: Global,
     given: Given<'a>,
@@ -199,7 +201,7 @@ fn test_file<'a, F: Files, W: Write>(
     out: &mut W,
     tally: &mut Tally,
 ) -> Result<(), Stop<'a>>
-    ensures saves { SavesEach (IsUpdate given.is_update (given.name.now ∷ []))
+    ensures saves { SavesEach (IsUpdateOf given.entry.is_update given.entry.name.now)
         (F.account files.old) (F.account files.new) }
 {
     let Misread { line, fault } = match read_tests(alloc, bytes) {
@@ -218,7 +220,7 @@ fn test_file<'a, F: Files, W: Write>(
     Ok(())
 }
 
-// Runs the tests of all files.
+// Runs the tests of files that were read.
 fn test_each<'a, F: Files, W: Write>(
     alloc: Global,
     sources: &[Source<'a>],
@@ -241,8 +243,24 @@ fn test_each<'a, F: Files, W: Write>(
     Ok(tally)
 }
 
-// Runs the tests of all files, which are read before anything else is done, and says which of them
-// passed. With `is_update` what was seen is written in place of what was expected.
+// Reads all files, and runs their tests then.
+#[tactic(auto, using(crate::proofs::SavesLaws::saves_nothing))]
+fn tally_of<'a, F: Files, W: Write>(
+    alloc: Global,
+    names: &[&'a str],
+    is_update: bool,
+    files: &mut F,
+    out: &mut W,
+) -> Result<Tally, Stop<'a>>
+    ensures saves { SavesEach (IsUpdate is_update (map (λ name. name.now) names.now))
+        (F.account files.old) (F.account files.new) }
+{
+    let sources = read_sources(alloc, names, files)?;
+    test_each(alloc, &sources, is_update, files, out)
+}
+
+// Runs the tests of all files, and says which of them passed. With `is_update` what was seen is
+// written in place of what was expected.
 fn test_files<'a, F: Files, W: Write>(
     alloc: Global,
     names: &[&'a str],
@@ -253,8 +271,7 @@ fn test_files<'a, F: Files, W: Write>(
     ensures saves { SavesEach (IsUpdate is_update (map (λ name. name.now) names.now))
         (F.account files.old) (F.account files.new) }
 {
-    let sources = read_sources(alloc, names, files)?;
-    let tally = test_each(alloc, &sources, is_update, files, out)?;
+    let tally = tally_of(alloc, names, is_update, files, out)?;
     print_text(out, &tally.line(alloc)?)?;
     if tally.has_passed() {
         Ok(())
@@ -266,8 +283,21 @@ fn test_files<'a, F: Files, W: Write>(
 /// The option that has files of tests written anew.
 const UPDATE: &str = "--update";
 
+// Whether the words say that files are to be written anew, if they are.
+fn is_asked(words: &[String], is_update: bool) -> bool
+    ensures { IsTrue result → IsTrue is_update
+        → Contains (map string_bytes words.now) (codes "--update") }
+{
+    if is_update {
+        is_word(words, UPDATE)
+    } else {
+        true
+    }
+}
+
 /// Runs the tests of all files. Their names, and the option where they are to be written anew, are
 /// always among the words.
+#[tactic(auto, using(crate::proofs::SavesLaws::saves_nothing))]
 pub fn test_named<'a, F: Files, W: Write>(
     alloc: Global,
     words: &[String],
@@ -279,7 +309,10 @@ pub fn test_named<'a, F: Files, W: Write>(
     ensures saves { SavesEach (IsNamedUpdate (map string_bytes words.now)) (F.account files.old)
         (F.account files.new) }
 {
-    if !are_words(words, names) || (is_update && !is_word(words, UPDATE)) {
+    if !are_words(words, names) {
+        return Err(Stop::File(INPUT, FileFault::Failed));
+    }
+    if !is_asked(words, is_update) {
         return Err(Stop::File(INPUT, FileFault::Failed));
     }
     test_files(alloc, names, is_update, files, out)

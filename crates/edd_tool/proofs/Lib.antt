@@ -1,0 +1,2 @@
+pub mod SavesLaws
+pub mod WordsFound
