@@ -5,11 +5,10 @@ use crate::requests::Stop;
 use edd_command_line::Run;
 use edd_compiler::{Fault, compile};
 use edd_device::{Device, DeviceFault, Trial};
-use edd_display::show_play;
+use edd_display::{show_play, trap_word};
 use edd_loader::{Image, load};
 use edd_machine::Values;
 use edd_syntax::numbers::ItemNo;
-use edd_tracing::trap_word;
 use std::alloc::{AllocError, Global};
 use std::io::Write;
 

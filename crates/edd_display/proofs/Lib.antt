@@ -1,0 +1,6 @@
+pub mod Escaping
+pub mod Marking
+pub mod OneText
+pub mod Positions
+pub mod Printing
+pub mod Quotes

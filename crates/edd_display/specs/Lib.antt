@@ -1,0 +1,5 @@
+pub mod Words
+pub mod Records
+pub mod Shown
+pub mod Found
+pub mod Played
