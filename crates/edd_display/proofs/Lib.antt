@@ -1,4 +1,5 @@
 pub mod Escaping
+pub mod Following
 pub mod Marking
 pub mod OneText
 pub mod Positions

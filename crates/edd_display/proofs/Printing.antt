@@ -18,7 +18,7 @@ range_suc a (suc n) =
     let same : a + 1 + n ≡ a + suc n = omega arith in
     ap (λ zs. a ∷ zs) (range_suc (a + 1) n ∙ ap (λ k. range_with_len (a + 1) n ++ k ∷ []) same)
 
-range_more : (n : ℕ) → range_with_len 0 (n + 1) ≡ range_with_len 0 n ++ n ∷ []
+pub range_more : (n : ℕ) → range_with_len 0 (n + 1) ≡ range_with_len 0 n ++ n ∷ []
 range_more n =
     let next : n + 1 ≡ suc n = omega arith in
     let same : 0 + n ≡ n = omega arith in

@@ -1,8 +1,8 @@
 -- What an image shows under values of a device: its entries, and the line of each.
-use Rattle.std.specs.Prelude.{◌≡◌, ℕ, ℤ, Bool, true, false, not, ◌&&◌, ◌||◌, if◌then◌else◌, List, [], ◌∷◌, ◌++◌, Option, Some, None, slice_get, codes}
+use Rattle.std.specs.Prelude.{◌≡◌, ℕ, ℤ, Bool, true, false, not, ◌&&◌, ◌||◌, if◌then◌else◌, List, [], ◌∷◌, ◌++◌, map, Option, Some, None, slice_get, codes}
 use Rattle.std.specs.Fmt.{decimal}
 use Rattle.std.specs.Io.KnownBytes.{Appends}
-use Rattle.std.specs.List.{flat_map, range_with_len, take_while}
+use Rattle.std.specs.List.{filter, flat_map, list_any, range_with_len}
 use Rattle.edd_syntax.specs.declared.numbers.Kind.{Kind}
 use Rattle.edd_syntax.specs.declared.numbers.Kind.TheVariants.{Variable, Command, Menu, Collection, Method, Array}
 use Rattle.edd_syntax.specs.declared.numbers.ItemNo.{ItemNo}
@@ -49,19 +49,22 @@ attributes =
 abbrev pub row_at : ItemNo → Attr → (sub : ℕ) → AttrRef
 row_at item a sub = record { item = item; attr = a; sub = sub }
 
--- the item has a transaction at the position
-abbrev pub has_transaction : Contents → ItemNo → (sub : ℕ) → Bool
-has_transaction c item sub = not (is_no_item c (row_at item attr.Transaction sub))
-
--- the positions of the transactions: from 0 up to the first that has none
-unfoldable pub positions_of : Contents → ItemNo → List ℕ
-positions_of c item = take_while (has_transaction c item) (range_with_len 0 65536)
-
 -- the attributes of a transaction, by their numbers
+abbrev pub transaction_attributes : List Attr
+transaction_attributes = attr.Transaction ∷ attr.Request ∷ attr.Reply ∷ []
+
+-- at the position there is a transaction, or a part of one
+abbrev pub has_transaction : Contents → ItemNo → (sub : ℕ) → Bool
+has_transaction c item sub =
+    list_any (λ a. not (is_no_item c (row_at item a sub))) transaction_attributes
+
+-- the positions of all transactions of an item
+unfoldable pub positions_of : Contents → ItemNo → List ℕ
+positions_of c item = filter (has_transaction c item) (range_with_len 0 65536)
+
+-- the attributes of the transaction at a position
 abbrev pub transaction_entries : ItemNo → (sub : ℕ) → List Entry
-transaction_entries item sub =
-    Row (row_at item attr.Transaction sub) ∷ Row (row_at item attr.Request sub)
-    ∷ Row (row_at item attr.Reply sub) ∷ []
+transaction_entries item sub = map (λ a. Row (row_at item a sub)) transaction_attributes
 
 -- All transactions are at the place of TRANSACTION. DEFINITION is no attribute that is read.
 abbrev pub entries_at : Contents → ItemNo → Attr → List Entry
@@ -121,6 +124,12 @@ unfoldable pub reading_shown : Contents → (code : List ℕ) → Reading → Li
 reading_shown c code NoItem = []
 reading_shown c code (Records rs) = records_shown c code rs
 reading_shown c code (Fault why) = codes " fault " ++ trap_word why
+
+-- there is nothing to read
+abbrev pub is_absent : Reading → Bool
+is_absent NoItem = true
+is_absent (Records rs) = false
+is_absent (Fault why) = false
 
 -- there is no record, and no trap
 abbrev pub is_nothing : Reading → Bool

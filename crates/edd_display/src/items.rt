@@ -9,12 +9,15 @@ ghost use Rattle.edd_image.specs.Contents.{contents_in};
 ghost use Rattle.edd_instructions.specs.Agreement.{count_in};
 ghost use Rattle.edd_loader.specs.Lookups.{type_of_kind};
 ghost use Rattle.edd_machine.specs.Types.{types_in};
+ghost use Rattle.edd_display.specs.Gaps.{HasNoGap};
+ghost use Rattle.edd_display.specs.Shown as shown;
 ghost use Rattle.edd_display.specs.Shown.{Prints, after_name, attribute_entries, attributes, blames_values, entries_of, has_transaction, head_line, identification_line, item_entries, kind_entries, kinds, positions_of, transaction_entries, type_shown};
 
 use crate::fault::ShowFault;
+use crate::gaps::has_gap;
 use crate::lines::print;
 use crate::page::Page;
-use crate::rows::{Found, print_found, print_row, read};
+use crate::rows::{is_any_found, print_found, print_row, read};
 use crate::words::type_word;
 use edd_image::{Counts, VarKind};
 use edd_loader::Image;
@@ -22,6 +25,12 @@ use edd_machine::Values;
 use edd_syntax::numbers::{ATTRIBUTES, Attr, AttrRef, ItemNo, KINDS, Kind};
 use std::alloc::Global;
 use std::io::Write;
+
+fn row_at(item: ItemNo, attr: Attr, sub: u16) -> AttrRef
+    ensures { result ≡ shown.row_at item attr sub }
+{
+    AttrRef { item, attr, sub }
+}
 
 // Whether there is a transaction at this position. If so, its three lines are printed.
 #[tactic(auto, using(crate::proofs::Printing::prints_nothing))]
@@ -41,31 +50,33 @@ fn print_transaction<W: Write>(
         (W.contents out.old) (W.contents out.new)) }
     ensures refused { IfErr result (λ fault. blames_values fault ≡ false) }
 {
-    let row = AttrRef {
-        item,
-        attr: Attr::Transaction,
-        sub,
-    };
-    let found = read(alloc, page, row, values)?;
-    if matches!(&found, Found::Nothing) {
+    let at = row_at(item, Attr::Transaction, sub);
+    let request_at = row_at(item, Attr::Request, sub);
+    let reply_at = row_at(item, Attr::Reply, sub);
+    let transaction = read(alloc, page, at, values)?;
+    let request = read(alloc, page, request_at, values)?;
+    let reply = read(alloc, page, reply_at, values)?;
+    let exists = is_any_found(&transaction, &request, &reply);
+    if !exists {
         return Ok(false);
     }
-    print_found(alloc, page, row, &found, out)?;
-    let attr = Attr::Request;
-    print_row(alloc, page, values, AttrRef { item, attr, sub }, out)?;
-    let attr = Attr::Reply;
-    print_row(alloc, page, values, AttrRef { item, attr, sub }, out)?;
+    print_found(alloc, page, at, &transaction, out)?;
+    print_found(alloc, page, request_at, &request, out)?;
+    print_found(alloc, page, reply_at, &reply, out)?;
     Ok(true)
 }
 
+// The lines of all transactions. Where there is no gap, the first position that has none ends them.
 fn print_transactions<W: Write>(
     alloc: Global,
     page: &Page<'_, '_>,
     values: &Values,
+    has_gap: bool,
     item: ItemNo,
     out: &mut W,
 ) -> Result<(), ShowFault>
-    requires { AreDeviceValues (types_in page.now.image.now) values.now.numbers.items }
+    requires good { AreDeviceValues (types_in page.now.image.now) values.now.numbers.items }
+    requires gap { has_gap ≡ false → HasNoGap (contents_in page.now.image.now) }
     ensures sound { OnOk result (Prints page.now.image.now values.now.numbers.items
         page.now.language.now (flat_map (transaction_entries item)
         (positions_of (contents_in page.now.image.now) item))
@@ -73,7 +84,8 @@ fn print_transactions<W: Write>(
     ensures refused { IfErr result (λ fault. blames_values fault ≡ false) }
 {
     for sub in 0..65_536u32 {
-        if !print_transaction(alloc, page, values, item, sub as u16, out)? {
+        let exists = print_transaction(alloc, page, values, item, sub as u16, out)?;
+        if !exists && !has_gap {
             return Ok(());
         }
     }
@@ -86,11 +98,13 @@ fn print_attribute<W: Write>(
     alloc: Global,
     page: &Page<'_, '_>,
     values: &Values,
+    has_gap: bool,
     item: ItemNo,
     attr: Attr,
     out: &mut W,
 ) -> Result<(), ShowFault>
-    requires { AreDeviceValues (types_in page.now.image.now) values.now.numbers.items }
+    requires good { AreDeviceValues (types_in page.now.image.now) values.now.numbers.items }
+    requires gap { has_gap ≡ false → HasNoGap (contents_in page.now.image.now) }
     ensures sound { OnOk result (Prints page.now.image.now values.now.numbers.items
         page.now.language.now (attribute_entries (contents_in page.now.image.now) item attr)
         (W.contents out.old) (W.contents out.new)) }
@@ -100,12 +114,12 @@ fn print_attribute<W: Write>(
         return Ok(());
     }
     if matches!(attr, Attr::Transaction) {
-        return print_transactions(alloc, page, values, item, out);
+        return print_transactions(alloc, page, values, has_gap, item, out);
     }
     if attr.is_of_transaction() || matches!(attr, Attr::Definition) {
         return Ok(());
     }
-    print_row(alloc, page, values, AttrRef { item, attr, sub: 0 }, out)
+    print_row(alloc, page, values, row_at(item, attr, 0), out)
 }
 
 // The attributes of an item, by their numbers.
@@ -114,17 +128,19 @@ fn print_attributes<W: Write>(
     alloc: Global,
     page: &Page<'_, '_>,
     values: &Values,
+    has_gap: bool,
     item: ItemNo,
     out: &mut W,
 ) -> Result<(), ShowFault>
-    requires { AreDeviceValues (types_in page.now.image.now) values.now.numbers.items }
+    requires good { AreDeviceValues (types_in page.now.image.now) values.now.numbers.items }
+    requires gap { has_gap ≡ false → HasNoGap (contents_in page.now.image.now) }
     ensures sound { OnOk result (Prints page.now.image.now values.now.numbers.items
         page.now.language.now (flat_map (attribute_entries (contents_in page.now.image.now) item)
         attributes) (W.contents out.old) (W.contents out.new)) }
     ensures refused { IfErr result (λ fault. blames_values fault ≡ false) }
 {
     for attr in ATTRIBUTES {
-        print_attribute(alloc, page, values, item, attr, out)?;
+        print_attribute(alloc, page, values, has_gap, item, attr, out)?;
     }
     Ok(())
 }
@@ -170,11 +186,13 @@ fn print_item<W: Write>(
     page: &Page<'_, '_>,
     values: &Values,
     are_good: bool,
+    has_gap: bool,
     item: ItemNo,
     out: &mut W,
 ) -> Result<(), ShowFault>
-    requires { IsTrue are_good ↔ AreDeviceValues (types_in page.now.image.now)
+    requires good { IsTrue are_good ↔ AreDeviceValues (types_in page.now.image.now)
         values.now.numbers.items }
+    requires gap { has_gap ≡ false → HasNoGap (contents_in page.now.image.now) }
     ensures sound { OnOk result (Prints page.now.image.now values.now.numbers.items
         page.now.language.now (item_entries (contents_in page.now.image.now) item)
         (W.contents out.old) (W.contents out.new)) }
@@ -185,7 +203,7 @@ fn print_item<W: Write>(
     if !are_good {
         return Err(ShowFault::WrongValues);
     }
-    print_attributes(alloc, page, values, item, out)?;
+    print_attributes(alloc, page, values, has_gap, item, out)?;
     Ok(())
 }
 
@@ -208,11 +226,13 @@ fn print_kind<W: Write>(
     page: &Page<'_, '_>,
     values: &Values,
     are_good: bool,
+    has_gap: bool,
     kind: Kind,
     out: &mut W,
 ) -> Result<(), ShowFault>
-    requires { IsTrue are_good ↔ AreDeviceValues (types_in page.now.image.now)
+    requires good { IsTrue are_good ↔ AreDeviceValues (types_in page.now.image.now)
         values.now.numbers.items }
+    requires gap { has_gap ≡ false → HasNoGap (contents_in page.now.image.now) }
     ensures sound { OnOk result (Prints page.now.image.now values.now.numbers.items
         page.now.language.now (kind_entries (contents_in page.now.image.now) kind)
         (W.contents out.old) (W.contents out.new)) }
@@ -221,7 +241,8 @@ fn print_kind<W: Write>(
 {
     let count = count_of(&page.counts(), kind);
     for number in 0..count {
-        print_item(alloc, page, values, are_good, kind.item(number), out)?;
+        let item = kind.item(number);
+        print_item(alloc, page, values, are_good, has_gap, item, out)?;
     }
     Ok(())
 }
@@ -240,8 +261,9 @@ fn print_kinds<W: Write>(
         → ¬ AreDeviceValues (types_in page.now.image.now) values.now.numbers.items) }
 {
     let are_good = values.are_of(page.image);
+    let has_gap = has_gap(page.image);
     for kind in KINDS {
-        print_kind(alloc, page, values, are_good, kind, out)?;
+        print_kind(alloc, page, values, are_good, has_gap, kind, out)?;
     }
     Ok(())
 }

@@ -3,6 +3,7 @@
 #![tactic(auto)]
 
 mod fault;
+mod gaps;
 mod items;
 mod laws;
 mod lines;

@@ -1,13 +1,13 @@
 //! The line of an attribute.
 
-ghost use Rattle.std.specs.Prelude.{◌≡◌, ◌++◌, ◌∷◌, [], IfErr, IfOk, OnOk, false, string_bytes};
+ghost use Rattle.std.specs.Prelude.{◌≡◌, ◌++◌, ◌∷◌, [], IfErr, IfOk, OnOk, false, not, ◌||◌, string_bytes};
 ghost use Rattle.std.specs.Io.KnownBytes.{Appends};
 ghost use Rattle.edd_syntax.specs.DeviceValues.{AreDeviceValues};
 ghost use Rattle.edd_image.specs.Contents.{contents_in};
 ghost use Rattle.edd_instructions.specs.Reading.{IsReading};
 ghost use Rattle.edd_machine.specs.Types.{types_in};
 ghost use Rattle.edd_display.specs.Found.{reading_found};
-ghost use Rattle.edd_display.specs.Shown.{Prints, Row, blames_values, is_nothing, reading_line, reading_shown, row_word};
+ghost use Rattle.edd_display.specs.Shown.{Prints, Row, blames_values, is_absent, is_nothing, reading_line, reading_shown, row_word};
 
 use crate::fault::ShowFault;
 use crate::lines::print;
@@ -51,6 +51,22 @@ pub fn read(
         Err(ReadFault::WrongValues) => unreachable!(),
         Err(ReadFault::Memory) => Err(ShowFault::Memory),
     }
+}
+
+// Whether there is nothing to read.
+fn is_absent(found: &Found) -> bool
+    ensures { result ≡ is_absent (reading_found found.now) }
+{
+    matches!(found, Found::Nothing)
+}
+
+/// Whether one of the three attributes of a transaction was found.
+pub fn is_any_found(transaction: &Found, request: &Found, reply: &Found) -> bool
+    ensures { result ≡ (not (is_absent (reading_found transaction.now))
+        || (not (is_absent (reading_found request.now))
+        || not (is_absent (reading_found reply.now)))) }
+{
+    !is_absent(transaction) || !is_absent(request) || !is_absent(reply)
 }
 
 // Whether there is nothing to say.

@@ -9,4 +9,4 @@ loop-number-preserved g c =
     prints_numbers _ _ _
     (λ n. item_entries (contents_in c.args.page.now.image.now) (item_number c.args.kind n))
     c.loop-number.number _ (g.W.Write.contents c.loop-number.out) _ c.loop-number.invariant
-    (rw c.item.ensures at c.in_ok-print_item.ensures.sound)
+    (rw c.item-item.ensures at c.in_ok-print_item.ensures.sound)
