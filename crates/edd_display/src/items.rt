@@ -93,7 +93,7 @@ fn print_transactions<W: Write>(
 }
 
 // The lines of an attribute. Those of transactions are together, at the place of TRANSACTION.
-#[tactic(auto, using(crate::proofs::Printing::prints_nothing), unfolding(crate::specs::Shown::attribute_entries))]
+#[tactic(auto, using(crate::proofs::Printing::prints_nothing), unfolding(crate::specs::Shown::attribute_entries),)]
 fn print_attribute<W: Write>(
     alloc: Global,
     page: &Page<'_, '_>,
@@ -123,7 +123,7 @@ fn print_attribute<W: Write>(
 }
 
 // The attributes of an item, by their numbers.
-#[tactic(auto, using(crate::proofs::Printing::prints_nothing, crate::proofs::Printing::prints_items))]
+#[tactic(auto, using(crate::proofs::Printing::prints_nothing, crate::proofs::Printing::prints_items),)]
 fn print_attributes<W: Write>(
     alloc: Global,
     page: &Page<'_, '_>,
@@ -180,7 +180,7 @@ fn print_head<W: Write>(
 
 // `are_good` says whether the values are those of a device of this description. Each item has an
 // attribute that is read, so with other values none gets past its first line.
-#[tactic(auto, using(crate::proofs::Printing::prints_after_head), unfolding(crate::specs::Shown::item_entries))]
+#[tactic(auto, using(crate::proofs::Printing::prints_after_head), unfolding(crate::specs::Shown::item_entries),)]
 fn print_item<W: Write>(
     alloc: Global,
     page: &Page<'_, '_>,
@@ -220,7 +220,7 @@ fn count_of(counts: &Counts, kind: Kind) -> u16
     }
 }
 
-#[tactic(auto, using(crate::proofs::Printing::prints_nothing, crate::proofs::Printing::prints_numbers), unfolding(crate::specs::Shown::kind_entries))]
+#[tactic(auto, using(crate::proofs::Printing::prints_nothing, crate::proofs::Printing::prints_numbers), unfolding(crate::specs::Shown::kind_entries),)]
 fn print_kind<W: Write>(
     alloc: Global,
     page: &Page<'_, '_>,
@@ -247,7 +247,7 @@ fn print_kind<W: Write>(
     Ok(())
 }
 
-#[tactic(auto, using(crate::proofs::Printing::prints_nothing, crate::proofs::Printing::prints_items))]
+#[tactic(auto, using(crate::proofs::Printing::prints_nothing, crate::proofs::Printing::prints_items),)]
 fn print_kinds<W: Write>(
     alloc: Global,
     page: &Page<'_, '_>,
@@ -291,7 +291,7 @@ fn print_identification<W: Write>(
 /// Prints the identification, and each item by kind and number, with its attributes by theirs.
 ///
 /// The fault is `WrongValues` only where the values are not those of a device of this description.
-#[tactic(auto, using(crate::proofs::Printing::prints_after_identification), unfolding(crate::specs::Shown::entries_of))]
+#[tactic(auto, using(crate::proofs::Printing::prints_after_identification), unfolding(crate::specs::Shown::entries_of),)]
 pub fn show<W: Write>(
     alloc: Global,
     image: &Image<'_>,
