@@ -1,6 +1,8 @@
 //! Why the lines of an image are not all printed.
 
-use edd_machine::ReadFault;
+ghost use Rattle.std.specs.Prelude.{◌≡◌};
+ghost use Rattle.edd_display.specs.declared.fault.ShowFault.TheVariants as show_fault;
+
 use std::alloc::{AllocError, AllocFailed};
 use std::fmt;
 
@@ -15,12 +17,16 @@ pub enum ShowFault {
 }
 
 impl From<AllocError> for ShowFault {
+    ghost from_gives = { λ _ e. e ≡ show_fault.Memory };
+
     fn from(_error: AllocError) -> ShowFault {
         ShowFault::Memory
     }
 }
 
 impl<T: Drop> From<AllocFailed<T>> for ShowFault {
+    ghost from_gives = { λ _ e. e ≡ show_fault.Memory };
+
     fn from(_error: AllocFailed<T>) -> ShowFault {
         ShowFault::Memory
     }
@@ -28,6 +34,8 @@ impl<T: Drop> From<AllocFailed<T>> for ShowFault {
 
 // A String that is written to fails for lack of memory alone.
 impl From<fmt::Error> for ShowFault {
+    ghost from_gives = { λ _ e. e ≡ show_fault.Memory };
+
     fn from(_error: fmt::Error) -> ShowFault {
         ShowFault::Memory
     }

@@ -1,96 +1,39 @@
 //! The lines of the items of an image.
 
-ghost use Rattle.std.specs.Prelude.{IsTrue};
+ghost use Rattle.std.specs.Prelude.{◌≡◌, ◌++◌, ◌∷◌, ◌↔◌, [], IfErr, IfOk, IsTrue, OnOk, false, if◌then◌else◌, option_map};
+ghost use Rattle.std.specs.Io.KnownBytes.{Appends};
+ghost use Rattle.std.specs.List.{flat_map};
 ghost use Rattle.edd_syntax.specs.DeviceValues.{AreDeviceValues};
+ghost use Rattle.edd_syntax.specs.Numbers as numbers;
+ghost use Rattle.edd_image.specs.Contents.{contents_in};
+ghost use Rattle.edd_instructions.specs.Agreement.{count_in};
+ghost use Rattle.edd_loader.specs.Lookups.{type_of_kind};
 ghost use Rattle.edd_machine.specs.Types.{types_in};
+ghost use Rattle.edd_display.specs.Gaps.{HasNoGap};
+ghost use Rattle.edd_display.specs.Shown as shown;
+ghost use Rattle.edd_display.specs.Shown.{Prints, after_name, attribute_entries, attributes, blames_values, entries_of, has_transaction, head_line, identification_line, item_entries, kind_entries, kinds, positions_of, transaction_entries, type_shown};
 
 use crate::fault::ShowFault;
+use crate::gaps::has_gap;
 use crate::lines::print;
 use crate::page::Page;
-use crate::records::push_records;
-use crate::words::{trap_word, type_word};
+use crate::rows::{is_any_found, print_found, print_row, read};
+use crate::words::type_word;
 use edd_image::{Counts, VarKind};
-use edd_instructions::Record;
 use edd_loader::Image;
-use edd_machine::{ReadFault, Values, attribute_of_device};
-use edd_syntax::answer::Trap;
+use edd_machine::Values;
 use edd_syntax::numbers::{ATTRIBUTES, Attr, AttrRef, ItemNo, KINDS, Kind};
 use std::alloc::Global;
-use std::fmt::Write as _;
 use std::io::Write;
 
-// What a read of an attribute results in.
-#[derive(Drop)]
-enum Found {
-    Nothing,
-    Records(Vec<Record>),
-    Trap(Trap),
-}
-
-fn read(
-    alloc: Global,
-    page: &Page<'_, '_>,
-    row: AttrRef,
-    values: &Values,
-) -> Result<Found, ShowFault>
-    requires { AreDeviceValues (types_in page.now.image.now) values.now.numbers.items }
+fn row_at(item: ItemNo, attr: Attr, sub: u16) -> AttrRef
+    ensures { result ≡ shown.row_at item attr sub }
 {
-    match attribute_of_device(alloc, page.image, row, values) {
-        Ok(records) => Ok(Found::Records(records)),
-        Err(ReadFault::NoItem) => Ok(Found::Nothing),
-        Err(ReadFault::DivZero) => Ok(Found::Trap(Trap::DivZero)),
-        Err(ReadFault::DivOverflow) => Ok(Found::Trap(Trap::DivOverflow)),
-        Err(ReadFault::BadShift) => Ok(Found::Trap(Trap::BadShift)),
-        Err(ReadFault::NoElement) => Ok(Found::Trap(Trap::NoElement)),
-        Err(ReadFault::WrongValues) => Err(ShowFault::WrongValues),
-        Err(ReadFault::Memory) => Err(ShowFault::Memory),
-    }
+    AttrRef { item, attr, sub }
 }
 
-// Prints a line that begins with this word.
-fn print_found<W: Write>(
-    alloc: Global,
-    page: &Page<'_, '_>,
-    word: String,
-    found: Found,
-    out: &mut W,
-) -> Result<(), ShowFault> {
-    let mut line = word;
-    match found {
-        Found::Nothing => {}
-        Found::Records(records) => push_records(page, &mut line, &records)?,
-        Found::Trap(why) => {
-            let word = trap_word(why);
-            write!(line, " fault {word}")?;
-        }
-    }
-    print(alloc, out, line.as_str())
-}
-
-// The line of an attribute, where it gives anything.
-fn print_attribute<W: Write>(
-    alloc: Global,
-    page: &Page<'_, '_>,
-    values: &Values,
-    row: AttrRef,
-    out: &mut W,
-) -> Result<(), ShowFault>
-    requires { AreDeviceValues (types_in page.now.image.now) values.now.numbers.items }
-{
-    let found = read(alloc, page, row, values)?;
-    let is_empty = match &found {
-        Found::Nothing => true,
-        Found::Records(records) => records.is_empty(),
-        Found::Trap(_) => false,
-    };
-    if is_empty {
-        return Ok(());
-    }
-    let word = String::from_str(alloc, row.attr.word())?;
-    print_found(alloc, page, word, found, out)
-}
-
-// The three lines of a transaction, if there is one at this position.
+// Whether there is a transaction at this position. If so, its three lines are printed.
+#[tactic(auto, using(crate::proofs::Printing::prints_nothing))]
 fn print_transaction<W: Write>(
     alloc: Global,
     page: &Page<'_, '_>,
@@ -100,92 +43,133 @@ fn print_transaction<W: Write>(
     out: &mut W,
 ) -> Result<bool, ShowFault>
     requires { AreDeviceValues (types_in page.now.image.now) values.now.numbers.items }
+    ensures exists { IfOk result (λ exists. exists
+        ≡ has_transaction (contents_in page.now.image.now) item sub) }
+    ensures sound { IfOk result (λ exists. Prints page.now.image.now values.now.numbers.items
+        page.now.language.now (if exists then transaction_entries item sub else [])
+        (W.contents out.old) (W.contents out.new)) }
+    ensures refused { IfErr result (λ fault. blames_values fault ≡ false) }
 {
-    for attr in ATTRIBUTES {
-        if !attr.is_of_transaction() {
-            continue;
-        }
-        let row = AttrRef { item, attr, sub };
-        let found = read(alloc, page, row, values)?;
-        if attr == Attr::Transaction && matches!(&found, Found::Nothing) {
-            return Ok(false);
-        }
-        let word = format!(in alloc; "{}[{sub}]", attr.word())?;
-        print_found(alloc, page, word, found, out)?;
+    let at = row_at(item, Attr::Transaction, sub);
+    let request_at = row_at(item, Attr::Request, sub);
+    let reply_at = row_at(item, Attr::Reply, sub);
+    let transaction = read(alloc, page, at, values)?;
+    let request = read(alloc, page, request_at, values)?;
+    let reply = read(alloc, page, reply_at, values)?;
+    let exists = is_any_found(&transaction, &request, &reply);
+    if !exists {
+        return Ok(false);
     }
+    print_found(alloc, page, at, &transaction, out)?;
+    print_found(alloc, page, request_at, &request, out)?;
+    print_found(alloc, page, reply_at, &reply, out)?;
     Ok(true)
 }
 
+// The lines of all transactions. Where there is no gap, the first position that has none ends them.
 fn print_transactions<W: Write>(
     alloc: Global,
     page: &Page<'_, '_>,
     values: &Values,
+    has_gap: bool,
     item: ItemNo,
     out: &mut W,
 ) -> Result<(), ShowFault>
-    requires { AreDeviceValues (types_in page.now.image.now) values.now.numbers.items }
+    requires good { AreDeviceValues (types_in page.now.image.now) values.now.numbers.items }
+    requires gap { has_gap ≡ false → HasNoGap (contents_in page.now.image.now) }
+    ensures sound { OnOk result (Prints page.now.image.now values.now.numbers.items
+        page.now.language.now (flat_map (transaction_entries item)
+        (positions_of (contents_in page.now.image.now) item))
+        (W.contents out.old) (W.contents out.new)) }
+    ensures refused { IfErr result (λ fault. blames_values fault ≡ false) }
 {
-    for sub in 0..=u16::MAX {
-        if !print_transaction(alloc, page, values, item, sub, out)? {
+    for sub in 0..65_536u32 {
+        let exists = print_transaction(alloc, page, values, item, sub as u16, out)?;
+        if !exists && !has_gap {
             return Ok(());
         }
     }
     Ok(())
 }
 
-// The line of an attribute. Those of transactions are together, at the place of TRANSACTION.
-fn print_attribute_of<W: Write>(
+// The lines of an attribute. Those of transactions are together, at the place of TRANSACTION.
+#[tactic(auto, using(crate::proofs::Printing::prints_nothing), unfolding(crate::specs::Shown::attribute_entries),)]
+fn print_attribute<W: Write>(
     alloc: Global,
     page: &Page<'_, '_>,
     values: &Values,
+    has_gap: bool,
     item: ItemNo,
     attr: Attr,
     out: &mut W,
 ) -> Result<(), ShowFault>
-    requires { AreDeviceValues (types_in page.now.image.now) values.now.numbers.items }
+    requires good { AreDeviceValues (types_in page.now.image.now) values.now.numbers.items }
+    requires gap { has_gap ≡ false → HasNoGap (contents_in page.now.image.now) }
+    ensures sound { OnOk result (Prints page.now.image.now values.now.numbers.items
+        page.now.language.now (attribute_entries (contents_in page.now.image.now) item attr)
+        (W.contents out.old) (W.contents out.new)) }
+    ensures refused { IfErr result (λ fault. blames_values fault ≡ false) }
 {
-    if attr == Attr::Transaction {
-        return print_transactions(alloc, page, values, item, out);
-    }
-    if attr.is_of_transaction() {
+    if !attr.may_belong_to(item.kind()) {
         return Ok(());
     }
-    print_attribute(alloc, page, values, AttrRef { item, attr, sub: 0 }, out)
+    if matches!(attr, Attr::Transaction) {
+        return print_transactions(alloc, page, values, has_gap, item, out);
+    }
+    if attr.is_of_transaction() || matches!(attr, Attr::Definition) {
+        return Ok(());
+    }
+    print_row(alloc, page, values, row_at(item, attr, 0), out)
 }
 
-// The attributes that an item of this kind may have, by their numbers.
+// The attributes of an item, by their numbers.
+#[tactic(auto, using(crate::proofs::Printing::prints_nothing, crate::proofs::Printing::prints_items),)]
 fn print_attributes<W: Write>(
     alloc: Global,
     page: &Page<'_, '_>,
     values: &Values,
-    kind: Kind,
+    has_gap: bool,
     item: ItemNo,
     out: &mut W,
 ) -> Result<(), ShowFault>
-    requires { AreDeviceValues (types_in page.now.image.now) values.now.numbers.items }
+    requires good { AreDeviceValues (types_in page.now.image.now) values.now.numbers.items }
+    requires gap { has_gap ≡ false → HasNoGap (contents_in page.now.image.now) }
+    ensures sound { OnOk result (Prints page.now.image.now values.now.numbers.items
+        page.now.language.now (flat_map (attribute_entries (contents_in page.now.image.now) item)
+        attributes) (W.contents out.old) (W.contents out.new)) }
+    ensures refused { IfErr result (λ fault. blames_values fault ≡ false) }
 {
     for attr in ATTRIBUTES {
-        if attr.may_belong_to(kind) {
-            print_attribute_of(alloc, page, values, item, attr, out)?;
-        }
+        print_attribute(alloc, page, values, has_gap, item, attr, out)?;
     }
     Ok(())
 }
 
+// The type and the size of an item that is a variable.
+fn type_of_item(page: &Page<'_, '_>, item: ItemNo) -> Option<VarKind>
+    ensures { type_shown (option_map type_of_kind result)
+        ≡ after_name (contents_in page.now.image.now) item }
+{
+    match item {
+        ItemNo::Variable(number) => page.image.variable(number),
+        _ => None,
+    }
+}
+
 // The first line of an item: a variable has its type and its size after its name.
+#[tactic(auto, unfolding(crate::specs::Shown::head_line))]
 fn print_head<W: Write>(
     alloc: Global,
     page: &Page<'_, '_>,
-    kind: Kind,
     item: ItemNo,
     out: &mut W,
-) -> Result<(), ShowFault> {
-    let (word, name) = (kind.word(), page.name(item));
-    let of: Option<VarKind> = match item {
-        ItemNo::Variable(number) => page.image.variable(number),
-        _ => None,
-    };
-    match of {
+) -> Result<(), ShowFault>
+    ensures sound { OnOk result (Appends (W.contents out.old) (W.contents out.new)
+        (head_line (contents_in page.now.image.now) item)) }
+    ensures refused { IfErr result (λ fault. blames_values fault ≡ false) }
+{
+    let (word, name) = (item.kind().word(), page.name(item));
+    match type_of_item(page, item) {
         Some(of) => {
             let text = type_word(of.var_type);
             print(alloc, out, format_args!("{word} {name} {text} {}", of.size))
@@ -196,27 +180,36 @@ fn print_head<W: Write>(
 
 // `are_good` says whether the values are those of a device of this description. Each item has an
 // attribute that is read, so with other values none gets past its first line.
+#[tactic(auto, using(crate::proofs::Printing::prints_after_head), unfolding(crate::specs::Shown::item_entries),)]
 fn print_item<W: Write>(
     alloc: Global,
     page: &Page<'_, '_>,
     values: &Values,
     are_good: bool,
-    kind: Kind,
-    number: u16,
+    has_gap: bool,
+    item: ItemNo,
     out: &mut W,
 ) -> Result<(), ShowFault>
-    requires { IsTrue are_good
-        → AreDeviceValues (types_in page.now.image.now) values.now.numbers.items }
+    requires good { IsTrue are_good ↔ AreDeviceValues (types_in page.now.image.now)
+        values.now.numbers.items }
+    requires gap { has_gap ≡ false → HasNoGap (contents_in page.now.image.now) }
+    ensures sound { OnOk result (Prints page.now.image.now values.now.numbers.items
+        page.now.language.now (item_entries (contents_in page.now.image.now) item)
+        (W.contents out.old) (W.contents out.new)) }
+    ensures refused { IfErr result (λ fault. IsTrue (blames_values fault)
+        → ¬ AreDeviceValues (types_in page.now.image.now) values.now.numbers.items) }
 {
-    let item = kind.item(number);
-    print_head(alloc, page, kind, item, out)?;
+    print_head(alloc, page, item, out)?;
     if !are_good {
         return Err(ShowFault::WrongValues);
     }
-    print_attributes(alloc, page, values, kind, item, out)
+    print_attributes(alloc, page, values, has_gap, item, out)?;
+    Ok(())
 }
 
-fn count_of(counts: &Counts, kind: Kind) -> u16 {
+fn count_of(counts: &Counts, kind: Kind) -> u16
+    ensures { result ≡ count_in counts.now kind }
+{
     match kind {
         Kind::Variable => counts.variables,
         Kind::Command => counts.commands,
@@ -227,48 +220,92 @@ fn count_of(counts: &Counts, kind: Kind) -> u16 {
     }
 }
 
+#[tactic(auto, using(crate::proofs::Printing::prints_nothing, crate::proofs::Printing::prints_numbers), unfolding(crate::specs::Shown::kind_entries),)]
 fn print_kind<W: Write>(
     alloc: Global,
     page: &Page<'_, '_>,
     values: &Values,
     are_good: bool,
+    has_gap: bool,
     kind: Kind,
     out: &mut W,
 ) -> Result<(), ShowFault>
-    requires { IsTrue are_good
-        → AreDeviceValues (types_in page.now.image.now) values.now.numbers.items }
+    requires good { IsTrue are_good ↔ AreDeviceValues (types_in page.now.image.now)
+        values.now.numbers.items }
+    requires gap { has_gap ≡ false → HasNoGap (contents_in page.now.image.now) }
+    ensures sound { OnOk result (Prints page.now.image.now values.now.numbers.items
+        page.now.language.now (kind_entries (contents_in page.now.image.now) kind)
+        (W.contents out.old) (W.contents out.new)) }
+    ensures refused { IfErr result (λ fault. IsTrue (blames_values fault)
+        → ¬ AreDeviceValues (types_in page.now.image.now) values.now.numbers.items) }
 {
-    let count = count_of(&page.image.counts(), kind);
+    let count = count_of(&page.counts(), kind);
     for number in 0..count {
-        print_item(alloc, page, values, are_good, kind, number, out)?;
+        let item = kind.item(number);
+        print_item(alloc, page, values, are_good, has_gap, item, out)?;
     }
     Ok(())
 }
 
+#[tactic(auto, using(crate::proofs::Printing::prints_nothing, crate::proofs::Printing::prints_items),)]
+fn print_kinds<W: Write>(
+    alloc: Global,
+    page: &Page<'_, '_>,
+    values: &Values,
+    out: &mut W,
+) -> Result<(), ShowFault>
+    ensures sound { OnOk result (Prints page.now.image.now values.now.numbers.items
+        page.now.language.now (flat_map (kind_entries (contents_in page.now.image.now)) kinds)
+        (W.contents out.old) (W.contents out.new)) }
+    ensures refused { IfErr result (λ fault. IsTrue (blames_values fault)
+        → ¬ AreDeviceValues (types_in page.now.image.now) values.now.numbers.items) }
+{
+    let are_good = values.are_of(page.image);
+    let has_gap = has_gap(page.image);
+    for kind in KINDS {
+        print_kind(alloc, page, values, are_good, has_gap, kind, out)?;
+    }
+    Ok(())
+}
+
+// The line of the identification.
+#[tactic(auto, unfolding(crate::specs::Shown::identification_line))]
+fn print_identification<W: Write>(
+    alloc: Global,
+    counts: &Counts,
+    out: &mut W,
+) -> Result<(), ShowFault>
+    ensures sound { OnOk result (Appends (W.contents out.old) (W.contents out.new)
+        (identification_line counts.now)) }
+    ensures refused { IfErr result (λ fault. blames_values fault ≡ false) }
+{
+    let (maker, device) = (counts.manufacturer, counts.device_type);
+    let (revision, dd) = (counts.device_revision, counts.dd_revision);
+    print(
+        alloc,
+        out,
+        format_args!("identification {maker} {device} {revision} {dd}"),
+    )
+}
+
 /// Prints the identification, and each item by kind and number, with its attributes by theirs.
+///
+/// The fault is `WrongValues` only where the values are not those of a device of this description.
+#[tactic(auto, using(crate::proofs::Printing::prints_after_identification), unfolding(crate::specs::Shown::entries_of),)]
 pub fn show<W: Write>(
     alloc: Global,
     image: &Image<'_>,
     values: &Values,
     language: &str,
     out: &mut W,
-) -> Result<(), ShowFault> {
+) -> Result<(), ShowFault>
+    ensures sound { OnOk result (Prints image.now values.now.numbers.items language.now
+        (entries_of (contents_in image.now)) (W.contents out.old) (W.contents out.new)) }
+    ensures refused { IfErr result (λ fault. IsTrue (blames_values fault)
+        → ¬ AreDeviceValues (types_in image.now) values.now.numbers.items) }
+{
     let page = Page { image, language };
-    let c = image.counts();
-    let (maker, device, revision, dd) = (
-        c.manufacturer,
-        c.device_type,
-        c.device_revision,
-        c.dd_revision,
-    );
-    print(
-        alloc,
-        out,
-        format_args!("identification {maker} {device} {revision} {dd}"),
-    )?;
-    let are_good = values.are_of(image);
-    for kind in KINDS {
-        print_kind(alloc, &page, values, are_good, kind, out)?;
-    }
+    print_identification(alloc, &page.counts(), out)?;
+    print_kinds(alloc, &page, values, out)?;
     Ok(())
 }

@@ -3,17 +3,22 @@
 #![tactic(auto)]
 
 mod fault;
+mod gaps;
 mod items;
+mod laws;
 mod lines;
 mod page;
 mod plays;
 mod records;
+mod rows;
 mod words;
 
 pub use fault::ShowFault;
 pub use items::show;
+pub use laws::{one_text_is_shown, quoted_texts_are_told_apart};
 pub use lines::{print, print_text};
 pub use page::push_quoted;
 pub use plays::show_play;
-pub use records::push_qualifiers;
-pub use words::{DATA_QUALIFIERS, MENU_QUALIFIERS, class_word, trap_word, type_word};
+pub use words::{
+    DATA_QUALIFIERS, MENU_QUALIFIERS, class_word, push_qualifiers, trap_word, type_word,
+};

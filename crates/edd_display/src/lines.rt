@@ -1,7 +1,8 @@
 //! Lines of the output. A line is printed whole, or not at all where there is no memory.
 
-ghost use Rattle.std.specs.Prelude.{◌++◌, ◌∷◌, [], IfSome, OnOk};
+ghost use Rattle.std.specs.Prelude.{◌≡◌, ◌++◌, ◌∷◌, [], IfErr, IfSome, OnOk, false};
 ghost use Rattle.std.specs.Io.KnownBytes.{Appends};
+ghost use Rattle.edd_display.specs.Shown.{blames_values};
 
 use crate::fault::ShowFault;
 use std::alloc::Global;
@@ -14,8 +15,9 @@ pub fn print<W: Write, D: Display + Drop>(
     out: &mut W,
     text: D,
 ) -> Result<(), ShowFault>
-    ensures { OnOk result (IfSome (D.output text)
+    ensures sound { OnOk result (IfSome (D.output text)
         (λ bytes. Appends (W.contents out.old) (W.contents out.new) (bytes ++ 10 ∷ []))) }
+    ensures refused { IfErr result (λ fault. blames_values fault ≡ false) }
 {
     let Ok(mut line) = text.to_string(alloc) else {
         return Err(ShowFault::Memory);
@@ -28,7 +30,8 @@ pub fn print<W: Write, D: Display + Drop>(
 
 /// Prints a text of whole lines.
 pub fn print_text<W: Write>(out: &mut W, text: &str) -> Result<(), ShowFault>
-    ensures { OnOk result (Appends (W.contents out.old) (W.contents out.new) text.now) }
+    ensures sound { OnOk result (Appends (W.contents out.old) (W.contents out.new) text.now) }
+    ensures refused { IfErr result (λ fault. blames_values fault ≡ false) }
 {
     match out.write_all(text.as_bytes()) {
         Ok(()) => Ok(()),

@@ -1,5 +1,14 @@
 //! The lines of a method's run: its requests, how it ends, and the values that it leaves.
 
+ghost use Rattle.std.specs.Prelude.{◌≡◌, ◌++◌, ◌∷◌, [], OnOk, string_bytes};
+ghost use Rattle.std.specs.Fmt.{signed_decimal};
+ghost use Rattle.std.specs.Io.KnownBytes.{Appends};
+ghost use Rattle.std.specs.List.{flat_map, range_with_len};
+ghost use Rattle.edd_syntax.specs.declared.numbers.ItemNo.TheVariants as items;
+ghost use Rattle.edd_image.specs.Contents.{contents_in};
+ghost use Rattle.edd_display.specs.Played as played;
+ghost use Rattle.edd_display.specs.Words.{name_of};
+
 use crate::fault::ShowFault;
 use crate::lines::print;
 use crate::page::Page;
@@ -10,12 +19,13 @@ use edd_machine::Values;
 use edd_port::{Ending, Transcript};
 use edd_syntax::numbers::{ItemNo, VarNo};
 use edd_syntax::operators::Builtin;
-use std::alloc::Global;
-use std::fmt::Write as _;
+use std::alloc::{AllocError, Global};
 use std::io::Write;
 
 // The function that makes the request.
-fn function_of(request: Request) -> Builtin {
+fn function_of(request: Request) -> Builtin
+    ensures { result ≡ played.function_of request }
+{
     match request {
         Request::PutMessage(_) => Builtin::PutMessage,
         Request::Acknowledge(_) => Builtin::Acknowledge,
@@ -28,29 +38,30 @@ fn function_of(request: Request) -> Builtin {
     }
 }
 
-fn push_number(line: &mut String, number: i32) -> Result<(), ShowFault> {
-    write!(line, " {number}")?;
-    Ok(())
-}
-
-fn push_variable(page: &Page<'_, '_>, line: &mut String, variable: VarNo) -> Result<(), ShowFault> {
+fn push_variable(page: &Page<'_, '_>, line: &mut String, variable: VarNo) -> Result<(), AllocError>
+    ensures { OnOk result (string_bytes line.new ≡ string_bytes line.old
+        ++ 32 ∷ name_of (contents_in page.now.image.now) (items.Variable variable)) }
+{
     line.push(' ')?;
-    line.push_str(page.name(ItemNo::Variable(variable)))?;
-    Ok(())
+    line.push_str(page.name(ItemNo::Variable(variable)))
 }
 
 // The arguments in their order, each after a blank.
+#[tactic(auto, unfolding(crate::specs::Played::arguments_shown))]
 fn push_arguments(
     page: &Page<'_, '_>,
     line: &mut String,
     request: Request,
-) -> Result<(), ShowFault> {
+) -> Result<(), AllocError>
+    ensures { OnOk result (string_bytes line.new ≡ string_bytes line.old
+        ++ played.arguments_shown (contents_in page.now.image.now) page.now.language.now request) }
+{
     match request {
         Request::PutMessage(text) | Request::Acknowledge(text) => {
             page.push_optional(line, Some(text))
         }
         Request::Delay(seconds, text) => {
-            push_number(line, seconds)?;
+            write!(line, " {seconds}")?;
             page.push_optional(line, Some(text))
         }
         Request::GetDevVarValue(text, variable) => {
@@ -61,21 +72,22 @@ fn push_arguments(
             page.push_optional(line, Some(text))?;
             page.push_optional(line, Some(choices))
         }
-        Request::SendCommand(number) => push_number(line, number),
-        Request::SendCommandTrans(number, transaction) => {
-            push_number(line, number)?;
-            push_number(line, transaction)
-        }
+        Request::SendCommand(number) => write!(line, " {number}"),
+        Request::SendCommandTrans(number, transaction) => write!(line, " {number} {transaction}"),
         Request::SaveValues => Ok(()),
     }
 }
 
+#[tactic(auto, unfolding(crate::specs::Played::request_line))]
 fn print_request<W: Write>(
     alloc: Global,
     page: &Page<'_, '_>,
     request: Request,
     out: &mut W,
-) -> Result<(), ShowFault> {
+) -> Result<(), ShowFault>
+    ensures { OnOk result (Appends (W.contents out.old) (W.contents out.new)
+        (played.request_line (contents_in page.now.image.now) page.now.language.now request)) }
+{
     let mut line = String::from_str(alloc, "ask ")?;
     line.push_str(function_of(request).name())?;
     push_arguments(page, &mut line, request)?;
@@ -87,14 +99,21 @@ fn print_requests<W: Write>(
     page: &Page<'_, '_>,
     requests: &[Request],
     out: &mut W,
-) -> Result<(), ShowFault> {
+) -> Result<(), ShowFault>
+    ensures { OnOk result (Appends (W.contents out.old) (W.contents out.new)
+        (flat_map (played.request_line (contents_in page.now.image.now) page.now.language.now)
+        requests.now)) }
+{
     for request in requests {
         print_request(alloc, page, *request, out)?;
     }
     Ok(())
 }
 
-fn print_end<W: Write>(alloc: Global, ending: Ending, out: &mut W) -> Result<(), ShowFault> {
+fn print_end<W: Write>(alloc: Global, ending: Ending, out: &mut W) -> Result<(), ShowFault>
+    ensures { OnOk result (Appends (W.contents out.old) (W.contents out.new)
+        (played.ending_shown ending ++ 10 ∷ [])) }
+{
     match ending {
         Ending::Ended => print(alloc, out, "end ended"),
         Ending::Aborted => print(alloc, out, "end aborted"),
@@ -107,41 +126,55 @@ fn print_end<W: Write>(alloc: Global, ending: Ending, out: &mut W) -> Result<(),
     }
 }
 
+// The line of a variable's value, where it has one.
 fn print_value<W: Write>(
     alloc: Global,
     page: &Page<'_, '_>,
-    variable: VarNo,
-    value: i64,
+    values: &Values,
+    number: u16,
     out: &mut W,
-) -> Result<(), ShowFault> {
+) -> Result<(), ShowFault>
+    ensures { OnOk result (Appends (W.contents out.old) (W.contents out.new)
+        (played.value_line (contents_in page.now.image.now) values.now.numbers.items number)) }
+{
+    let variable = VarNo(number);
+    let Some(value) = values.get(variable) else {
+        return Ok(());
+    };
     let name = page.name(ItemNo::Variable(variable));
     print(alloc, out, format_args!("value {name} {value}"))
 }
 
+#[tactic(auto, using(crate::proofs::Printing::appends_numbers))]
 fn print_values<W: Write>(
     alloc: Global,
     page: &Page<'_, '_>,
     values: &Values,
     out: &mut W,
-) -> Result<(), ShowFault> {
-    for number in 0..page.image.counts().variables {
-        let variable = VarNo(number);
-        if let Some(value) = values.get(variable) {
-            print_value(alloc, page, variable, value, out)?;
-        }
+) -> Result<(), ShowFault>
+    ensures { OnOk result (Appends (W.contents out.old) (W.contents out.new)
+        (flat_map (played.value_line (contents_in page.now.image.now) values.now.numbers.items)
+        (range_with_len 0 (contents_in page.now.image.now).counts.variables))) }
+{
+    for number in 0..page.counts().variables {
+        print_value(alloc, page, values, number, out)?;
     }
     Ok(())
 }
 
 /// Prints what a method did: a line for each request, one for its end, and one for the value of
 /// each variable.
+#[tactic(auto, unfolding(crate::specs::Played::played_text))]
 pub fn show_play<W: Write>(
     alloc: Global,
     image: &Image<'_>,
     play: &Transcript,
     language: &str,
     out: &mut W,
-) -> Result<(), ShowFault> {
+) -> Result<(), ShowFault>
+    ensures { OnOk result (Appends (W.contents out.old) (W.contents out.new)
+        (played.played_text (contents_in image.now) language.now play.now)) }
+{
     let page = Page { image, language };
     print_requests(alloc, &page, &play.requests, out)?;
     print_end(alloc, play.ending, out)?;

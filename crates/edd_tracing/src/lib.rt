@@ -5,5 +5,4 @@
 mod lines;
 mod tracing;
 
-pub use lines::trap_word;
 pub use tracing::{Followed, trace};

@@ -1,7 +1,7 @@
 //! The lines of a trace. Each begins with `trace`, as no line of a run does.
 
 use edd_check::{Look, Span};
-use edd_display::{ShowFault, print};
+use edd_display::{ShowFault, print, trap_word};
 use edd_instructions::{Record, Request};
 use edd_loader::Image;
 use edd_machine::{ReadFault, Values, attribute};
@@ -35,16 +35,6 @@ impl<'t, 's, 'b, W> Telling<'t, 's, 'b, W> {
             image,
             out,
         }
-    }
-}
-
-/// The word of a trap.
-pub fn trap_word(why: Trap) -> &'static str {
-    match why {
-        Trap::DivZero => "DIV_ZERO",
-        Trap::DivOverflow => "DIV_OVERFLOW",
-        Trap::BadShift => "BAD_SHIFT",
-        Trap::NoElement => "NO_ELEMENT",
     }
 }
 

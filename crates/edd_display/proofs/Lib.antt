@@ -1,0 +1,7 @@
+pub mod Escaping
+pub mod Following
+pub mod Marking
+pub mod OneText
+pub mod Positions
+pub mod Printing
+pub mod Quotes
