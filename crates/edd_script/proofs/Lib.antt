@@ -4,3 +4,4 @@ mod WordStarts
 mod NameLaws
 mod Texts
 mod Turns
+mod Worked

@@ -3,7 +3,7 @@
 ghost use Rattle.std.specs.Prelude.{◌≡◌};
 ghost use Rattle.edd_script.specs.Numbers.{decimal_of};
 
-/// Digits with an optional minus.
+/// The number of 64 bits that decimal digits write, with a minus before them or none.
 pub fn number(word: &str) -> Option<i64>
     ensures { result ≡ decimal_of 64 word.now }
 {
@@ -13,7 +13,7 @@ pub fn number(word: &str) -> Option<i64>
     word.parse::<i64>().ok()
 }
 
-/// The same of 32 bits.
+/// The number of 32 bits that decimal digits write, with a minus before them or none.
 pub fn code(word: &str) -> Option<i32>
     ensures { result ≡ decimal_of 32 word.now }
 {

@@ -23,7 +23,7 @@ pub enum Line {
     Blank,
 }
 
-/// The variable of a name.
+/// The first variable of a name.
 pub fn variable(image: &Image<'_>, name: &str) -> Option<VarNo>
     ensures { result ≡ variable_named (contents_in image.now) name.now }
 {

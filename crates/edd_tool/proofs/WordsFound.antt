@@ -1,9 +1,10 @@
 -- Names that are words.
 use Rattle.std.proofs.Common.{◌≡◌, ℕ, List, Bool, Bor, ◌<◌, length, map, sym, subst, ◌∙◌}
-use Rattle.std.specs.Prelude.{IsTrue, Option, codes, get_or}
+use Rattle.std.specs.Prelude.{IsTrue, Option, get_or}
 use Rattle.std.specs.List.{All, Contains}
 use Rattle.std.proofs.lemmas.List.{get_or-map, length-map}
 use Rattle.std.proofs.lemmas.List.Elements.{All-get_or}
+use Rattle.edd_tool.specs.Names.{update_word}
 use Rattle.edd_tool.specs.Saves.{Account, IsLayoutSaving, IsNamedUpdate, IsUpdate, Saving}
 
 -- each of several
@@ -26,7 +27,7 @@ layout_named account words names all s (name, named, place, text, gave, same, by
 -- a file of tests that has one of the names
 pub update_named : (words : List (List ℕ)) (names : List (Bor (List ℕ))) (is_update : Bool)
     → All (λ name. Contains words name.now) names
-    → (IsTrue is_update → Contains words (codes "--update")) → (s : Saving)
+    → (IsTrue is_update → Contains words update_word) → (s : Saving)
     → IsUpdate is_update (map (λ name. name.now) names) s → IsNamedUpdate words s
 update_named words names is_update all asked s (is, named) =
     (asked is, words_found words names all s.name named)

@@ -1,11 +1,11 @@
 -- What the program may save.
-use Rattle.std.specs.Prelude.{◌≡◌, ◌⊎◌, ℕ, Bool, List, [], ◌∷◌, ◌++◌, Option, Some, None, IfSome, IsTrue, codes}
+use Rattle.std.specs.Prelude.{◌≡◌, ◌⊎◌, ℕ, Bool, List, [], ◌∷◌, ◌++◌, Option, Some, None, IfSome, IsTrue}
 use Rattle.std.specs.List.{All, Contains}
 use Rattle.edd_compiler.specs.Images.{IsImageOf}
 use Rattle.edd_layout.specs.Same.{HaveSameBytes, SameTokens}
 use Rattle.edd_tool.specs.declared.formatting.Layout.{Layout}
 use Rattle.edd_tool.specs.declared.reading.Source.{Source}
-use Rattle.edd_tool.specs.Names.{input_name, output_name}
+use Rattle.edd_tool.specs.Names.{input_name, output_name, record_word, record_word_of, update_word}
 
 -- bytes that were saved under a name
 pub record Saving : Type 0 where
@@ -73,8 +73,8 @@ IsRecord name s = Some s.name ≡ name
 
 -- the words of the option for a record and its file
 abbrev pub NameRecord : (words : List (List ℕ)) → (name : List ℕ) → Type 0
-NameRecord words name = Contains words (codes "--record=" ++ name)
-    ⊎ (Contains words (codes "--record") × Contains words name)
+NameRecord words name = Contains words (record_word_of name)
+    ⊎ (Contains words record_word × Contains words name)
 
 -- the image of a file that is among the words, under a name that is
 abbrev pub IsNamedImage : (words : List (List ℕ)) → Option Account → Saving → Type 0
@@ -83,7 +83,7 @@ IsNamedImage words account s = (source image : List ℕ) × Contains words sourc
 
 -- a file of tests that is among the words, where they say `--update`
 abbrev pub IsNamedUpdate : (words : List (List ℕ)) → Saving → Type 0
-IsNamedUpdate words s = Contains words (codes "--update") × Contains words s.name
+IsNamedUpdate words s = Contains words update_word × Contains words s.name
 
 -- One image or none; or layouts of files in their place; or files of tests where the words say
 -- `--update`; or a record where they name its file.

@@ -1,8 +1,9 @@
 //! Whether the words of a command line have a name, so that it can be proved that nothing is saved
 //! under another one.
 
-ghost use Rattle.std.specs.Prelude.{◌≡◌, ◌++◌, IfSome, IsTrue, codes, map, string_bytes};
+ghost use Rattle.std.specs.Prelude.{◌≡◌, IfSome, IsTrue, map, string_bytes};
 ghost use Rattle.std.specs.List.{All, Contains};
+ghost use Rattle.edd_tool.specs.Names.{record_word_of};
 ghost use Rattle.edd_tool.specs.Saves.{NameRecord};
 
 fn is_same(word: &str, name: &str) -> bool
@@ -41,14 +42,14 @@ const RECORD: &str = "--record";
 
 // The name behind the option for a record and an equals sign.
 fn record_in(word: &str) -> Option<&str>
-    ensures { IfSome result (λ name. word.now ≡ codes "--record=" ++ name.now) }
+    ensures { IfSome result (λ name. word.now ≡ record_word_of name.now) }
 {
     word.strip_prefix("--record=")
 }
 
 // Whether the word is the option for a record, an equals sign and this name.
 fn is_record_word(word: &str, name: &str) -> bool
-    ensures { IsTrue result → word.now ≡ codes "--record=" ++ name.now }
+    ensures { IsTrue result → word.now ≡ record_word_of name.now }
 {
     match record_in(word) {
         Some(rest) => rest == name,
@@ -58,7 +59,7 @@ fn is_record_word(word: &str, name: &str) -> bool
 
 // Whether a word is the option for a record, an equals sign and this name.
 fn has_record_word(words: &[String], name: &str) -> bool
-    ensures { IsTrue result → Contains (map string_bytes words.now) (codes "--record=" ++ name.now) }
+    ensures { IsTrue result → Contains (map string_bytes words.now) (record_word_of name.now) }
 {
     for word in words {
         if is_record_word(word.as_str(), name) {

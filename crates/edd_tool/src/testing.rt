@@ -1,7 +1,8 @@
 //! What the program does to run the tests of a maker.
 
-ghost use Rattle.std.specs.Prelude.{◌≡◌, IsTrue, List, Option, codes, map, string_bytes, ℕ};
+ghost use Rattle.std.specs.Prelude.{◌≡◌, IsTrue, List, Option, map, string_bytes, ℕ};
 ghost use Rattle.std.specs.List.{All, Contains};
+ghost use Rattle.edd_tool.specs.Names.{update_word};
 ghost use Rattle.edd_tool.specs.Saves.{Account, IsNamedUpdate, IsRead, IsUpdate, IsUpdateOf, SavesEach};
 
 use crate::files::{FileFault, Files};
@@ -286,7 +287,7 @@ const UPDATE: &str = "--update";
 // Whether the words say that files are to be written anew, if they are.
 fn is_asked(words: &[String], is_update: bool) -> bool
     ensures { IsTrue result → IsTrue is_update
-        → Contains (map string_bytes words.now) (codes "--update") }
+        → Contains (map string_bytes words.now) update_word }
 {
     if is_update {
         is_word(words, UPDATE)
