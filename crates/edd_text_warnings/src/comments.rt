@@ -10,6 +10,9 @@ use std::alloc::AllocError;
 /// The first byte of each character that turns the direction, which are of three bytes.
 const LEAD: u8 = 0xE2;
 
+/// The fewest bytes of a comment with one.
+const SHORTEST: usize = 5;
+
 // The character that the text begins with, if it turns the direction, and its number in Unicode.
 fn turn_of(text: &[u8]) -> Option<(&str, u16)> {
     let number = match text {
@@ -65,7 +68,9 @@ fn check_gap(text: &[u8], gap: Gap, findings: &mut Findings) -> Result<(), Alloc
 // Looks at a gap only where it has the first byte of such a character.
 fn check_bytes(text: &[u8], gap: Gap, findings: &mut Findings) -> Result<(), AllocError> {
     match text.get(gap.start..gap.end) {
-        Some(bytes) if bytes.contains(&LEAD) => check_gap(text, gap, findings),
+        Some(bytes) if SHORTEST <= bytes.len() && bytes.contains(&LEAD) => {
+            check_gap(text, gap, findings)
+        }
         _ => Ok(()),
     }
 }

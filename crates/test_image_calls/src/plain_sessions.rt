@@ -9,7 +9,7 @@ use edd_embed::{
 use edd_loader::Image;
 use edd_syntax::numbers::MethNo;
 use std::alloc::{AllocError, Global};
-use test_images::{byte, count, first_of, number, small};
+use test_images::{byte, count, first_of, number, small_number};
 
 /// The session that was started last, and the value.
 #[derive(Drop)]
@@ -88,7 +88,7 @@ pub fn step_of_session(
 ) -> Result<String, AllocError> {
     match kind {
         "start" => {
-            let method = MethNo(small(words));
+            let method = MethNo(small_number(words));
             let started = start_session(image, method, &bench.values, &mut bench.session);
             format!(in alloc; "{started:?}")
         }
@@ -130,9 +130,9 @@ fn set_field(
     match kind {
         "value" => bench.values[0] = number(words),
         "place" => bench.session.place = u64::from(count(words)),
-        "operand_count" => bench.session.operand_count = small(words),
-        "is_aborting" => bench.session.is_aborting = small(words),
-        "method" => bench.session.method = small(words),
+        "operand_count" => bench.session.operand_count = small_number(words),
+        "is_aborting" => bench.session.is_aborting = small_number(words),
+        "method" => bench.session.method = small_number(words),
         "tag_of_turn" => bench.session.turn.turn = byte(words),
         _ => return String::from_str(alloc, "no step"),
     }

@@ -11,7 +11,7 @@ use edd_instructions::Record;
 use edd_loader::{Image, load};
 use edd_syntax::numbers::MethNo;
 use std::alloc::{AllocError, Global};
-use test_images::{byte, first_of, image_of, number, numbers_of, small};
+use test_images::{byte, first_of, image_of, number, numbers_of, small_number};
 
 /// The lines again, each with what its step answers.
 pub fn answers(alloc: Global, image: &str, lines: &str) -> Result<String, AllocError> {
@@ -48,7 +48,7 @@ fn answer(
         "front" => front(alloc, image, words),
         "name" => name(alloc, image, words),
         "find" => format!(in alloc; "{:?}", find_item(image, words.as_bytes())),
-        "type" => format!(in alloc; "{:?}", type_of(image, small(words))),
+        "type" => format!(in alloc; "{:?}", type_of(image, small_number(words))),
         "read" => read(alloc, image, words),
         "play" => played(alloc, image, words),
         "sizes" => sizes(alloc),
@@ -74,7 +74,7 @@ fn front(alloc: Global, image: &Image<'_>, words: &str) -> Result<String, AllocE
 // The name of an item, and whether it is a key: `name KIND NUMBER`.
 fn name(alloc: Global, image: &Image<'_>, words: &str) -> Result<String, AllocError> {
     let (kind, index) = first_of(words);
-    match name_of(image, byte(kind), small(index)) {
+    match name_of(image, byte(kind), small_number(index)) {
         Some(name) => format!(in alloc; "{:?} {}", name.bytes, name.is_key),
         None => String::from_str(alloc, "None"),
     }
@@ -87,7 +87,7 @@ fn read(alloc: Global, image: &Image<'_>, words: &str) -> Result<String, AllocEr
     let (count, words) = first_of(words);
     let (kind, words) = first_of(words);
     let (index, attribute) = first_of(words);
-    let Some(of) = ref_of(byte(kind), small(index), byte(attribute), 0) else {
+    let Some(of) = ref_of(byte(kind), small_number(index), byte(attribute), 0) else {
         return String::from_str(alloc, "no attribute");
     };
     let mut room = Vec::new(alloc);

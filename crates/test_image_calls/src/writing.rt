@@ -4,7 +4,7 @@ use edd_image::{AttributeRow, Counts, NameRow, Parts, StringRow, VarKind, Versio
 use edd_syntax::numbers::{ArrNo, Attr, Element, ItemNo, MethNo, VarNo};
 use edd_syntax::types::VarType;
 use std::alloc::{AllocError, Global};
-use test_images::worked;
+use test_images::worked_image;
 
 // The sections of an image. All names have one letter.
 #[derive(Clone, Copy)]
@@ -220,7 +220,7 @@ fn sections_of(name: &str) -> Option<(Sections, &'static [u8])> {
         "array" => WITH_ARRAY,
         _ => return None,
     };
-    Some((sections, worked(name)?))
+    Some((sections, worked_image(name)?))
 }
 
 pub fn written(alloc: Global, name: &str) -> Result<String, AllocError> {

@@ -14,5 +14,5 @@ pub use hosts::{Device, Script};
 pub use small::{code_of, image_of};
 pub use steps::wrong_steps;
 pub use using::is_usable;
-pub use words::{byte, count, first_of, number, numbers_of, reference_of, small};
-pub use worked::{ABORTING, ARRAY, LABEL, LOOP, worked};
+pub use words::{byte, count, first_of, number, numbers_of, reference_of, small_number};
+pub use worked::{ABORTING, ARRAY, LABEL, LOOP, worked_image};

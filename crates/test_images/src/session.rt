@@ -1,7 +1,7 @@
 //! Steps of a session, by calls and by hosts.
 
 use crate::hosts::{Device, Script};
-use crate::words::{answers_of, count, first_of, number, numbers_of, small};
+use crate::words::{answers_of, count, first_of, number, numbers_of, small_number};
 use edd_loader::Image;
 use edd_machine::Values;
 use edd_port::{AnswerFault, Drive, Session, Turn, drive};
@@ -36,7 +36,7 @@ pub fn start<'i, 'b>(
 ) -> Result<String, AllocError> {
     let (method, numbers) = first_of(words);
     let numbers = numbers_of(alloc, numbers)?;
-    match Session::start(image, MethNo(small(method)), Values { numbers }) {
+    match Session::start(image, MethNo(small_number(method)), Values { numbers }) {
         Ok(session) => {
             bench.session = Some(session);
             String::from_str(alloc, "started")
@@ -61,14 +61,14 @@ pub fn step_of_session(
             turned(alloc, turn, session)
         }
         "turn" => turned(alloc, session.turn(), session),
-        "value" => format!(in alloc; "{:?}", session.values().get(VarNo(small(words)))),
+        "value" => format!(in alloc; "{:?}", session.values().get(VarNo(small_number(words)))),
         "answer" => answered(alloc, session, words),
         "script" => {
             bench.script = Script::new(alloc, script_of(alloc, words)?);
             String::from_str(alloc, "made")
         }
         "device" => {
-            bench.device = Device::new(alloc, small(words).min(9) as u8);
+            bench.device = Device::new(alloc, small_number(words).min(9) as u8);
             String::from_str(alloc, "made")
         }
         "drive_script" => drive_script(alloc, session, &mut bench.script, words),

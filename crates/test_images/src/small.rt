@@ -3,7 +3,7 @@
 ghost use Rattle.std.specs.Prelude.{◌≤◌};
 
 use crate::words::{byte, count, first_of, reference_of};
-use crate::worked::worked;
+use crate::worked::worked_image;
 use edd_syntax::numbers::AttrRef;
 use std::alloc::{AllocError, Global};
 
@@ -169,7 +169,7 @@ fn small_image(alloc: Global, sections: &Sections) -> Result<Vec<u8>, AllocError
 /// The bytes of a worked image by its name, or those of the small image of these parts, which have
 /// a `|` between them.
 pub fn image_of(alloc: Global, text: &str) -> Result<Vec<u8>, AllocError> {
-    if let Some(bytes) = worked(text) {
+    if let Some(bytes) = worked_image(text) {
         return Vec::from_slice(alloc, bytes);
     }
     let mut sections = Sections::nothing(alloc);

@@ -2,7 +2,9 @@
 //! answers, as it is printed. Lines that begin with a # say what the steps below them are about.
 
 use crate::session::{Bench, start, step_of_session};
-use crate::words::{answers_of, count, first_of, item_of, number, numbers_of, reference_of, small};
+use crate::words::{
+    answers_of, count, first_of, item_of, number, numbers_of, reference_of, small_number,
+};
 use edd_loader::{Image, load};
 use edd_machine::{Values, attribute, set_fault};
 use edd_port::{Transcript, play};
@@ -51,7 +53,7 @@ fn step_on<'i, 'b>(
         "counts" => format!(in alloc; "{:?}", image.counts()),
         "find" => format!(in alloc; "{:?}", image.find(words)),
         "name" => name(alloc, image, words),
-        "variable" => format!(in alloc; "{:?}", image.variable(VarNo(small(words)))),
+        "variable" => format!(in alloc; "{:?}", image.variable(VarNo(small_number(words)))),
         "text" => text(alloc, image, words),
         "element" => element(alloc, image, words),
         "values" => values(alloc, image, words),
@@ -75,13 +77,16 @@ fn name(alloc: Global, image: &Image<'_>, words: &str) -> Result<String, AllocEr
 // The text of a string for a language: `text NUMBER LANGUAGE`.
 fn text(alloc: Global, image: &Image<'_>, words: &str) -> Result<String, AllocError> {
     let (string, language) = first_of(words);
-    format!(in alloc; "{:?}", image.text(StrNo(small(string)), language))
+    format!(in alloc; "{:?}", image.text(StrNo(small_number(string)), language))
 }
 
 // The variable of an element: `element ARRAY NUMBER`.
 fn element(alloc: Global, image: &Image<'_>, words: &str) -> Result<String, AllocError> {
     let (array, index) = first_of(words);
-    format!(in alloc; "{:?}", image.element(ArrNo(small(array)), number(index)))
+    format!(in alloc;
+        "{:?}",
+        image.element(ArrNo(small_number(array)), number(index))
+    )
 }
 
 // Values of a device: `values NUMBERS`.
@@ -98,7 +103,7 @@ fn value_of(alloc: Global, image: &Image<'_>, words: &str) -> Result<String, All
     let (variable, numbers) = first_of(words);
     let numbers = numbers_of(alloc, numbers)?;
     match Values::new(alloc, image, &numbers) {
-        Ok(values) => format!(in alloc; "{:?}", values.get(VarNo(small(variable)))),
+        Ok(values) => format!(in alloc; "{:?}", values.get(VarNo(small_number(variable)))),
         Err(fault) => format!(in alloc; "{fault:?}"),
     }
 }
@@ -108,7 +113,7 @@ fn set(alloc: Global, image: &Image<'_>, words: &str) -> Result<String, AllocErr
     let (variable, value) = first_of(words);
     format!(in alloc;
         "{:?}",
-        set_fault(image, VarNo(small(variable)), number(value))
+        set_fault(image, VarNo(small_number(variable)), number(value))
     )
 }
 
@@ -133,7 +138,7 @@ fn played(alloc: Global, image: &Image<'_>, words: &str) -> Result<String, Alloc
     let (method, words) = first_of(words);
     let (steps, numbers) = first_of(words);
     let numbers = numbers_of(alloc, numbers)?;
-    let method = MethNo(small(method));
+    let method = MethNo(small_number(method));
     let steps = u64::from(count(steps));
     match play(alloc, image, method, Values { numbers }, &answers, steps) {
         Ok(played) => shown(alloc, &played),

@@ -5,7 +5,7 @@ use edd_syntax::numbers::{ATTRIBUTES, Attr, AttrRef, ItemNo, KINDS, VarNo};
 use std::alloc::{AllocError, Global};
 
 /// A small number; the largest one in place of a word that is none.
-pub fn small(word: &str) -> u16 {
+pub fn small_number(word: &str) -> u16 {
     word.parse::<u16>().unwrap_or(u16::MAX)
 }
 
@@ -40,7 +40,7 @@ pub fn item_of(words: &str) -> Option<ItemNo> {
     let (word, index) = first_of(words);
     for kind in KINDS {
         if kind.word() == word {
-            return Some(kind.item(small(index)));
+            return Some(kind.item(small_number(index)));
         }
     }
     None
@@ -62,7 +62,7 @@ pub fn reference_of(words: &str) -> Option<AttrRef> {
     Some(AttrRef {
         item: item_of(item)?,
         attr: attribute_of(word)?,
-        sub: small(sub),
+        sub: small_number(sub),
     })
 }
 
@@ -76,7 +76,7 @@ fn answer_of(alloc: Global, words: &str) -> Result<Answer, AllocError> {
     let mut sets = Vec::new(alloc);
     for word in rest.split_ascii_whitespace() {
         let (variable, value) = word.split_once('=').unwrap_or((word, ""));
-        sets.push((VarNo(small(variable)), number(value)))?;
+        sets.push((VarNo(small_number(variable)), number(value)))?;
     }
     Ok(Answer::Go { code, sets })
 }

@@ -57,7 +57,7 @@ pub const ABORTING: [u8; 186] = [
 ];
 
 /// A worked image by its name.
-pub fn worked(name: &str) -> Option<&'static [u8]> {
+pub fn worked_image(name: &str) -> Option<&'static [u8]> {
     match name {
         "loop" => Some(&LOOP),
         "label" => Some(&LABEL),
