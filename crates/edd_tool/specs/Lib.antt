@@ -1,2 +1,1 @@
-pub mod Names
-pub mod Saves
+pub mod Layouts

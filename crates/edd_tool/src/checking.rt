@@ -2,22 +2,11 @@
 
 ghost use Rattle.std.specs.Prelude.{◌≡◌};
 
-use crate::files::{FileFault, Files};
-use crate::reading::{Source, read_marked, read_sources};
-use crate::requests::Stop;
-use edd_check::{Choices, Format, LINTS, Lint, Look, ReportFault, print_document};
+use edd_check::{Choices, Format, LINTS, Lint, Look, print_document};
 use edd_command_line::{Checking, Form, Lints};
+use edd_files::{FileFault, Files, Source, Stop, read_marked, read_sources};
 use std::alloc::{AllocError, Global};
 use std::io::Write;
-
-impl From<ReportFault> for Stop<'_> {
-    fn from(fault: ReportFault) -> Self {
-        match fault {
-            ReportFault::Memory => Stop::Memory,
-            ReportFault::Output => Stop::Output,
-        }
-    }
-}
 
 fn lint_of<'a>(name: &'a str) -> Result<Lint, Stop<'a>> {
     match Lint::from_name(name) {

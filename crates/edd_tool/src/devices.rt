@@ -1,11 +1,11 @@
 //! What the program does to run a method with a device.
 
 use crate::playing::method_named;
-use crate::requests::Stop;
 use edd_command_line::Run;
 use edd_compiler::{Fault, compile};
 use edd_device::{Device, Trial};
 use edd_display::show_play;
+use edd_files::Stop;
 use edd_loader::{Image, load};
 use edd_machine::Values;
 use edd_sitting::fault_text;

@@ -3,12 +3,10 @@
 ghost use Rattle.std.specs.Prelude.{◌≡◌};
 
 use crate::devices::compiled;
-use crate::files::Files;
 use crate::opening::is_image;
-use crate::reading::read;
-use crate::requests::Stop;
 use edd_command_line::Form;
 use edd_differences::{differences, print_lines, print_objects};
+use edd_files::{Files, Stop, read};
 use edd_loader::{Image, LoadFault, load};
 use std::alloc::Global;
 use std::io::Write;

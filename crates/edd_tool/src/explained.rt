@@ -4,11 +4,11 @@ ghost use Rattle.std.specs.Prelude.{◌≡◌, IfOk};
 ghost use Rattle.edd_compiler.specs.Images.{IsImageOf};
 
 use crate::checking::add_originals;
-use crate::files::Files;
-use crate::requests::{Stop, report};
+use crate::requests::report;
 use edd_check::{Choices, Diagnostic, Finding, Format, Look, Reports, Span};
 use edd_compiler::{Fault, compile};
 use edd_display::print;
+use edd_files::{Files, Stop};
 use edd_loader::{LoadFault, load};
 use edd_machine::ValuesFault;
 use edd_port::PlayFault;
@@ -40,6 +40,22 @@ fn explain_source<'a, F: Files, W: Write>(
     Ok(())
 }
 
+/// Prints why a source is refused, and the places.
+pub fn explain_refusal<'a, F: Files, W: Write>(
+    alloc: Global,
+    source: &'a str,
+    text: &[u8],
+    fault: &Fault,
+    files: &mut F,
+    out: &mut W,
+) -> Result<(), Stop<'a>>
+    ensures kept { F.account files.new ≡ F.account files.old }
+{
+    print(alloc, out, format_args!("refused {fault}"))?;
+    explain_source(alloc, source, text, files, out)?;
+    Err(Stop::Shown)
+}
+
 /// The image of a source. Where it is refused and that is to be explained, the refusal and its
 /// places are printed.
 pub fn image_of_source<'a, F: Files, W: Write>(
@@ -61,8 +77,7 @@ pub fn image_of_source<'a, F: Files, W: Write>(
     if !is_explained {
         return Err(Stop::NotCompiled(fault));
     }
-    print(alloc, out, format_args!("refused {fault}"))?;
-    explain_source(alloc, source, text, files, out)?;
+    explain_refusal(alloc, source, text, &fault, files, out)?;
     Err(Stop::Shown)
 }
 

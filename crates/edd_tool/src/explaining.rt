@@ -1,9 +1,9 @@
 //! What `edd explain` prints of refusals and lints.
 
-use crate::requests::Stop;
 use edd_check::{LINTS, Lint};
 use edd_display::{print, print_text};
 use edd_explanations::{Explanation, explain, explain_name};
+use edd_files::Stop;
 use std::alloc::Global;
 use std::io::Write;
 

@@ -3,14 +3,15 @@
 ghost use Rattle.std.specs.Prelude.{◌≡◌, IfOk, IfSome, List, OnOk, Option, map, string_bytes, ℕ};
 ghost use Rattle.std.specs.List.{All};
 ghost use Rattle.edd_layout.specs.Same.{HaveSameBytes, SameTokens};
-ghost use Rattle.edd_tool.specs.Saves.{Account, IsLayoutSaving, IsRead, SavesEach, saving_of};
+ghost use Rattle.edd_tool.specs.Layouts.{saving_of};
+ghost use Rattle.edd_files.specs.Saves.{Account, IsLayoutSaving, IsRead, SavesEach};
 
-use crate::files::{FileFault, Files};
-use crate::naming::are_words;
-use crate::reading::{INPUT, STANDARD, Source, input_of, of_file, read, read_sources};
-use crate::requests::Stop;
 use edd_compiler::Fault;
 use edd_display::print;
+use edd_files::{
+    FileFault, Files, INPUT, STANDARD, Source, Stop, are_words, input_of, of_file, read,
+    read_sources,
+};
 use edd_layout::laid_out;
 use std::alloc::Global;
 use std::io::Write;
@@ -71,7 +72,7 @@ fn layouts_of<'a>(alloc: Global, sources: &[Source<'a>]) -> Result<Vec<Layout<'a
 }
 
 // Writes a layout in the place of its source.
-#[tactic(auto, using(crate::proofs::SavesLaws::saves_nothing, crate::proofs::SavesLaws::saves_one))]
+#[tactic(auto, using(edd_files::proofs::SavesLaws::saves_nothing, edd_files::proofs::SavesLaws::saves_one))]
 fn write_layout<'a, F: Files, W: Write>(
     alloc: Global,
     layout: &Layout<'a>,
@@ -150,7 +151,7 @@ fn input_alone<'a>(names: &[&'a str]) -> Option<&'a str> {
 
 // Lays sources out anew, or names those whose layout is another one. All are read and laid out
 // before the first is written.
-#[tactic(auto, using(crate::proofs::SavesLaws::saves_nothing))]
+#[tactic(auto, using(edd_files::proofs::SavesLaws::saves_nothing))]
 fn format_files<'a, F: Files, W: Write>(
     alloc: Global,
     names: &[&'a str],
@@ -173,7 +174,7 @@ fn format_files<'a, F: Files, W: Write>(
 
 /// Lays sources out, or names those whose layout is another one. The names are always among the
 /// words. The standard input alone goes to the output.
-#[tactic(auto, using(crate::proofs::SavesLaws::saves_nothing))]
+#[tactic(auto, using(edd_files::proofs::SavesLaws::saves_nothing))]
 pub fn format_named<'a, F: Files, W: Write>(
     alloc: Global,
     words: &[String],

@@ -3,7 +3,7 @@
 #![tactic(auto)]
 
 ghost use Rattle.std.specs.Prelude.{◌≤◌, map, string_bytes};
-ghost use Rattle.edd_tool.specs.Saves.{MaySave};
+ghost use Rattle.edd_files.specs.Saves.{MaySave};
 
 mod checking;
 mod compiling;
@@ -11,12 +11,9 @@ mod devices;
 mod differing;
 mod explained;
 mod explaining;
-mod files;
 mod formatting;
-mod naming;
 mod opening;
 mod playing;
-mod reading;
 mod reasons;
 mod requests;
 mod running;
@@ -26,8 +23,8 @@ mod testing;
 
 pub use edd_compiler::{Fault, compile};
 use edd_display::ShowFault;
-pub use files::{FileFault, Files};
-use requests::Stop;
+use edd_files::Stop;
+pub use edd_files::{FileFault, Files};
 use std::alloc::Global;
 use std::io::{BufWriter, Write};
 pub use system::run_on_system;
@@ -64,7 +61,7 @@ pub fn run<F: Files, W: Write>(alloc: Global, words: &[String], files: &mut F, o
 }
 
 // All lines are written before the answer, but where a write failed: after that none is tried.
-#[tactic(auto, using(crate::proofs::SavesLaws::may_nothing))]
+#[tactic(auto, using(edd_files::proofs::SavesLaws::may_nothing))]
 fn print_lines<'a, F: Files, W: Write>(
     alloc: Global,
     words: &'a [String],

@@ -1,38 +1,25 @@
 //! What the program does to open a description.
 
 ghost use Rattle.std.specs.Prelude.{IsTrue, map, option_map, string_bytes};
-ghost use Rattle.edd_tool.specs.Saves.{IsRecord, NameRecord, SavesEach, Saving};
+ghost use Rattle.edd_files.specs.Saves.{IsRecord, NameRecord, SavesEach, Saving};
 
 use crate::devices::compiled;
-use crate::files::{FileFault, Files};
-use crate::naming::name_record;
-use crate::reading::{INPUT, of_file, read, read_script};
-use crate::requests::Stop;
 use crate::running::read_device;
 use edd_command_line::{Opening, RawTerminal};
 use edd_compiler::compile;
 use edd_device::Device;
+use edd_files::{FileFault, Files, INPUT, Stop, name_record, of_file, read, read_script};
 use edd_loader::{Image, load};
 use edd_machine::ValuesFault;
 use edd_panel::{Panel, start_values};
 use edd_panel_lines::push_start;
 use edd_script::parse_sets;
-use edd_sitting::{Console, Lines, SittingFault, Size, Terminal, converse, converse_by_keys};
+use edd_sitting::{Console, Lines, Size, Terminal, converse, converse_by_keys};
 use std::alloc::Global;
 use std::io::{Read, Write};
 
 /// What an image begins with, and no source does.
 const MAGIC: &[u8] = b"EDI1";
-
-impl From<SittingFault> for Stop<'_> {
-    fn from(fault: SittingFault) -> Self {
-        match fault {
-            SittingFault::Input => Stop::File(INPUT, FileFault::Failed),
-            SittingFault::Output => Stop::Output,
-            SittingFault::Memory => Stop::Memory,
-        }
-    }
-}
 
 /// How a user is talked to.
 #[derive(Clone, Copy)]
@@ -130,7 +117,7 @@ pub fn open_bytes<'a, R: Read + Drop, W: Write>(
 }
 
 // Saves what was set and answered, where that is to be kept.
-#[tactic(auto, using(crate::proofs::SavesLaws::saves_nothing, crate::proofs::SavesLaws::saves_one))]
+#[tactic(auto, using(edd_files::proofs::SavesLaws::saves_nothing, edd_files::proofs::SavesLaws::saves_one))]
 fn save_record<'a, F: Files>(
     name: Option<&'a str>,
     noted: &str,
@@ -149,7 +136,7 @@ fn save_record<'a, F: Files>(
 
 // Opens a source or an image, and does what the lines of the standard input say. All files are
 // opened before anything else is done, and the record is written at the end.
-#[tactic(auto, using(crate::proofs::SavesLaws::saves_nothing))]
+#[tactic(auto, using(edd_files::proofs::SavesLaws::saves_nothing))]
 fn open<'a, F: Files, W: Write>(
     alloc: Global,
     opening: Opening<'a>,
@@ -184,7 +171,7 @@ fn is_named(words: &[String], name: Option<&str>) -> bool
 }
 
 /// Opens a source or an image. The name of the record's file is always among the words.
-#[tactic(auto, using(crate::proofs::SavesLaws::saves_nothing, crate::proofs::SavesLaws::saves_such))]
+#[tactic(auto, using(edd_files::proofs::SavesLaws::saves_nothing, edd_files::proofs::SavesLaws::saves_such))]
 pub fn open_named<'a, F: Files, W: Write>(
     alloc: Global,
     words: &[String],

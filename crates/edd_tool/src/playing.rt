@@ -1,8 +1,8 @@
 //! What the program does to run a method.
 
-use crate::requests::Stop;
 use edd_command_line::Run;
 use edd_display::show_play;
+use edd_files::Stop;
 use edd_loader::{Image, load};
 use edd_machine::Values;
 use edd_port::{Transcript, play};

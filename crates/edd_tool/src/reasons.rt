@@ -1,7 +1,6 @@
 //! Why a file could not be read or written, in words.
 
-use crate::files::FileFault;
-use crate::requests::Stop;
+use edd_files::{FileFault, Stop};
 
 /// The line below `file NAME`.
 pub fn reason_of(fault: FileFault) -> &'static str {

@@ -1,143 +1,28 @@
 //! What the program does on each command.
 
 ghost use Rattle.std.specs.Prelude.{◌≡◌, ◌≤◌, map, string_bytes};
-ghost use Rattle.edd_tool.specs.Saves.{MaySave};
+ghost use Rattle.edd_files.specs.Saves.{MaySave};
 
 use crate::checking::{check_sources, push_lints};
-use crate::compiling::compile_named;
+use crate::compiling::write_image;
 use crate::differing::diff_files;
 use crate::explained::{Instead, image_of_source, with_command_named, with_script_shown};
 use crate::explaining::print_asked;
-use crate::files::{FileFault, Files};
 use crate::formatting::format_named;
 use crate::opening::open_named;
-use crate::reading::{read, read_script};
 use crate::reasons::{reason_of, told};
 use crate::running::{play_file, try_source};
 use crate::serving::serve;
 use crate::testing::test_named;
 use crate::{COMMAND_LINE, DONE, FILE, MEMORY, REFUSED};
-use edd_command_line::{NoRequest, Request, Showing};
-use edd_compiler::Fault;
+use edd_command_line::{Request, Showing};
 use edd_display::{ShowFault, print, print_text, show};
 use edd_dump::dump;
-use edd_loader::{Image, LoadFault, load};
-use edd_machine::{Values, ValuesFault};
-use edd_port::PlayFault;
-use edd_script::ScriptFault;
-use std::alloc::{AllocError, AllocFailed, Global};
+use edd_files::{FileFault, Files, Stop, read, read_script};
+use edd_loader::{Image, load};
+use edd_machine::Values;
+use std::alloc::Global;
 use std::io::Write;
-
-/// Why the program stops before its end.
-#[derive(Drop)]
-pub enum Stop<'a> {
-    Help(String),
-    CommandLine(String),
-    File(&'a str, FileFault),
-    /// The same, and the reason is said.
-    FileAndWhy(&'a str, FileFault),
-    /// A file that a file of tests names.
-    Named(String),
-    NotCompiled(Fault),
-    NotLoaded(LoadFault),
-    Script(ScriptFault),
-    Values(ValuesFault),
-    /// The image has no method of this name.
-    NoMethod(&'a str),
-    Play(PlayFault),
-    /// The source of this name, one of several, is refused.
-    NoSource(&'a str, Fault),
-    /// The image of this name, one of several, is refused.
-    NoImage(&'a str, LoadFault),
-    /// A simulated device had no answer, which is this fault of its own.
-    Device(String),
-    /// No refusal has the number, and neither a refusal nor a lint the name.
-    NoRefusal(&'a str),
-    /// No lint has this name.
-    NoLint(&'a str),
-    /// A refusal or differences that are printed already.
-    Shown,
-    /// The output could not be written.
-    Output,
-    Memory,
-}
-
-impl From<NoRequest> for Stop<'_> {
-    fn from(none: NoRequest) -> Self {
-        match none {
-            NoRequest::Help(text) => Stop::Help(text),
-            NoRequest::Mistake(text) => Stop::CommandLine(text),
-            NoRequest::Memory => Stop::Memory,
-        }
-    }
-}
-
-impl From<Fault> for Stop<'_> {
-    fn from(fault: Fault) -> Self {
-        match fault {
-            Fault::Memory => Stop::Memory,
-            other => Stop::NotCompiled(other),
-        }
-    }
-}
-
-impl From<LoadFault> for Stop<'_> {
-    fn from(fault: LoadFault) -> Self {
-        match fault {
-            LoadFault::Memory => Stop::Memory,
-            other => Stop::NotLoaded(other),
-        }
-    }
-}
-
-impl From<ScriptFault> for Stop<'_> {
-    fn from(fault: ScriptFault) -> Self {
-        match fault {
-            ScriptFault::Memory => Stop::Memory,
-            other => Stop::Script(other),
-        }
-    }
-}
-
-impl From<ValuesFault> for Stop<'_> {
-    fn from(fault: ValuesFault) -> Self {
-        match fault {
-            ValuesFault::Memory => Stop::Memory,
-            other => Stop::Values(other),
-        }
-    }
-}
-
-impl From<PlayFault> for Stop<'_> {
-    fn from(fault: PlayFault) -> Self {
-        match fault {
-            PlayFault::Memory => Stop::Memory,
-            other => Stop::Play(other),
-        }
-    }
-}
-
-impl From<ShowFault> for Stop<'_> {
-    fn from(fault: ShowFault) -> Self {
-        match fault {
-            ShowFault::Memory => Stop::Memory,
-            ShowFault::Output => Stop::Output,
-            ShowFault::WrongValues => Stop::Values(ValuesFault::Count),
-        }
-    }
-}
-
-impl From<AllocError> for Stop<'_> {
-    fn from(_error: AllocError) -> Self {
-        Stop::Memory
-    }
-}
-
-impl<T: Drop> From<AllocFailed<T>> for Stop<'_> {
-    fn from(_error: AllocFailed<T>) -> Self {
-        Stop::Memory
-    }
-}
 
 fn show_under<'a, W: Write>(
     alloc: Global,
@@ -223,7 +108,7 @@ fn dump_file<'a, F: Files, W: Write>(
 
 /// Does what the words of the command line ask for. All files are read before anything else is
 /// done.
-#[tactic(auto, using(crate::proofs::SavesLaws::may_nothing, crate::proofs::SavesLaws::may_image, crate::proofs::SavesLaws::may_layout, crate::proofs::SavesLaws::may_update, crate::proofs::SavesLaws::may_record))]
+#[tactic(auto, using(edd_files::proofs::SavesLaws::may_nothing, edd_files::proofs::SavesLaws::may_image, edd_files::proofs::SavesLaws::may_layout, edd_files::proofs::SavesLaws::may_update, edd_files::proofs::SavesLaws::may_record))]
 pub fn answer<'a, F: Files, W: Write>(
     alloc: Global,
     words: &'a [String],
@@ -236,7 +121,7 @@ pub fn answer<'a, F: Files, W: Write>(
     match edd_command_line::parse(alloc, words)? {
         Request::Compile(writing) => {
             told(
-                compile_named(alloc, words, writing, files, out),
+                write_image(alloc, words, writing, files, out),
                 writing.is_explained,
             )
         }

@@ -6,12 +6,10 @@ use crate::devices::{compiled, play_with_device};
 use crate::explained::{
     Instead, image_of_source, with_command_named, with_device_shown, with_script_shown,
 };
-use crate::files::Files;
 use crate::playing::{method_named, play_bytes};
-use crate::reading::{read, read_script};
-use crate::requests::Stop;
 use edd_command_line::Run;
 use edd_device::Device;
+use edd_files::{Files, Stop, read, read_script};
 use edd_loader::load;
 use edd_script::parse;
 use edd_tracing::{Followed, trace};

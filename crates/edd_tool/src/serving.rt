@@ -2,9 +2,7 @@
 
 ghost use Rattle.std.specs.Prelude.{◌≡◌};
 
-use crate::files::{FileFault, Files};
-use crate::reading::{INPUT, of_file};
-use crate::requests::Stop;
+use edd_files::{FileFault, Files, INPUT, Stop, of_file};
 use edd_language_server::{Framing, Next, Server, feed};
 use std::alloc::Global;
 use std::io::{Read, Write};

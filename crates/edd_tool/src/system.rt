@@ -2,8 +2,8 @@
 
 ghost use Rattle.std.specs.Prelude.{◌≤◌};
 
-use crate::reading::INPUT;
 use crate::{FileFault, Files};
+use edd_files::INPUT;
 use edd_system::{DiskFiles, Opened, SystemDisk};
 use std::io::Write;
 use std::{io, rt};

@@ -2,14 +2,11 @@
 
 ghost use Rattle.std.specs.Prelude.{◌≡◌, IsTrue, List, Option, map, string_bytes, ℕ};
 ghost use Rattle.std.specs.List.{All, Contains};
-ghost use Rattle.edd_tool.specs.Names.{update_word};
-ghost use Rattle.edd_tool.specs.Saves.{Account, IsNamedUpdate, IsRead, IsUpdate, IsUpdateOf, SavesEach};
+ghost use Rattle.edd_files.specs.Names.{update_word};
+ghost use Rattle.edd_files.specs.Saves.{Account, IsNamedUpdate, IsRead, IsUpdate, IsUpdateOf, SavesEach};
 
-use crate::files::{FileFault, Files};
-use crate::naming::{are_words, is_word};
 use crate::opening::{Manner, open_bytes};
-use crate::reading::{INPUT, Source, of_file, read_bytes, read_sources};
-use crate::requests::{Stop, report, show_bytes};
+use crate::requests::{report, show_bytes};
 use crate::running::{lent, run_method};
 use edd_cases::{
     Case, Description, Ended, Form, Kind, Misread, Printed, Tally, TestFault, Tests, beside,
@@ -18,6 +15,9 @@ use edd_cases::{
 use edd_command_line::Run;
 use edd_compiler::compile;
 use edd_display::{print, print_text};
+use edd_files::{
+    FileFault, Files, INPUT, Source, Stop, are_words, is_word, of_file, read_bytes, read_sources,
+};
 use std::alloc::Global;
 use std::io::Write;
 
@@ -165,7 +165,7 @@ fn test_case<'a, F: Files, W: Write>(
 }
 
 // Runs the tests of a file, and writes it anew where what was seen in it differs.
-#[tactic(auto, using(crate::proofs::SavesLaws::saves_nothing, crate::proofs::SavesLaws::saves_one))]
+#[tactic(auto, using(edd_files::proofs::SavesLaws::saves_nothing, edd_files::proofs::SavesLaws::saves_one))]
 fn test_all<'a, F: Files, W: Write>(
     alloc: Global,
     given: Given<'a>,
@@ -193,7 +193,7 @@ fn test_all<'a, F: Files, W: Write>(
 }
 
 // Runs the tests of a file, or says why it is not read.
-#[tactic(auto, using(crate::proofs::SavesLaws::saves_nothing))]
+#[tactic(auto, using(edd_files::proofs::SavesLaws::saves_nothing))]
 fn test_file<'a, F: Files, W: Write>(
     alloc: Global,
     given: Given<'a>,
@@ -245,7 +245,7 @@ fn test_each<'a, F: Files, W: Write>(
 }
 
 // Reads all files, and runs their tests then.
-#[tactic(auto, using(crate::proofs::SavesLaws::saves_nothing))]
+#[tactic(auto, using(edd_files::proofs::SavesLaws::saves_nothing))]
 fn tally_of<'a, F: Files, W: Write>(
     alloc: Global,
     names: &[&'a str],
@@ -298,7 +298,7 @@ fn is_asked(words: &[String], is_update: bool) -> bool
 
 /// Runs the tests of all files. Their names, and the option where they are to be written anew, are
 /// always among the words.
-#[tactic(auto, using(crate::proofs::SavesLaws::saves_nothing))]
+#[tactic(auto, using(edd_files::proofs::SavesLaws::saves_nothing))]
 pub fn test_named<'a, F: Files, W: Write>(
     alloc: Global,
     words: &[String],

@@ -1,7 +1,8 @@
 -- The layouts of what was read are saved.
 use Rattle.std.proofs.Common.{rules, ◌≡◌, map, subst, sym}
 use Rattle.std.specs.List.{All}
-use Rattle.edd_tool.specs.Saves.{IsLayoutSaving, IsRead, SavesEach, saving_of}
+use Rattle.edd_tool.specs.Layouts.{saving_of}
+use Rattle.edd_files.specs.Saves.{IsLayoutSaving, IsRead, SavesEach}
 use Rattle.edd_tool.proofs.formatting.format_files.Goals as goal
 
 pub returns : goal.returns

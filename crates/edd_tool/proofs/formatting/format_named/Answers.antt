@@ -1,9 +1,9 @@
 -- What is laid out is named.
 use Rattle.std.proofs.Common.{rules, ◌≡◌, map}
 use Rattle.std.specs.Prelude.{string_bytes}
-use Rattle.edd_tool.specs.Saves.{IsLayoutSaving}
-use Rattle.edd_tool.proofs.SavesLaws.{saves_such}
-use Rattle.edd_tool.proofs.WordsFound.{layout_named}
+use Rattle.edd_files.specs.Saves.{IsLayoutSaving}
+use Rattle.edd_files.proofs.SavesLaws.{saves_such}
+use Rattle.edd_files.proofs.WordsFound.{layout_named}
 use Rattle.edd_tool.proofs.formatting.format_named.Goals as goal
 
 pub returns : goal.returns

@@ -1,7 +1,8 @@
 -- Each layout so far is one of a source.
 use Rattle.std.proofs.Common.{ℕ, List, Option}
 use Rattle.std.specs.List.{All}
-use Rattle.edd_tool.specs.Saves.{Account, IsLayoutSaving, IsRead, saving_of}
+use Rattle.edd_tool.specs.Layouts.{saving_of}
+use Rattle.edd_files.specs.Saves.{Account, IsLayoutSaving, IsRead}
 use Rattle.edd_tool.proofs.formatting.layouts_of.Given as goal
 
 abbrev pub invariant-loop-source : goal.invariant-loop-source

@@ -1,8 +1,9 @@
 -- One more layout, of this source.
 use Rattle.std.proofs.Common.{◌≡◌, IfSome, refl, subst}
 use Rattle.edd_layout.specs.Same.{HaveSameBytes, SameTokens}
-use Rattle.edd_tool.specs.Saves.{IsLayoutSaving, saving_of}
-use Rattle.edd_tool.proofs.SavesLaws.{all_pushed}
+use Rattle.edd_tool.specs.Layouts.{saving_of}
+use Rattle.edd_files.specs.Saves.{IsLayoutSaving}
+use Rattle.edd_files.proofs.SavesLaws.{all_pushed}
 use Rattle.edd_tool.proofs.formatting.push_layout.Goals as goal
 
 pub returns : goal.returns

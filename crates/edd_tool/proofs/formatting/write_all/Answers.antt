@@ -1,7 +1,8 @@
 -- One layout after the other.
 use Rattle.std.proofs.Common.{rules, ◌≡◌}
-use Rattle.edd_tool.specs.Saves.{IsLayoutSaving, saving_of}
-use Rattle.edd_tool.proofs.SavesLaws.{item_such, saves_more}
+use Rattle.edd_tool.specs.Layouts.{saving_of}
+use Rattle.edd_files.specs.Saves.{IsLayoutSaving}
+use Rattle.edd_files.proofs.SavesLaws.{item_such, saves_more}
 use Rattle.edd_tool.proofs.formatting.write_all.Goals as goal
 
 pub loop-layout-preserved : goal.loop-layout-preserved

@@ -1,7 +1,8 @@
 -- What was saved so far are layouts.
 use Rattle.std.proofs.Common.{ℕ, List, Option}
 use Rattle.std.specs.List.{All}
-use Rattle.edd_tool.specs.Saves.{Account, IsLayoutSaving, SavesEach, saving_of}
+use Rattle.edd_tool.specs.Layouts.{saving_of}
+use Rattle.edd_files.specs.Saves.{Account, IsLayoutSaving, SavesEach}
 use Rattle.edd_tool.proofs.formatting.write_all.Given as goal
 
 abbrev pub invariant-loop-layout : goal.invariant-loop-layout

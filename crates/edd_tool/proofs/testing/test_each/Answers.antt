@@ -1,7 +1,7 @@
 -- One file after the other.
 use Rattle.std.proofs.Common.{rules, ◌≡◌}
-use Rattle.edd_tool.specs.Saves.{IsRead, IsUpdate, IsUpdateOf}
-use Rattle.edd_tool.proofs.SavesLaws.{item_such, saves_update}
+use Rattle.edd_files.specs.Saves.{IsRead, IsUpdate, IsUpdateOf}
+use Rattle.edd_files.proofs.SavesLaws.{item_such, saves_update}
 use Rattle.edd_tool.proofs.testing.test_each.Goals as goal
 
 pub loop-source-preserved : goal.loop-source-preserved

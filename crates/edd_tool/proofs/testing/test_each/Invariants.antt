@@ -1,7 +1,7 @@
 -- What was saved so far are files of tests.
 use Rattle.std.proofs.Common.{ℕ, List, Option}
 use Rattle.std.specs.List.{All}
-use Rattle.edd_tool.specs.Saves.{Account, IsRead, IsUpdate, SavesEach}
+use Rattle.edd_files.specs.Saves.{Account, IsRead, IsUpdate, SavesEach}
 use Rattle.edd_tool.proofs.testing.test_each.Given as goal
 
 abbrev pub invariant-loop-source : goal.invariant-loop-source

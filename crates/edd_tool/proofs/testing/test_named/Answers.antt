@@ -1,9 +1,9 @@
 -- What is written anew is named.
 use Rattle.std.proofs.Common.{rules, ◌≡◌, map}
 use Rattle.std.specs.Prelude.{string_bytes}
-use Rattle.edd_tool.specs.Saves.{IsNamedUpdate, IsUpdate}
-use Rattle.edd_tool.proofs.SavesLaws.{saves_such}
-use Rattle.edd_tool.proofs.WordsFound.{update_named}
+use Rattle.edd_files.specs.Saves.{IsNamedUpdate, IsUpdate}
+use Rattle.edd_files.proofs.SavesLaws.{saves_such}
+use Rattle.edd_files.proofs.WordsFound.{update_named}
 use Rattle.edd_tool.proofs.testing.test_named.Goals as goal
 
 pub returns : goal.returns

@@ -2,11 +2,11 @@
 
 ghost use Rattle.std.specs.Prelude.{◌≡◌, IfOk, List, OnOk, map, ℕ};
 ghost use Rattle.std.specs.List.{All, Contains};
-ghost use Rattle.edd_tool.specs.Names.{input_name};
-ghost use Rattle.edd_tool.specs.Saves.{Gave, IsRead};
+ghost use Rattle.edd_files.specs.Names.{input_name};
+ghost use Rattle.edd_files.specs.Saves.{Gave, IsRead};
 
 use crate::files::{FileFault, Files, read_all};
-use crate::requests::Stop;
+use crate::stop::Stop;
 use std::alloc::Global;
 
 /// The name of the file that has the user's lines.

@@ -1,9 +1,9 @@
 -- One source after the other.
 use Rattle.std.proofs.Common.{rules, ◌≡◌, map, subst, sym, ◌∙◌}
 use Rattle.std.specs.List.{All}
-use Rattle.edd_tool.specs.Saves.{IsRead}
-use Rattle.edd_tool.proofs.SavesLaws.{made_at}
-use Rattle.edd_tool.proofs.reading.read_sources.Goals as goal
+use Rattle.edd_files.specs.Saves.{IsRead}
+use Rattle.edd_files.proofs.SavesLaws.{made_at}
+use Rattle.edd_files.proofs.reading.read_sources.Goals as goal
 
 pub loop-name-preserved : goal.loop-name-preserved
 loop-name-preserved g c =

@@ -5,7 +5,7 @@ use Rattle.std.specs.Option.{option_map, unwrap_or}
 use Rattle.std.specs.List.{All, Contains}
 use Rattle.std.proofs.lemmas.List.{get_or-map, length-map}
 use Rattle.std.proofs.lemmas.List.Elements.{All-append, All-nil, All-push, All-get_or, Contains-get_or}
-use Rattle.edd_tool.specs.Saves.{Account, IsLayoutSaving, IsNamedImage, IsNamedUpdate, IsUpdate, IsUpdateOf, MaySave, NameRecord, Saving, SavesEach, SavesOne, with_saving, with_savings}
+use Rattle.edd_files.specs.Saves.{Account, IsLayoutSaving, IsNamedImage, IsNamedUpdate, IsUpdate, IsUpdateOf, MaySave, NameRecord, Saving, SavesEach, SavesOne, with_saving, with_savings}
 
 -- one list after another
 savings_after : (xs ys : List Saving) (a : Account)

@@ -4,8 +4,8 @@ use Rattle.std.specs.Prelude.{IsTrue, Option, get_or}
 use Rattle.std.specs.List.{All, Contains}
 use Rattle.std.proofs.lemmas.List.{get_or-map, length-map}
 use Rattle.std.proofs.lemmas.List.Elements.{All-get_or}
-use Rattle.edd_tool.specs.Names.{update_word}
-use Rattle.edd_tool.specs.Saves.{Account, IsLayoutSaving, IsNamedUpdate, IsUpdate, Saving}
+use Rattle.edd_files.specs.Names.{update_word}
+use Rattle.edd_files.specs.Saves.{Account, IsLayoutSaving, IsNamedUpdate, IsUpdate, Saving}
 
 -- each of several
 words_found : (words : List (List ℕ)) (names : List (Bor (List ℕ)))

@@ -3,9 +3,8 @@ use Rattle.std.specs.Prelude.{◌≡◌, ◌⊎◌, ℕ, Bool, List, [], ◌∷�
 use Rattle.std.specs.List.{All, Contains}
 use Rattle.edd_compiler.specs.Images.{IsImageOf}
 use Rattle.edd_layout.specs.Same.{HaveSameBytes, SameTokens}
-use Rattle.edd_tool.specs.declared.formatting.Layout.{Layout}
-use Rattle.edd_tool.specs.declared.reading.Source.{Source}
-use Rattle.edd_tool.specs.Names.{input_name, output_name, record_word, record_word_of, update_word}
+use Rattle.edd_files.specs.declared.reading.Source.{Source}
+use Rattle.edd_files.specs.Names.{input_name, output_name, record_word, record_word_of, update_word}
 
 -- bytes that were saved under a name
 pub record Saving : Type 0 where
@@ -99,7 +98,3 @@ MaySave words before after = SavesOne (IsNamedImage words before) before after
 abbrev pub IsRead : Option Account → (names : List (List ℕ)) → Source → Type 0
 IsRead account names source = Contains names source.name.now
     × Gave account (input_name source.name.now) source.text.items
-
--- the layout, saved in the place of its source
-abbrev pub saving_of : Layout → Saving
-saving_of layout = record { name = input_name layout.name.now; bytes = layout.bytes.items }

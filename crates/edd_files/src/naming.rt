@@ -3,8 +3,8 @@
 
 ghost use Rattle.std.specs.Prelude.{◌≡◌, IfSome, IsTrue, map, string_bytes};
 ghost use Rattle.std.specs.List.{All, Contains};
-ghost use Rattle.edd_tool.specs.Names.{record_word_of};
-ghost use Rattle.edd_tool.specs.Saves.{NameRecord};
+ghost use Rattle.edd_files.specs.Names.{record_word_of};
+ghost use Rattle.edd_files.specs.Saves.{NameRecord};
 
 fn is_same(word: &str, name: &str) -> bool
     ensures { IsTrue result → word.now ≡ name.now }

@@ -1,8 +1,8 @@
 -- The new source was given, and its name is one of them.
 use Rattle.std.proofs.Common.{◌≡◌}
-use Rattle.edd_tool.specs.Saves.{IsRead}
-use Rattle.edd_tool.proofs.SavesLaws.{all_pushed}
-use Rattle.edd_tool.proofs.reading.push_source.Goals as goal
+use Rattle.edd_files.specs.Saves.{IsRead}
+use Rattle.edd_files.proofs.SavesLaws.{all_pushed}
+use Rattle.edd_files.proofs.reading.push_source.Goals as goal
 
 pub returns-clause-sound : goal.returns-clause-sound
 returns-clause-sound g c names named all =

@@ -1,0 +1,72 @@
+//! The image of a source, saved.
+
+ghost use Rattle.std.specs.Prelude.{◌≡◌, map, string_bytes};
+ghost use Rattle.edd_files.specs.Names.{output_name};
+ghost use Rattle.edd_files.specs.Saves.{IsImageSaving, IsNamedImage, SavesOne};
+
+use crate::files::{FileFault, Files};
+use crate::naming::is_word;
+use crate::reading::{STANDARD, of_file, read};
+use crate::stop::Stop;
+use edd_compiler::{Fault, compile};
+use std::alloc::Global;
+
+/// The name of the standard output as a file.
+const OUTPUT: &str = "/dev/stdout";
+
+/// What became of a source.
+#[derive(Drop)]
+pub enum Compiled {
+    /// Its image is saved, which has so many bytes.
+    Saved(usize),
+    /// It is refused. Its text is handed back.
+    Refused(Vec<u8>, Fault),
+}
+
+// The file that a name is written to.
+fn output_of(name: &str) -> &str
+    ensures { result.now ≡ output_name name.now }
+{
+    if name == STANDARD { OUTPUT } else { name }
+}
+
+// Saves the image of a source, if it has one.
+#[tactic(auto, using(crate::proofs::SavesLaws::saves_none, crate::proofs::SavesLaws::saves_this))]
+fn save_image<'a, F: Files>(
+    alloc: Global,
+    source: &'a str,
+    image: &'a str,
+    files: &mut F,
+) -> Result<Compiled, Stop<'a>>
+    ensures saves { SavesOne (IsImageSaving (F.account files.old) source.now image.now)
+        (F.account files.old) (F.account files.new) }
+{
+    let text = read(alloc, files, source)?;
+    let bytes = match compile(alloc, &text) {
+        Ok(bytes) => bytes,
+        Err(Fault::Memory) => return Err(Stop::Memory),
+        Err(fault) => return Ok(Compiled::Refused(text, fault)),
+    };
+    files
+        .save(output_of(image), &bytes)
+        .map_err(|fault| of_file(image, fault))?;
+    Ok(Compiled::Saved(bytes.len()))
+}
+
+/// Saves the image of a source, if it has one. Both names are always among the words.
+#[tactic(auto, using(crate::proofs::SavesLaws::saves_none, crate::proofs::SavesLaws::saves_this_such))]
+pub fn compile_named<'a, F: Files>(
+    alloc: Global,
+    words: &[String],
+    source: &'a str,
+    image: &'a str,
+    files: &mut F,
+) -> Result<Compiled, Stop<'a>>
+    ensures saves { SavesOne (IsNamedImage (map string_bytes words.now) (F.account files.old))
+        (F.account files.old) (F.account files.new) }
+{
+    if is_word(words, source) && is_word(words, image) {
+        return save_image(alloc, source, image, files);
+    }
+    Err(Stop::File(image, FileFault::Failed))
+}
