@@ -5,7 +5,7 @@ ghost use Rattle.edd_machine.specs.Running.{IsMachine};
 
 use edd_instructions::Status;
 use edd_loader::{Image, load};
-use edd_machine::{Machine, Values, find_body};
+use edd_machine::{Machine, Values, ValuesFault, find_body};
 use edd_syntax::numbers::{MethNo, VarNo};
 use std::alloc::{AllocError, Global};
 use test_images::image_of;
@@ -24,29 +24,29 @@ fn take_steps(machine: &mut Machine, image: &Image<'_>, values: &mut [i64])
     }
 }
 
-fn after(alloc: Global, image: &Image<'_>) -> Result<String, AllocError> {
-    let Ok(mut values) = Values::new(alloc, image, &[9]) else {
-        return String::from_str(alloc, "other variables");
-    };
+fn after(alloc: Global, image: &Image<'_>) -> Result<String, ValuesFault> {
+    let mut values = Values::new(alloc, image, &[9])?;
     let Some(unit) = find_body(image, MethNo(0)) else {
-        return String::from_str(alloc, "no body");
+        return Ok(String::from_str(alloc, "no body")?);
     };
     if image.bytes().is_empty() {
-        return String::from_str(alloc, "no image");
+        return Ok(String::from_str(alloc, "no image")?);
     }
     let mut machine = Machine::open(unit);
     take_steps(&mut machine, image, values.numbers.as_mut_slice());
     let x = values.get(VarNo(0));
-    format!(in alloc;
-        "{} {x:?} {:?} {:?}",
-        machine.place, machine.status, machine.emitted
-    )
+    let (place, status, emitted) = (machine.place, machine.status, machine.emitted);
+    Ok(format!(in alloc; "{place} {x:?} {status:?} {emitted:?}")?)
 }
 
 pub fn after_three(alloc: Global, image: &str) -> Result<String, AllocError> {
     let bytes = image_of(alloc, image)?;
-    match load(alloc, &bytes) {
-        Ok(image) => after(alloc, &image),
+    let image = match load(alloc, &bytes) {
+        Ok(image) => image,
+        Err(fault) => return format!(in alloc; "{fault}"),
+    };
+    match after(alloc, &image) {
+        Ok(found) => Ok(found),
         Err(fault) => format!(in alloc; "{fault}"),
     }
 }
