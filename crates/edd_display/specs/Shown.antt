@@ -1,8 +1,8 @@
 -- What an image shows under values of a device: its entries, and the line of each.
-use Rattle.std.specs.Prelude.{◌≡◌, ℕ, ℤ, Bool, true, false, not, ◌&&◌, ◌||◌, if◌then◌else◌, List, [], ◌∷◌, ◌++◌, map, Option, Some, None, slice_get, codes}
+use Rattle.std.specs.Prelude.{◌≡◌, ◌≢◌, ⊤, ℕ, ℤ, Bool, true, false, not, ◌&&◌, ◌||◌, if◌then◌else◌, List, [], ◌∷◌, ◌++◌, map, Option, Some, None, slice_get, codes}
 use Rattle.std.specs.Fmt.{decimal}
 use Rattle.std.specs.Io.KnownBytes.{Appends}
-use Rattle.std.specs.List.{filter, flat_map, list_any, range_with_len}
+use Rattle.std.specs.List.{AllByRecursion, filter, flat_map, list_any, range_with_len}
 use Rattle.edd_syntax.specs.declared.numbers.Kind.{Kind}
 use Rattle.edd_syntax.specs.declared.numbers.Kind.TheVariants.{Variable, Command, Menu, Collection, Method, Array}
 use Rattle.edd_syntax.specs.declared.numbers.ItemNo.{ItemNo}
@@ -89,6 +89,11 @@ kind_entries c k =
 -- the identification, and then the items by kind
 unfoldable pub entries_of : Contents → List Entry
 entries_of c = Identification ∷ flat_map (kind_entries c) kinds
+
+-- No entry is the same as one after it.
+abbrev pub AreOnce : List Entry → Type 0
+AreOnce [] = ⊤
+AreOnce (e ∷ rest) = AllByRecursion (λ later. e ≢ later) rest × AreOnce rest
 
 -- ---- the line of an entry
 

@@ -3,7 +3,8 @@
 ghost use Rattle.std.specs.Prelude.{◌≡◌, ℕ, ℤ, List};
 ghost use Rattle.std.specs.List.{flat_map};
 ghost use Rattle.edd_syntax.specs.Words.{unescape};
-ghost use Rattle.edd_display.specs.Shown.{Entry, Shows};
+ghost use Rattle.edd_image.specs.Contents.{Contents};
+ghost use Rattle.edd_display.specs.Shown.{AreOnce, Entry, Shows, entries_of};
 ghost use Rattle.edd_display.specs.Words.{escape, quoted};
 
 use edd_instructions::readings_are_unique;
@@ -23,3 +24,8 @@ pub fn one_text_is_shown()
 {
     readings_are_unique();
 }
+
+/// No entry of an image stands twice.
+pub fn entries_stand_once()
+    ensures { (c : Contents) → AreOnce (entries_of c) }
+{}

@@ -15,7 +15,7 @@ mod words;
 
 pub use fault::ShowFault;
 pub use items::show;
-pub use laws::{one_text_is_shown, quoted_texts_are_told_apart};
+pub use laws::{entries_stand_once, one_text_is_shown, quoted_texts_are_told_apart};
 pub use lines::{print, print_text};
 pub use page::push_quoted;
 pub use plays::show_play;
