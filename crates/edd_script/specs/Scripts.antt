@@ -13,8 +13,7 @@ abbrev pub mapped : {A B : Type 0} → (A → B) → Result A ℕ → Result B �
 mapped f (Ok read) = Ok (f read)
 mapped f (Err line) = Err line
 
--- what the lines say, the first of them of this number; or the number of the first that can't be
--- read
+-- what the lines say, from this line number on; or the number of the first that can't be read
 abbrev pub read_from : Contents → (number : ℕ) → (lines : List (List ℕ)) → Result (List Line) ℕ
 read_from c number [] = Ok []
 read_from c number (line ∷ rest) = elim (line_of c line) [
@@ -49,8 +48,7 @@ pub record Said : Type 0 where
   pub values : List ℤ
   pub answers : List Answer
 
--- what a script says: of each variable the value that is set last, and 0 where none is; and the
--- answers in order
+-- of each variable the value that is set last, 0 where none is, and the answers in order
 abbrev pub script_of : Contents → (text : List ℕ) → Result Said ℕ
 script_of c text = mapped (λ said. record {
   values = values_set (replicate c.counts.variables (pos 0)) (sets_in said);
@@ -72,8 +70,7 @@ abbrev is_answer : Option Line → Bool
 is_answer (Some (Answered answer)) = true
 is_answer _ = false
 
--- the numbers of the lines that answer, the first line of this number; lines that can't be read
--- are passed over
+-- the numbers of the lines that answer, from this number on; unreadable lines are passed over
 abbrev pub answering : Contents → (number : ℕ) → (lines : List (List ℕ)) → List ℕ
 answering c number [] = []
 answering c number (line ∷ rest) = if is_answer (line_of c line)
