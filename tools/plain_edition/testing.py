@@ -4,7 +4,7 @@ import re
 import shutil
 
 from . import packages, repository, workspace
-from .trials import alike, bare, calls_for_c, elsewhere, example, fuzzing, images, refusals, runs, score
+from .trials import alike, bare, calls_for_c, disk, elsewhere, example, fuzzing, images, refusals, runs, score
 
 FOLDER = os.path.join(repository.MADE, "edition")
 PROFILE = "checked"
@@ -70,6 +70,7 @@ def own_steps(counts, edition):
     counts.step("stored runs", runs.stored, edition, made)
     counts.step("rows", runs.rows, program)
     counts.step("outputs that nobody reads", runs.closed_output, program)
+    counts.step("files as the system has them", disk.saved, program)
     counts.step("refused memory", refusals.of_program, program)
     counts.step("refused memory of the language server", refusals.of_editor, program)
     counts.step("refused memory in calls", refusals.of_calls, edition, made)
