@@ -3,6 +3,7 @@ import os
 import resource
 import shutil
 import signal
+import stat
 import subprocess
 import tempfile
 
@@ -36,8 +37,8 @@ class Folder:
         self.room, self.program, self.watch = os.path.join(room, "in"), program, library(room)
         self.calls = os.path.join(room, "calls")
 
-    def run(self, words, typed=None, before=None):
-        """The status, the lines, what the image holds after it, the names in the folder, and the calls."""
+    def begin(self):
+        """The source, an older image, and no call."""
         shutil.rmtree(self.room, ignore_errors=True)
         os.mkdir(self.room)
         shutil.copy(os.path.join(repository.TOP, "examples", "first.edd"), os.path.join(self.room, "s"))
@@ -45,12 +46,34 @@ class Folder:
             file.write("older")
         with open(self.calls, "w", encoding="utf-8"):
             pass
+
+    def run(self, words, typed=None, before=None):
+        """The status, the lines, what the image holds after it, the names in the folder, and the calls."""
+        self.begin()
         source = open(os.path.join(self.room, typed), "rb") if typed else subprocess.DEVNULL
         environment = {**os.environ, "LD_PRELOAD": self.watch, "WATCH": self.calls}
         ran = subprocess.run([self.program, *words], cwd=self.room, stdin=source, env=environment, preexec_fn=before, capture_output=True, check=False)
         if typed:
             source.close()
         return ran.returncode, ran.stdout, self.held("i"), sorted(os.listdir(self.room)), self.called()
+
+    def run_into(self, words, name):
+        """The status, what is in the file of this name, which the output goes to, and the calls."""
+        self.begin()
+        with open(os.path.join(self.room, name), "wb") as file:
+            environment = {**os.environ, "LD_PRELOAD": self.watch, "WATCH": self.calls}
+            ran = subprocess.run([self.program, *words], cwd=self.room, env=environment, stdout=file, check=False)
+        return ran.returncode, self.held(name), self.called()
+
+    def run_on_device(self, words, name):
+        """The status and whether the file of this name is a block device still, or nothing where none can be made."""
+        self.begin()
+        try:
+            os.mknod(os.path.join(self.room, name), stat.S_IFBLK | 0o600, os.makedev(7, 255))
+        except PermissionError:
+            return None
+        ran = subprocess.run([self.program, *words], cwd=self.room, capture_output=True, check=False)
+        return ran.returncode, stat.S_ISBLK(os.stat(os.path.join(self.room, name)).st_mode)
 
     def held(self, name):
         with open(os.path.join(self.room, name), "rb") as file:
@@ -78,4 +101,8 @@ def saved(score, program):
             source = folder.held("s")
             score.check((status, lines, names) == (FAILED, b"file s\n", ["i", "s"]) and not calls, f"compile {name} s <s: {status} {lines} {names} {calls}")
             score.check(source == first, f"compile {name} s <s: the source is another one")
+        for name in ("-", "/dev/stdout"):
+            status, held, calls = folder.run_into(["compile", "s", name], "o")
+            score.check(not status and len(held) == 113 + len(b"image 113\n") and held.endswith(b"image 113\n") and not calls, f"compile s {name} >o: {status} {held} {calls}")
+        score.check(folder.run_on_device(["compile", "s", "d"], "d") in (None, (FAILED, True)), "a block device was replaced")
     return "with a limit on files, an input from the image's file, and each call noted"
