@@ -1,6 +1,6 @@
 -- Names that are words.
-use Rattle.std.proofs.Common.{◌≡◌, ℕ, List, Bool, Bor, ◌<◌, length, map, sym, subst, ◌∙◌}
-use Rattle.std.specs.Prelude.{IsTrue, Option, get_or}
+use Rattle.std.proofs.Common.{ℕ, List, Bool, Bor, ◌<◌, map, sym, subst, ◌∙◌}
+use Rattle.std.specs.Prelude.{IsTrue, Option}
 use Rattle.std.specs.List.{All, Contains}
 use Rattle.std.proofs.lemmas.List.{get_or-map, length-map}
 use Rattle.std.proofs.lemmas.List.Elements.{All-get_or}

@@ -1,5 +1,5 @@
 -- One name more.
-use Rattle.std.proofs.Common.{rules, ◌≡◌, [], map, subst}
+use Rattle.std.proofs.Common.{rules, [], map, subst}
 use Rattle.std.specs.Prelude.{string_bytes}
 use Rattle.std.specs.List.{Contains}
 use Rattle.std.proofs.lemmas.List.{get_or_default}

@@ -1,5 +1,5 @@
 -- The names so far are words.
-use Rattle.std.proofs.Common.{ℕ, List, map}
+use Rattle.std.proofs.Common.{map}
 use Rattle.std.specs.Prelude.{string_bytes}
 use Rattle.std.specs.List.{AllWithin, Contains}
 use Rattle.edd_files.proofs.naming.are_words.Given as goal

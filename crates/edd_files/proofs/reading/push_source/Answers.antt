@@ -1,5 +1,4 @@
 -- The new source was given, and its name is one of them.
-use Rattle.std.proofs.Common.{◌≡◌}
 use Rattle.edd_files.specs.Saves.{IsRead}
 use Rattle.edd_files.proofs.SavesLaws.{all_pushed}
 use Rattle.edd_files.proofs.reading.push_source.Goals as goal

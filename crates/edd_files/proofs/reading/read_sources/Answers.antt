@@ -1,5 +1,5 @@
 -- One source after the other.
-use Rattle.std.proofs.Common.{rules, ◌≡◌, map, subst, sym, ◌∙◌}
+use Rattle.std.proofs.Common.{rules, map, subst, sym}
 use Rattle.std.specs.List.{All}
 use Rattle.edd_files.specs.Saves.{IsRead}
 use Rattle.edd_files.proofs.SavesLaws.{made_at}
