@@ -1,5 +1,5 @@
 -- The layouts of what was read are saved.
-use Rattle.std.proofs.Common.{rules, ◌≡◌, map, subst, sym}
+use Rattle.std.proofs.Common.{map, subst, sym}
 use Rattle.std.specs.List.{All}
 use Rattle.edd_tool.specs.Layouts.{saving_of}
 use Rattle.edd_files.specs.Saves.{IsLayoutSaving, IsRead, SavesEach}

@@ -1,5 +1,5 @@
 -- One source after the other.
-use Rattle.std.proofs.Common.{rules, ◌≡◌}
+use Rattle.std.proofs.Common.{rules}
 use Rattle.edd_files.specs.Saves.{IsRead}
 use Rattle.edd_files.proofs.SavesLaws.{item_such}
 use Rattle.edd_tool.proofs.formatting.layouts_of.Goals as goal

@@ -1,5 +1,5 @@
 -- One more layout, of this source.
-use Rattle.std.proofs.Common.{◌≡◌, IfSome, refl, subst}
+use Rattle.std.proofs.Common.{IfSome, refl, subst}
 use Rattle.edd_layout.specs.Same.{HaveSameBytes, SameTokens}
 use Rattle.edd_tool.specs.Layouts.{saving_of}
 use Rattle.edd_files.specs.Saves.{IsLayoutSaving}

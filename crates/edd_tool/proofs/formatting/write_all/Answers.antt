@@ -1,5 +1,5 @@
 -- One layout after the other.
-use Rattle.std.proofs.Common.{rules, ◌≡◌}
+use Rattle.std.proofs.Common.{rules}
 use Rattle.edd_tool.specs.Layouts.{saving_of}
 use Rattle.edd_files.specs.Saves.{IsLayoutSaving}
 use Rattle.edd_files.proofs.SavesLaws.{item_such, saves_more}

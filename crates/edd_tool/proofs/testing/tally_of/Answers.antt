@@ -1,5 +1,5 @@
 -- What was read is tested.
-use Rattle.std.proofs.Common.{◌≡◌, map, subst, sym}
+use Rattle.std.proofs.Common.{map, subst, sym}
 use Rattle.std.specs.List.{All}
 use Rattle.edd_files.specs.Saves.{IsRead, IsUpdate, SavesEach}
 use Rattle.edd_tool.proofs.testing.tally_of.Goals as goal

@@ -1,6 +1,6 @@
 -- One file after the other.
-use Rattle.std.proofs.Common.{rules, ◌≡◌}
-use Rattle.edd_files.specs.Saves.{IsRead, IsUpdate, IsUpdateOf}
+use Rattle.std.proofs.Common.{rules}
+use Rattle.edd_files.specs.Saves.{IsRead}
 use Rattle.edd_files.proofs.SavesLaws.{item_such, saves_update}
 use Rattle.edd_tool.proofs.testing.test_each.Goals as goal
 

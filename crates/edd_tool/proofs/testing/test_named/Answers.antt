@@ -1,5 +1,5 @@
 -- What is written anew is named.
-use Rattle.std.proofs.Common.{rules, ◌≡◌, map}
+use Rattle.std.proofs.Common.{rules, map}
 use Rattle.std.specs.Prelude.{string_bytes}
 use Rattle.edd_files.specs.Saves.{IsNamedUpdate, IsUpdate}
 use Rattle.edd_files.proofs.SavesLaws.{saves_such}
