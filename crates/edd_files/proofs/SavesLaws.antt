@@ -5,7 +5,9 @@ use Rattle.std.specs.Option.{option_map, unwrap_or}
 use Rattle.std.specs.List.{All, Contains}
 use Rattle.std.proofs.lemmas.List.{get_or-map, length-map}
 use Rattle.std.proofs.lemmas.List.Elements.{All-append, All-nil, All-push, All-get_or, Contains-get_or}
-use Rattle.edd_files.specs.Saves.{Account, IsLayoutSaving, IsNamedImage, IsNamedUpdate, IsUpdate, IsUpdateOf, MaySave, NameRecord, Saving, SavesEach, SavesOne, with_saving, with_savings}
+use Rattle.edd_compiler.specs.Images.{IsImageOf}
+use Rattle.edd_files.specs.Names.{input_name}
+use Rattle.edd_files.specs.Saves.{Account, Gave, IsImageSaving, IsLayoutSaving, IsNamedImage, IsNamedUpdate, IsUpdate, IsUpdateOf, MaySave, NameRecord, Saving, SavesEach, SavesOne, image_saving, with_saving, with_savings}
 
 -- one list after another
 savings_after : (xs ys : List Saving) (a : Account)
@@ -143,3 +145,10 @@ may_update words before after saves = inr (inr (inl saves))
 pub may_record : (words : List (List ℕ)) (before after : Option Account)
     → SavesEach (λ s. NameRecord words s.name) before after → MaySave words before after
 may_record words before after saves = inr (inr (inr saves))
+
+-- an image of what the source gave
+pub image_saved : (account : Option Account) (source image text bytes : List ℕ)
+    → Gave account (input_name source) text → IsImageOf text bytes → (s : Saving)
+    → s ≡ image_saving image bytes → IsImageSaving account source image s
+image_saved account source image text bytes gave is s same =
+    subst (IsImageSaving account source image) (sym same) (refl, text, gave, is)

@@ -45,6 +45,10 @@ SavesOne P before after = IfSome before
 
 -- ---- what a saving is
 
+-- bytes under the name of an image
+abbrev pub image_saving : (image bytes : List ℕ) → Saving
+image_saving image bytes = record { name = output_name image; bytes = bytes }
+
 -- the image of what the source gave, under the name of the image
 abbrev pub IsImageSaving : Option Account → (source image : List ℕ) → Saving → Type 0
 IsImageSaving account source image s = (s.name ≡ output_name image)

@@ -2,7 +2,7 @@
 
 ghost use Rattle.std.specs.Prelude.{◌≡◌, map, string_bytes};
 ghost use Rattle.edd_files.specs.Names.{output_name};
-ghost use Rattle.edd_files.specs.Saves.{IsImageSaving, IsNamedImage, SavesOne};
+ghost use Rattle.edd_files.specs.Saves.{IsImageSaving, IsNamedImage, SavesOne, image_saving};
 
 use crate::files::{FileFault, Files};
 use crate::naming::is_word;
@@ -30,8 +30,19 @@ fn output_of(name: &str) -> &str
     if name == STANDARD { OUTPUT } else { name }
 }
 
-// Saves the image of a source, if it has one.
+// Saves an image under its name.
 #[tactic(auto, using(crate::proofs::SavesLaws::saves_none, crate::proofs::SavesLaws::saves_this))]
+fn save_bytes<'a, F: Files>(image: &'a str, bytes: &[u8], files: &mut F) -> Result<(), Stop<'a>>
+    ensures saves { SavesOne (λ s. s ≡ image_saving image.now bytes.now) (F.account files.old)
+        (F.account files.new) }
+{
+    files
+        .save(output_of(image), bytes)
+        .map_err(|fault| of_file(image, fault))
+}
+
+// Saves the image of a source, if it has one.
+#[tactic(auto, using(crate::proofs::SavesLaws::saves_none))]
 fn save_image<'a, F: Files>(
     alloc: Global,
     source: &'a str,
@@ -47,9 +58,7 @@ fn save_image<'a, F: Files>(
         Err(Fault::Memory) => return Err(Stop::Memory),
         Err(fault) => return Ok(Compiled::Refused(text, fault)),
     };
-    files
-        .save(output_of(image), &bytes)
-        .map_err(|fault| of_file(image, fault))?;
+    save_bytes(image, &bytes, files)?;
     Ok(Compiled::Saved(bytes.len()))
 }
 
