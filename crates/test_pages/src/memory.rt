@@ -71,7 +71,7 @@ impl MemoryDisk {
 }
 
 // A new file whose bytes may be lost.
-fn beside(alloc: Global, bytes: &[u8]) -> Result<Beside, AllocError>
+fn new_file(alloc: Global, bytes: &[u8]) -> Result<Beside, AllocError>
     ensures { IfOk result (λ new. new_file_of new
         ≡ record { bytes = bytes.now; is_lasting = false }) }
 {
@@ -124,15 +124,15 @@ impl Disk for MemoryDisk {
     fn create_beside(&mut self, _place: &str) -> io::Result<()> {
         self.new = None;
         self.pass()?;
-        self.new = Some(beside(self.alloc, &[])?);
+        self.new = Some(new_file(self.alloc, &[])?);
         Ok(())
     }
 
     // Where it fails, the new file has a part of the bytes.
     fn fill(&mut self, _new: &mut (), bytes: &[u8]) -> io::Result<()> {
-        self.new = Some(beside(self.alloc, &bytes[..bytes.len() / 2])?);
+        self.new = Some(new_file(self.alloc, &bytes[..bytes.len() / 2])?);
         self.pass()?;
-        self.new = Some(beside(self.alloc, bytes)?);
+        self.new = Some(new_file(self.alloc, bytes)?);
         Ok(())
     }
 
