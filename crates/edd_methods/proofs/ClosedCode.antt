@@ -9,7 +9,7 @@ use Rattle.edd_code.specs.Closing.{closed}
 use Rattle.edd_code.proofs.Closing.{closed_length, part_closed}
 use Rattle.edd_code.proofs.Lines.{bytes_of-append}
 use Rattle.edd_code.proofs.BlockBytes as block_bytes
-use Rattle.edd_methods.specs.Statements.{Code, Plain, Then, Branch, size, emitted, bytes_at}
+use Rattle.edd_methods.specs.Statements.{Code, Plain, Then, Guard, Branch, size, emitted, bytes_at}
 use Rattle.edd_methods.proofs.CodeBytes.{code_long}
 
 -- ---- bytes of instructions
@@ -67,6 +67,36 @@ then_written c0 c1 c2 out back c d one two =
     ∙ ap (λ bytes. c0 ++ bytes) (sym (then_is (length c0) out back c d))
 
 -- ---- a choice
+
+guard_is : (p out back : ℕ) (test : Block) (c : Code) → bytes_at p out back (Guard test c)
+    ≡ blocks.bytes_at p test
+    ++ (spelling (instruction.JumpIfZero (target (p + (blocks.size test + (5 + size c)))))
+    ++ bytes_at (p + (blocks.size test + 5)) out back c)
+unfolding emitted
+guard_is p out back test c =
+    let a = blocks.size test in
+    let leave = instruction.JumpIfZero (target (p + (a + (5 + size c)))) in
+    let one = emitted (p + (a + 5)) out back c in
+    bytes_of-append (blocks.emitted p test) (leave ∷ one)
+    ∙ ap (λ bytes. blocks.bytes_at p test ++ bytes) (bytes_of_more leave one)
+
+pub guard_written : (c0 c1 c2 c3 : List ℕ) (out back : ℕ) (test : Block) (c : Code)
+    → c1 ≡ c0 ++ blocks.bytes_at (length c0) test → c2 ≡ c1 ++ spelling (instruction.JumpIfZero 0)
+    → c3 ≡ c2 ++ bytes_at (length c2) out back c
+    → closed c3 (length c1 + 1) ≡ c0 ++ bytes_at (length c0) out back (Guard test c)
+guard_written c0 c1 c2 c3 out back test c one two three =
+    let p = length c0 in
+    let a = blocks.size test in
+    let x = bytes_at (length c2) out back c in
+    let l1 : length c1 ≡ p + a = block_long c0 c1 test one in
+    let l2 : length c2 ≡ p + (a + 5) = longer c1 c2 (spelling (instruction.JumpIfZero 0)) two
+    ∙ omega (arith, l1) in
+    let l3 : length c3 ≡ p + (a + (5 + size c)) = code_longer c2 c3 out back c three
+    ∙ omega (arith, l2) in
+    part_closed c1 c2 c3 x _ two three
+    ∙ ap (λ code. code ++ (spelling (instruction.JumpIfZero (target (length c3))) ++ x)) one
+    ∙ append_assoc c0 (blocks.bytes_at p test) _
+    ∙ rw (l2, l3) (ap (λ bytes. c0 ++ bytes) (sym (guard_is p out back test c)))
 
 branch_is : (p out back : ℕ) (test : Block) (c d : Code) → bytes_at p out back (Branch test c d)
     ≡ blocks.bytes_at p test

@@ -11,7 +11,7 @@ use Rattle.edd_code.specs.Blocks.{Block, target, bytes_of}
 use Rattle.edd_code.specs.Closing.{closed}
 use Rattle.edd_code.proofs.Closing.{closed_length, part_closed}
 use Rattle.edd_code.proofs.Lines.{bytes_of-append}
-use Rattle.edd_methods.specs.Statements.{Part, Missing, Step, Test, Code, Plain, Then, Branch, Loop, Switch, Break, Continue, Finish, Arms, Nil, Statement, Case, Default, part_size, tests_size, size, arms_size, part_emitted, tests_emitted, default_place, emitted, arms_emitted, bytes_at}
+use Rattle.edd_methods.specs.Statements.{Part, Missing, Step, Test, Code, Plain, Then, Guard, Branch, Loop, Switch, Break, Continue, Finish, Arms, Nil, Statement, Case, Default, part_size, tests_size, size, arms_size, part_emitted, tests_emitted, default_place, emitted, arms_emitted, bytes_at}
 use Rattle.edd_methods.specs.Writing.{part_bytes, arms_bytes, cases_at, default_at, default_or, tests_of}
 use Rattle.edd_methods.proofs.CodeBytes.{part_long, tests_long, arms_long}
 use Rattle.edd_methods.proofs.ClosedCode.{bytes_of_more, bytes_of_none, block_long, code_longer, longer}
@@ -36,6 +36,8 @@ mutual
   code_same p o o' b b' (Plain block) e f = refl
   code_same p o o' b b' (Then first second) e f =
       rw (code_same p o o' b b' first e f, code_same (p + size first) o o' b b' second e f) refl
+  code_same p o o' b b' (Guard test first) e f =
+      rw (code_same (p + (blocks.size test + 5)) o o' b b' first e f) refl
   code_same p o o' b b' (Branch test first otherwise) e f =
       let a = blocks.size test in
       rw (

@@ -8,7 +8,7 @@ use Rattle.edd_code.specs.Blocks.{target, bytes_of}
 use Rattle.edd_code.proofs.Lines.{bytes_of-append}
 use Rattle.edd_code.proofs.BlockBytes as block_bytes
 use Rattle.edd_code.proofs.BlockBytes.{AllSpelled, all_both}
-use Rattle.edd_methods.specs.Statements.{Part, Missing, Step, Test, Code, Plain, Then, Branch, Loop, Switch, Break, Continue, Finish, Arms, Nil, Statement, Case, Default, part_size, tests_size, size, arms_size, part_emitted, tests_emitted, default_place, emitted, arms_emitted, bytes_at, IsSpelledPart, IsSpelledCode, AreSpelledArms}
+use Rattle.edd_methods.specs.Statements.{Part, Missing, Step, Test, Code, Plain, Then, Guard, Branch, Loop, Switch, Break, Continue, Finish, Arms, Nil, Statement, Case, Default, part_size, tests_size, size, arms_size, part_emitted, tests_emitted, default_place, emitted, arms_emitted, bytes_at, IsSpelledPart, IsSpelledCode, AreSpelledArms}
 
 -- ---- sizes are lengths
 
@@ -63,6 +63,17 @@ mutual
         long_both (emitted p out back first) (emitted (p + size first) out back second),
         code_long p out back first,
         code_long (p + size first) out back second,
+      )
+  code_long p out back (Guard test first) =
+      let a = blocks.size test in
+      let leave = instruction.JumpIfZero (target (p + (a + (5 + size first)))) in
+      let one = emitted (p + (a + 5)) out back first in
+      omega (
+        arith,
+        long_both (blocks.emitted p test) (leave ∷ one),
+        long_more leave one,
+        block_bytes.lengths p test,
+        code_long (p + (a + 5)) out back first,
       )
   code_long p out back (Branch test first otherwise) =
       let a = blocks.size test in
@@ -180,6 +191,10 @@ mutual
   code_spelled p out back (Then first second) ok =
       all_both (emitted p out back first) (emitted (p + size first) out back second)
       (code_spelled p out back first ok.0) (code_spelled (p + size first) out back second ok.1)
+  code_spelled p out back (Guard test first) ok =
+      let a = blocks.size test in
+      all_both (blocks.emitted p test) _ (block_bytes.all_spelled p test ok.0)
+      (small (p + (a + (5 + size first))), code_spelled (p + (a + 5)) out back first ok.1)
   code_spelled p out back (Branch test first otherwise) ok =
       let a = blocks.size test in
       all_both (blocks.emitted p test) _ (block_bytes.all_spelled p test ok.0) (

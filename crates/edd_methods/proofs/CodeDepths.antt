@@ -6,7 +6,7 @@ use Rattle.edd_image.specs.declared.versions.Version.TheVariants.{Two}
 use Rattle.edd_code.specs.Blocks as blocks
 use Rattle.edd_code.specs.Blocks.{Block, Straight}
 use Rattle.edd_code.proofs.BlockDepths.{until, until_front, until_behind, depth_in, HasDepthsOf, at_front, has_depths}
-use Rattle.edd_methods.specs.Statements.{Part, Missing, Step, Test, Code, Plain, Then, Branch, Loop, Switch, Break, Continue, Finish, Arms, Nil, Statement, Case, Default, part_size, tests_size, size, arms_size}
+use Rattle.edd_methods.specs.Statements.{Part, Missing, Step, Test, Code, Plain, Then, Guard, Branch, Loop, Switch, Break, Continue, Finish, Arms, Nil, Statement, Case, Default, part_size, tests_size, size, arms_size}
 use Rattle.edd_methods.specs.CodeFlow.{Rests, Gives, FitsPart, Fits, FitArms}
 
 -- ---- one number for each place
@@ -17,13 +17,17 @@ part_depth Missing p x = 0
 part_depth (Step b) p x = depth_in b p 0 x
 part_depth (Test b) p x = until (p + blocks.size b) x (depth_in b p 0 x) 1
 
--- in code, and in the statements of a switch: one operand at the test of a branch, and at those of
+-- in code, and in the statements of a switch: one operand at the test of a choice, and at those of
 -- a switch
 abbrev mutual
   pub code_depth : Code → (p x : ℕ) → ℕ
   code_depth (Plain b) p x = depth_in b p 0 x
   code_depth (Then first second) p x = until (p + size first) x (code_depth first p x)
       (code_depth second (p + size first) x)
+  code_depth (Guard test first) p x =
+      let a = blocks.size test in
+      until (p + a) x (depth_in test p 0 x)
+      (until (p + (a + 5)) x 1 (code_depth first (p + (a + 5)) x))
   code_depth (Branch test first otherwise) p x =
       let a = blocks.size test in
       until (p + a) x (depth_in test p 0 x)
@@ -74,6 +78,9 @@ module _ (depth : ℕ → ℕ) where
     pub HasCode : (p : ℕ) → Code → Type 0
     HasCode p (Plain b) = HasDepthsOf depth p 0 b
     HasCode p (Then first second) = HasCode p first × HasCode (p + size first) second
+    HasCode p (Guard test first) =
+        let a = blocks.size test in
+        HasDepthsOf depth p 0 test × (depth (p + a) ≡ 1) × HasCode (p + (a + 5)) first
     HasCode p (Branch test first otherwise) =
         let a = blocks.size test in
         HasDepthsOf depth p 0 test × (depth (p + a) ≡ 1) × HasCode (p + (a + 5)) first
@@ -112,6 +119,7 @@ module _ (depth : ℕ → ℕ) where
   pub code_front : (p : ℕ) (c : Code) → HasCode p c → depth p ≡ 0
   code_front p (Plain b) has = at_front depth p 0 b has
   code_front p (Then first second) has = code_front p first has.0
+  code_front p (Guard test first) has = at_front depth p 0 test has.0
   code_front p (Branch test first otherwise) has = at_front depth p 0 test has.0
   code_front p (Loop front back_part body) has = has.0
   code_front p (Switch on arms) has = at_front depth p 0 on has.0
@@ -183,6 +191,21 @@ module _ (depth : ℕ → ℕ) where
           code_has p m first refl fits.0 (front_of f g p m q (omega (arith, end)) agree)
               (code_front m second two),
           two,
+        )
+    code_has p q (Guard test first) end fits agree exit =
+        let a = blocks.size test in
+        let m = p + a in
+        let n = p + (a + 5) in
+        let f1 = code_depth first n in
+        let f0 = λ (x : ℕ). until n x 1 (f1 x) in
+        let h0 = back_of (depth_in test p 0) f0 p m q (omega arith) agree in
+        let h1 = back_of (λ x. 1) f1 m n q (omega arith) h0 in
+        let at = front_of (λ x. 1) f1 m n q (omega (arith, end)) h0 m (omega arith) (omega arith)
+        in (
+          gives_has p m test refl fits.0 (front_of (depth_in test p 0) f0 p m q (omega (arith, end))
+              agree) at,
+          at,
+          code_has n q first (omega (arith, end)) fits.1 h1 exit,
         )
     code_has p q (Branch test first otherwise) end fits agree exit =
         let a = blocks.size test in

@@ -1,7 +1,7 @@
 -- What the blocks of code need is kept by what is weaker.
 use Rattle.edd_code.specs.Blocks.{Block}
 use Rattle.edd_methods.specs.CodeFlow.{FitsPart, Fits, FitArms}
-use Rattle.edd_methods.specs.Statements.{Part, Missing, Step, Test, Code, Plain, Then, Branch, Loop, Switch, Break, Continue, Finish, Arms, Nil, Statement, Case, Default}
+use Rattle.edd_methods.specs.Statements.{Part, Missing, Step, Test, Code, Plain, Then, Guard, Branch, Loop, Switch, Break, Continue, Finish, Arms, Nil, Statement, Case, Default}
 
 module _ (R V R' V' : Block → Type 0) (rests : (b : Block) → R b → R' b) (gives : (b : Block) → V b
     → V' b) where
@@ -14,6 +14,7 @@ module _ (R V R' V' : Block → Type 0) (rests : (b : Block) → R b → R' b) (
     pub fits_weaker : (c : Code) → Fits R V c → Fits R' V' c
     fits_weaker (Plain b) h = rests b h
     fits_weaker (Then first second) h = (fits_weaker first h.0, fits_weaker second h.1)
+    fits_weaker (Guard test first) h = (gives test h.0, fits_weaker first h.1)
     fits_weaker (Branch test first otherwise) h =
         (gives test h.0, fits_weaker first h.1, fits_weaker otherwise h.2)
     fits_weaker (Loop front back body) h =

@@ -10,7 +10,7 @@ use Rattle.edd_code.specs.Blocks as blocks
 use Rattle.edd_code.specs.Blocks.{Block, target}
 use Rattle.edd_code.proofs.Lines.{placed}
 use Rattle.edd_code.proofs.BlockPlaces.{stand, AllIn, all_listed, placed_are}
-use Rattle.edd_methods.specs.Statements.{Part, Missing, Step, Test, Code, Plain, Then, Branch, Loop, Switch, Break, Continue, Finish, Arms, Nil, Statement, Case, Default, part_size, tests_size, size, arms_size, part_emitted, tests_emitted, default_place, emitted, arms_emitted}
+use Rattle.edd_methods.specs.Statements.{Part, Missing, Step, Test, Code, Plain, Then, Guard, Branch, Loop, Switch, Break, Continue, Finish, Arms, Nil, Statement, Case, Default, part_size, tests_size, size, arms_size, part_emitted, tests_emitted, default_place, emitted, arms_emitted}
 use Rattle.edd_methods.proofs.CodePlaces.{PartIn, TestsIn, CodeIn, ArmsIn}
 use Rattle.edd_methods.proofs.CodeReading.{default_small}
 
@@ -87,6 +87,20 @@ module _ (P : Placed → Type 0) where
         (code_holds p out back first (two ++ after) (omega (arith, small)) far near h.0
         (code_holds m out back second after (omega (arith, small)) far near h.1
         (moved (p + (size first + size second)) (m + size second) after (omega arith) others)))
+    code_holds p out back (Guard test first) after small far near h others =
+        let a = blocks.size test in
+        let n = p + (a + 5) in
+        let q = p + (a + (5 + size first)) in
+        let leave = instruction.JumpIfZero (target q) in
+        let one = emitted n out back first in
+        let left = code_holds n out back first after (omega (arith, small)) far near h.2
+        (moved q (n + size first) after (omega arith) others) in
+        together p (blocks.emitted p test) (leave ∷ one) after
+        (block_holds p test ((leave ∷ one) ++ after) (omega (arith, small)) h.0 (
+          jump_at (λ t. instruction.JumpIfZero t) (p + a) (p + a) (p + a + 5) n q
+              (omega (arith, small)) refl (omega arith) h.1,
+          moved n (p + a + 5) (one ++ after) (omega arith) left,
+        ))
     code_holds p out back (Branch test first otherwise) after small far near h others =
         let a = blocks.size test in
         let n = p + (a + 5) in

@@ -9,7 +9,7 @@ use Rattle.edd_code.specs.Blocks as blocks
 use Rattle.edd_code.specs.Blocks.{Block, target}
 use Rattle.edd_code.specs.Flow.{all_straight}
 use Rattle.edd_code.proofs.BlockUnits.{HoldsOfJumps}
-use Rattle.edd_methods.specs.Statements.{Part, Missing, Step, Test, Code, Plain, Then, Branch, Loop, Switch, Break, Continue, Finish, Arms, Nil, Statement, Case, Default, part_size, size, part_emitted, tests_emitted, emitted, arms_emitted}
+use Rattle.edd_methods.specs.Statements.{Part, Missing, Step, Test, Code, Plain, Then, Guard, Branch, Loop, Switch, Break, Continue, Finish, Arms, Nil, Statement, Case, Default, part_size, size, part_emitted, tests_emitted, emitted, arms_emitted}
 use Rattle.edd_methods.specs.CodeFlow.{FitsPart, Fits, FitArms}
 
 -- ---- what is emitted
@@ -75,6 +75,9 @@ module _ (f : Instruction → Bool) (jumps : HoldsOfJumps f) (pop : f instructio
     code_passes p out back (Plain b) h = block_passes p b h
     code_passes p out back (Then first second) h = both (emitted p out back first) _
         (code_passes p out back first h.0) (code_passes (p + size first) out back second h.1)
+    code_passes p out back (Guard test first) h = both (blocks.emitted p test) _
+        (block_passes p test h.0)
+        (jumps.zero _, code_passes (p + (blocks.size test + 5)) out back first h.1)
     code_passes p out back (Branch test first otherwise) h =
         let n = p + (blocks.size test + 5) in
         both (blocks.emitted p test) _ (block_passes p test h.0) (

@@ -4,7 +4,7 @@ use Rattle.edd_instructions.specs.declared.instruction.Instruction.TheVariants a
 use Rattle.edd_instructions.specs.Units.{Placed}
 use Rattle.edd_code.specs.Blocks as blocks
 use Rattle.edd_code.proofs.BlockPlaces.{stand, AllIn}
-use Rattle.edd_methods.specs.Statements.{Part, Missing, Step, Test, Code, Plain, Then, Branch, Loop, Switch, Break, Continue, Finish, Arms, Nil, Statement, Case, Default, part_size, tests_size, size, arms_size, default_place}
+use Rattle.edd_methods.specs.Statements.{Part, Missing, Step, Test, Code, Plain, Then, Guard, Branch, Loop, Switch, Break, Continue, Finish, Arms, Nil, Statement, Case, Default, part_size, tests_size, size, arms_size, default_place}
 
 -- this holds of each instruction of a part, in a loop that is left by a jump to `out`
 abbrev pub PartIn : (Placed → Type 0) → (place out : ℕ) → Part → Type 0
@@ -27,6 +27,11 @@ abbrev mutual
   CodeIn P p out back (Plain b) = AllIn P p b
   CodeIn P p out back (Then first second) = CodeIn P p out back first
       × CodeIn P (p + size first) out back second
+  CodeIn P p out back (Guard test first) =
+      let a = blocks.size test in
+      AllIn P p test
+      × P (stand (p + a) (instruction.JumpIfZero (p + (a + (5 + size first)))) (p + (a + 5)))
+      × CodeIn P (p + (a + 5)) out back first
   CodeIn P p out back (Branch test first otherwise) =
       let a = blocks.size test in
       AllIn P p test

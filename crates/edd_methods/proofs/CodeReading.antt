@@ -9,7 +9,7 @@ use Rattle.edd_code.specs.Blocks as blocks
 use Rattle.edd_code.specs.Blocks.{Block, target, bytes_of}
 use Rattle.edd_code.proofs.Lines.{placed}
 use Rattle.edd_code.proofs.BlockPlaces.{stand, AllIn}
-use Rattle.edd_methods.specs.Statements.{Part, Missing, Step, Test, Code, Plain, Then, Branch, Loop, Switch, Break, Continue, Finish, Arms, Nil, Statement, Case, Default, part_size, tests_size, size, arms_size, part_emitted, tests_emitted, default_place, emitted, arms_emitted}
+use Rattle.edd_methods.specs.Statements.{Part, Missing, Step, Test, Code, Plain, Then, Guard, Branch, Loop, Switch, Break, Continue, Finish, Arms, Nil, Statement, Case, Default, part_size, tests_size, size, arms_size, part_emitted, tests_emitted, default_place, emitted, arms_emitted}
 use Rattle.edd_code.proofs.BlockReading.{block_in}
 use Rattle.edd_methods.proofs.CodePlaces.{PartIn, TestsIn, CodeIn, ArmsIn}
 
@@ -106,6 +106,23 @@ module _ (P : Placed → Type 0) where
           (one.0, two.0),
           moved (p + size first + size second) (p + (size first + size second)) after
               (omega arith) two.1,
+        )
+    code_in p out back (Guard test first) after small far near h =
+        let a = blocks.size test in
+        let q = p + (a + (5 + size first)) in
+        let one = emitted (p + (a + 5)) out back first in
+        let tested = block_stands p test ((instruction.JumpIfZero (target q) ∷ one) ++ after)
+        (omega (arith, small))
+        (apart p (blocks.emitted p test) (instruction.JumpIfZero (target q) ∷ one) after h) in
+        let left = code_in (p + (a + 5)) out back first after (omega (arith, small)) far near
+        (moved (p + a + 5) (p + (a + 5)) (one ++ after) (omega arith) tested.1.1) in (
+          (
+            tested.0,
+            jump_in (λ t. instruction.JumpIfZero t) (p + a) (p + a) (p + a + 5) (p + (a + 5)) q
+                (omega (arith, small)) refl (omega arith) tested.1.0,
+            left.0,
+          ),
+          moved (p + (a + 5) + size first) q after (omega arith) left.1,
         )
     code_in p out back (Branch test first otherwise) after small far near h =
         let a = blocks.size test in

@@ -15,7 +15,7 @@ use Rattle.edd_code.specs.Blocks as blocks
 use Rattle.edd_code.proofs.BlockPlaces.{stand}
 use Rattle.edd_code.specs.Reports.{at, report}
 use Rattle.edd_code.specs.MethodEffects.{does, CanBeTaken, stopped}
-use Rattle.edd_methods.specs.Statements.{Part, Missing, Step, Test, Code, Plain, Then, Branch, Loop, Switch, Break, Continue, Finish, Arms, Nil, Statement, Case, Default, part_size, tests_size, size, arms_size, default_place}
+use Rattle.edd_methods.specs.Statements.{Part, Missing, Step, Test, Code, Plain, Then, Guard, Branch, Loop, Switch, Break, Continue, Finish, Arms, Nil, Statement, Case, Default, part_size, tests_size, size, arms_size, default_place}
 use Rattle.edd_methods.specs.StatementEffects.{unless_zero, loop_turns, part_of, performs, performs_all, performs_case, performs_default, IsWholePart, IsWhole, AreWhole}
 use Rattle.edd_methods.specs.Following.{Exits, Does}
 use Rattle.edd_code.proofs.MethodSteps.{Leads, end_reports, over_now}
@@ -205,6 +205,17 @@ module _ (text : StrNo → Option Words) (env : Environment) (code : List ℕ) w
         (λ t taken. ends_at text env code n (p + size first) [] (p + size first + size second)
         (p + (size first + size second)) out back t (performs text env second n t) (omega arith)
         (code_does n second (p + size first) out back whole.1 read.1 t taken))
+    code_does n (Guard test first) p out back whole read s valid =
+        let a = blocks.size test in
+        let q = p + (a + (5 + size first)) in
+        let to : Exits = record { end = q; out = out; back = back } in
+        value_does text env code n p (p + a) to s (does text env test [] s) _ (whole.0 s)
+        (block_comes text env code p test read.0 [] s valid)
+        (λ z t taken. zero_does n (p + a) q (p + (a + 5)) 0 z to t (pure Normal)
+        (performs text env first n) read.1 (here text env code n to t taken)
+        (ends_at text env code n (p + (a + 5)) [] (p + (a + 5) + size first) q out back t
+        (performs text env first n t) (omega arith)
+        (code_does n first (p + (a + 5)) out back whole.1 read.2 t taken)))
     code_does n (Branch test first otherwise) p out back whole read s valid =
         let a = blocks.size test in
         let m = p + (a + (5 + size first)) in

@@ -64,7 +64,7 @@ module _ (given : Blocks) (P : Expr Target → Type 0) (value : (e : Expr Target
     statement_spelled (Evaluate e) ok = effect e ok
     statement_spelled (Block body) ok = body_spelled body ok
     statement_spelled (If condition first) ok =
-        (value condition ok.0, statement_spelled first ok.1, tt)
+        (value condition ok.0, statement_spelled first ok.1)
     statement_spelled (IfElse condition first otherwise) ok =
         (value condition ok.0, statement_spelled first ok.1, statement_spelled otherwise ok.2)
     statement_spelled (While condition body) ok =

@@ -6,7 +6,7 @@ use Rattle.edd_instructions.specs.Units.{Placed, is_start}
 use Rattle.edd_code.specs.Blocks as blocks
 use Rattle.edd_code.proofs.BlockPlaces.{stand}
 use Rattle.edd_code.proofs.BlockJumps.{starts, starts_at}
-use Rattle.edd_methods.specs.Statements.{Part, Missing, Step, Test, Code, Plain, Then, Branch, Loop, Switch, Break, Continue, Finish, Arms, Nil, Statement, Case, Default, part_size, tests_size, size, arms_size}
+use Rattle.edd_methods.specs.Statements.{Part, Missing, Step, Test, Code, Plain, Then, Guard, Branch, Loop, Switch, Break, Continue, Finish, Arms, Nil, Statement, Case, Default, part_size, tests_size, size, arms_size}
 use Rattle.edd_methods.proofs.CodePlaces.{PartIn, TestsIn, CodeIn, ArmsIn}
 
 module _ (xs : List Placed) where
@@ -58,6 +58,11 @@ module _ (xs : List Placed) where
       code_starts p out back first (λ P h. (inside P h).0)
       (code_starts m out back second (λ P h. (inside P h).1)
       (start_moved (m + size second) (p + (size first + size second)) (omega arith) exit))
+  code_starts p out back (Guard test first) inside exit =
+      let a = blocks.size test in
+      let leave = stand (p + a) (instruction.JumpIfZero (p + (a + (5 + size first)))) (p + (a + 5))
+      in
+      starts_at xs p test (λ P h. (inside P h).0) (starts xs leave (λ P h. (inside P h).1))
   code_starts p out back (Branch test first otherwise) inside exit =
       let a = blocks.size test in
       let leave = stand (p + a) (instruction.JumpIfZero (p + (a + (5 + (size first + 5)))))

@@ -10,7 +10,7 @@ use Rattle.edd_code.specs.Blocks.{Block}
 use Rattle.edd_code.proofs.BlockPlaces.{stand, AllIn}
 use Rattle.edd_code.proofs.BlockDepths.{HasDepthsOf, at_front}
 use Rattle.edd_code.proofs.BlockJumps.{IsSound, Inside, leads_on, leads_near, not_fresh, starts, exit_fresh, sound_straight, sound_zero, sound_case, sound_jump, block_is_sound}
-use Rattle.edd_methods.specs.Statements.{Part, Missing, Step, Test, Code, Plain, Then, Branch, Loop, Switch, Break, Continue, Finish, Arms, Nil, Statement, Case, Default, part_size, tests_size, size, arms_size, default_place}
+use Rattle.edd_methods.specs.Statements.{Part, Missing, Step, Test, Code, Plain, Then, Guard, Branch, Loop, Switch, Break, Continue, Finish, Arms, Nil, Statement, Case, Default, part_size, tests_size, size, arms_size, default_place}
 use Rattle.edd_methods.proofs.CodePlaces.{PartIn, TestsIn, CodeIn, ArmsIn}
 use Rattle.edd_methods.specs.CodeFlow.{Rests, Gives, FitsPart, Fits, FitArms}
 use Rattle.edd_methods.proofs.CodeDepths.{HasPart, HasOne, HasCode, HasArms, part_front, code_front, arms_front}
@@ -181,6 +181,20 @@ module _ (xs : List Placed) (depth : ℕ → ℕ) where
               (code_begins m out back second has.1 in_second behind) far near
               (λ P h. (inside P h).0),
           code_sound m out back second fits.1 has.1 behind far near in_second,
+        )
+    code_sound p out back (Guard test first) fits has exit far near inside =
+        let a = blocks.size test in
+        let m = p + a in
+        let n = p + (a + 5) in
+        let q = p + (a + (5 + size first)) in
+        let in_test : Inside xs p test = λ P h. (inside P h).0 in
+        let in_first : InsideCode xs n out back first = λ P h. (inside P h).2 in
+        let behind = moved (n + size first) q (omega arith) exit in (
+          value_sound p test fits.0 has.0 has.1
+              (starts xs (stand m (instruction.JumpIfZero q) n) (λ P h. (inside P h).1)) in_test,
+          leave_sound m n q has.1 (code_begins n out back first has.2 in_first behind) exit
+              (value_leads p test fits.0 in_test),
+          code_sound n out back first fits.1 has.2 behind far near in_first,
         )
     code_sound p out back (Branch test first otherwise) fits has exit far near inside =
         let a = blocks.size test in

@@ -88,11 +88,8 @@ module _ (given : Blocks) where
     statement_alike (tree.If condition first) l s h p out out' back back' a =
         let c = code_of given first in
         let n = blocks.size (given.value condition) in
-        let jump = instruction.JumpIfZero (blocks.target (p + (n + (5 + (size c + 5))))) in
-        let over = instruction.Jump (blocks.target (p + (n + (5 + (size c + (5 + 0)))))) in
-        ap (λ (is : List Instruction). test_at p condition
-        ++ (jump ∷ (is ++ (over ∷ blocks.emitted (p + (n + (5 + (size c + 5))))
-        blocks.Nothing))))
+        let jump = instruction.JumpIfZero (blocks.target (p + (n + (5 + size c)))) in
+        ap (λ (is : List Instruction). test_at p condition ++ (jump ∷ is))
         (statement_alike first l s h (p + (n + 5)) out out' back back' a)
     statement_alike (tree.IfElse condition first otherwise) l s h p out out' back back' a =
         let c = code_of given first in

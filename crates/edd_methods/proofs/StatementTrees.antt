@@ -117,7 +117,7 @@ module _ (text : StrNo → Option Words) (machine : Environment) (env : device.E
       statement_same (If condition first) means s =
           then_same (value_of text machine (block_of condition) s) (evaluate env condition s) _ _
           (value_same text machine env block_of condition means.0 s)
-          (λ a. choice_same (is_zero a) _ _ _ _ (nothing_same n) (statement_same first means.1))
+          (λ a. choice_same (is_zero a) _ _ _ _ (λ t. refl) (statement_same first means.1))
       statement_same (IfElse condition first otherwise) means s =
           then_same (value_of text machine (block_of condition) s) (evaluate env condition s) _ _
           (value_same text machine env block_of condition means.0 s)
@@ -200,11 +200,8 @@ module _ (text : StrNo → Option Words) (machine : Environment) (env : device.E
     statement_is_whole (Evaluate e) means = leaves_none text machine (alone_block block_of e)
         (evaluate env e) (alone_performs text machine env block_of e means)
     statement_is_whole (Block body) means = body_is_whole body means
-    statement_is_whole (If condition first) means = (
-      leaves_one text machine env block_of condition means.0,
-      statement_is_whole first means.1,
-      nothing_is_whole,
-    )
+    statement_is_whole (If condition first) means =
+        (leaves_one text machine env block_of condition means.0, statement_is_whole first means.1)
     statement_is_whole (IfElse condition first otherwise) means = (
       leaves_one text machine env block_of condition means.0,
       statement_is_whole first means.1,

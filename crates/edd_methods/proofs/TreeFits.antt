@@ -35,7 +35,7 @@ module _ (given : Blocks) (limit : ℕ) (P : Expr Target → Type 0) (R V : bloc
     statement_fits (Evaluate e) slots ok = effect e ok
     statement_fits (Block body) slots ok = body_fits body slots ok
     statement_fits (If condition first) slots ok =
-        (value condition ok.0, statement_fits first slots ok.1, nothing)
+        (value condition ok.0, statement_fits first slots ok.1)
     statement_fits (IfElse condition first otherwise) slots ok = (
       value condition ok.0,
       statement_fits first slots.0 ok.1,

@@ -6,7 +6,7 @@ use Rattle.edd_syntax.specs.declared.reference.Target.{Target}
 use Rattle.edd_syntax.specs.declared.reference.Target.TheVariants.{Local, Function}
 use Rattle.edd_syntax.specs.Expression as expr
 use Rattle.edd_syntax.specs.Expression.{Expr, Literal, Reference, Call}
-use Rattle.edd_syntax.specs.Statement.{Stmt, Empty, Evaluate, While, For, Break, Body, Nil, Cons, Declare, Statement}
+use Rattle.edd_syntax.specs.Statement.{Stmt, Empty, Evaluate, If, While, For, Break, Return, Body, Nil, Cons, Declare, Statement}
 use Rattle.edd_syntax.specs.Words.{Words}
 use Rattle.edd_code.specs.Blocks as blocks
 use Rattle.edd_code.specs.Blocks.{bytes_of}
@@ -33,6 +33,12 @@ module _ (number : Words → StrNo) where
       ≡ 0x01 ∷ 0 ∷ 0 ∷ 0 ∷ 0 ∷ 0x05 ∷ 0 ∷ 0 ∷ 0x06 ∷ 0x04 ∷ 0 ∷ 0 ∷ 0x06 ∷ 0x00 ∷ []
   unfolding code_of emitted blocks.emitted bytes_of method_block call_block
   declared_and_dropped = refl
+
+  -- if (1) return; there is no jump after the statement
+  left_where_true : bytes (alone (If (Literal 1) Return))
+      ≡ 0x01 ∷ 0 ∷ 0 ∷ 0 ∷ 1 ∷ 0x31 ∷ 0 ∷ 0 ∷ 0 ∷ 11 ∷ 0x00 ∷ 0x00 ∷ []
+  unfolding code_of emitted blocks.emitted bytes_of method_block call_block
+  left_where_true = refl
 
   -- while (1) { }
   forever : bytes (alone (While (Literal 1) Empty))

@@ -22,7 +22,7 @@ use Rattle.edd_code.specs.Blocks as blocks
 use Rattle.edd_code.specs.Blocks.{target}
 use Rattle.edd_code.specs.MethodExpressions.{method_block}
 use Rattle.edd_code.proofs.Closing.{nothing_written}
-use Rattle.edd_methods.specs.Statements.{Missing, Test, Code, Plain, emitted, Then, Branch, Loop, Switch, bytes_at}
+use Rattle.edd_methods.specs.Statements.{Missing, Test, Code, Plain, emitted, Then, Guard, Branch, Loop, Switch, bytes_at}
 use Rattle.edd_methods.specs.StatementCode.{alone_block, blocks_by, body_code, statement_code}
 use Rattle.edd_methods.specs.TreeCode.{arms_of, code_of, first_of, last_of, test_of}
 use Rattle.edd_methods.specs.Writing.{Numbered, Lowers, EndsBy, JumpsTo, body_texts, optional_texts, placed_texts, statement_texts}
@@ -126,8 +126,7 @@ module _ {A : Type 0} (r : Result A LowerFault) (old new : List Words) (c0 c1 : 
   pub if_lowered : (e : Expr Target) (x : Stmt Target)
       → Lowers r old (expr_texts e ++ statement_texts x)
       (λ number. c1 ≡ c0 ++ bytes_at (length c0) out back
-      (Branch (method_block number e) (statement_code (method_block number) x)
-      (Plain blocks.Nothing))) new
+      (Guard (method_block number e) (statement_code (method_block number) x))) new
       → LowersStatement r old c0 out back (tree.If e x) c1 new
   unfolding code_of
   if_lowered e x h = h

@@ -5,7 +5,7 @@ use Rattle.edd_instructions.specs.declared.unit.Sort.TheVariants.{Method}
 use Rattle.edd_image.specs.declared.versions.Version.TheVariants.{Two}
 use Rattle.edd_code.specs.Blocks.{Block, Straight}
 use Rattle.edd_code.specs.Flow.{FlowsIn, depth_after}
-use Rattle.edd_methods.specs.Statements.{Part, Missing, Step, Test, Code, Plain, Then, Branch, Loop, Switch, Break, Continue, Finish, Arms, Nil, Statement, Case, Default}
+use Rattle.edd_methods.specs.Statements.{Part, Missing, Step, Test, Code, Plain, Then, Guard, Branch, Loop, Switch, Break, Continue, Finish, Arms, Nil, Statement, Case, Default}
 
 -- it finds no operands, and leaves so many
 abbrev pub Leaves : (n : ℕ) → Block → Type 0
@@ -32,6 +32,7 @@ module _ (R V : Block → Type 0) where
     pub Fits : Code → Type 0
     Fits (Plain b) = R b
     Fits (Then first second) = Fits first × Fits second
+    Fits (Guard test first) = V test × Fits first
     Fits (Branch test first otherwise) = V test × Fits first × Fits otherwise
     Fits (Loop front back body) = FitsPart front × FitsPart back × Fits body
     Fits (Switch on arms) = V on × FitArms arms

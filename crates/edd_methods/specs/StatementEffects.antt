@@ -11,7 +11,7 @@ use Rattle.edd_instructions.specs.Steps.{Environment}
 use Rattle.edd_code.specs.Blocks.{Block}
 use Rattle.edd_code.specs.BlockEffects.{Outcome, Goes, Stops, Stuck}
 use Rattle.edd_code.specs.MethodEffects.{Halted, stops, does}
-use Rattle.edd_methods.specs.Statements.{Part, Missing, Step, Test, Code, Plain, Then, Branch, Loop, Switch, Break, Continue, Finish, Arms, Nil, Statement, Case, Default}
+use Rattle.edd_methods.specs.Statements.{Part, Missing, Step, Test, Code, Plain, Then, Guard, Branch, Loop, Switch, Break, Continue, Finish, Arms, Nil, Statement, Case, Default}
 
 -- ---- blocks as actions
 
@@ -89,6 +89,7 @@ module _ (text : StrNo → Option Words) (env : Environment) where
     pub performs : Code → ℕ → Action Completion
     performs (Plain b) n = step_of b >> pure Normal
     performs (Then first second) n = performs first n >>= next (performs second n)
+    performs (Guard test first) n = value_of test >>= unless_zero (performs first n)
     performs (Branch test first otherwise) n = value_of test
         >>= (λ a. elim (is_zero a) [ true ↦ performs otherwise n | false ↦ performs first n ])
     performs (Loop front back body) n = loop_turns n (part_of front) (performs body n)
@@ -146,6 +147,7 @@ module _ (text : StrNo → Option Words) (env : Environment) where
     pub IsWhole : Code → Type 0
     IsWhole (Plain b) = LeavesNone b
     IsWhole (Then first second) = IsWhole first × IsWhole second
+    IsWhole (Guard test first) = LeavesOne test × IsWhole first
     IsWhole (Branch test first otherwise) = LeavesOne test × IsWhole first × IsWhole otherwise
     IsWhole (Loop front back body) = IsWholePart front × IsWholePart back × IsWhole body
     IsWhole (Switch on arms) = LeavesOne on × AreWhole arms

@@ -23,6 +23,8 @@ mutual
     Plain : Block → Code
     -- one after the other
     Then : (first second : Code) → Code
+    -- the first follows where the one operand of the test isn't 0
+    Guard : (test : Block) → (first : Code) → Code
     -- the first follows where the one operand of the test isn't 0, else the other
     Branch : (test : Block) → (first otherwise : Code) → Code
     -- each turn is the front, the body and the back; the body continues with the back
@@ -63,6 +65,7 @@ abbrev mutual
   pub size : Code → ℕ
   size (Plain b) = blocks.size b
   size (Then first second) = size first + size second
+  size (Guard test first) = blocks.size test + (5 + size first)
   size (Branch test first otherwise) = blocks.size test + (5 + (size first + (5 + size otherwise)))
   size (Loop front back body) = 10 + (part_size back + (part_size front + (size body + 5)))
   size (Switch on arms) = blocks.size on + (10 + (arms_size arms + (5 + (tests_size arms + 6))))
@@ -111,6 +114,11 @@ unfoldable mutual
   emitted p out back (Plain b) = blocks.emitted p b
   emitted p out back (Then first second) = emitted p out back first ++ emitted (p + size first) out
       back second
+  emitted p out back (Guard test first) =
+      let a = blocks.size test in
+      blocks.emitted p test
+      ++ (instruction.JumpIfZero (target (p + (a + (5 + size first))))
+      ∷ emitted (p + (a + 5)) out back first)
   emitted p out back (Branch test first otherwise) =
       let a = blocks.size test in
       blocks.emitted p test
@@ -170,6 +178,7 @@ abbrev mutual
   pub IsSpelledCode : Code → Type 0
   IsSpelledCode (Plain b) = AreSpelled b
   IsSpelledCode (Then first second) = IsSpelledCode first × IsSpelledCode second
+  IsSpelledCode (Guard test first) = AreSpelled test × IsSpelledCode first
   IsSpelledCode (Branch test first otherwise) = AreSpelled test × IsSpelledCode first
       × IsSpelledCode otherwise
   IsSpelledCode (Loop front back body) = IsSpelledPart front × IsSpelledPart back

@@ -9,7 +9,7 @@ use Rattle.edd_instructions.specs.declared.instruction.Instruction.TheVariants a
 use Rattle.edd_code.specs.Blocks as blocks
 use Rattle.edd_code.specs.Blocks.{Block}
 use Rattle.edd_code.specs.MethodExpressions.{store_block}
-use Rattle.edd_methods.specs.Statements.{Part, Missing, Step, Test, Code, Plain, Then, Branch, Loop, Switch, Break, Continue, Finish, Arms, Nil, Statement, Case, Default}
+use Rattle.edd_methods.specs.Statements.{Part, Missing, Step, Test, Code, Plain, Then, Guard, Branch, Loop, Switch, Break, Continue, Finish, Arms, Nil, Statement, Case, Default}
 
 -- the blocks of an expression: one leaves its value, the other nothing
 pub record Blocks : Type 0 where
@@ -50,8 +50,7 @@ module _ (given : Blocks) where
     code_of tree.Empty = Plain blocks.Nothing
     code_of (tree.Evaluate e) = Plain (given.effect e)
     code_of (tree.Block body) = code_in body
-    code_of (tree.If condition first) = Branch (given.value condition) (code_of first)
-        (Plain blocks.Nothing)
+    code_of (tree.If condition first) = Guard (given.value condition) (code_of first)
     code_of (tree.IfElse condition first otherwise) = Branch (given.value condition) (code_of first)
         (code_of otherwise)
     code_of (tree.While condition body) = Loop (Test (given.value condition)) Missing (code_of body)

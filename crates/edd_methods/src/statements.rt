@@ -9,14 +9,13 @@ ghost use Rattle.edd_syntax.specs.SubsetRules.{body_expressions};
 ghost use Rattle.edd_syntax.specs.TreeView.{numbered_expr, numbered_part, numbered_stmt};
 ghost use Rattle.edd_syntax.specs.WellFormed.{is_text};
 ghost use Rattle.edd_instructions.specs.declared.instruction.Instruction.TheVariants.{End};
-ghost use Rattle.edd_code.specs.Blocks.{Nothing};
 ghost use Rattle.edd_code.specs.MethodExpressions.{method_block};
 ghost use Rattle.edd_code.specs.Tables.{Grows, Overflows};
 ghost use Rattle.edd_code.specs.Written.{WritesNumbered};
 ghost use Rattle.edd_methods.specs.Labels.{NotesArms};
 ghost use Rattle.edd_methods.specs.LoopParts.{loop_part, loop_texts};
 ghost use Rattle.edd_methods.specs.StatementCode.{blocks_by, body_code, statement_code};
-ghost use Rattle.edd_methods.specs.Statements.{Branch, Loop, Plain, Switch, bytes_at};
+ghost use Rattle.edd_methods.specs.Statements.{Branch, Guard, Loop, Switch, bytes_at};
 ghost use Rattle.edd_methods.specs.TreeCode.{arms_of};
 ghost use Rattle.edd_methods.specs.Writing.{EndsBy, JumpsTo, Lowers, body_texts, statement_texts};
 
@@ -182,15 +181,12 @@ fn write_if(
     ensures { Lowers result table.old (expr_texts (numbered_expr condition.now)
         ++ statement_texts (numbered_stmt first.now))
         (λ number. code.new ≡ code.old ++ bytes_at (length code.old) leads.out leads.back
-        (Branch (method_block number (numbered_expr condition.now))
-        (statement_code (method_block number) (numbered_stmt first.now)) (Plain Nothing)))
-        table.new }
+        (Guard (method_block number (numbered_expr condition.now))
+        (statement_code (method_block number) (numbered_stmt first.now)))) table.new }
 {
     write_one(alloc, code, table, condition)?;
-    let otherwise = open(code, Jump::IfZero)?;
+    let end = open(code, Jump::IfZero)?;
     write_statement(alloc, code, table, leads, first)?;
-    let end = open(code, Jump::Always)?;
-    close(code, otherwise);
     close(code, end);
     Ok(())
 }

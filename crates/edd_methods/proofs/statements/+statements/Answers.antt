@@ -11,7 +11,6 @@ use Rattle.edd_syntax.specs.Strings.{expr_texts}
 use Rattle.edd_syntax.specs.TreeView.{numbered_declarator, numbered_expr, numbered_part, numbered_stmt}
 use Rattle.edd_syntax.specs.WellFormed.{is_text}
 use Rattle.edd_syntax.proofs.TreeRows.{block_is, switch_is}
-use Rattle.edd_code.specs.Blocks.{Nothing}
 use Rattle.edd_code.specs.Closing.{closed}
 use Rattle.edd_code.proofs.Closing.{closed_length}
 use Rattle.edd_instructions.specs.declared.instruction.Instruction.TheVariants as instruction
@@ -20,14 +19,14 @@ use Rattle.edd_methods.specs.Labels.{case_noted, default_noted, or_else}
 use Rattle.edd_code.specs.MethodExpressions.{method_block}
 use Rattle.edd_methods.specs.LoopParts.{loop_part, loop_texts}
 use Rattle.edd_methods.specs.StatementCode.{blocks_by, statement_code}
-use Rattle.edd_methods.specs.Statements.{Loop, Plain, bytes_at}
+use Rattle.edd_methods.specs.Statements.{Loop, bytes_at}
 use Rattle.edd_methods.specs.TreeCode.{arms_of, last_of, test_of}
 use Rattle.edd_methods.specs.Writing.{body_texts, cases_at, default_at, tests_of, statement_texts, optional_texts, Numbered}
-use Rattle.edd_methods.proofs.ClosedCode.{branch_written, longer}
+use Rattle.edd_methods.proofs.ClosedCode.{branch_written, guard_written, longer}
 use Rattle.edd_methods.proofs.ClosedLoops.{loop_written, switch_written}
 use Rattle.edd_methods.proofs.NumberedParts.{both, said, listed, refused_is, refused_within, refused_behind, within_left, within_right, within_same, front_grows, front_ends, front_refused, front_texts, all_parts, front_exchanged, front_within}
 use Rattle.edd_methods.proofs.WrittenBodies.{arms_none, arms_on, body_left, body_split, declare_part, case_part, default_part, part_falls, part_on, parts_none, parts_texts, statement_part, switch_left}
-use Rattle.edd_methods.proofs.WrittenStatements.{LowersStatement, plain_nothing, some_nodes, reworded, empty_written, evaluated, block_lowered, if_lowered, if_else_lowered, while_lowered, do_lowered, switch_lowered, for_lowered, for_first, for_texts, if_else_texts, do_texts, breaks_lowered, continues_lowered, returns_lowered}
+use Rattle.edd_methods.proofs.WrittenStatements.{LowersStatement, some_nodes, reworded, empty_written, evaluated, block_lowered, if_lowered, if_else_lowered, while_lowered, do_lowered, switch_lowered, for_lowered, for_first, for_texts, if_else_texts, do_texts, breaks_lowered, continues_lowered, returns_lowered}
 use Rattle.edd_methods.proofs.statements.+statements.Goals as goal
 
 -- ---- a body
@@ -427,48 +426,20 @@ pub write_if-close-requires : goal.write_if-close-requires
 write_if-close-requires t c =
     omega (
       arith,
-      c.in_ok-otherwise.ensures.place,
-      longer c.write_one.new.code c.open.new.code _
-          c.in_ok-otherwise.ensures.code,
-      longer c.open.new.code c.write_statement.new.code _
-          (c.in_ok-write_statement.ensures.written []),
-      longer c.write_statement.new.code
-          c.open-2.new.code _ c.in_ok-end.ensures.code,
-    )
-
-pub write_if-close-requires-2 : goal.write_if-close-requires-2
-write_if-close-requires-2 t c =
-    let one : c.in_ok-otherwise.otherwise + 4 ≤ length c.open-2.new.code =
-    omega (
-      arith,
-      c.in_ok-otherwise.ensures.place,
-      longer c.write_one.new.code c.open.new.code _
-          c.in_ok-otherwise.ensures.code,
-      longer c.open.new.code c.write_statement.new.code _
-          (c.in_ok-write_statement.ensures.written []),
-      longer c.write_statement.new.code
-          c.open-2.new.code _ c.in_ok-end.ensures.code,
-    ) in
-    let same = ap length c.close.ensures ∙ closed_length c.open-2.new.code
-    c.in_ok-otherwise.otherwise one in
-    omega (
-      arith,
-      same,
       c.in_ok-end.ensures.place,
-      longer c.write_statement.new.code
-          c.open-2.new.code _ c.in_ok-end.ensures.code,
+      longer c.write_one.new.code c.open.new.code _ c.in_ok-end.ensures.code,
+      longer c.open.new.code c.write_statement.new.code _
+          (c.in_ok-write_statement.ensures.written []),
     )
 
 pub write_if-returns : goal.write_if-returns
 write_if-returns t c =
-    said (λ number parts. c.close-2.ensures ∙ ap (closed c.close.new.code) c.in_ok-end.ensures.place
-    ∙ branch_written c.args.code.now c.write_one.new.code c.open.new.code c.write_statement.new.code
-    c.open-2.new.code c.close.new.code c.close.new.code c.args.leads.out c.args.leads.back
-    (method_block number (numbered_expr c.args.condition.now))
-    (statement_code (method_block number) (numbered_stmt c.args.first.now)) (Plain Nothing)
-    parts.0 c.in_ok-otherwise.ensures.code parts.1 c.in_ok-end.ensures.code
-    (c.close.ensures ∙ ap (closed c.open-2.new.code) c.in_ok-otherwise.ensures.place)
-    (plain_nothing c.close.new.code c.args.leads.out c.args.leads.back))
+    said (λ number parts. c.close.ensures
+    ∙ ap (closed c.write_statement.new.code) c.in_ok-end.ensures.place
+    ∙ guard_written c.args.code.now c.write_one.new.code c.open.new.code c.write_statement.new.code
+    c.args.leads.out c.args.leads.back (method_block number (numbered_expr c.args.condition.now))
+    (statement_code (method_block number) (numbered_stmt c.args.first.now)) parts.0
+    c.in_ok-end.ensures.code parts.1)
     (both c.in_ok-write_one.ensures c.in_ok-write_statement.ensures)
 
 pub write_if_else-returns-in_err-write_one : goal.write_if_else-returns-in_err-write_one
