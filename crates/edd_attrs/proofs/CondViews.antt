@@ -2,6 +2,7 @@
 use Rattle.std.proofs.Common.{◌≡◌, refl, sym, ap, ◌∙◌, ℕ, zero, suc, ◌+◌, ◌<◌, ◌≤◌, ℤ, List, [], ◌∷◌, length, get_or, map, arith}
 use Rattle.std.specs.Prelude.{Some, None, Vec}
 use Rattle.std.specs.declared.alloc.Global.{Global}
+use Rattle.edd_syntax.specs.declared.numbers.TokenNo.{TokenNo}
 use Rattle.edd_syntax.specs.declared.cond.Arm as code_arm
 use Rattle.edd_syntax.specs.declared.cond.Cond as code
 use Rattle.edd_syntax.specs.declared.cond.Arm.TheVariants as a
@@ -59,10 +60,10 @@ module _ {V W : Type 0} (view : V → W) where
   case_is x label v xs is same = ap arm_viewed is ∙ of_case (λ r. r) view label v
       ∙ ap (λ (zs : List (code.Cond Target V)). Case label (all_viewed zs)) (sym same)
 
-  pub default_is : (x : code_arm.Arm Target V) (line : ℕ) (v : Vec (code.Cond Target V) Global)
-      (xs : List (code.Cond Target V)) → x ≡ a.Default line v → xs ≡ v.items
+  pub default_is : (x : code_arm.Arm Target V) (token : TokenNo) (v : Vec (code.Cond Target V) Global)
+      (xs : List (code.Cond Target V)) → x ≡ a.Default token v → xs ≡ v.items
       → arm_viewed x ≡ Default (all_viewed xs)
-  default_is x line v xs is same = ap arm_viewed is ∙ of_default (λ r. r) view line v
+  default_is x token v xs is same = ap arm_viewed is ∙ of_default (λ r. r) view token v
       ∙ ap (λ (zs : List (code.Cond Target V)). Default (all_viewed zs)) (sym same)
 
   -- ---- the code of an arm's own
@@ -71,30 +72,30 @@ module _ {V W : Type 0} (view : V → W) where
       → x ≡ a.Case label v → header (arm_viewed x) ≡ spelling (instruction.Case label 0)
   case_header x label v is = ap header (case_is x label v v.items is refl)
 
-  pub default_header : (x : code_arm.Arm Target V) (line : ℕ) (v : Vec (code.Cond Target V) Global)
-      → x ≡ a.Default line v → header (arm_viewed x) ≡ []
-  default_header x line v is = ap header (default_is x line v v.items is refl)
+  pub default_header : (x : code_arm.Arm Target V) (token : TokenNo) (v : Vec (code.Cond Target V) Global)
+      → x ≡ a.Default token v → header (arm_viewed x) ≡ []
+  default_header x token v is = ap header (default_is x token v v.items is refl)
 
   pub case_hole : (x : code_arm.Arm Target V) (place : ℕ) (label : ℤ)
       (v : Vec (code.Cond Target V) Global) → x ≡ a.Case label v → hole_of place (arm_viewed x)
       ≡ Some (place + 9)
   case_hole x place label v is = ap (hole_of place) (case_is x label v v.items is refl)
 
-  pub default_hole : (x : code_arm.Arm Target V) (place line : ℕ)
-      (v : Vec (code.Cond Target V) Global) → x ≡ a.Default line v → hole_of place (arm_viewed x)
+  pub default_hole : (x : code_arm.Arm Target V) (place : ℕ) (token : TokenNo)
+      (v : Vec (code.Cond Target V) Global) → x ≡ a.Default token v → hole_of place (arm_viewed x)
       ≡ None
-  default_hole x place line v is = ap (hole_of place) (default_is x line v v.items is refl)
+  default_hole x place token v is = ap (hole_of place) (default_is x token v v.items is refl)
 
   pub case_has_none : (x : code_arm.Arm Target V) (label : ℤ) (v : Vec (code.Cond Target V) Global)
       → x ≡ a.Case label v → default_of (ConsArm (arm_viewed x) NoArms) ≡ None
   case_has_none x label v is = ap (λ (arm : Arm Target W). default_of (ConsArm arm NoArms))
       (case_is x label v v.items is refl)
 
-  pub default_has_it : (x : code_arm.Arm Target V) (line : ℕ) (v : Vec (code.Cond Target V) Global)
-      (xs : List (code.Cond Target V)) → x ≡ a.Default line v → xs ≡ v.items
+  pub default_has_it : (x : code_arm.Arm Target V) (token : TokenNo) (v : Vec (code.Cond Target V) Global)
+      (xs : List (code.Cond Target V)) → x ≡ a.Default token v → xs ≡ v.items
       → default_of (ConsArm (arm_viewed x) NoArms) ≡ Some (all_viewed xs)
-  default_has_it x line v xs is same = ap (λ (arm : Arm Target W). default_of (ConsArm arm NoArms))
-      (default_is x line v xs is same)
+  default_has_it x token v xs is same = ap (λ (arm : Arm Target W). default_of (ConsArm arm NoArms))
+      (default_is x token v xs is same)
 
   -- ---- parts are smaller
 

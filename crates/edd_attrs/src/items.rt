@@ -21,7 +21,7 @@ fn transaction_in<'a>(attribute: &'a Attribute<Target>) -> Option<Transaction<'a
         ≡ rows.transaction_in (numbered_attribute attribute.now) }
 {
     match attribute {
-        Attribute::Transaction { number, parts } => Some((*number, parts)),
+        Attribute::Transaction { number, parts, .. } => Some((*number, parts)),
         _ => None,
     }
 }
@@ -48,8 +48,8 @@ fn tree_of_transaction_part<'a>(part: &'a TransactionPart<Target>, attr: Attr) -
         ≡ trees.first_tree attr (rows.one_part (numbered_transaction_part part.now)) }
 {
     let (of, tree) = match part {
-        TransactionPart::Request(all) => (Attr::Request, Tree::Data(all)),
-        TransactionPart::Reply(all) => (Attr::Reply, Tree::Data(all)),
+        TransactionPart::Request(_, all) => (Attr::Request, Tree::Data(all)),
+        TransactionPart::Reply(_, all) => (Attr::Reply, Tree::Data(all)),
     };
     if of == attr { Some(tree) } else { None }
 }

@@ -69,23 +69,23 @@ fn tree_of<'a>(attribute: &'a Attribute<Target>, attr: Attr) -> Option<Tree<'a>>
         ≡ trees.first_tree attr (trees.trees_of_attribute (numbered_attribute attribute.now)) }
 {
     let (of, tree) = match attribute {
-        Attribute::OneText(which, c) => (which.attr(), Tree::Texts(c)),
-        Attribute::Class(names) => (Attr::Class, Tree::Class(names)),
-        Attribute::Handling(c) => (Attr::Handling, Tree::Handling(c)),
-        Attribute::Validity(c) => (Attr::Validity, Tree::Validity(c)),
+        Attribute::OneText(_, which, c) => (which.attr(), Tree::Texts(c)),
+        Attribute::Class(_, names) => (Attr::Class, Tree::Class(names)),
+        Attribute::Handling(_, c) => (Attr::Handling, Tree::Handling(c)),
+        Attribute::Validity(_, c) => (Attr::Validity, Tree::Validity(c)),
         Attribute::TypeOf { parts, .. } => {
             if attr != Attr::Enumerators {
                 return tree_among_parts(parts, attr);
             }
             (Attr::Enumerators, Tree::Enumerators(parts))
         }
-        Attribute::Number(number) => (Attr::Number, Tree::Number(*number)),
-        Attribute::Operation(operation) => (Attr::Operation, Tree::Operation(*operation)),
-        Attribute::ResponseCodes(codes) => (Attr::ResponseCodes, Tree::ResponseCodes(codes)),
-        Attribute::Items(entries) => (Attr::Items, Tree::Items(entries)),
-        Attribute::Members(members) => (Attr::Members, Tree::Members(members)),
-        Attribute::Elements(elements) => (Attr::Elements, Tree::Elements(elements)),
-        Attribute::Transaction { .. } | Attribute::Definition(_) => return None,
+        Attribute::Number(_, number) => (Attr::Number, Tree::Number(*number)),
+        Attribute::Operation(_, operation) => (Attr::Operation, Tree::Operation(*operation)),
+        Attribute::ResponseCodes(_, codes) => (Attr::ResponseCodes, Tree::ResponseCodes(codes)),
+        Attribute::Items(_, entries) => (Attr::Items, Tree::Items(entries)),
+        Attribute::Members(_, members) => (Attr::Members, Tree::Members(members)),
+        Attribute::Elements(_, elements) => (Attr::Elements, Tree::Elements(elements)),
+        Attribute::Transaction { .. } | Attribute::Definition(_, _) => return None,
     };
     if of == attr { Some(tree) } else { None }
 }

@@ -1,34 +1,33 @@
 //! Attributes.
 
+use crate::breach::Rule;
 use crate::conditionals::{walk_cond, walk_conds};
 use crate::statements::{Around, walk_block};
 use crate::types::walk_type;
-use edd_lexer::token::TokenKind;
+use crate::walk::{VARIABLES, Walk, Words, has_word};
 use edd_syntax::item::{ArrayElement, Attribute, Item, Member, TransactionPart};
-use edd_syntax::numbers::{Attr, Kind};
+use edd_syntax::numbers::{Attr, Kind, TokenNo};
 use edd_syntax::reference::Path;
 use edd_syntax::symbols::Keyword;
-use edd_trails::breach::Rule;
-use edd_trails::walk::{VARIABLES, Walk, Words, has_word};
 use indexmap::IndexMap;
 use std::alloc::AllocError;
 
-/// The word of an attribute.
-pub fn word_of(attribute: &Attribute<Path>) -> &'static str {
+// The word of an attribute, and where it is.
+fn word_of(attribute: &Attribute<Path>) -> (&'static str, TokenNo) {
     match attribute {
-        Attribute::OneText(which, _) => which.attr().word(),
-        Attribute::Class(_) => Attr::Class.word(),
-        Attribute::Handling(_) => Attr::Handling.word(),
-        Attribute::Validity(_) => Attr::Validity.word(),
-        Attribute::TypeOf { .. } => Keyword::Type.spelling(),
-        Attribute::Number(_) => Attr::Number.word(),
-        Attribute::Operation(_) => Attr::Operation.word(),
-        Attribute::Transaction { .. } => Attr::Transaction.word(),
-        Attribute::ResponseCodes(_) => Attr::ResponseCodes.word(),
-        Attribute::Items(_) => Attr::Items.word(),
-        Attribute::Members(_) => Attr::Members.word(),
-        Attribute::Definition(_) => Attr::Definition.word(),
-        Attribute::Elements(_) => Attr::Elements.word(),
+        Attribute::OneText(at, which, _) => (which.attr().word(), *at),
+        Attribute::Class(at, _) => (Attr::Class.word(), *at),
+        Attribute::Handling(at, _) => (Attr::Handling.word(), *at),
+        Attribute::Validity(at, _) => (Attr::Validity.word(), *at),
+        Attribute::TypeOf { at, .. } => (Keyword::Type.spelling(), *at),
+        Attribute::Number(at, _) => (Attr::Number.word(), *at),
+        Attribute::Operation(at, _) => (Attr::Operation.word(), *at),
+        Attribute::Transaction { at, .. } => (Attr::Transaction.word(), *at),
+        Attribute::ResponseCodes(at, _) => (Attr::ResponseCodes.word(), *at),
+        Attribute::Items(at, _) => (Attr::Items.word(), *at),
+        Attribute::Members(at, _) => (Attr::Members.word(), *at),
+        Attribute::Definition(at, _) => (Attr::Definition.word(), *at),
+        Attribute::Elements(at, _) => (Attr::Elements.word(), *at),
     }
 }
 
@@ -40,12 +39,12 @@ fn walk_transaction<'a>(
     let mut before = Vec::new(walk.alloc);
     for part in parts {
         match part {
-            TransactionPart::Request(all) => {
-                walk.pass_word(&mut before, Attr::Request.word())?;
+            TransactionPart::Request(at, all) => {
+                walk.pass_word(&mut before, Attr::Request.word(), *at)?;
                 walk_conds(all, walk)?;
             }
-            TransactionPart::Reply(all) => {
-                walk.pass_word(&mut before, Attr::Reply.word())?;
+            TransactionPart::Reply(at, all) => {
+                walk.pass_word(&mut before, Attr::Reply.word(), *at)?;
                 walk_conds(all, walk)?;
             }
         }
@@ -54,7 +53,7 @@ fn walk_transaction<'a>(
 }
 
 /// The members of a collection so far, with their tokens.
-pub type Members<'a> = IndexMap<&'a str, Option<usize>>;
+pub type Members<'a> = IndexMap<&'a str, TokenNo>;
 
 // A member's name, and the item that it names.
 fn walk_member<'a>(
@@ -64,11 +63,10 @@ fn walk_member<'a>(
     walk: &mut Walk<'a>,
 ) -> Result<(), AllocError> {
     let name = member.name.as_str();
-    let place = walk.trail.name(name);
     match before.get(name).copied() {
-        Some(earlier) => walk.note_clash(Rule::DuplicateName(name), place, earlier)?,
+        Some(earlier) => walk.note_clash(Rule::DuplicateName(name), member.at, earlier)?,
         None => {
-            before.insert(name, place)?;
+            before.insert(name, member.at)?;
         }
     }
     walk.refer(&member.item, of)
@@ -87,7 +85,7 @@ fn walk_members<'a>(
 }
 
 /// The numbers of the elements of one attribute so far, with their tokens.
-type Numbers = IndexMap<u32, Option<usize>>;
+type Numbers = IndexMap<u32, TokenNo>;
 
 // An element's number, and the variable that it names.
 fn walk_element<'a>(
@@ -95,13 +93,10 @@ fn walk_element<'a>(
     before: &mut Numbers,
     walk: &mut Walk<'a>,
 ) -> Result<(), AllocError> {
-    let place = walk.trail.token(TokenKind::Integer(element.number));
     match before.get(&element.number).copied() {
-        Some(earlier) => {
-            walk.note_clash(Rule::DuplicateElement(element.line), place, earlier)?;
-        }
+        Some(earlier) => walk.note_clash(Rule::DuplicateElement, element.at, earlier)?,
         None => {
-            before.insert(element.number, place)?;
+            before.insert(element.number, element.at)?;
         }
     }
     walk.refer(&element.variable, &VARIABLES)
@@ -126,7 +121,7 @@ fn kinds_of_members(item: &Item<Path>) -> [Kind; 1] {
     }
 }
 
-// After the word of an attribute.
+// What is in an attribute.
 fn walk_inside<'a>(
     item: &'a Item<Path>,
     attribute: &'a Attribute<Path>,
@@ -134,25 +129,25 @@ fn walk_inside<'a>(
     walk: &mut Walk<'a>,
 ) -> Result<(), AllocError> {
     match attribute {
-        Attribute::OneText(_, c) => walk_cond(c, walk),
-        Attribute::Handling(c) => walk_cond(c, walk),
-        Attribute::Validity(c) => walk_cond(c, walk),
-        Attribute::TypeOf { word, parts } => walk_type(item.name(), word, parts, walk),
+        Attribute::OneText(_, _, c) => walk_cond(c, walk),
+        Attribute::Handling(_, c) => walk_cond(c, walk),
+        Attribute::Validity(_, c) => walk_cond(c, walk),
+        Attribute::TypeOf { at, word, parts } => walk_type(item.name(), *at, word, parts, walk),
         Attribute::Transaction { parts, .. } => walk_transaction(parts, walk),
-        Attribute::Items(entries) => walk_conds(entries, walk),
-        Attribute::Members(list) => walk_members(list, &kinds_of_members(item), members, walk),
-        Attribute::Elements(elements) => walk_elements(elements, walk),
-        Attribute::Definition(parts) => {
+        Attribute::Items(_, entries) => walk_conds(entries, walk),
+        Attribute::Members(_, list) => walk_members(list, &kinds_of_members(item), members, walk),
+        Attribute::Elements(_, elements) => walk_elements(elements, walk),
+        Attribute::Definition(_, parts) => {
             let around = Around {
                 in_loop: false,
                 in_switch: false,
             };
             walk_block(parts, around, walk)
         }
-        Attribute::Class(_)
-        | Attribute::Number(_)
-        | Attribute::Operation(_)
-        | Attribute::ResponseCodes(_) => Ok(()),
+        Attribute::Class(_, _)
+        | Attribute::Number(_, _)
+        | Attribute::Operation(_, _)
+        | Attribute::ResponseCodes(_, _) => Ok(()),
     }
 }
 
@@ -164,12 +159,9 @@ pub fn walk_attribute<'a>(
     members: &mut Members<'a>,
     walk: &mut Walk<'a>,
 ) -> Result<(), AllocError> {
-    let word = word_of(attribute);
-    match attribute {
-        Attribute::Transaction { .. } if has_word(words, word) => {
-            walk.trail.spelled(word);
-        }
-        _ => walk.pass_word(words, word)?,
+    let (word, at) = word_of(attribute);
+    if !matches!(attribute, Attribute::Transaction { .. }) || !has_word(words, word) {
+        walk.pass_word(words, word, at)?;
     }
     walk_inside(item, attribute, members, walk)
 }

@@ -1,17 +1,15 @@
 //! Conditionals, and the values under their conditions.
 
+use crate::breach::Rule;
 use crate::expressions::walk_expr;
-use edd_lexer::token::TokenKind;
+use crate::walk::{ENTRIES, VARIABLES, Walk, behind_token};
 use edd_syntax::cond::{Arm, Cond};
 use edd_syntax::expr::Expr;
 use edd_syntax::item::{DataItem, Enumerator, MenuEntry};
-use edd_syntax::operators::Comparison;
+use edd_syntax::numbers::TokenNo;
 use edd_syntax::reference::Path;
-use edd_syntax::symbols::{Keyword, Symbol};
 use edd_syntax::text::Text;
 use edd_syntax::types::Handling;
-use edd_trails::breach::Rule;
-use edd_trails::walk::{ENTRIES, VARIABLES, Walk};
 use std::alloc::AllocError;
 
 /// What may be under a condition.
@@ -51,54 +49,40 @@ impl WalkValue for Expr<Path> {
 
 impl WalkValue for MenuEntry<Path> {
     fn walk_value<'a>(&'a self, walk: &mut Walk<'a>) -> Result<(), AllocError> {
-        let MenuEntry::Reference { to, .. } = self else {
-            return Ok(());
-        };
-        walk.refer(to, &ENTRIES)?;
-        if walk.trail.is_at(Symbol::OpenParenthesis) {
-            walk.trail.sign(Symbol::CloseParenthesis);
+        match self {
+            MenuEntry::Text(_) => Ok(()),
+            MenuEntry::Reference { to, .. } => walk.refer(to, &ENTRIES),
         }
-        Ok(())
     }
 }
 
 impl WalkValue for DataItem<Path> {
     fn walk_value<'a>(&'a self, walk: &mut Walk<'a>) -> Result<(), AllocError> {
         match self {
-            DataItem::Constant { line, value } => walk_constant(*line, *value, walk),
-            DataItem::Variable {
-                line,
-                variable,
-                mask,
-                ..
-            } => {
+            DataItem::Constant { at, value } => {
+                if 255 < *value {
+                    return walk.note(Rule::ConstRange, *at);
+                }
+                Ok(())
+            }
+            DataItem::Variable { variable, mask, .. } => {
                 walk.refer(variable, &VARIABLES)?;
-                walk_mask(*line, *mask, walk)
+                walk_mask(variable, *mask, walk)
             }
         }
     }
 }
 
-fn walk_constant<'a>(line: u32, value: u32, walk: &mut Walk<'a>) -> Result<(), AllocError> {
-    let place = walk.trail.token_on(TokenKind::Integer(value), line);
-    if 255 < value {
-        return walk.note(Rule::ConstRange(line), place);
-    }
-    Ok(())
-}
-
-// The mask after a variable, and the qualifiers after that.
-fn walk_mask<'a>(line: u32, mask: Option<u32>, walk: &mut Walk<'a>) -> Result<(), AllocError> {
-    if mask.is_some() {
-        walk.trail.sign(Symbol::Comparison(Comparison::Less));
-        let place = walk.trail.next();
-        if mask == Some(0) {
-            walk.note(Rule::ConstRange(line), place)?;
-        }
-        walk.trail.sign(Symbol::Comparison(Comparison::Greater));
-    }
-    if walk.trail.is_at(Symbol::OpenParenthesis) {
-        walk.trail.sign(Symbol::CloseParenthesis);
+// The mask after a variable, in `<` and `>`.
+fn walk_mask<'a>(
+    variable: &'a Path,
+    mask: Option<u32>,
+    walk: &mut Walk<'a>,
+) -> Result<(), AllocError> {
+    if mask == Some(0) {
+        let members = u32::try_from(variable.members.len()).unwrap_or(0);
+        let behind = members.saturating_mul(2).saturating_add(2);
+        return walk.note(Rule::ConstRange, behind_token(variable.at, behind));
     }
     Ok(())
 }
@@ -117,13 +101,11 @@ pub fn walk_cond<'a, V: WalkValue>(
             first,
             otherwise,
         } => {
-            walk.trail.word(Keyword::If);
             walk_expr(condition, false, walk)?;
             walk_conds(first, walk)?;
             walk_conds(otherwise, walk)
         }
         Cond::Select { on, arms } => {
-            walk.trail.word(Keyword::Select);
             walk_expr(on, false, walk)?;
             walk_arms(arms, walk)
         }
@@ -161,20 +143,15 @@ fn walk_arms<'a, V: WalkValue>(
 #[tactic(auto, using(crate::proofs::Falls::falls))]
 fn walk_arm<'a, V: WalkValue>(
     arm: &'a Arm<Path, V>,
-    default: &mut Option<Option<usize>>,
+    default: &mut Option<TokenNo>,
     walk: &mut Walk<'a>,
 ) -> Result<(), AllocError> {
     match arm {
-        Arm::Case { body, .. } => {
-            walk.trail.word(Keyword::Case);
-            walk.trail.sign(Symbol::Colon);
-            walk_conds(body, walk)
-        }
-        Arm::Default { line, body } => {
-            let place = walk.trail.word(Keyword::Default);
+        Arm::Case { body, .. } => walk_conds(body, walk),
+        Arm::Default { at, body } => {
             match *default {
-                Some(earlier) => walk.note_clash(Rule::DuplicateCase(*line), place, earlier)?,
-                None => *default = Some(place),
+                Some(earlier) => walk.note_clash(Rule::DuplicateCase, *at, earlier)?,
+                None => *default = Some(*at),
             }
             walk_conds(body, walk)
         }

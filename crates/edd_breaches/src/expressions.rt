@@ -1,14 +1,13 @@
 //! Expressions.
 
-use edd_lexer::token::TokenKind;
+use crate::breach::Rule;
+use crate::paths::Meaning;
+use crate::walk::{VARIABLES, Walk};
 use edd_name_meanings::references::{argument_kinds, builtin};
 use edd_syntax::expr::{Argument, Expr};
-use edd_syntax::numbers::Kind;
+use edd_syntax::numbers::{Kind, TokenNo};
 use edd_syntax::operators::{Builtin, Parameter};
 use edd_syntax::reference::Path;
-use edd_trails::breach::Rule;
-use edd_trails::paths::Meaning;
-use edd_trails::walk::{VARIABLES, Walk};
 use std::alloc::AllocError;
 
 // Whether an argument may be a plain reference to an item of a kind; one that has no meaning may.
@@ -70,17 +69,16 @@ fn walk_function<'a>(
     function: &'a Path,
     arguments: &'a [Argument<Path>],
     is_statement: bool,
-    line: u32,
+    at: TokenNo,
 ) -> Result<(), AllocError> {
     let name = function.base.as_str();
-    let place = walk.trail.name(name);
     match builtin(name) {
-        None => walk.note(Rule::UnknownName(name), place),
+        None => walk.note(Rule::UnknownName(name), at),
         Some(known) => {
             if may_be_call(walk, known, arguments, is_statement) {
                 return Ok(());
             }
-            walk.note(Rule::Mismatch(line), place)
+            walk.note(Rule::Mismatch, at)
         }
     }
 }
@@ -112,10 +110,7 @@ pub fn walk_expr<'a>(
 ) -> Result<(), AllocError> {
     match e {
         Expr::Literal(_) => Ok(()),
-        Expr::Decimal { line } => {
-            let place = walk.trail.token_on(TokenKind::Decimal, *line);
-            walk.note(Rule::FloatValue(*line), place)
-        }
+        Expr::Decimal { at } => walk.note(Rule::FloatValue, *at),
         Expr::Reference(path) | Expr::Increment(_, path) => walk.refer(path, &VARIABLES),
         Expr::Indexed(array, index) => {
             walk.refer_array(array)?;
@@ -139,11 +134,11 @@ pub fn walk_expr<'a>(
             walk_expr(value, false, walk)
         }
         Expr::Call {
-            line,
+            at,
             function,
             arguments,
         } => {
-            walk_function(walk, function, arguments, is_statement, *line)?;
+            walk_function(walk, function, arguments, is_statement, *at)?;
             walk_arguments(arguments, kinds_of(function), walk)
         }
     }

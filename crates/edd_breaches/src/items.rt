@@ -1,17 +1,15 @@
 //! Items, and all breaches of a description.
 
 use crate::attributes::{Members, walk_attribute};
-use edd_lexer::token::Token;
+use crate::breach::{Breach, Rule};
+use crate::directory::Directory;
+use crate::locals::Locals;
+use crate::walk::{Walk, Words, has_word};
 use edd_syntax::item::{Attribute, Item};
 use edd_syntax::limits::Limit;
-use edd_syntax::numbers::{Attr, Kind};
+use edd_syntax::numbers::{Attr, Kind, TokenNo};
 use edd_syntax::reference::Path;
 use edd_syntax::symbols::Keyword;
-use edd_trails::breach::{Breach, RANKS, Rank, Rule};
-use edd_trails::directory::Directory;
-use edd_trails::locals::Locals;
-use edd_trails::trail::Trail;
-use edd_trails::walk::{Walk, Words, has_word};
 use indexmap::IndexMap;
 use std::alloc::{AllocError, Global};
 
@@ -20,18 +18,6 @@ const MOST_ITEMS: usize = 4096;
 const MOST_TRANSACTIONS: usize = 4096;
 
 const MOST_LOCALS: usize = 64;
-
-/// The word with which an item begins.
-fn keyword_of(item: &Item<Path>) -> Keyword {
-    match item {
-        Item::Variable(_) => Keyword::Variable,
-        Item::Command(_) => Keyword::Command,
-        Item::Menu(_) => Keyword::Menu,
-        Item::Collection(_) => Keyword::Collection,
-        Item::Method(_) => Keyword::Method,
-        Item::Array(_) => Keyword::Array,
-    }
-}
 
 // The attributes that an item needs.
 fn needed(item: &Item<Path>) -> [Option<&'static str>; 3] {
@@ -52,14 +38,14 @@ fn needed(item: &Item<Path>) -> [Option<&'static str>; 3] {
 fn note_missing<'a>(
     item: &'a Item<Path>,
     words: &Words,
-    place: Option<usize>,
+    at: TokenNo,
     walk: &mut Walk<'a>,
 ) -> Result<(), AllocError> {
     for needed in needed(item) {
         if let Some(word) = needed {
             if !has_word(words, word) {
                 let item = item.name();
-                walk.note(Rule::MissingAttribute { item, word }, place)?;
+                walk.note(Rule::MissingAttribute { item, word }, at)?;
             }
         }
     }
@@ -82,47 +68,31 @@ fn has_too_many_transactions(item: &Item<Path>) -> bool {
     MOST_TRANSACTIONS < of_transactions.count()
 }
 
-/// Whether there is too much of something, and the name of the item where it is.
-#[derive(Clone, Copy)]
-struct Excess {
-    is_there: bool,
-    item: Option<usize>,
-}
-
-impl Excess {
-    fn none() -> Excess {
-        Excess {
-            is_there: false,
-            item: None,
-        }
-    }
-
-    // Notes an item; the first one stays.
-    fn note(&mut self, is_too_much: bool, item: Option<usize>) {
-        if is_too_much && !self.is_there {
-            self.is_there = true;
-            self.item = item;
-        }
-    }
-}
-
-/// What there are too many of.
+/// What there are too many of, each with the name of the first item in which it is so.
 #[derive(Clone, Copy)]
 struct TooMany {
     /// How many items of each kind there are so far.
     counts: [usize; 6],
-    items: Excess,
-    transactions: Excess,
-    locals: Excess,
+    items: Option<TokenNo>,
+    transactions: Option<TokenNo>,
+    locals: Option<TokenNo>,
+}
+
+// The first item in which there is too much of something, after one more.
+fn first_of(before: Option<TokenNo>, is_too_much: bool, item: TokenNo) -> Option<TokenNo> {
+    match before {
+        None if is_too_much => Some(item),
+        _ => before,
+    }
 }
 
 impl TooMany {
     fn none() -> TooMany {
         TooMany {
             counts: [0; 6],
-            items: Excess::none(),
-            transactions: Excess::none(),
-            locals: Excess::none(),
+            items: None,
+            transactions: None,
+            locals: None,
         }
     }
 
@@ -146,36 +116,50 @@ impl TooMany {
     }
 }
 
+// Where the name of an item is.
+fn place_of(item: &Item<Path>) -> TokenNo {
+    match item {
+        Item::Variable(d) => d.at,
+        Item::Command(d) => d.at,
+        Item::Menu(d) => d.at,
+        Item::Collection(d) => d.at,
+        Item::Method(d) => d.at,
+        Item::Array(d) => d.at,
+    }
+}
+
 fn walk_item<'a>(
     item: &'a Item<Path>,
-    names: &mut IndexMap<&'a str, Option<usize>>,
+    names: &mut IndexMap<&'a str, TokenNo>,
     too_many: &mut TooMany,
     walk: &mut Walk<'a>,
 ) -> Result<(), AllocError> {
-    walk.trail.word(keyword_of(item));
     let name = item.name();
-    let place = walk.trail.name(name);
+    let at = place_of(item);
     match names.get(name).copied() {
-        Some(earlier) => walk.note_clash(Rule::DuplicateName(name), place, earlier)?,
+        Some(earlier) => walk.note_clash(Rule::DuplicateName(name), at, earlier)?,
         None => {
-            names.insert(name, place)?;
+            names.insert(name, at)?;
         }
     }
     walk.declared = 0;
     let words = walk_attributes(item, walk)?;
-    note_missing(item, &words, place, walk)?;
+    note_missing(item, &words, at, walk)?;
     let is_extra = too_many.count(item.kind());
-    too_many.items.note(is_extra, place);
-    too_many.locals.note(MOST_LOCALS < walk.declared, place);
-    too_many
-        .transactions
-        .note(has_too_many_transactions(item), place);
+    too_many.items = first_of(too_many.items, is_extra, at);
+    too_many.locals = first_of(too_many.locals, MOST_LOCALS < walk.declared, at);
+    let is_extra = has_too_many_transactions(item);
+    too_many.transactions = first_of(too_many.transactions, is_extra, at);
     Ok(())
 }
 
-fn note_excess<'a>(limit: Limit, excess: Excess, walk: &mut Walk<'a>) -> Result<(), AllocError> {
-    if excess.is_there {
-        walk.note_clash(Rule::TooMany(limit), None, excess.item)?;
+fn note_excess<'a>(
+    limit: Limit,
+    item: Option<TokenNo>,
+    walk: &mut Walk<'a>,
+) -> Result<(), AllocError> {
+    if item.is_some() {
+        walk.note_with(Rule::TooMany(limit), None, item)?;
     }
     Ok(())
 }
@@ -186,43 +170,15 @@ fn note_counts<'a>(too_many: TooMany, walk: &mut Walk<'a>) -> Result<(), AllocEr
     note_excess(Limit::Locals, too_many.locals, walk)
 }
 
-fn push_ranked<'a>(
-    all: &mut Vec<Breach<'a>>,
-    found: &[Breach<'a>],
-    rank: Rank,
-) -> Result<(), AllocError> {
-    for breach in found {
-        if breach.rule.rank() == rank {
-            all.push(*breach)?;
-        }
-    }
-    Ok(())
-}
-
-// The breaches rule by rule.
-fn in_order<'a>(alloc: Global, found: &[Breach<'a>]) -> Result<Vec<Breach<'a>>, AllocError> {
-    let mut all = Vec::new(alloc);
-    for rank in RANKS {
-        push_ranked(&mut all, found, rank)?;
-    }
-    Ok(all)
-}
-
-/// All breaches of the items of a text with these tokens, in the order of the rules, and for each
-/// rule in that of the source. That there are too many nodes or strings is not among them. What
-/// follows from another breach alone is left out.
-pub fn breaches<'a>(
-    alloc: Global,
-    text: &'a [u8],
-    tokens: &'a [Token],
-    items: &'a [Item<Path>],
-) -> Result<Vec<Breach<'a>>, AllocError> {
+/// All breaches of items, in the order of the rules, and for each rule in that of the source. That
+/// there are too many nodes or strings is not among them. What follows from another breach alone is
+/// left out.
+pub fn breaches<'a>(alloc: Global, items: &'a [Item<Path>]) -> Result<Vec<Breach<'a>>, AllocError> {
     let mut walk = Walk {
         alloc,
         directory: Directory::new(alloc, items)?,
         locals: Locals::new(alloc),
         declared: 0,
-        trail: Trail::new(text, tokens),
         found: Vec::new(alloc),
     };
     let mut names = IndexMap::new(alloc);
@@ -231,5 +187,8 @@ pub fn breaches<'a>(
         walk_item(item, &mut names, &mut too_many, &mut walk)?;
     }
     note_counts(too_many, &mut walk)?;
-    in_order(alloc, &walk.found)
+    let Walk { found, .. } = walk;
+    let mut found = found;
+    found.sort_by_key(|breach| breach.rule.rank() as u8)?;
+    Ok(found)
 }

@@ -1,16 +1,20 @@
 //! All rules that a description breaks which parses, each at its token.
 //!
-//! The walk over the trees says what is broken. It goes through the tokens in their order at the
-//! same time, so that it knows where. The first breach is the one that the compiler answers, which
-//! tests compare: proved is that the walk is safe and ends.
+//! A walk over the trees says what is broken, and where. The first breach is the one that the
+//! compiler answers, which tests compare: proved is that the walk is safe and ends.
 #![tactic(auto)]
 
 mod attributes;
+mod breach;
 mod conditionals;
+mod directory;
 mod expressions;
 mod items;
+mod locals;
+mod paths;
 mod statements;
 mod types;
+mod walk;
 
-pub use edd_trails::breach::{Breach, Rule};
+pub use breach::{Breach, Rule};
 pub use items::breaches;

@@ -1,13 +1,13 @@
 //! Statements.
 
+use crate::breach::Rule;
 use crate::expressions::{walk_expr, walk_optional};
+use crate::walk::Walk;
 use edd_syntax::expr::Expr;
+use edd_syntax::numbers::TokenNo;
 use edd_syntax::reference::Path;
 use edd_syntax::stmt::{Declarator, Part, Stmt};
-use edd_syntax::symbols::{Keyword, Symbol};
 use edd_syntax::wrap::wrap;
-use edd_trails::breach::Rule;
-use edd_trails::walk::Walk;
 use std::alloc::{AllocError, Global};
 use std::collections::BTreeMap;
 
@@ -18,27 +18,11 @@ pub struct Around {
     pub in_switch: bool,
 }
 
-impl Around {
-    fn looping(self) -> Around {
-        Around {
-            in_loop: true,
-            in_switch: self.in_switch,
-        }
-    }
-
-    fn switching(self) -> Around {
-        Around {
-            in_loop: self.in_loop,
-            in_switch: true,
-        }
-    }
-}
-
 // The labels of a block so far, as numbers of 32 bits, each with the token of its word.
 #[derive(Drop)]
 struct Labels {
-    cases: BTreeMap<i64, Option<usize>>,
-    default: Option<Option<usize>>,
+    cases: BTreeMap<i64, TokenNo>,
+    default: Option<TokenNo>,
 }
 
 impl Labels {
@@ -85,35 +69,36 @@ fn walk_part<'a>(
     match part {
         Part::Declare(declarators) => walk_declarators(declarators, walk),
         Part::Statement(s) => walk_stmt(s, around, walk),
-        Part::CaseLabel { line, label } => walk_case(*line, *label, labels, walk),
-        Part::DefaultLabel { line } => walk_default(*line, labels, walk),
+        Part::CaseLabel { at, label } => walk_case(*at, *label, labels, walk),
+        Part::DefaultLabel { at } => walk_default(*at, labels, walk),
     }
 }
 
 fn walk_case<'a>(
-    line: u32,
+    at: TokenNo,
     label: i64,
     labels: &mut Labels,
     walk: &mut Walk<'a>,
 ) -> Result<(), AllocError> {
-    let place = walk.trail.word(Keyword::MethodCase);
-    walk.trail.sign(Symbol::Colon);
     let label = wrap(32, i128::from(label));
     match labels.cases.get(&label).copied() {
-        Some(earlier) => walk.note_clash(Rule::DuplicateCase(line), place, earlier),
+        Some(earlier) => walk.note_clash(Rule::DuplicateCase, at, earlier),
         None => {
-            labels.cases.insert(label, place)?;
+            labels.cases.insert(label, at)?;
             Ok(())
         }
     }
 }
 
-fn walk_default<'a>(line: u32, labels: &mut Labels, walk: &mut Walk<'a>) -> Result<(), AllocError> {
-    let place = walk.trail.word(Keyword::MethodDefault);
+fn walk_default<'a>(
+    at: TokenNo,
+    labels: &mut Labels,
+    walk: &mut Walk<'a>,
+) -> Result<(), AllocError> {
     match labels.default {
-        Some(earlier) => walk.note_clash(Rule::DuplicateCase(line), place, earlier),
+        Some(earlier) => walk.note_clash(Rule::DuplicateCase, at, earlier),
         None => {
-            labels.default = Some(place);
+            labels.default = Some(at);
             Ok(())
         }
     }
@@ -125,41 +110,30 @@ fn walk_declarators<'a>(
     walk: &mut Walk<'a>,
 ) -> Result<(), AllocError> {
     for declarator in declarators {
-        let name = declarator.place.base.as_str();
-        let place = walk.trail.name(name);
         walk_optional(&declarator.value, walk)?;
-        walk.declare(name, place)?;
+        walk.declare(declarator.place.base.as_str(), declarator.place.at)?;
     }
     Ok(())
 }
 
-fn walk_header<'a>(
-    initial: &'a Option<Expr<Path>>,
-    condition: &'a Option<Expr<Path>>,
-    update: &'a Option<Expr<Path>>,
-    walk: &mut Walk<'a>,
-) -> Result<(), AllocError> {
-    walk_optional(initial, walk)?;
-    walk_optional(condition, walk)?;
-    walk_optional(update, walk)
-}
-
-fn walk_break<'a>(
-    word: Keyword,
-    line: u32,
-    is_inside: bool,
-    walk: &mut Walk<'a>,
-) -> Result<(), AllocError> {
-    let place = walk.trail.word(word);
+fn walk_break<'a>(at: TokenNo, is_inside: bool, walk: &mut Walk<'a>) -> Result<(), AllocError> {
     if is_inside {
         return Ok(());
     }
-    walk.note(Rule::BreakOutside(line), place)
+    walk.note(Rule::BreakOutside, at)
 }
 
 /// Walks over a statement.
 #[cycle(statements)]
 fn walk_stmt<'a>(s: &'a Stmt<Path>, around: Around, walk: &mut Walk<'a>) -> Result<(), AllocError> {
+    let looping = Around {
+        in_loop: true,
+        ..around
+    };
+    let switching = Around {
+        in_switch: true,
+        ..around
+    };
     match s {
         Stmt::Empty | Stmt::Return => Ok(()),
         Stmt::Evaluate(e) => walk_expr(e, true, walk),
@@ -175,10 +149,10 @@ fn walk_stmt<'a>(s: &'a Stmt<Path>, around: Around, walk: &mut Walk<'a>) -> Resu
         }
         Stmt::While(condition, body) => {
             walk_expr(condition, false, walk)?;
-            walk_stmt(body, around.looping(), walk)
+            walk_stmt(body, looping, walk)
         }
         Stmt::Do(body, condition) => {
-            walk_stmt(body, around.looping(), walk)?;
+            walk_stmt(body, looping, walk)?;
             walk_expr(condition, false, walk)
         }
         Stmt::For {
@@ -187,17 +161,16 @@ fn walk_stmt<'a>(s: &'a Stmt<Path>, around: Around, walk: &mut Walk<'a>) -> Resu
             update,
             body,
         } => {
-            walk_header(initial, condition, update, walk)?;
-            walk_stmt(body, around.looping(), walk)
+            walk_optional(initial, walk)?;
+            walk_optional(condition, walk)?;
+            walk_optional(update, walk)?;
+            walk_stmt(body, looping, walk)
         }
         Stmt::Switch(on, parts) => {
             walk_expr(on, false, walk)?;
-            walk_block(parts, around.switching(), walk)
+            walk_block(parts, switching, walk)
         }
-        Stmt::Break { line } => {
-            let is_inside = around.in_loop || around.in_switch;
-            walk_break(Keyword::Break, *line, is_inside, walk)
-        }
-        Stmt::Continue { line } => walk_break(Keyword::Continue, *line, around.in_loop, walk),
+        Stmt::Break { at } => walk_break(*at, around.in_loop || around.in_switch, walk),
+        Stmt::Continue { at } => walk_break(*at, around.in_loop, walk),
     }
 }

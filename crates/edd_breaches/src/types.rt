@@ -1,37 +1,24 @@
 //! Types of variables, and what is in their braces.
 
+use crate::breach::Rule;
 use crate::conditionals::walk_cond;
-use edd_lexer::token::TokenKind;
+use crate::walk::{Walk, Words, behind_token};
 use edd_syntax::cond::{Arm, Cond};
 use edd_syntax::item::{Enumerator, TypePart, TypeWord};
-use edd_syntax::numbers::Attr;
+use edd_syntax::numbers::{Attr, TokenNo};
 use edd_syntax::reference::Path;
-use edd_syntax::symbols::Symbol;
 use edd_syntax::types::VarType;
-use edd_trails::breach::Rule;
-use edd_trails::walk::Walk;
 use std::alloc::AllocError;
 
-/// The word of an option; an element of the type's list has none.
-pub fn option_word(part: &TypePart<Path>) -> Option<&'static str> {
+// The word of an option, and where it is; an element of the type's list has none.
+fn option_word(part: &TypePart<Path>) -> Option<(Attr, TokenNo)> {
     match part {
-        TypePart::DefaultValue { .. } => Some(Attr::DefaultValue.word()),
-        TypePart::MinValue { .. } => Some(Attr::MinValue.word()),
-        TypePart::MaxValue { .. } => Some(Attr::MaxValue.word()),
-        TypePart::DisplayFormat { .. } => Some(Attr::DisplayFormat.word()),
-        TypePart::EditFormat { .. } => Some(Attr::EditFormat.word()),
+        TypePart::DefaultValue { at, .. } => Some((Attr::DefaultValue, *at)),
+        TypePart::MinValue { at, .. } => Some((Attr::MinValue, *at)),
+        TypePart::MaxValue { at, .. } => Some((Attr::MaxValue, *at)),
+        TypePart::DisplayFormat { at, .. } => Some((Attr::DisplayFormat, *at)),
+        TypePart::EditFormat { at, .. } => Some((Attr::EditFormat, *at)),
         TypePart::Element(_) => None,
-    }
-}
-
-// The line of an option that an enumerated type can't have.
-fn line_of_option(part: &TypePart<Path>) -> Option<u32> {
-    match part {
-        TypePart::MinValue { line, .. }
-        | TypePart::MaxValue { line, .. }
-        | TypePart::DisplayFormat { line, .. }
-        | TypePart::EditFormat { line, .. } => Some(*line),
-        TypePart::DefaultValue { .. } | TypePart::Element(_) => None,
     }
 }
 
@@ -42,11 +29,7 @@ fn note_enumerators<'a>(
     walk: &mut Walk<'a>,
 ) -> Result<(), AllocError> {
     match c {
-        Cond::Value(e) => {
-            let sign = TokenKind::Symbol(Symbol::OpenBrace);
-            let place = walk.trail.token_on(sign, e.line);
-            walk.note(Rule::Mismatch(e.line), place)
-        }
+        Cond::Value(e) => walk.note(Rule::Mismatch, e.at),
         Cond::If {
             first,
             otherwise,
@@ -95,63 +78,55 @@ fn note_part<'a>(
             note_enumerators(c, walk)
         };
     }
-    if let (true, Some(word), Some(line)) = (
-        is_enumerated,
-        option_word(part),
-        line_of_option(part),
-    ) {
-        let place = walk.trail.spelled(word);
-        walk.note(Rule::Mismatch(line), place)?;
+    match option_word(part) {
+        Some((attr, at)) if is_enumerated && attr != Attr::DefaultValue => {
+            walk.note(Rule::Mismatch, at)
+        }
+        _ => Ok(()),
     }
-    Ok(())
 }
 
-// What a type can't have in its braces. The way begins again after the opening brace then.
+// What a type can't have in its braces.
 fn note_parts<'a>(
     parts: &'a [TypePart<Path>],
     kind: VarType,
     walk: &mut Walk<'a>,
 ) -> Result<(), AllocError> {
-    let trail = walk.trail;
     let is_enumerated = matches!(kind, VarType::Enumerated | VarType::BitEnumerated);
     for part in parts {
         note_part(part, is_enumerated, walk)?;
     }
-    walk.trail = trail;
     Ok(())
 }
 
-// The size after a type's word.
+// The size in parentheses after TYPE and a type's word.
 fn walk_size<'a>(
     variable: &'a str,
+    at: TokenNo,
     size: Option<u32>,
     walk: &mut Walk<'a>,
 ) -> Result<(), AllocError> {
-    let Some(size) = size else {
-        return Ok(());
-    };
-    walk.trail.sign(Symbol::OpenParenthesis);
-    let place = walk.trail.next();
-    walk.trail.sign(Symbol::CloseParenthesis);
-    if size == 0 || 4 < size {
-        walk.note(Rule::BadSize(variable), place)?;
+    match size {
+        Some(size) if size == 0 || 4 < size => {
+            walk.note(Rule::BadSize(variable), behind_token(at, 3))
+        }
+        _ => Ok(()),
     }
-    Ok(())
 }
 
-// A word that is no type of the profile, and what is skipped after it.
-fn walk_other<'a>(variable: &'a str, word: &'a str, walk: &mut Walk<'a>) -> Result<(), AllocError> {
-    let place = walk.trail.next();
-    if walk.trail.is_at(Symbol::OpenParenthesis) {
-        walk.trail.sign(Symbol::CloseParenthesis);
-    }
-    walk.trail.skip_braces();
+// A word after TYPE that is no type of the profile.
+fn walk_other<'a>(
+    variable: &'a str,
+    at: TokenNo,
+    word: &'a str,
+    walk: &mut Walk<'a>,
+) -> Result<(), AllocError> {
     let rule = if word == "FLOAT" || word == "DOUBLE" {
         Rule::FloatVariable(variable)
     } else {
         Rule::OtherType { variable, word }
     };
-    walk.note(rule, place)
+    walk.note(rule, behind_token(at, 1))
 }
 
 fn walk_part<'a>(part: &'a TypePart<Path>, walk: &mut Walk<'a>) -> Result<(), AllocError> {
@@ -166,33 +141,30 @@ fn walk_part<'a>(part: &'a TypePart<Path>, walk: &mut Walk<'a>) -> Result<(), Al
     }
 }
 
-/// Walks over a part of a type, at whose word the way is, if it has one.
-pub fn walk_parts<'a>(parts: &'a [TypePart<Path>], walk: &mut Walk<'a>) -> Result<(), AllocError> {
-    let mut before: Vec<(&'static str, Option<usize>)> = Vec::new(walk.alloc);
+// Walks over what is in the braces of a type.
+fn walk_parts<'a>(parts: &'a [TypePart<Path>], walk: &mut Walk<'a>) -> Result<(), AllocError> {
+    let mut before: Words = Vec::new(walk.alloc);
     for part in parts {
-        if let Some(word) = option_word(part) {
-            walk.pass_word(&mut before, word)?;
+        if let Some((attr, at)) = option_word(part) {
+            walk.pass_word(&mut before, attr.word(), at)?;
         }
         walk_part(part, walk)?;
     }
     Ok(())
 }
 
-/// Walks over what comes after TYPE in a variable of this name.
+/// Walks over the type of a variable, whose word TYPE is there.
 pub fn walk_type<'a>(
     variable: &'a str,
+    at: TokenNo,
     word: &'a TypeWord,
     parts: &'a [TypePart<Path>],
     walk: &mut Walk<'a>,
 ) -> Result<(), AllocError> {
     match word {
-        TypeWord::Other(word) => walk_other(variable, word.as_str(), walk),
+        TypeWord::Other(word) => walk_other(variable, at, word.as_str(), walk),
         TypeWord::Known { kind, size } => {
-            walk.trail.next();
-            walk_size(variable, *size, walk)?;
-            if walk.trail.is_at(Symbol::OpenBrace) {
-                walk.trail.next();
-            }
+            walk_size(variable, at, *size, walk)?;
             note_parts(parts, *kind, walk)?;
             walk_parts(parts, walk)
         }

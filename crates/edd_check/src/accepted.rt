@@ -76,7 +76,7 @@ fn show_warning(
     reports: &mut Reports,
 ) -> Result<(), AllocError> {
     let is_denied = level == Level::Deny;
-    reports.is_refused = reports.is_refused || is_denied;
+    reports.is_denied = reports.is_denied || is_denied;
     if reports.has_room() {
         reports.show(diagnostic(alloc, text, tokens, warning, is_denied)?)?;
     } else {

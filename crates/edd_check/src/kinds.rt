@@ -27,7 +27,7 @@ pub struct OtherKinds {
 // The name of the collection in which a member of another kind is. What a member names stands behind
 // a comma.
 fn collection_of(source: &Source<'_>, breach: &Breach<'_>) -> Option<usize> {
-    let (Rule::WrongKind(_), Some(place)) = (breach.rule, breach.place) else {
+    let (Rule::WrongKind(_), Some(place)) = (breach.rule, breach.token()) else {
         return None;
     };
     let item = source.item_before(place)?;

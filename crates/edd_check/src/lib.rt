@@ -6,6 +6,10 @@
 //! bounded time.
 #![tactic(auto)]
 
+ghost use Rattle.std.specs.Prelude.{◌≡◌, false, true, IfOk};
+ghost use Rattle.edd_compiler.specs.Faults.{HasFault};
+ghost use Rattle.edd_compiler.specs.Images.{HasImage};
+
 mod accepted;
 mod choices;
 mod grammar;
@@ -30,19 +34,28 @@ pub use reports::Reports;
 use std::alloc::{AllocError, Global};
 use std::io::Write;
 
-/// What is said of a text.
-pub fn diagnose(alloc: Global, text: &[u8], choices: &Choices) -> Result<Reports, AllocError> {
+/// What is said of a text. It is refused exactly where `compile` refuses it for a fault of its own.
+pub fn diagnose(alloc: Global, text: &[u8], choices: &Choices) -> Result<Reports, AllocError>
+    ensures accepted { IfOk result (λ said. said.is_refused ≡ false → HasImage text.now) }
+    ensures refused { IfOk result (λ said. said.is_refused ≡ true → HasFault text.now) }
+{
     let mut reports = Reports::new(alloc);
-    match compile(alloc, text) {
-        Ok(_image) => accepted::of_text(alloc, text, choices, &mut reports)?,
+    let fault = match compile(alloc, text) {
+        Ok(_image) => {
+            accepted::of_text(alloc, text, choices, &mut reports)?;
+            reports.is_refused = false;
+            return Ok(reports);
+        }
         Err(Fault::Memory) => return Err(AllocError),
-        Err(fault) => refusals::of_fault(alloc, text, fault, &mut reports)?,
-    }
+        Err(fault) => fault,
+    };
+    refusals::of_fault(alloc, text, fault, &mut reports)?;
+    reports.is_refused = true;
     Ok(reports)
 }
 
 /// Prints what is said of the text of the source of this name. Says whether it is refused, or a
-/// lint that is denied finds something.
+/// lint that is denied finds something; else it has an image.
 pub fn check<W: Write>(
     alloc: Global,
     name: &str,
@@ -50,8 +63,10 @@ pub fn check<W: Write>(
     choices: &Choices,
     format: Format,
     out: &mut W,
-) -> Result<bool, ReportFault> {
+) -> Result<bool, ReportFault>
+    ensures accepted { IfOk result (λ fails. fails ≡ false → HasImage text.now) }
+{
     let look = Look::at(alloc, name, text, choices)?;
     look.print(alloc, format, out)?;
-    Ok(look.is_refused())
+    Ok(look.fails())
 }

@@ -1,5 +1,9 @@
 //! A text that was looked at, and what is said of it.
 
+ghost use Rattle.std.specs.Prelude.{◌≡◌, false, true, IfOk};
+ghost use Rattle.edd_compiler.specs.Faults.{HasFault};
+ghost use Rattle.edd_compiler.specs.Images.{HasImage};
+
 use crate::choices::Choices;
 use crate::diagnose;
 use crate::reports::Reports;
@@ -19,7 +23,7 @@ pub struct Look<'a> {
     name: &'a str,
     lines: Lines<'a>,
     originals: Originals<'a>,
-    reports: Reports,
+    pub reports: Reports,
 }
 
 fn has_name(names: &[&str], name: &str) -> bool {
@@ -33,7 +37,12 @@ impl<'a> Look<'a> {
         name: &'a str,
         text: &'a [u8],
         choices: &Choices,
-    ) -> Result<Look<'a>, AllocError> {
+    ) -> Result<Look<'a>, AllocError>
+        ensures accepted { IfOk result
+            (λ look. look.reports.is_refused ≡ false → HasImage text.now) }
+        ensures refused { IfOk result
+            (λ look. look.reports.is_refused ≡ true → HasFault text.now) }
+    {
         Look::of(alloc, name, text, diagnose(alloc, text, choices)?)
     }
 
@@ -43,7 +52,9 @@ impl<'a> Look<'a> {
         name: &'a str,
         text: &'a [u8],
         reports: Reports,
-    ) -> Result<Look<'a>, AllocError> {
+    ) -> Result<Look<'a>, AllocError>
+        ensures { IfOk result (λ look. look.reports ≡ reports) }
+    {
         Ok(Look {
             name,
             lines: Lines::of(alloc, text)?,
@@ -53,8 +64,10 @@ impl<'a> Look<'a> {
     }
 
     /// Whether the text is refused, or a lint that is denied finds something.
-    pub fn is_refused(&self) -> bool {
-        self.reports.is_refused
+    pub fn fails(&self) -> bool
+        ensures refused { result ≡ false → self.now.reports.is_refused ≡ false }
+    {
+        self.reports.is_refused || self.reports.is_denied
     }
 
     // The file that a mark names for the place of a finding.

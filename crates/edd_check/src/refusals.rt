@@ -99,7 +99,7 @@ struct Told<'a> {
 
 // The name of the item around a breach.
 fn item_of(source: &Source<'_>, breach: &Breach<'_>) -> Option<usize> {
-    Some(source.item_before(breach.place?)?.name)
+    Some(source.item_before(breach.token()?)?.name)
 }
 
 // Whether a near name is told, as where it is misspelled at its declaration.
@@ -168,7 +168,7 @@ fn of_tokens(
         return Err(AllocError);
     };
     let source = Source::of(alloc, text, tokens)?;
-    let found = breaches(alloc, text, tokens, &unit.items)?;
+    let found = breaches(alloc, &unit.items)?;
     show_breaches(alloc, &source, &found, refusal, reports)
 }
 
@@ -217,8 +217,7 @@ fn of_source(
     fault: Fault,
     reports: &mut Reports,
 ) -> Result<(), AllocError> {
-    let refusal = fault.to_string(alloc)?;
-    reports.is_refused = true;
+    let refusal = fault.refusal(alloc, text)?;
     match fault {
         Fault::Lex(why) => of_text(alloc, text, &TextFault::Lex(why), refusal, reports),
         Fault::Parse(why) => of_text(alloc, text, &TextFault::Parse(why), refusal, reports),

@@ -6,12 +6,14 @@ use std::alloc::{AllocError, Global};
 /// The most that is shown of a source.
 pub const MOST: usize = 100;
 
-/// What is shown, how much more there is, and whether the source is refused.
+/// What is shown, how much more there is, whether the source is refused, and whether a lint that is
+/// denied finds something.
 #[derive(Drop)]
 pub struct Reports {
     pub shown: Vec<Diagnostic>,
     pub more: usize,
     pub is_refused: bool,
+    pub is_denied: bool,
 }
 
 impl Reports {
@@ -20,6 +22,7 @@ impl Reports {
             shown: Vec::new(alloc),
             more: 0,
             is_refused: false,
+            is_denied: false,
         }
     }
 

@@ -8,7 +8,7 @@ use edd_reports::diagnostic::{Diagnostic, Finding};
 use edd_reports::nearest::Nearest;
 use edd_reports::words::kind_word;
 use edd_syntax::limits::Limit;
-use edd_syntax::numbers::Kind;
+use edd_syntax::numbers::{Kind, TokenNo};
 use edd_syntax::operators::{Builtin, Parameter};
 use edd_syntax::symbols::Keyword;
 use edd_types::fault::TypeFault;
@@ -39,18 +39,22 @@ fn name_fault(alloc: Global, rule: &Rule<'_>) -> Result<Option<NameFault>, Alloc
     Ok(Some(fault))
 }
 
-// The fault that the compiler answers for a rule of the profile.
-fn type_fault(alloc: Global, rule: &Rule<'_>) -> Result<Option<TypeFault>, AllocError> {
+// The fault that the compiler answers for a rule of the profile that is broken at a token.
+fn type_fault(
+    alloc: Global,
+    rule: &Rule<'_>,
+    at: TokenNo,
+) -> Result<Option<TypeFault>, AllocError> {
     let fault = match rule {
         Rule::FloatVariable(name) => TypeFault::FloatVariable(String::from_str(alloc, *name)?),
         Rule::OtherType { variable, word } => other_type(alloc, *variable, *word)?,
         Rule::BadSize(name) => TypeFault::BadSize(String::from_str(alloc, *name)?),
-        Rule::Mismatch(line) => TypeFault::Mismatch { line: *line },
-        Rule::FloatValue(line) => TypeFault::FloatValue { line: *line },
-        Rule::BreakOutside(line) => TypeFault::BreakOutside { line: *line },
-        Rule::ConstRange(line) => TypeFault::ConstRange { line: *line },
-        Rule::DuplicateCase(line) => TypeFault::DuplicateCase { line: *line },
-        Rule::DuplicateElement(line) => TypeFault::DuplicateElement { line: *line },
+        Rule::Mismatch => TypeFault::Mismatch { at },
+        Rule::FloatValue => TypeFault::FloatValue { at },
+        Rule::BreakOutside => TypeFault::BreakOutside { at },
+        Rule::ConstRange => TypeFault::ConstRange { at },
+        Rule::DuplicateCase => TypeFault::DuplicateCase { at },
+        Rule::DuplicateElement => TypeFault::DuplicateElement { at },
         _ => return Ok(None),
     };
     Ok(Some(fault))
@@ -62,12 +66,22 @@ fn other_type(alloc: Global, variable: &str, word: &str) -> Result<TypeFault, Al
     Ok(TypeFault::OtherType { variable, word })
 }
 
-// The refusal of a rule, as the compiler prints it.
-fn refusal_of(alloc: Global, rule: &Rule<'_>) -> Result<String, AllocError> {
-    if let Some(fault) = name_fault(alloc, rule)? {
+// The refusal for a breach, as the compiler prints it.
+fn refusal_of(
+    alloc: Global,
+    source: &Source<'_>,
+    breach: &Breach<'_>,
+) -> Result<String, AllocError> {
+    if let Some(fault) = name_fault(alloc, &breach.rule)? {
         return fault.to_string(alloc);
     }
-    match type_fault(alloc, rule)? {
+    let Some(at) = breach.place else {
+        return Ok(String::new(alloc));
+    };
+    match type_fault(alloc, &breach.rule, at)? {
+        Some(fault) if fault.place().is_some() => {
+            format!(in alloc; "{fault} line {}", source.line(at))
+        }
         Some(fault) => fault.to_string(alloc),
         None => Ok(String::new(alloc)),
     }
@@ -198,17 +212,17 @@ fn help_beside(
     breach: &Breach<'_>,
     found: &mut Diagnostic,
 ) -> Result<(), AllocError> {
-    if let Some(earlier) = breach.earlier {
+    if let Some(earlier) = breach.earlier_token() {
         let text = match breach.rule {
-            Rule::DuplicateCase(_) => String::from_str(alloc, "this case is there already")?,
-            Rule::DuplicateElement(_) => String::from_str(alloc, "this number is there already")?,
+            Rule::DuplicateCase => String::from_str(alloc, "this case is there already")?,
+            Rule::DuplicateElement => String::from_str(alloc, "this number is there already")?,
             Rule::WrongKind(name) => format!(in alloc; "{name} is a local, which is declared")?,
             Rule::TooMany(limit) => excess_help(alloc, source, limit, earlier)?,
             _ => format!(in alloc; "{} is there already", source.word(earlier))?,
         };
         return found.help_at(source.span(earlier), text);
     }
-    match (breach.rule, breach.place) {
+    match (breach.rule, breach.token()) {
         (Rule::WrongKind(name), Some(number)) => help_kind(alloc, source, name, number, found),
         _ => Ok(()),
     }
@@ -220,7 +234,7 @@ fn missing_help(
     breach: &Breach<'_>,
     word: &str,
 ) -> Result<Option<String>, AllocError> {
-    let Some(name) = breach.place else {
+    let Some(name) = breach.token() else {
         return Ok(None);
     };
     match source.item_at(name) {
@@ -235,17 +249,17 @@ fn plain_help(rule: &Rule<'_>) -> Option<&'static str> {
         Rule::TooMany(limit) => Some(limit_help(*limit)),
         Rule::FloatVariable(_) => Some("numbers are whole: take INTEGER (4) in a smaller unit"),
         Rule::BadSize(_) => Some("a variable has 1 to 4 octets"),
-        Rule::FloatValue(_) => Some(
+        Rule::FloatValue => Some(
             "numbers are whole, without a point or an exponent: take a smaller unit",
         ),
-        Rule::ConstRange(_) => Some("a constant is an octet, 0 to 255, and a mask is not 0"),
+        Rule::ConstRange => Some("a constant is an octet, 0 to 255, and a mask is not 0"),
         _ => None,
     }
 }
 
 // The word at the place of a breach.
 fn word_there<'a>(source: &Source<'a>, breach: &Breach<'_>) -> &'a str {
-    match breach.place {
+    match breach.token() {
         Some(number) => source.word(number),
         None => "",
     }
@@ -260,8 +274,8 @@ fn own_help(
     match breach.rule {
         Rule::MissingAttribute { word, .. } => missing_help(alloc, source, breach, word),
         Rule::OtherType { word, .. } => Ok(Some(type_help(alloc, word)?)),
-        Rule::Mismatch(_) => Ok(Some(mismatch_help(alloc, word_there(source, breach))?)),
-        Rule::BreakOutside(_) => {
+        Rule::Mismatch => Ok(Some(mismatch_help(alloc, word_there(source, breach))?)),
+        Rule::BreakOutside => {
             let help = break_help(word_there(source, breach));
             Ok(Some(String::from_str(alloc, help)?))
         }
@@ -275,9 +289,9 @@ pub fn diagnostic(
     source: &Source<'_>,
     breach: &Breach<'_>,
 ) -> Result<Diagnostic, AllocError> {
-    let refusal = refusal_of(alloc, &breach.rule)?;
+    let refusal = refusal_of(alloc, source, breach)?;
     let mut found = Diagnostic::new(alloc, Finding::Refused(refusal));
-    found.place = match breach.place {
+    found.place = match breach.token() {
         Some(number) => source.span(number),
         None => None,
     };
@@ -287,7 +301,7 @@ pub fn diagnostic(
     if let Some(text) = own_help(alloc, source, breach)? {
         found.help(text)?;
     }
-    if let (Rule::UnknownName(name), Some(number)) = (breach.rule, breach.place) {
+    if let (Rule::UnknownName(name), Some(number)) = (breach.rule, breach.token()) {
         help_unknown(alloc, source, name, number, &mut found)?;
     }
     help_beside(alloc, source, breach, &mut found)?;

@@ -1,9 +1,11 @@
 //! A text that breaks rules, and the names that it declares.
 
+use edd_lexer::line_of;
 use edd_lexer::token::{Token, TokenKind};
 use edd_reports::nearest::Nearest;
 use edd_reports::outline::{Declared, Outline, declares};
 use edd_reports::words::{Span, is_sign, span_of, word_of};
+use edd_syntax::numbers::TokenNo;
 use edd_syntax::operators::Builtin;
 use edd_syntax::symbols::Symbol;
 use indexmap::IndexMap;
@@ -106,6 +108,11 @@ impl<'a> Source<'a> {
     /// The place of a token.
     pub fn span(&self, number: usize) -> Option<Span> {
         Some(span_of(self.tokens.get(number)?))
+    }
+
+    /// The line on which a token begins, counted from 1.
+    pub fn line(&self, at: TokenNo) -> u32 {
+        line_of(self.text, self.tokens, at)
     }
 
     pub fn word(&self, number: usize) -> &'a str {

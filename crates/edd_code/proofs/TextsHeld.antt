@@ -4,6 +4,7 @@ use Rattle.std.specs.Prelude.{Vec}
 use Rattle.std.specs.List.{list_all}
 use Rattle.std.proofs.lemmas.List.{take_more, take_all, take-append-drop, drop_more}
 use Rattle.std.specs.declared.alloc.Global.{Global}
+use Rattle.edd_syntax.specs.declared.numbers.TokenNo.{TokenNo}
 use Rattle.edd_syntax.specs.declared.expr.Argument as code_argument
 use Rattle.edd_syntax.specs.declared.expr.Argument.TheVariants as variant
 use Rattle.edd_syntax.specs.declared.expr.Expr as code
@@ -141,11 +142,11 @@ text_held {old} {new} a t is h =
     subst (λ (x : code_argument.Argument Target). HoldsTexts old
     (texts_of (numbered_argument x ∷ [])) new) (sym is) h
 
-module _ (x : code.Expr Target) (line : ℕ) (function : Target)
+module _ (x : code.Expr Target) (token : TokenNo) (function : Target)
     (v : Vec (code_argument.Argument Target) Global) (xs : List (code_argument.Argument Target))
-    (is : x ≡ e.Call line function v) (same : xs ≡ v.items) where
+    (is : x ≡ e.Call token function v) (same : xs ≡ v.items) where
   pub call_of : numbered_expr x ≡ Call function (arguments_from (map numbered_argument xs))
-  call_of = call_is (λ r. r) x line function v is
+  call_of = call_is (λ r. r) x token function v is
       ∙ ap (λ (ys : List (code_argument.Argument Target)). Call function
       (arguments_from (map numbered_argument ys))) (sym same)
 

@@ -54,9 +54,9 @@ module _ (text : List ℕ) (unit : Description Path)
 
   pub memory_alone : (e : Fault) → Explains text e → e ≡ fault.Memory
   memory_alone (fault.Lex e) is = absurd (no_fault (fault_of e) is)
-  memory_alone (fault.Parse (parse.Syntax line)) is = absurd (some_unit is)
-  memory_alone (fault.Parse (parse.TooDeep line)) is = absurd (some_unit is)
-  memory_alone (fault.Parse (parse.Unsupported word)) is = absurd (some_unit is)
+  memory_alone (fault.Parse (parse.Syntax at)) is = absurd (some_unit is)
+  memory_alone (fault.Parse (parse.TooDeep at)) is = absurd (some_unit is)
+  memory_alone (fault.Parse (parse.Unsupported at word)) is = absurd (some_unit is)
   memory_alone (fault.Parse parse.Memory) is = absurd is
   memory_alone (fault.Name e) is = absurd (none_of (refusal_of e) is)
   memory_alone (fault.Type e) is = absurd (none_of (refusal_of_fault e) is)

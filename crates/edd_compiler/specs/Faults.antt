@@ -1,5 +1,5 @@
 -- What the refusals of a text say of it.
-use Rattle.std.specs.Prelude.{List, ℕ, IsSomeAnd, ⊤}
+use Rattle.std.specs.Prelude.{◌≢◌, List, ℕ, IsSomeAnd, ⊤}
 use Rattle.edd_syntax.specs.Refusal.{TooMany}
 use Rattle.edd_syntax.specs.declared.limits.Limit.TheVariants as limit
 use Rattle.edd_lexer.specs.declared.fault.LexFault.{LexFault}
@@ -34,9 +34,9 @@ of_lex lex.Memory = fault.Memory
 
 -- a refusal by the parser
 abbrev pub of_parse : ParseFault → Fault
-of_parse (parse.Syntax line) = fault.Parse (parse.Syntax line)
-of_parse (parse.TooDeep line) = fault.Parse (parse.TooDeep line)
-of_parse (parse.Unsupported word) = fault.Parse (parse.Unsupported word)
+of_parse (parse.Syntax at) = fault.Parse (parse.Syntax at)
+of_parse (parse.TooDeep at) = fault.Parse (parse.TooDeep at)
+of_parse (parse.Unsupported at word) = fault.Parse (parse.Unsupported at word)
 of_parse parse.Memory = fault.Memory
 
 -- a refusal by the rules on names
@@ -54,12 +54,12 @@ abbrev pub of_type : TypeFault → Fault
 of_type (type.FloatVariable variable) = fault.Type (type.FloatVariable variable)
 of_type (type.OtherType variable word) = fault.Type (type.OtherType variable word)
 of_type (type.BadSize variable) = fault.Type (type.BadSize variable)
-of_type (type.Mismatch line) = fault.Type (type.Mismatch line)
-of_type (type.FloatValue line) = fault.Type (type.FloatValue line)
-of_type (type.BreakOutside line) = fault.Type (type.BreakOutside line)
-of_type (type.ConstRange line) = fault.Type (type.ConstRange line)
-of_type (type.DuplicateCase line) = fault.Type (type.DuplicateCase line)
-of_type (type.DuplicateElement line) = fault.Type (type.DuplicateElement line)
+of_type (type.Mismatch at) = fault.Type (type.Mismatch at)
+of_type (type.FloatValue at) = fault.Type (type.FloatValue at)
+of_type (type.BreakOutside at) = fault.Type (type.BreakOutside at)
+of_type (type.ConstRange at) = fault.Type (type.ConstRange at)
+of_type (type.DuplicateCase at) = fault.Type (type.DuplicateCase at)
+of_type (type.DuplicateElement at) = fault.Type (type.DuplicateElement at)
 of_type type.Memory = fault.Memory
 
 -- a refusal by a lowering
@@ -87,3 +87,7 @@ Explains text (fault.Name e) = IsSomeAnd (refusal_of e) (IsRefused text)
 Explains text (fault.Type e) = IsSomeAnd (refusal_of_fault e) (IsRefused text)
 Explains text fault.TooManyStrings = IsRefused text (TooMany limit.Strings)
 Explains text fault.Memory = ⊤
+
+-- A fault of the text itself explains why it is refused.
+abbrev pub HasFault : List ℕ → Type 0
+HasFault text = (why : Fault) × (why ≢ fault.Memory) × Explains text why

@@ -16,3 +16,7 @@ pub record IsImageOf (text bytes : List ℕ) : Type 0 where
   pub accepted : IsAccepted unit
   pub valid : IsValid bytes
   pub agrees : Agrees accepted.resolved (contents_in bytes)
+
+-- some bytes are its image
+abbrev pub HasImage : List ℕ → Type 0
+HasImage text = (bytes : List ℕ) × IsImageOf text bytes

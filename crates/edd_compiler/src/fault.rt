@@ -5,13 +5,16 @@ ghost use Rattle.edd_compiler.specs.Faults.{of_lex, of_parse, of_name, of_type, 
 
 use edd_code::LowerFault;
 use edd_lexer::fault::LexFault;
+use edd_lexer::{lex, line_of};
 use edd_names::fault::NameFault;
 use edd_parser::fault::ParseFault;
+use edd_syntax::numbers::TokenNo;
 use edd_types::fault::TypeFault;
-use std::alloc::{AllocError, AllocFailed};
+use std::alloc::{AllocError, AllocFailed, Global};
 use thiserror::Error;
 
-/// Why a text is not compiled. It prints its number, its kind and what is at fault.
+/// Why a text is not compiled. It prints its number, its kind and the names at fault; `refusal` has
+/// its line as well.
 #[derive(Debug, Drop, Error)]
 pub enum Fault {
     #[error("{0}")]
@@ -27,6 +30,31 @@ pub enum Fault {
     TooManyStrings,
     #[error("no memory")]
     Memory,
+}
+
+impl Fault {
+    // The token whose line the refusal says, where it says one.
+    fn token(&self) -> Option<TokenNo> {
+        match self {
+            Fault::Parse(ParseFault::Syntax { at } | ParseFault::TooDeep { at }) => Some(*at),
+            Fault::Type(fault) => fault.place(),
+            _ => None,
+        }
+    }
+
+    /// The refusal of the text that has this fault: its number, its kind, and the names or the line
+    /// at fault, which counts from 1.
+    pub fn refusal(&self, alloc: Global, text: &[u8]) -> Result<String, AllocError> {
+        let Some(at) = self.token() else {
+            return self.to_string(alloc);
+        };
+        let tokens = match lex(alloc, text) {
+            Ok(tokens) => tokens,
+            Err(_) => return Err(AllocError),
+        };
+        let line = line_of(text, &tokens, at);
+        format!(in alloc; "{self} line {line}")
+    }
 }
 
 impl From<LexFault> for Fault {

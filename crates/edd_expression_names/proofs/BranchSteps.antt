@@ -1,5 +1,5 @@
 -- Conditionals with the meaning of their names, case by case.
-use Rattle.std.proofs.Common.{◌≡◌, refl, sym, ap, ◌∙◌, ℕ, ℤ, List, [], ◌∷◌, ◌++◌, map, Option, Some, subst}
+use Rattle.std.proofs.Common.{◌≡◌, refl, sym, ap, ◌∙◌, ℤ, List, [], ◌∷◌, ◌++◌, map, Option, Some, subst}
 use Rattle.std.specs.Prelude.{Vec}
 use Rattle.std.specs.declared.alloc.Global as alloc
 use Rattle.std.proofs.lemmas.List.{append-nil}
@@ -8,6 +8,7 @@ use Rattle.edd_name_meanings.specs.Meanings.{Means, NoFault, FirstFault}
 use Rattle.edd_expression_names.specs.ResolvedParts.{resolved_arm}
 use Rattle.edd_expression_names.proofs.ExprSteps.{bound, regroup}
 use Rattle.edd_expression_names.proofs.UseLaws.{none_append, fault_left, fault_right}
+use Rattle.edd_syntax.specs.declared.numbers.TokenNo.{TokenNo}
 use Rattle.edd_syntax.specs.declared.cond.Cond as code
 use Rattle.edd_syntax.specs.declared.cond.Cond.TheVariants as c
 use Rattle.edd_syntax.specs.declared.cond.Arm as code_arm
@@ -282,10 +283,10 @@ module _ {V W X Y : Type 0} (unit : Description Path) (before : V → W) (after 
           ∙ case_meant (at_attribute unit) (meant unit) label (listed xs) _ (h known)
           ∙ ap (λ y. Some y) (sym (of_case (λ r. r) after label w))
 
-    module _ (line : ℕ) (v : Vec (code.Cond code_path.Path V) alloc.Global)
-        (is : x ≡ a.Default line v) (same : xs ≡ v.items) where
+    module _ (token : TokenNo) (v : Vec (code.Cond code_path.Path V) alloc.Global)
+        (is : x ≡ a.Default token v) (same : xs ≡ v.items) where
       default_is : arm_of path_of before x ≡ Default (listed xs)
-      default_is = ap (arm_of path_of before) is ∙ of_default path_of before line v
+      default_is = ap (arm_of path_of before) is ∙ of_default path_of before token v
           ∙ ap (λ zs. Default (listed zs)) (sym same)
 
       pub default_none : NoFault unit (conds_uses uses (listed xs))
@@ -300,9 +301,9 @@ module _ {V W X Y : Type 0} (unit : Description Path) (before : V → W) (after 
           → Means unit (resolved_conds (at_attribute unit) (meant unit) (listed xs))
           (conds_from (map (numbered_cond after) w.items))
           → Means unit (resolved_arm (at_attribute unit) (meant unit) (arm_of path_of before x))
-          (numbered_arm after (a.Default line w))
+          (numbered_arm after (a.Default token w))
       unfolding Means
       default_means w h = λ known.
           ap (resolved_arm (at_attribute unit) (meant unit)) default_is
           ∙ default_meant (at_attribute unit) (meant unit) (listed xs) _ (h known)
-          ∙ ap (λ y. Some y) (sym (of_default (λ r. r) after line w))
+          ∙ ap (λ y. Some y) (sym (of_default (λ r. r) after token w))

@@ -6,6 +6,7 @@ use Rattle.std.proofs.lemmas.List.{append-nil}
 use Rattle.edd_name_meanings.specs.declared.fault.NameFault.{NameFault}
 use Rattle.edd_name_meanings.specs.Meanings.{Means, NoFault, FirstFault}
 use Rattle.edd_expression_names.specs.ResolvedParts.{resolved_argument}
+use Rattle.edd_syntax.specs.declared.numbers.TokenNo.{TokenNo}
 use Rattle.edd_syntax.specs.declared.expr.Expr as code
 use Rattle.edd_syntax.specs.declared.expr.Expr.TheVariants as e
 use Rattle.edd_syntax.specs.declared.expr.Argument as code_argument
@@ -68,12 +69,12 @@ module _ (at : Meanings) (plain : Path → Option Target) where
   unfolding resolved_by
   no_arguments = refl
 
-module _ (unit : Description Path) (x : code.Expr code_path.Path) (line : ℕ) (p : code_path.Path)
+module _ (unit : Description Path) (x : code.Expr code_path.Path) (token : TokenNo) (p : code_path.Path)
     (v : Vec (code_argument.Argument code_path.Path) alloc.Global)
-    (items : List (code_argument.Argument code_path.Path)) (is : x ≡ e.Call line p v)
+    (items : List (code_argument.Argument code_path.Path)) (is : x ≡ e.Call token p v)
     (same : items ≡ v.items) where
   call : expr_of path_of x ≡ Call (path_of p) (arguments_from (map (argument_of path_of) items))
-  call = call_is path_of x line p v is
+  call = call_is path_of x token p v is
       ∙ ap (λ xs. Call (path_of p) (arguments_from (map (argument_of path_of) xs))) (sym same)
 
   pub call_none : (scope : Scope) (kinds : List Kind)
@@ -97,7 +98,7 @@ module _ (unit : Description Path) (x : code.Expr code_path.Path) (line : ℕ) (
       → Means unit (resolved_arguments at (at.argument (path_of p))
       (arguments_from (map (argument_of path_of) items)))
       (arguments_from (map numbered_argument w.items))
-      → Means unit (resolved_by at plain (expr_of path_of x)) (numbered_expr (e.Call line t w))
+      → Means unit (resolved_by at plain (expr_of path_of x)) (numbered_expr (e.Call token t w))
   unfolding Means resolved_by
   call_means at plain t w h k = λ known.
       ap (resolved_by at plain) call
@@ -105,7 +106,7 @@ module _ (unit : Description Path) (x : code.Expr code_path.Path) (line : ℕ) (
       (resolved_arguments at (at.argument (path_of p))
       (arguments_from (map (argument_of path_of) items)))
       (λ f r. Call f r) t (arguments_from (map numbered_argument w.items)) (h known) (k known)
-      ∙ ap (λ y. Some y) (sym (call_is (λ r. r) (e.Call line t w) line t w refl))
+      ∙ ap (λ y. Some y) (sym (call_is (λ r. r) (e.Call token t w) token t w refl))
 
 -- ---- what is inside an expression has fewer nodes than it
 
@@ -119,12 +120,12 @@ arguments_depth xs = 6 * argument_nodes (arguments_from (map (argument_of path_o
 abbrev pub argument_depth : code_argument.Argument code_path.Path → ℕ
 argument_depth x = 6 * argument_nodes (arguments_from (argument_of path_of x ∷ []))
 
-pub call_falls : (t : ℕ) (x : code.Expr code_path.Path) (line : ℕ) (p : code_path.Path)
+pub call_falls : (t : ℕ) (x : code.Expr code_path.Path) (token : TokenNo) (p : code_path.Path)
     (v : Vec (code_argument.Argument code_path.Path) alloc.Global)
-    (xs : List (code_argument.Argument code_path.Path)) → x ≡ e.Call line p v → xs ≡ v.items
+    (xs : List (code_argument.Argument code_path.Path)) → x ≡ e.Call token p v → xs ≡ v.items
     → t ≡ expr_depth x → arguments_depth xs + 5 < t
-call_falls t x line p v xs is same m =
-    let e = ap nodes (call_is path_of x line p v is) in
+call_falls t x token p v xs is same m =
+    let e = ap nodes (call_is path_of x token p v is) in
     let f = ap arguments_depth same in
     omega (arith, e, f, m)
 

@@ -191,8 +191,8 @@ fn copy_arm<V: ResolveValue>(
                 body,
             })
         }
-        Arm::Default { line, body } => {
-            made_of!(copy_conds(body, names), body => Arm::Default { line: *line, body })
+        Arm::Default { at, body } => {
+            made_of!(copy_conds(body, names), body => Arm::Default { at: *at, body })
         }
     }
 }

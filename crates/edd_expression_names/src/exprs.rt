@@ -69,7 +69,7 @@ fn copy_among(
 {
     match e {
         Expr::Literal(value) => Ok(Expr::Literal(*value)),
-        Expr::Decimal { line } => Ok(Expr::Decimal { line: *line }),
+        Expr::Decimal { at } => Ok(Expr::Decimal { at: *at }),
         Expr::Reference(from) => {
             made_of!(refer(names, scope, kinds, from), from => Expr::Reference(from))
         }
@@ -102,13 +102,13 @@ fn copy_among(
             made_of!(refer_variable(names, scope, to), to => Expr::Increment(*by, to))
         }
         Expr::Call {
-            line,
+            at,
             function,
             arguments,
         } => {
             let (function, arguments) = copy_call(arguments, function, names, scope)?;
             Ok(Expr::Call {
-                line: *line,
+                at: *at,
                 function,
                 arguments,
             })

@@ -109,7 +109,7 @@ impl ResolveValue for Enumerator {
     fn copy(&self, names: &Names) -> Result<Enumerator, NameFault> {
         let text = copy_text(&self.text, names.alloc)?;
         made_of!(copy_optional_text(&self.help, names.alloc), help => Enumerator {
-            line: self.line,
+            at: self.at,
             value: self.value,
             text,
             help,
@@ -188,17 +188,17 @@ impl ResolveValue for DataItem<Path> {
     #[tactic(auto, using(crate::proofs::UseLaws::faults), unfolding(edd_name_meanings::specs::Meanings::Means))]
     fn copy(&self, names: &Names) -> Result<DataItem<Target>, NameFault> {
         match self {
-            DataItem::Constant { line, value } => Ok(DataItem::Constant {
-                line: *line,
+            DataItem::Constant { at, value } => Ok(DataItem::Constant {
+                at: *at,
                 value: *value,
             }),
             DataItem::Variable {
-                line,
+                at,
                 variable,
                 mask,
                 qualifiers,
             } => Ok(DataItem::Variable {
-                line: *line,
+                at: *at,
                 variable: refer_variable(names, &[], variable)?,
                 mask: *mask,
                 qualifiers: *qualifiers,

@@ -324,7 +324,7 @@ fn arm<V: ParseValue>(
     ensures { Gives (arm_view V.view) result cursor.new
         (conditionals.arm_at form V.read height_left cursor.old) }
 {
-    let line = cursor.line();
+    let at = cursor.place();
     if cursor.eat_word(Keyword::Case) {
         let label = label(cursor)?;
         cursor.expect(Symbol::Colon)?;
@@ -336,7 +336,7 @@ fn arm<V: ParseValue>(
     }
     cursor.expect(Symbol::Colon)?;
     let body = branch(cursor, form, height_left)?;
-    Ok(Arm::Default { line, body })
+    Ok(Arm::Default { at, body })
 }
 
 /// A single value of at most this height.

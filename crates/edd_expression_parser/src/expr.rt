@@ -18,6 +18,7 @@ use crate::trees::{
 };
 use edd_lexer::token::TokenKind;
 use edd_syntax::expr::{Argument, Expr};
+use edd_syntax::numbers::TokenNo;
 use edd_syntax::operators::{IncrementOperator, UnaryOperator};
 use edd_syntax::reference::Path;
 use edd_syntax::symbols::Symbol;
@@ -188,17 +189,17 @@ fn operand(cursor: &mut Cursor, site: Site, height_left: u32) -> Result<Measured
         cursor.old) }
     ensures low { IfOk result (λ t. t.levels ≤ height_left + 1) }
 {
-    let line = cursor.line();
+    let at = cursor.place();
     if let Some(name) = cursor.name() {
-        return named(cursor, site, height_left, line, name);
+        return named(cursor, site, height_left, at, name);
     }
     match cursor.next() {
         None => Err(cursor.syntax()),
         Some(TokenKind::Integer(value)) => Ok(leaf(Expr::Literal(value))),
-        Some(TokenKind::Decimal) => Ok(leaf(Expr::Decimal { line })),
+        Some(TokenKind::Decimal) => Ok(leaf(Expr::Decimal { at })),
         Some(TokenKind::Symbol(sign)) => signed(cursor, site, height_left, sign),
         Some(TokenKind::Name | TokenKind::String | TokenKind::Keyword(_)) => {
-            Err(ParseFault::Syntax { line })
+            Err(ParseFault::Syntax { at })
         }
     }
 }
@@ -210,7 +211,7 @@ fn named(
     cursor: &mut Cursor,
     site: Site,
     height_left: u32,
-    line: u32,
+    at: TokenNo,
     name: &str,
 ) -> Result<Measured, ParseFault>
     requires { height_left < 100 }
@@ -225,12 +226,12 @@ fn named(
         }
         cursor.bump();
         let arguments = arguments(cursor, site, height_left)?;
-        return Ok(call(cursor.alloc(), line, name, arguments)?);
+        return Ok(call(cursor.alloc(), at, name, arguments)?);
     }
     if cursor.eat(Symbol::OpenBracket) {
-        return indexed(cursor, site, height_left, name);
+        return indexed(cursor, site, height_left, at, name);
     }
-    let to = path_from(cursor, name)?;
+    let to = path_from(cursor, at, name)?;
     stepped(cursor, site, to)
 }
 
@@ -241,6 +242,7 @@ fn indexed(
     cursor: &mut Cursor,
     site: Site,
     height_left: u32,
+    at: TokenNo,
     name: &str,
 ) -> Result<Measured, ParseFault>
     requires { height_left < 100 }
@@ -250,7 +252,7 @@ fn indexed(
     ensures low { IfOk result (λ t. t.levels ≤ height_left + 1) }
 {
     let index = up_to(cursor, site, height_left, Symbol::CloseBracket)?;
-    Ok(indexed_by(cursor.alloc(), name, index)?)
+    Ok(indexed_by(cursor.alloc(), at, name, index)?)
 }
 
 // After an operator before its operand.
@@ -399,10 +401,10 @@ fn last(cursor: &mut Cursor, precedence: u32, left: Measured) -> Result<Measured
         (λ o. None)) }
     ensures same { IfOk result (λ t. t.levels ≡ left.levels) }
 {
-    let line = cursor.line();
+    let at = cursor.place();
     match cursor.operator(precedence) {
         None => Ok(left),
-        Some(_) => Err(ParseFault::TooDeep { line }),
+        Some(_) => Err(ParseFault::TooDeep { at }),
     }
 }
 

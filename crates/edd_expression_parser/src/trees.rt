@@ -10,6 +10,7 @@ ghost use Rattle.edd_token_reader.specs.Views.{infix_view, assignment_view};
 ghost use Rattle.edd_expression_parser.specs.Expressions.{expr_view, pure_argument, argument_levels, listed};
 
 use edd_syntax::expr::{Argument, Expr};
+use edd_syntax::numbers::TokenNo;
 use edd_syntax::operators::UnaryOperator;
 use edd_syntax::reference::Path;
 use edd_token_reader::operators::{Assignment, Infix};
@@ -134,20 +135,21 @@ pub fn choice_between(test: Child, first: Child, second: Child) -> Measured
     }
 }
 
-/// A path without members.
-pub fn plain(alloc: Global, name: &str) -> Result<Path, AllocError>
+/// A path without members, whose name is there.
+pub fn plain(alloc: Global, at: TokenNo, name: &str) -> Result<Path, AllocError>
     ensures { IfOk result (λ p. path_of p ≡ record { base = name.now; members = [] }) }
 {
     Ok(Path {
+        at,
         base: String::from_str(alloc, name)?,
         members: Vec::new(alloc),
     })
 }
 
-/// A call; the line is that of its name.
+/// A call, whose name is there.
 pub fn call(
     alloc: Global,
-    line: u32,
+    at: TokenNo,
     name: &str,
     arguments: MeasuredArguments,
 ) -> Result<Measured, AllocError>
@@ -155,10 +157,10 @@ pub fn call(
     ensures { IfOk result (λ t. expr_view t.expr
         ≡ tree.Call (record { base = name.now; members = [] }) (listed arguments.arguments.items)) }
 {
-    let function = plain(alloc, name)?;
+    let function = plain(alloc, at, name)?;
     Ok(Measured {
         expr: Expr::Call {
-            line,
+            at,
             function,
             arguments: arguments.arguments,
         },
@@ -166,13 +168,18 @@ pub fn call(
     })
 }
 
-/// `name [ index ]`
-pub fn indexed_by(alloc: Global, name: &str, index: Child) -> Result<Measured, AllocError>
+/// `name [ index ]`, whose name is there.
+pub fn indexed_by(
+    alloc: Global,
+    at: TokenNo,
+    name: &str,
+    index: Child,
+) -> Result<Measured, AllocError>
     requires { index.levels ≤ 100 }
     ensures { IfOk result (λ t. expr_view t.expr
         ≡ tree.Indexed (record { base = name.now; members = [] }) (expr_view index.expr.value)) }
 {
-    let array = plain(alloc, name)?;
+    let array = plain(alloc, at, name)?;
     Ok(Measured {
         expr: Expr::Indexed(array, index.expr),
         levels: index.levels + 1,
@@ -213,7 +220,7 @@ pub fn into_path(expr: Expr<Path>) -> Result<Path, Expr<Path>>
     match expr {
         Expr::Reference(to) => Ok(to),
         Expr::Literal(value) => Err(Expr::Literal(value)),
-        Expr::Decimal { line } => Err(Expr::Decimal { line }),
+        Expr::Decimal { at } => Err(Expr::Decimal { at }),
         Expr::Indexed(array, index) => Err(Expr::Indexed(array, index)),
         Expr::Parentheses(inner) => Err(Expr::Parentheses(inner)),
         Expr::Unary(op, operand) => Err(Expr::Unary(op, operand)),
@@ -226,11 +233,11 @@ pub fn into_path(expr: Expr<Path>) -> Result<Path, Expr<Path>>
         Expr::CompoundAssign(op, to, value) => Err(Expr::CompoundAssign(op, to, value)),
         Expr::Increment(op, to) => Err(Expr::Increment(op, to)),
         Expr::Call {
-            line,
+            at,
             function,
             arguments,
         } => Err(Expr::Call {
-            line,
+            at,
             function,
             arguments,
         }),

@@ -100,7 +100,7 @@ impl ParseValue for bool {
 fn enumerator(cursor: &mut Cursor) -> Result<Enumerator, ParseFault>
     ensures { Gives enumerator_of result cursor.new (reading.enumerator_at cursor.old) }
 {
-    let line = cursor.line();
+    let at = cursor.place();
     expect_brace(cursor)?;
     let value = label(cursor)?;
     cursor.expect(Symbol::Comma)?;
@@ -108,7 +108,7 @@ fn enumerator(cursor: &mut Cursor) -> Result<Enumerator, ParseFault>
     let help = optional_text(cursor)?;
     cursor.expect(Symbol::CloseBrace)?;
     Ok(Enumerator {
-        line,
+        at,
         value,
         text,
         help,
@@ -148,12 +148,12 @@ fn data_variable(cursor: &mut Cursor) -> Result<DataItem<Path>, ParseFault>
     ensures { Gives (λ d. data_item_of path_of d) result cursor.new
         (reading.data_variable_at cursor.old) }
 {
-    let line = cursor.line();
+    let at = cursor.place();
     let variable = path(cursor)?;
     let mask = mask(cursor)?;
     let qualifiers = data_qualifiers(cursor)?;
     Ok(DataItem::Variable {
-        line,
+        at,
         variable,
         mask,
         qualifiers,
@@ -166,9 +166,9 @@ fn data_item(cursor: &mut Cursor) -> Result<DataItem<Path>, ParseFault>
     ensures { Gives (λ d. data_item_of path_of d) result cursor.new
         (reading.data_item_at cursor.old) }
 {
-    let line = cursor.line();
+    let at = cursor.place();
     if let Some(value) = cursor.integer() {
-        return Ok(DataItem::Constant { line, value });
+        return Ok(DataItem::Constant { at, value });
     }
     data_variable(cursor)
 }

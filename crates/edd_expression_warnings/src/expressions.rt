@@ -266,14 +266,14 @@ pub fn check_expression(
             walk.change(*to)
         }
         Expr::Call {
-            line,
             function,
             arguments,
+            ..
         } => {
             let Target::Function(function) = *function else {
                 return check_arguments(arguments, walk, findings);
             };
-            let at = walk.tokens_left.to_text_on(*line, function.name());
+            let at = walk.tokens_left.to_text(function.name());
             check_arguments(arguments, walk, findings)?;
             walk.asks = walk.asks || asks(function);
             walk.acts = walk.acts || asks(function);

@@ -1,6 +1,7 @@
 //! The image of a source, saved.
 
-ghost use Rattle.std.specs.Prelude.{◌≡◌, map, string_bytes};
+ghost use Rattle.std.specs.Prelude.{◌≡◌, IfOk, map, string_bytes};
+ghost use Rattle.edd_compiler.specs.Images.{IsImageOf};
 ghost use Rattle.edd_files.specs.Names.{output_name};
 ghost use Rattle.edd_files.specs.Saves.{IsImageSaving, IsNamedImage, SavesOne, image_saving};
 
@@ -60,6 +61,17 @@ fn save_image<'a, F: Files>(
     };
     save_bytes(image, &bytes, files)?;
     Ok(Compiled::Saved(bytes.len()))
+}
+
+/// The image of a text.
+pub fn compile_text<'a>(alloc: Global, text: &[u8]) -> Result<Vec<u8>, Stop<'a>>
+    ensures sound { IfOk result (λ bytes. IsImageOf text.now bytes.items) }
+{
+    match compile(alloc, text) {
+        Ok(bytes) => Ok(bytes),
+        Err(Fault::Memory) => Err(Stop::Memory),
+        Err(fault) => Err(Stop::NotCompiled(fault.refusal(alloc, text)?)),
+    }
 }
 
 /// Saves the image of a source, if it has one. Both names are always among the words.

@@ -8,7 +8,7 @@ mod naming;
 mod reading;
 mod stop;
 
-pub use compiling::{Compiled, compile_named};
+pub use compiling::{Compiled, compile_named, compile_text};
 pub use files::{FileFault, Files, MOST_BYTES, read_all};
 pub use naming::{are_words, is_word, name_record};
 pub use reading::{

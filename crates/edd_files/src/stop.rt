@@ -3,7 +3,6 @@
 use crate::files::FileFault;
 use crate::reading::INPUT;
 use edd_command_line::NoRequest;
-use edd_compiler::Fault;
 use edd_display::ShowFault;
 use edd_loader::LoadFault;
 use edd_machine::ValuesFault;
@@ -23,7 +22,8 @@ pub enum Stop<'a> {
     FileAndWhy(&'a str, FileFault),
     /// A file that a file of tests names.
     Named(String),
-    NotCompiled(Fault),
+    /// The source is refused, which is told so.
+    NotCompiled(String),
     NotLoaded(LoadFault),
     Script(ScriptFault),
     Values(ValuesFault),
@@ -31,7 +31,7 @@ pub enum Stop<'a> {
     NoMethod(&'a str),
     Play(PlayFault),
     /// The source of this name, one of several, is refused.
-    NoSource(&'a str, Fault),
+    NoSource(&'a str, String),
     /// The image of this name, one of several, is refused.
     NoImage(&'a str, LoadFault),
     /// A simulated device had no answer, which is this fault of its own.
@@ -53,15 +53,6 @@ impl From<NoRequest> for Stop<'_> {
             NoRequest::Help(text) => Stop::Help(text),
             NoRequest::Mistake(text) => Stop::CommandLine(text),
             NoRequest::Memory => Stop::Memory,
-        }
-    }
-}
-
-impl From<Fault> for Stop<'_> {
-    fn from(fault: Fault) -> Self {
-        match fault {
-            Fault::Memory => Stop::Memory,
-            other => Stop::NotCompiled(other),
         }
     }
 }

@@ -7,9 +7,11 @@ mod gaps;
 mod keywords;
 pub mod laws;
 mod lexer;
+mod lines;
 mod numbers;
 mod strings;
 mod symbols;
 pub mod token;
 
 pub use lexer::lex;
+pub use lines::line_of;

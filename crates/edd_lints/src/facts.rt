@@ -40,6 +40,7 @@ impl Facts {
             Attribute::TypeOf {
                 word: TypeWord::Known { kind, size },
                 parts,
+                ..
             } => {
                 self.range = Some(Range::of(*kind, *size));
                 self.kind = Some(*kind);
@@ -47,7 +48,7 @@ impl Facts {
                     .iter()
                     .any(|part| matches!(part, TypePart::Element(_)));
             }
-            Attribute::Handling(Cond::Value(Handling::Read)) => self.is_read_only = true,
+            Attribute::Handling(_, Cond::Value(Handling::Read)) => self.is_read_only = true,
             _ => {}
         }
     }

@@ -30,7 +30,7 @@ pub struct Instrument {
 
 fn command_number(attributes: &[Attribute<Target>]) -> Option<u32> {
     for attribute in attributes {
-        if let Attribute::Number(number) = attribute {
+        if let Attribute::Number(_, number) = attribute {
             return Some(*number);
         }
     }

@@ -13,14 +13,12 @@ pub struct Mark<'a> {
     pub start: Option<u32>,
 }
 
-/// The first token of a line with a text.
-pub fn first_on<'a>(line: u32, word: &'a str) -> Mark<'a> {
-    Mark {
-        line,
-        word: Some(word),
-        start: None,
-    }
-}
+/// The place of a text that has no tokens.
+pub const NOWHERE: Mark<'static> = Mark {
+    line: 1,
+    word: None,
+    start: None,
+};
 
 /// A token as it is written.
 pub fn word_of<'a>(text: &'a [u8], token: &Token) -> &'a str {
@@ -78,11 +76,7 @@ impl<'a> TokensLeft<'a> {
     pub fn new(text: &'a [u8], tokens: &'a [Token]) -> TokensLeft<'a> {
         let last = match tokens.first() {
             Some(token) => mark_of(text, token),
-            None => Mark {
-                line: 1,
-                word: None,
-                start: None,
-            },
+            None => NOWHERE,
         };
         TokensLeft {
             text,
@@ -167,43 +161,8 @@ impl<'a> TokensLeft<'a> {
         self.last
     }
 
-    /// The same on a line; where there is none, the place of the line.
-    pub fn to_text_on(&mut self, line: u32, word: &str) -> Mark<'a> {
-        let mut ahead = *self;
-        let mark = ahead.to_text(word);
-        if mark.line == line && mark.word == Some(word) {
-            *self = ahead;
-            return mark;
-        }
-        Mark {
-            line,
-            word: None,
-            start: None,
-        }
-    }
-
     /// The same of a reserved word.
     pub fn to_word(&mut self, word: Keyword) -> Mark<'a> {
         self.to(TokenKind::Keyword(word))
-    }
-
-    /// Passes the next token of this kind on a line, and gives its place.
-    pub fn to_on(&mut self, line: u32, kind: TokenKind) -> Mark<'a> {
-        let rest = self.rest;
-        for (number, token) in rest.iter().enumerate() {
-            if line < token.line {
-                break;
-            }
-            if token.line == line && token.kind == kind {
-                self.rest = &rest[number + 1..];
-                self.last = mark_of(self.text, token);
-                return self.last;
-            }
-        }
-        Mark {
-            line,
-            word: None,
-            start: None,
-        }
     }
 }

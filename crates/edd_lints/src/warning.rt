@@ -1,7 +1,9 @@
 //! Warnings, and how they are gathered.
 
 use crate::lint::Lint;
-use crate::tokens_left::Mark;
+use crate::tokens_left::{Mark, NOWHERE, mark_of};
+use edd_lexer::token::Token;
+use edd_syntax::numbers::TokenNo;
 use std::alloc::{AllocError, Global};
 
 /// A token by its line, counted from 1, its text and the byte at which it begins. Without a byte it
@@ -37,18 +39,30 @@ fn owned(alloc: Global, word: Option<&str>) -> Result<Option<String>, AllocError
     }
 }
 
-/// The warnings so far.
+/// The warnings so far, of a text with these tokens.
 #[derive(Drop)]
-pub struct Findings {
+pub struct Findings<'t> {
     pub alloc: Global,
+    text: &'t [u8],
+    tokens: &'t [Token],
     warnings: Vec<Warning>,
 }
 
-impl Findings {
-    pub fn new(alloc: Global) -> Findings {
+impl<'t> Findings<'t> {
+    pub fn new(alloc: Global, text: &'t [u8], tokens: &'t [Token]) -> Findings<'t> {
         Findings {
             alloc,
+            text,
+            tokens,
             warnings: Vec::new(alloc),
+        }
+    }
+
+    /// The place of the token of a number.
+    pub fn mark(&self, at: TokenNo) -> Mark<'t> {
+        match self.tokens.get(at.0 as usize) {
+            Some(token) => mark_of(self.text, token),
+            None => NOWHERE,
         }
     }
 

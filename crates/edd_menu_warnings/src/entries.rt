@@ -90,7 +90,7 @@ pub fn entries_of(
         lists: 0,
     };
     for attribute in attributes {
-        if let Attribute::Items(entries) = attribute {
+        if let Attribute::Items(_, entries) = attribute {
             push_list(entries, &mut all)?;
         }
     }
@@ -125,7 +125,7 @@ fn add_members(members: &[Member<Target>], labelled: &mut BTreeSet<Key>) -> Resu
 fn has_label(attributes: &[Attribute<Target>]) -> bool {
     attributes.iter().any(|attribute| matches!(
         attribute,
-        Attribute::OneText(TextAttribute::Label, _)
+        Attribute::OneText(_, TextAttribute::Label, _)
     ))
 }
 
@@ -178,7 +178,7 @@ impl<'i, 'a> Shown<'i, 'a> {
     fn add_names(&mut self, one: &Placed<'i, 'a>) -> Result<(), AllocError> {
         self.names.insert(one.key, one.item.name())?;
         for attribute in one.item.attributes() {
-            if let Attribute::Members(members) = attribute {
+            if let Attribute::Members(_, members) = attribute {
                 add_members(members, &mut self.labelled)?;
             }
         }

@@ -76,7 +76,7 @@ fn around_items(items: &[Item<Target>]) -> Around {
 /// Whether a menu with these attributes has something among its ITEMS.
 pub fn has_entries(attributes: &[Attribute<Target>]) -> bool {
     attributes.iter().any(
-        |attribute| matches!(attribute, Attribute::Items(entries) if !entries.is_empty()),
+        |attribute| matches!(attribute, Attribute::Items(_, entries) if !entries.is_empty()),
     )
 }
 

@@ -1,11 +1,10 @@
 //! How a method goes on after a statement.
 
-use edd_lints::tokens_left::{Mark, first_on};
+use edd_lints::tokens_left::Mark;
 use edd_syntax::expr::Expr;
 use edd_syntax::operators::Builtin;
 use edd_syntax::reference::Target;
 use edd_syntax::stmt::Stmt;
-use edd_syntax::symbols::Keyword;
 
 /// How a method goes on after a statement.
 #[derive(Clone, Copy)]
@@ -27,19 +26,15 @@ pub const GOES_ON: Flow<'static> = Flow {
     is_remarked: false,
 };
 
-/// Whether an expression is a call that ends the method, and the line of the call.
-pub fn abort_of(e: &Expr<Target>) -> Option<Mark<'static>> {
-    let Expr::Call { line, function, .. } = e else {
-        return None;
-    };
-    match *function {
-        Target::Function(Builtin::Abort) => Some(first_on(*line, Builtin::Abort.name())),
-        Target::Function(Builtin::ProcessAbort) => Some(first_on(
-            *line,
-            Builtin::ProcessAbort.name(),
-        )),
-        _ => None,
-    }
+/// Whether an expression is a call that ends the method.
+pub fn is_abort(e: &Expr<Target>) -> bool {
+    matches!(
+        e,
+        Expr::Call {
+            function: Target::Function(Builtin::Abort | Builtin::ProcessAbort),
+            ..
+        }
+    )
 }
 
 /// Whether a statement that is never reached is worth a warning. A `break` after a `return` is a
@@ -64,9 +59,9 @@ pub fn joined<'a>(at: Mark<'a>, asks: bool, first: Flow<'a>, second: Flow<'a>) -
 }
 
 /// What leads on from a loop to another place: its end with `break`, or its next turn.
-pub fn leaving(line: u32, word: Keyword, breaks: bool) -> Flow<'static> {
+pub fn leaving<'a>(at: Mark<'a>, breaks: bool) -> Flow<'a> {
     Flow {
-        ends: Some(first_on(line, word.spelling())),
+        ends: Some(at),
         breaks,
         ..GOES_ON
     }

@@ -10,6 +10,7 @@ use edd_lints::tokens_left::{Mark, TokensLeft, mark_of};
 use edd_lints::warning::Findings;
 use edd_syntax::expr::Expr;
 use edd_syntax::item::Attribute;
+use edd_syntax::numbers::TokenNo;
 use edd_syntax::operators::Builtin;
 use edd_syntax::reference::Target;
 use edd_syntax::stmt::{Part, Stmt};
@@ -87,13 +88,13 @@ fn check_locals(
     Ok(())
 }
 
-// The line of a statement that adds an abort method.
-fn added_at(part: &Part<Target>) -> Option<u32> {
-    let Part::Statement(Stmt::Evaluate(Expr::Call { line, function, .. })) = part else {
+// The place of a call that adds an abort method, which is the whole statement.
+fn added_at(part: &Part<Target>) -> Option<TokenNo> {
+    let Part::Statement(Stmt::Evaluate(Expr::Call { at, function, .. })) = part else {
         return None;
     };
     match *function {
-        Target::Function(Builtin::AddAbortMethod) => Some(*line),
+        Target::Function(Builtin::AddAbortMethod) => Some(*at),
         _ => None,
     }
 }
@@ -102,20 +103,15 @@ fn added_at(part: &Part<Target>) -> Option<u32> {
 const MOST: usize = 8;
 
 // A warning on each statement of a body that adds an abort method when there are eight.
-fn check_added(
-    parts: &[Part<Target>],
-    tokens_left: TokensLeft<'_>,
-    findings: &mut Findings,
-) -> Result<(), AllocError> {
-    let mut tokens_left = tokens_left;
+fn check_added(parts: &[Part<Target>], findings: &mut Findings) -> Result<(), AllocError> {
     let mut added = 0usize;
     for part in parts {
-        if let Some(line) = added_at(part) {
+        if let Some(at) = added_at(part) {
             added = added.saturating_add(1);
-            let at = tokens_left.to_text_on(line, Builtin::AddAbortMethod.name());
             if MOST < added {
                 let alloc = findings.alloc;
                 let message = String::from_str(alloc, "this lists nothing: eight are listed")?;
+                let at = findings.mark(at);
                 findings.add(Lint::AbortMethodLimit, at, message)?;
             }
         }
@@ -135,11 +131,11 @@ pub fn check_method(
     let tokens_left = TokensLeft::new(text, tokens);
     let mut walk = Walk::new(findings.alloc, tokens_left, Width::Method, instrument);
     for attribute in attributes {
-        if let Attribute::Definition(parts) = attribute {
+        if let Attribute::Definition(_, parts) = attribute {
             walk.tokens_left.to_word(Keyword::Definition);
             walk.tokens_left.to(TokenKind::Symbol(Symbol::OpenBrace));
             check_parts(parts, &mut walk, findings)?;
-            check_added(parts, tokens_left, findings)?;
+            check_added(parts, findings)?;
         }
     }
     check_locals(&locals, &walk, findings)

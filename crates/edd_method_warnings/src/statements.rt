@@ -1,7 +1,7 @@
 //! Statements: what is never reached, what does nothing, and cases that go on with the next.
 
 use crate::cases::{check_block_after, check_fall, check_label_part, has_comment};
-use crate::flow::{Flow, GOES_ON, abort_of, counts, is_empty_block, joined, leaving};
+use crate::flow::{Flow, GOES_ON, counts, is_abort, is_empty_block, joined, leaving};
 use crate::loops::{Loop, check_head, check_loop, has_no_body};
 use crate::said::{pass, say};
 use edd_expression_warnings::expressions::{
@@ -198,11 +198,10 @@ fn check_evaluated<'a>(
     }
     walk.acts = walk.acts || before;
     pass(walk, Symbol::Semicolon);
-    let ends = abort_of(e);
-    let leaves = asks || ends.is_some();
+    let aborts = is_abort(e);
     Ok(Flow {
-        ends,
-        leaves,
+        ends: aborts.then_some(at),
+        leaves: asks || aborts,
         ..GOES_ON
     })
 }
@@ -397,15 +396,15 @@ fn check_statement<'a>(
             body,
         } => check_for(initial, condition, update, body, walk, findings),
         Stmt::Switch(on, parts) => check_switch(parts, on, walk, findings),
-        Stmt::Break { line } => {
-            let flow = leaving(*line, Keyword::Break, true);
+        Stmt::Break { .. } => {
+            let at = walk.tokens_left.to_word(Keyword::Break);
             pass(walk, Symbol::Semicolon);
-            Ok(flow)
+            Ok(leaving(at, true))
         }
-        Stmt::Continue { line } => {
-            let flow = leaving(*line, Keyword::Continue, false);
+        Stmt::Continue { .. } => {
+            let at = walk.tokens_left.to_word(Keyword::Continue);
             pass(walk, Symbol::Semicolon);
-            Ok(flow)
+            Ok(leaving(at, false))
         }
         Stmt::Return => {
             let at = walk.tokens_left.to_word(Keyword::Return);

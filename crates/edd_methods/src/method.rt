@@ -45,7 +45,7 @@ fn body_in(attribute: &Attribute<Target>) -> Option<&[Part<Target>]>
         ≡ bodies_in (numbered_attribute attribute.now) }
 {
     match attribute {
-        Attribute::Definition(body) => Some(body),
+        Attribute::Definition(_, body) => Some(body),
         _ => None,
     }
 }

@@ -58,7 +58,7 @@ fn add_attribute<'a>(
     ensures refused { IfErr result (λ f. f ≡ Memory) }
 {
     match attribute {
-        Attribute::Members(list) => add_members(into, list),
+        Attribute::Members(_, list) => add_members(into, list),
         _ => Ok(()),
     }
 }

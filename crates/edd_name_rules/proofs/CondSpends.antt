@@ -2,6 +2,7 @@
 use Rattle.std.proofs.Common.{◌≡◌, sym, ap, ◌∙◌, ℕ, zero, suc, ℤ, ◌+◌, ◌*◌, ◌<◌, ◌≤◌, List, [], ◌∷◌, length, get_or, map, arith}
 use Rattle.std.specs.Prelude.{Option, Some, None, Vec}
 use Rattle.std.specs.declared.alloc.Global.{Global}
+use Rattle.edd_syntax.specs.declared.numbers.TokenNo.{TokenNo}
 use Rattle.edd_syntax.specs.declared.cond.Arm as code_arm
 use Rattle.edd_syntax.specs.declared.cond.Cond as code
 use Rattle.edd_syntax.specs.declared.cond.Arm.TheVariants as a
@@ -113,15 +114,15 @@ module _ {R S V W : Type 0} (f : R → S) (g : V → W) (of : W → ℕ) (budget
       ∙ ap (λ y. spent budget (arms_nodes of (arms_from (y ∷ []))))
       (sym (ap (arm_of f g) is ∙ of_case f g label v))
 
-  pub spent_default : (x : code_arm.Arm R V) (line : ℕ) (v : Vec (code.Cond R V) Global)
-      (xs : List (code.Cond R V)) (r : Option ℕ) → x ≡ a.Default line v → xs ≡ v.items
+  pub spent_default : (x : code_arm.Arm R V) (token : TokenNo) (v : Vec (code.Cond R V) Global)
+      (xs : List (code.Cond R V)) (r : Option ℕ) → x ≡ a.Default token v → xs ≡ v.items
       → r ≡ spent left (listed xs)
       → r ≡ spent budget (arms_nodes of (arms_from (arm_of f g x ∷ [])))
-  spent_default x line v xs r is same last =
+  spent_default x token v xs r is same last =
       last ∙ ap (λ zs. spent left (listed zs)) same ∙ spent_then budget left 1 _ first
       ∙ ap (spent budget) (and_none (listed v.items))
       ∙ ap (λ y. spent budget (arms_nodes of (arms_from (y ∷ []))))
-      (sym (ap (arm_of f g) is ∙ of_default f g line v))
+      (sym (ap (arm_of f g) is ∙ of_default f g token v))
 
 -- ---- the parts of a conditional have fewer nodes than it
 
@@ -179,12 +180,12 @@ module _ {R S V W : Type 0} (f : R → S) (g : V → W) where
       let s = ap conds_depth same in
       omega (arith, e, s, m)
 
-  pub default_falls : (t : ℕ) (x : code_arm.Arm R V) (line : ℕ) (v : Vec (code.Cond R V) Global)
-      (xs : List (code.Cond R V)) → x ≡ a.Default line v → xs ≡ v.items → t ≡ arm_depth x
+  pub default_falls : (t : ℕ) (x : code_arm.Arm R V) (token : TokenNo) (v : Vec (code.Cond R V) Global)
+      (xs : List (code.Cond R V)) → x ≡ a.Default token v → xs ≡ v.items → t ≡ arm_depth x
       → conds_depth xs < t
-  default_falls t x line v xs is same m =
+  default_falls t x token v xs is same m =
       let e = ap (λ y. arms_nodes leaf (arms_from (y ∷ [])))
-      (ap (arm_of f g) is ∙ of_default f g line v) in
+      (ap (arm_of f g) is ∙ of_default f g token v) in
       let s = ap conds_depth same in
       omega (arith, e, s, m)
 

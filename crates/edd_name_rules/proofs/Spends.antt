@@ -4,6 +4,7 @@ use Rattle.std.proofs.lemmas.List.{at_drop_more}
 use Rattle.std.proofs.lemmas.Bool.Decides.{nat_tests}
 use Rattle.std.specs.Prelude.{Option, Some, None, Vec, is_none, nat_lt}
 use Rattle.std.specs.declared.alloc.Global.{Global}
+use Rattle.edd_syntax.specs.declared.numbers.TokenNo.{TokenNo}
 use Rattle.edd_syntax.specs.declared.expr.Expr.{Expr}
 use Rattle.edd_syntax.specs.declared.expr.Expr.TheVariants as e
 use Rattle.edd_syntax.specs.declared.expr.Argument.{Argument}
@@ -113,15 +114,15 @@ declarator_nodes_split d ds = omega arith
 
 -- ---- trees whose children a vector holds
 
-pub spent_call : {R S : Type 0} (f : R → S) (x : Expr R) (line : ℕ) (function : R)
+pub spent_call : {R S : Type 0} (f : R → S) (x : Expr R) (token : TokenNo) (function : R)
     (v : Vec (Argument R) Global) (items : List (Argument R)) (budget left : ℕ) (r : Option ℕ)
-    → x ≡ e.Call line function v → items ≡ v.items → Some left ≡ spent budget 1
+    → x ≡ e.Call token function v → items ≡ v.items → Some left ≡ spent budget 1
     → r ≡ spent left (argument_nodes (arguments_from (map (argument_of f) items)))
     → r ≡ spent budget (nodes (expr_of f x))
-spent_call f x line function v items budget left r is same first last =
+spent_call f x token function v items budget left r is same first last =
     last ∙ ap (λ xs. spent left (argument_nodes (arguments_from (map (argument_of f) xs)))) same
     ∙ spent_then budget left 1 _ first ∙ ap (λ y. spent budget (nodes y))
-    (sym (call_is f x line function v is))
+    (sym (call_is f x token function v is))
 
 pub spent_block : {R S : Type 0} (f : R → S) (x : Stmt R) (v : Vec (Part R) Global)
     (items : List (Part R)) (budget left : ℕ) (r : Option ℕ) → x ≡ s.Block v → items ≡ v.items

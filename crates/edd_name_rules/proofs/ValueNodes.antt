@@ -42,7 +42,7 @@ module _ {R S V W : Type 0} (f : R → S) (g : V → W) (of : W → ℕ) where
         ap (λ k. 1 + (k + arms_nodes (λ v. of (g v)) (arms_from (arms_in f (λ v. v) rest))))
         (nodes_of_conds _ body)
         ∙ ap (λ k. 1 + (conds_nodes of (conds_from (conds_in f g body)) + k)) (nodes_of_arms _ rest)
-    nodes_of_arms n (more_of-Arm (Default' line shape body) rest) =
+    nodes_of_arms n (more_of-Arm (Default' token shape body) rest) =
         ap (λ k. 1 + (k + arms_nodes (λ v. of (g v)) (arms_from (arms_in f (λ v. v) rest))))
         (nodes_of_conds _ body)
         ∙ ap (λ k. 1 + (conds_nodes of (conds_from (conds_in f g body)) + k)) (nodes_of_arms _ rest)

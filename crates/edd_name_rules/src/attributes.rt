@@ -25,19 +25,19 @@ pub fn word_of(attribute: &Attribute<Path>) -> &'static str
     ensures { result.now ≡ attribute_word (attribute_of path_of attribute.now) }
 {
     match attribute {
-        Attribute::OneText(which, _) => which.attr().word(),
-        Attribute::Class(_) => Attr::Class.word(),
-        Attribute::Handling(_) => Attr::Handling.word(),
-        Attribute::Validity(_) => Attr::Validity.word(),
+        Attribute::OneText(_, which, _) => which.attr().word(),
+        Attribute::Class(_, _) => Attr::Class.word(),
+        Attribute::Handling(_, _) => Attr::Handling.word(),
+        Attribute::Validity(_, _) => Attr::Validity.word(),
         Attribute::TypeOf { .. } => Keyword::Type.spelling(),
-        Attribute::Number(_) => Attr::Number.word(),
-        Attribute::Operation(_) => Attr::Operation.word(),
+        Attribute::Number(_, _) => Attr::Number.word(),
+        Attribute::Operation(_, _) => Attr::Operation.word(),
         Attribute::Transaction { .. } => Attr::Transaction.word(),
-        Attribute::ResponseCodes(_) => Attr::ResponseCodes.word(),
-        Attribute::Items(_) => Attr::Items.word(),
-        Attribute::Members(_) => Attr::Members.word(),
-        Attribute::Definition(_) => Attr::Definition.word(),
-        Attribute::Elements(_) => Attr::Elements.word(),
+        Attribute::ResponseCodes(_, _) => Attr::ResponseCodes.word(),
+        Attribute::Items(_, _) => Attr::Items.word(),
+        Attribute::Members(_, _) => Attr::Members.word(),
+        Attribute::Definition(_, _) => Attr::Definition.word(),
+        Attribute::Elements(_, _) => Attr::Elements.word(),
     }
 }
 

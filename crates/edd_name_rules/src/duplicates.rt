@@ -104,8 +104,8 @@ fn check_attribute<'a>(
         → IsDuplicate f (attribute_repeats b (attribute_of path_of attribute.now))) }
 {
     match attribute {
-        Attribute::Members(list) => note_members(members, list, alloc),
-        Attribute::Definition(parts) => check_block(parts, alloc),
+        Attribute::Members(_, list) => note_members(members, list, alloc),
+        Attribute::Definition(_, parts) => check_block(parts, alloc),
         _ => Ok(()),
     }
 }

@@ -17,8 +17,8 @@ fn part_word(part: &TransactionPart<Path>) -> &'static str
     ensures { result.now ≡ transaction_part_word (transaction_part_of path_of part.now) }
 {
     match part {
-        TransactionPart::Request(_) => Attr::Request.word(),
-        TransactionPart::Reply(_) => Attr::Reply.word(),
+        TransactionPart::Request(_, _) => Attr::Request.word(),
+        TransactionPart::Reply(_, _) => Attr::Reply.word(),
     }
 }
 

@@ -76,7 +76,7 @@ fn spend_transaction_part(part: &TransactionPart<Path>, budget: u32) -> Option<u
 {
     let left = budget.checked_sub(1)?;
     match part {
-        TransactionPart::Request(all) | TransactionPart::Reply(all) => spend_data(all, left),
+        TransactionPart::Request(_, all) | TransactionPart::Reply(_, all) => spend_data(all, left),
     }
 }
 
@@ -97,18 +97,18 @@ fn spend_attribute(attribute: &Attribute<Path>, budget: u32) -> Option<u32>
 {
     let left = budget.checked_sub(1)?;
     match attribute {
-        Attribute::OneText(_, c) => spend_text(c, left),
-        Attribute::Class(words) => spend_count(words.len(), left),
-        Attribute::Handling(c) => spend_cond(c, left),
-        Attribute::Validity(c) => spend_cond(c, left),
+        Attribute::OneText(_, _, c) => spend_text(c, left),
+        Attribute::Class(_, words) => spend_count(words.len(), left),
+        Attribute::Handling(_, c) => spend_cond(c, left),
+        Attribute::Validity(_, c) => spend_cond(c, left),
         Attribute::TypeOf { parts, .. } => spend_type(parts, left),
-        Attribute::Number(_) | Attribute::Operation(_) => Some(left),
+        Attribute::Number(_, _) | Attribute::Operation(_, _) => Some(left),
         Attribute::Transaction { parts, .. } => spend_transaction_parts(parts, left),
-        Attribute::ResponseCodes(responses) => spend_count(responses.len(), left),
-        Attribute::Items(entries) => spend_entries(entries, left),
-        Attribute::Members(members) => spend_count(members.len(), left),
-        Attribute::Definition(parts) => spend_parts(parts, left),
-        Attribute::Elements(elements) => spend_count(elements.len(), left),
+        Attribute::ResponseCodes(_, responses) => spend_count(responses.len(), left),
+        Attribute::Items(_, entries) => spend_entries(entries, left),
+        Attribute::Members(_, members) => spend_count(members.len(), left),
+        Attribute::Definition(_, parts) => spend_parts(parts, left),
+        Attribute::Elements(_, elements) => spend_count(elements.len(), left),
     }
 }
 

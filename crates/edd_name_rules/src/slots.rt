@@ -84,7 +84,7 @@ fn spend_locals_of(attribute: &Attribute<Path>, budget: u32) -> Option<u32>
     ensures { result ≡ spent budget (locals_in (attribute_of path_of attribute.now ∷ [])) }
 {
     match attribute {
-        Attribute::Definition(parts) => spend_slots_in(parts, budget),
+        Attribute::Definition(_, parts) => spend_slots_in(parts, budget),
         _ => Some(budget),
     }
 }

@@ -100,36 +100,43 @@ fn copy_attribute(
 {
     let alloc = names.alloc;
     match attribute {
-        Attribute::OneText(which, c) =>
-            made_of!(copy_cond(c, names), c => Attribute::OneText(*which, c)),
-        Attribute::Class(words) =>
-            made_of!(copy_words(words, alloc), words => Attribute::Class(words)),
-        Attribute::Handling(c) => made_of!(copy_cond(c, names), c => Attribute::Handling(c)),
-        Attribute::Validity(c) => made_of!(copy_cond(c, names), c => Attribute::Validity(c)),
-        Attribute::TypeOf { word, parts } => {
+        Attribute::OneText(at, which, c) =>
+            made_of!(copy_cond(c, names), c => Attribute::OneText(*at, *which, c)),
+        Attribute::Class(at, words) =>
+            made_of!(copy_words(words, alloc), words => Attribute::Class(*at, words)),
+        Attribute::Handling(at, c) =>
+            made_of!(copy_cond(c, names), c => Attribute::Handling(*at, c)),
+        Attribute::Validity(at, c) =>
+            made_of!(copy_cond(c, names), c => Attribute::Validity(*at, c)),
+        Attribute::TypeOf { at, word, parts } => {
             let parts = copy_type_parts(parts, names)?;
-            made_of!(copy_type_word(word, alloc), word => Attribute::TypeOf { word, parts })
+            made_of!(copy_type_word(word, alloc), word => Attribute::TypeOf {
+                at: *at,
+                word,
+                parts,
+            })
         }
-        Attribute::Number(n) => Ok(Attribute::Number(*n)),
-        Attribute::Operation(o) => Ok(Attribute::Operation(*o)),
-        Attribute::Transaction { number, parts } => {
+        Attribute::Number(at, n) => Ok(Attribute::Number(*at, *n)),
+        Attribute::Operation(at, o) => Ok(Attribute::Operation(*at, *o)),
+        Attribute::Transaction { at, number, parts } => {
             made_of!(copy_transaction_parts(parts, names), parts => Attribute::Transaction {
+                at: *at,
                 number: *number,
                 parts,
             })
         }
-        Attribute::ResponseCodes(all) =>
-            made_of!(copy_responses(all, alloc), all => Attribute::ResponseCodes(all)),
-        Attribute::Items(entries) => {
-            made_of!(copy_conds(entries, names), entries => Attribute::Items(entries))
+        Attribute::ResponseCodes(at, all) =>
+            made_of!(copy_responses(all, alloc), all => Attribute::ResponseCodes(*at, all)),
+        Attribute::Items(at, entries) => {
+            made_of!(copy_conds(entries, names), entries => Attribute::Items(*at, entries))
         }
-        Attribute::Members(all) => {
-            made_of!(copy_members_of(item, all, names), all => Attribute::Members(all))
+        Attribute::Members(at, all) => {
+            made_of!(copy_members_of(item, all, names), all => Attribute::Members(*at, all))
         }
-        Attribute::Definition(parts) =>
-            made_of!(copy_definition(parts, names), parts => Attribute::Definition(parts)),
-        Attribute::Elements(all) =>
-            made_of!(copy_elements(all, names), all => Attribute::Elements(all)),
+        Attribute::Definition(at, parts) =>
+            made_of!(copy_definition(parts, names), parts => Attribute::Definition(*at, parts)),
+        Attribute::Elements(at, all) =>
+            made_of!(copy_elements(all, names), all => Attribute::Elements(*at, all)),
     }
 }
 

@@ -34,28 +34,28 @@ fn copy_type_part(type_part: &TypePart<Path>, names: &Names) -> Result<TypePart<
         (type_part_uses (type_part_of path_of type_part.now)) result }
 {
     match type_part {
-        TypePart::DefaultValue { line, value } => {
+        TypePart::DefaultValue { at, value } => {
             made_of!(
                 copy_cond(value, names),
-                value => TypePart::DefaultValue { line: *line, value }
+                value => TypePart::DefaultValue { at: *at, value }
             )
         }
-        TypePart::MinValue { line, value } => {
-            made_of!(copy_cond(value, names), value => TypePart::MinValue { line: *line, value })
+        TypePart::MinValue { at, value } => {
+            made_of!(copy_cond(value, names), value => TypePart::MinValue { at: *at, value })
         }
-        TypePart::MaxValue { line, value } => {
-            made_of!(copy_cond(value, names), value => TypePart::MaxValue { line: *line, value })
+        TypePart::MaxValue { at, value } => {
+            made_of!(copy_cond(value, names), value => TypePart::MaxValue { at: *at, value })
         }
-        TypePart::DisplayFormat { line, format } => {
+        TypePart::DisplayFormat { at, format } => {
             made_of!(
                 copy_cond(format, names),
-                format => TypePart::DisplayFormat { line: *line, format }
+                format => TypePart::DisplayFormat { at: *at, format }
             )
         }
-        TypePart::EditFormat { line, format } => {
+        TypePart::EditFormat { at, format } => {
             made_of!(
                 copy_cond(format, names),
-                format => TypePart::EditFormat { line: *line, format }
+                format => TypePart::EditFormat { at: *at, format }
             )
         }
         TypePart::Element(element) => {
@@ -119,11 +119,11 @@ fn copy_transaction_part(
         (transaction_part_uses (transaction_part_of path_of transaction_part.now)) result }
 {
     match transaction_part {
-        TransactionPart::Request(all) => {
-            made_of!(copy_conds(all, names), all => TransactionPart::Request(all))
+        TransactionPart::Request(at, all) => {
+            made_of!(copy_conds(all, names), all => TransactionPart::Request(*at, all))
         }
-        TransactionPart::Reply(all) => {
-            made_of!(copy_conds(all, names), all => TransactionPart::Reply(all))
+        TransactionPart::Reply(at, all) => {
+            made_of!(copy_conds(all, names), all => TransactionPart::Reply(*at, all))
         }
     }
 }
@@ -192,6 +192,7 @@ fn copy_member(
     let name = String::from_str(names.alloc, &member.name)?;
     let label = copy_optional_text(&member.label, names.alloc)?;
     made_of!(copy_optional_text(&member.help, names.alloc), help => Member {
+        at: member.at,
         name,
         item,
         label,
@@ -257,7 +258,7 @@ fn copy_element(
     let variable = refer_variable(names, &[], &element.variable)?;
     let label = copy_optional_text(&element.label, names.alloc)?;
     made_of!(copy_optional_text(&element.help, names.alloc), help => ArrayElement {
-        line: element.line,
+        at: element.at,
         number: element.number,
         variable,
         label,

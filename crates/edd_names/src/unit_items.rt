@@ -26,16 +26,37 @@ fn like(item: &Item<Path>, name: String, attributes: Vec<Attribute<Target>>) -> 
         ≡ map numbered_attribute attributes.items }
 {
     match item {
-        Item::Variable(_) => Item::Variable(VariableDef { name, attributes }),
-        Item::Command(_) => Item::Command(CommandDef { name, attributes }),
-        Item::Menu(_) => Item::Menu(MenuDef { name, attributes }),
+        Item::Variable(d) => Item::Variable(VariableDef {
+            at: d.at,
+            name,
+            attributes,
+        }),
+        Item::Command(d) => Item::Command(CommandDef {
+            at: d.at,
+            name,
+            attributes,
+        }),
+        Item::Menu(d) => Item::Menu(MenuDef {
+            at: d.at,
+            name,
+            attributes,
+        }),
         Item::Collection(d) => Item::Collection(CollectionDef {
+            at: d.at,
             of: d.of,
             name,
             attributes,
         }),
-        Item::Method(_) => Item::Method(MethodDef { name, attributes }),
-        Item::Array(_) => Item::Array(ArrayDef { name, attributes }),
+        Item::Method(d) => Item::Method(MethodDef {
+            at: d.at,
+            name,
+            attributes,
+        }),
+        Item::Array(d) => Item::Array(ArrayDef {
+            at: d.at,
+            name,
+            attributes,
+        }),
     }
 }
 

@@ -54,9 +54,9 @@ module _ (tokens : List Token) where
   pub answered_none : (r : Result code_unit.Unit ParseFault) → Answers r (unit_at tokens)
       → IfErr r (λ e. Says e ((unit : Description Path) → ¬ (Spells tokens unit)))
   answered_none (Ok u) a = tt
-  answered_none (Err (fault.Syntax line)) a = none_spelled a
-  answered_none (Err (fault.TooDeep line)) a = none_spelled a
-  answered_none (Err (fault.Unsupported word)) a = none_spelled a
+  answered_none (Err (fault.Syntax at)) a = none_spelled a
+  answered_none (Err (fault.TooDeep at)) a = none_spelled a
+  answered_none (Err (fault.Unsupported at word)) a = none_spelled a
   answered_none (Err fault.Memory) a = tt
 
   pub answered_only : (r : Result code_unit.Unit ParseFault) → Answers r (unit_at tokens)
@@ -64,9 +64,9 @@ module _ (tokens : List Token) where
       → MatchResult r (λ u. unit_view u ≡ unit) (λ e. e ≡ fault.Memory)
   answered_only (Ok u) a unit s = same_some (unit_at tokens) (unit_view u) unit a
       (unit_again tokens unit s)
-  answered_only (Err (fault.Syntax line)) a unit s = absurd (none_spelled a unit s)
-  answered_only (Err (fault.TooDeep line)) a unit s = absurd (none_spelled a unit s)
-  answered_only (Err (fault.Unsupported word)) a unit s = absurd (none_spelled a unit s)
+  answered_only (Err (fault.Syntax at)) a unit s = absurd (none_spelled a unit s)
+  answered_only (Err (fault.TooDeep at)) a unit s = absurd (none_spelled a unit s)
+  answered_only (Err (fault.Unsupported at word)) a unit s = absurd (none_spelled a unit s)
   answered_only (Err fault.Memory) a unit s = refl
 
 -- ---- the tokens of a text are kept

@@ -47,6 +47,6 @@ unit_view u = record {
 abbrev pub Answers : Result code_unit.Unit ParseFault → Option (Description Path) → Type 0
 Answers (Ok u) read = read ≡ Some (unit_view u)
 Answers (Err fault.Memory) read = Unit {0}
-Answers (Err (fault.Syntax line)) read = read ≡ None
-Answers (Err (fault.TooDeep line)) read = read ≡ None
-Answers (Err (fault.Unsupported word)) read = read ≡ None
+Answers (Err (fault.Syntax at)) read = read ≡ None
+Answers (Err (fault.TooDeep at)) read = read ≡ None
+Answers (Err (fault.Unsupported at word)) read = read ≡ None

@@ -115,10 +115,12 @@ impl RowElement for ResponseCode {
 fn member(cursor: &mut Cursor) -> Result<Member<Path>, ParseFault>
     ensures { Gives (λ m. member_of path_of m) result cursor.new (reading.member_at cursor.old) }
 {
+    let at = cursor.place();
     let Some(name) = cursor.name() else {
         return Err(cursor.syntax());
     };
     cursor.expect(Symbol::Comma)?;
+    let item_at = cursor.place();
     let Some(base) = cursor.name() else {
         return Err(cursor.syntax());
     };
@@ -126,8 +128,9 @@ fn member(cursor: &mut Cursor) -> Result<Member<Path>, ParseFault>
     let help = optional_text(cursor)?;
     cursor.expect(Symbol::Semicolon)?;
     let name = String::from_str(cursor.alloc(), name)?;
-    let item = plain(cursor.alloc(), base)?;
+    let item = plain(cursor.alloc(), item_at, base)?;
     Ok(Member {
+        at,
         name,
         item,
         label,
@@ -155,18 +158,19 @@ fn array_element(cursor: &mut Cursor) -> Result<ArrayElement<Path>, ParseFault>
     ensures { Gives (λ e. array_element_of path_of e) result cursor.new
         (reading.array_element_at cursor.old) }
 {
-    let line = cursor.line();
+    let at = cursor.place();
     let number = integer(cursor)?;
     cursor.expect(Symbol::Comma)?;
+    let variable_at = cursor.place();
     let Some(base) = cursor.name() else {
         return Err(cursor.syntax());
     };
     let label = optional_text(cursor)?;
     let help = optional_text(cursor)?;
     cursor.expect(Symbol::Semicolon)?;
-    let variable = plain(cursor.alloc(), base)?;
+    let variable = plain(cursor.alloc(), variable_at, base)?;
     Ok(ArrayElement {
-        line,
+        at,
         number,
         variable,
         label,
@@ -201,11 +205,12 @@ fn transaction_part(
     ensures { Gives (λ p. transaction_part_of path_of p) result cursor.new
         (reading.transaction_part_at height_left cursor.old) }
 {
+    let at = cursor.place();
     if cursor.eat_word(Keyword::Request) {
-        return Ok(TransactionPart::Request(braced_list(cursor, height_left)?));
+        return Ok(TransactionPart::Request(at, braced_list(cursor, height_left)?));
     }
     if cursor.eat_word(Keyword::Reply) {
-        return Ok(TransactionPart::Reply(braced_list(cursor, height_left)?));
+        return Ok(TransactionPart::Reply(at, braced_list(cursor, height_left)?));
     }
     Err(misfit_without_codes(cursor))
 }
@@ -238,9 +243,10 @@ fn transaction(cursor: &mut Cursor, height_left: u32) -> Result<Attribute<Path>,
     ensures { Gives attribute_view result cursor.new
         (reading.transaction_at height_left cursor.old) }
 {
+    let at = cursor.taken_place();
     let number = cursor.integer();
     let parts = braced_row(cursor, height_left)?;
-    Ok(Attribute::Transaction { number, parts })
+    Ok(Attribute::Transaction { at, number, parts })
 }
 
 // The further names of a class, each after `&`, after those that were read.
@@ -261,6 +267,7 @@ fn more_names(cursor: &mut Cursor, before: Vec<String>) -> Result<Vec<String>, P
 fn class_words(cursor: &mut Cursor) -> Result<Attribute<Path>, ParseFault>
     ensures { Gives attribute_view result cursor.new (reading.class_words_at cursor.old) }
 {
+    let at = cursor.taken_place();
     let Some(first) = cursor.name() else {
         return Err(cursor.syntax());
     };
@@ -268,7 +275,7 @@ fn class_words(cursor: &mut Cursor) -> Result<Attribute<Path>, ParseFault>
     names.push(String::from_str(cursor.alloc(), first)?)?;
     let names = more_names(cursor, names)?;
     cursor.expect(Symbol::Semicolon)?;
-    Ok(Attribute::Class(names))
+    Ok(Attribute::Class(at, names))
 }
 
 // After NUMBER.
@@ -276,9 +283,10 @@ fn class_words(cursor: &mut Cursor) -> Result<Attribute<Path>, ParseFault>
 fn command_number(cursor: &mut Cursor) -> Result<Attribute<Path>, ParseFault>
     ensures { Gives attribute_view result cursor.new (reading.command_number_at cursor.old) }
 {
+    let at = cursor.taken_place();
     let number = integer(cursor)?;
     cursor.expect(Symbol::Semicolon)?;
-    Ok(Attribute::Number(number))
+    Ok(Attribute::Number(at, number))
 }
 
 // After OPERATION.
@@ -286,9 +294,10 @@ fn command_number(cursor: &mut Cursor) -> Result<Attribute<Path>, ParseFault>
 fn command_operation(cursor: &mut Cursor) -> Result<Attribute<Path>, ParseFault>
     ensures { Gives attribute_view result cursor.new (reading.command_operation_at cursor.old) }
 {
+    let at = cursor.taken_place();
     let operation = operation(cursor)?;
     cursor.expect(Symbol::Semicolon)?;
-    Ok(Attribute::Operation(operation))
+    Ok(Attribute::Operation(at, operation))
 }
 
 // An attribute.
@@ -298,8 +307,9 @@ fn attribute(cursor: &mut Cursor, height_left: u32) -> Result<Attribute<Path>, P
     ensures { Gives attribute_view result cursor.new (reading.attribute_at height_left cursor.old) }
 {
     if let Some(which) = cursor.text_attribute() {
+        let at = cursor.place();
         cursor.bump();
-        return Ok(Attribute::OneText(which, one(cursor, height_left)?));
+        return Ok(Attribute::OneText(at, which, one(cursor, height_left)?));
     }
     other_attribute(cursor, height_left)
 }
@@ -311,18 +321,20 @@ fn other_attribute(cursor: &mut Cursor, height_left: u32) -> Result<Attribute<Pa
     ensures { Gives attribute_view result cursor.new
         (reading.other_attribute_at height_left cursor.old) }
 {
+    let at = cursor.place();
     if cursor.eat_word(Keyword::Class) {
         return class_words(cursor);
     }
     if cursor.eat_word(Keyword::Handling) {
-        return Ok(Attribute::Handling(one(cursor, height_left)?));
+        return Ok(Attribute::Handling(at, one(cursor, height_left)?));
     }
     if cursor.eat_word(Keyword::Validity) {
-        return Ok(Attribute::Validity(one(cursor, height_left)?));
+        return Ok(Attribute::Validity(at, one(cursor, height_left)?));
     }
     if cursor.eat_word(Keyword::Type) {
         let written = written_type(cursor, height_left)?;
         return Ok(Attribute::TypeOf {
+            at,
             word: written.word,
             parts: written.parts,
         });
@@ -337,6 +349,7 @@ fn command_attribute(cursor: &mut Cursor, height_left: u32) -> Result<Attribute<
     ensures { Gives attribute_view result cursor.new
         (views.command_attribute_at height_left cursor.old) }
 {
+    let at = cursor.place();
     if cursor.eat_word(Keyword::Number) {
         return command_number(cursor);
     }
@@ -347,7 +360,7 @@ fn command_attribute(cursor: &mut Cursor, height_left: u32) -> Result<Attribute<
         return transaction(cursor, height_left);
     }
     if cursor.eat_word(Keyword::ResponseCodes) {
-        return Ok(Attribute::ResponseCodes(braced_row(cursor, 0)?));
+        return Ok(Attribute::ResponseCodes(at, braced_row(cursor, 0)?));
     }
     list_attribute(cursor, height_left)
 }
@@ -359,18 +372,19 @@ fn list_attribute(cursor: &mut Cursor, height_left: u32) -> Result<Attribute<Pat
     ensures { Gives attribute_view result cursor.new
         (views.list_attribute_at height_left cursor.old) }
 {
+    let at = cursor.place();
     if cursor.eat_word(Keyword::Items) {
-        return Ok(Attribute::Items(braced_list(cursor, height_left)?));
+        return Ok(Attribute::Items(at, braced_list(cursor, height_left)?));
     }
     if cursor.eat_word(Keyword::Members) {
-        return Ok(Attribute::Members(braced_row(cursor, 0)?));
+        return Ok(Attribute::Members(at, braced_row(cursor, 0)?));
     }
     if cursor.eat_word(Keyword::Definition) {
         cursor.expect(Symbol::OpenBrace)?;
-        return Ok(Attribute::Definition(definition(cursor, height_left)?));
+        return Ok(Attribute::Definition(at, definition(cursor, height_left)?));
     }
     if cursor.eat_word(Keyword::Elements) {
-        return Ok(Attribute::Elements(braced_row(cursor, 0)?));
+        return Ok(Attribute::Elements(at, braced_row(cursor, 0)?));
     }
     Err(cursor.syntax())
 }

@@ -17,7 +17,7 @@ use edd_syntax::item::{
     ArrayDef, Attribute, CollectionDef, CommandDef, Identification, Item, MenuDef, MethodDef,
     VariableDef,
 };
-use edd_syntax::numbers::Kind;
+use edd_syntax::numbers::{Kind, TokenNo};
 use edd_syntax::reference::Path;
 use edd_syntax::symbols::{Keyword, Symbol};
 use edd_token_reader::cursor::Cursor;
@@ -173,7 +173,7 @@ fn attributes(
     Ok(all)
 }
 
-fn item_of(sort: Sort, name: String, attributes: Vec<Attribute<Path>>) -> Item<Path>
+fn item_of(sort: Sort, at: TokenNo, name: String, attributes: Vec<Attribute<Path>>) -> Item<Path>
     ensures { item_view result ≡ record {
       sort = sort_view sort;
       name = string_bytes name;
@@ -181,16 +181,37 @@ fn item_of(sort: Sort, name: String, attributes: Vec<Attribute<Path>>) -> Item<P
     } }
 {
     match sort {
-        Sort::Variable => Item::Variable(VariableDef { name, attributes }),
-        Sort::Command => Item::Command(CommandDef { name, attributes }),
-        Sort::Menu => Item::Menu(MenuDef { name, attributes }),
+        Sort::Variable => Item::Variable(VariableDef {
+            at,
+            name,
+            attributes,
+        }),
+        Sort::Command => Item::Command(CommandDef {
+            at,
+            name,
+            attributes,
+        }),
+        Sort::Menu => Item::Menu(MenuDef {
+            at,
+            name,
+            attributes,
+        }),
         Sort::Collection(of) => Item::Collection(CollectionDef {
+            at,
             of,
             name,
             attributes,
         }),
-        Sort::Method => Item::Method(MethodDef { name, attributes }),
-        Sort::Array => Item::Array(ArrayDef { name, attributes }),
+        Sort::Method => Item::Method(MethodDef {
+            at,
+            name,
+            attributes,
+        }),
+        Sort::Array => Item::Array(ArrayDef {
+            at,
+            name,
+            attributes,
+        }),
     }
 }
 
@@ -201,12 +222,13 @@ fn one_item(cursor: &mut Cursor, height_left: u32) -> Result<Item<Path>, ParseFa
     ensures { Gives item_view result cursor.new (reading.item_at height_left cursor.old) }
 {
     let sort = item_sort(cursor)?;
+    let at = cursor.place();
     let Some(name) = cursor.name() else {
         return Err(cursor.syntax());
     };
     let attributes = attributes(cursor, kind_of(sort), height_left)?;
     let name = String::from_str(cursor.alloc(), name)?;
-    Ok(item_of(sort, name, attributes))
+    Ok(item_of(sort, at, name, attributes))
 }
 
 // An item and any number of semicolons after it.

@@ -20,17 +20,6 @@ use edd_token_reader::cursor::Cursor;
 use edd_token_reader::fault::ParseFault;
 use std::alloc::Global;
 
-// The line on which a text ends.
-fn last_line(text: &[u8]) -> u32 {
-    let mut line: u32 = 1;
-    for byte in text {
-        if *byte == b'\n' {
-            line = line.saturating_add(1);
-        }
-    }
-    line
-}
-
 // The unit that all the tokens spell.
 #[tactic(auto, unfolding(edd_grammar::specs::UnitReading::unit_at))]
 fn whole(cursor: &mut Cursor) -> Result<Unit, ParseFault>
@@ -49,16 +38,15 @@ fn read(alloc: Global, text: &[u8], tokens: &[Token]) -> Result<Unit, ParseFault
     requires { AreTokens text.now (map (lexeme_of text.now) tokens.now) }
     ensures { Answers result (unit_at (tokens_in text.now tokens.now)) }
 {
-    let mut cursor = Cursor::new(alloc, text, tokens, last_line(text));
+    let mut cursor = Cursor::new(alloc, text, tokens);
     whole(&mut cursor)
 }
 
 /// The unit that the tokens of a text spell.
 ///
-/// Lines count from 1. A syntax fault has the line of the first token that fits nothing, or the
-/// last line of the text at its end. A tree that would be too high has the line of the token
-/// that would be the 101st level. A word that the profile leaves out is named where an item, an
-/// attribute, a qualifier or a statement may begin.
+/// A syntax fault is at the first token that fits nothing, or at the text's end. A tree that would
+/// be too high is at the token that would be the 101st level. A word that the profile leaves out is
+/// named where an item, an attribute, a qualifier or a statement may begin.
 pub fn parse(alloc: Global, text: &[u8], tokens: &[Token]) -> Result<Unit, ParseFault>
     requires { AreTokens text.now (map (lexeme_of text.now) tokens.now) }
     ensures sound { IfOk result (λ u. Spells (tokens_in text.now tokens.now) (unit_view u)) }

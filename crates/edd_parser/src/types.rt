@@ -67,26 +67,26 @@ fn type_part(cursor: &mut Cursor, height_left: u32) -> Result<TypePart<Path>, Pa
     ensures { Gives (λ p. type_part_of path_of p) result cursor.new
         (reading.type_part_at height_left cursor.old) }
 {
-    let line = cursor.line();
+    let at = cursor.place();
     if cursor.eat_word(Keyword::DefaultValue) {
         let value = one(cursor, height_left)?;
-        return Ok(TypePart::DefaultValue { line, value });
+        return Ok(TypePart::DefaultValue { at, value });
     }
     if cursor.eat_word(Keyword::MinValue) {
         let value = one(cursor, height_left)?;
-        return Ok(TypePart::MinValue { line, value });
+        return Ok(TypePart::MinValue { at, value });
     }
     if cursor.eat_word(Keyword::MaxValue) {
         let value = one(cursor, height_left)?;
-        return Ok(TypePart::MaxValue { line, value });
+        return Ok(TypePart::MaxValue { at, value });
     }
     if cursor.eat_word(Keyword::DisplayFormat) {
         let format = one(cursor, height_left)?;
-        return Ok(TypePart::DisplayFormat { line, format });
+        return Ok(TypePart::DisplayFormat { at, format });
     }
     if cursor.eat_word(Keyword::EditFormat) {
         let format = one(cursor, height_left)?;
-        return Ok(TypePart::EditFormat { line, format });
+        return Ok(TypePart::EditFormat { at, format });
     }
     let enumerators = element(cursor, height_left)?;
     skip_comma(cursor);

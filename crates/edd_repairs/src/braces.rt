@@ -252,17 +252,6 @@ pub fn help_braces(
     }
 }
 
-/// The number of the token at a place.
-pub fn number_at(tokens: &[Token], place: Span) -> usize {
-    let mut found = 0;
-    for (number, token) in tokens.iter().enumerate() {
-        if span_of(token) == place {
-            found = number;
-        }
-    }
-    found
-}
-
 /// Says what is wrong where RESPONSE_CODES stands in other braces than those of its command.
 pub fn help_response_codes(
     alloc: Global,

@@ -5,9 +5,10 @@
 //! what is used.
 
 use crate::found_in;
-use crate::grammar::{Grammar, TextFault};
+use crate::grammar::{Grammar, TextFault, tokens_of};
 use crate::sections::{Section, sections};
 use edd_lexer::fault::LexFault;
+use edd_lexer::line_of;
 use edd_reports::diagnostic::{Diagnostic, Help};
 use edd_reports::words::Span;
 use edd_token_reader::fault::ParseFault;
@@ -151,21 +152,25 @@ fn moved_lexical(fault: &LexFault, first: u32) -> LexFault {
     }
 }
 
-// The refusal with the line of the text.
-fn refusal_of(alloc: Global, fault: &TextFault, first: u32) -> Result<String, AllocError> {
-    let made = match fault {
-        TextFault::Lex(why) => moved_lexical(why, first).to_string(alloc)?,
-        TextFault::Parse(ParseFault::Syntax { line }) => {
-            let line = moved_line(*line, first);
-            ParseFault::Syntax { line }.to_string(alloc)?
-        }
-        TextFault::Parse(ParseFault::TooDeep { line }) => {
-            let line = moved_line(*line, first);
-            ParseFault::TooDeep { line }.to_string(alloc)?
-        }
-        TextFault::Parse(other) => other.to_string(alloc)?,
+// The refusal of an item that is read by itself, with the line of the text.
+fn refusal_of(
+    alloc: Global,
+    alone: &[u8],
+    fault: &TextFault,
+    first: u32,
+) -> Result<String, AllocError> {
+    let why = match fault {
+        TextFault::Lex(why) => return moved_lexical(why, first).to_string(alloc),
+        TextFault::Parse(why) => why,
     };
-    Ok(made)
+    match why {
+        ParseFault::Syntax { at } | ParseFault::TooDeep { at } => {
+            let tokens = tokens_of(alloc, alone)?;
+            let line = moved_line(line_of(alone, &tokens, *at), first);
+            format!(in alloc; "{why} line {line}")
+        }
+        ParseFault::Unsupported { .. } | ParseFault::Memory => why.to_string(alloc),
+    }
 }
 
 // The place in the text of one in an item that is read by itself and begins at `start`.
@@ -190,7 +195,7 @@ pub fn explained<G: Grammar>(
     later: &LaterFault,
 ) -> Result<Diagnostic, AllocError> {
     let alone = alone(alloc, text, later.read)?;
-    let refusal = refusal_of(alloc, &later.fault, later.line)?;
+    let refusal = refusal_of(alloc, &alone, &later.fault, later.line)?;
     let found = found_in::<G>(alloc, &alone, &later.fault, refusal)?;
     let Diagnostic {
         place,

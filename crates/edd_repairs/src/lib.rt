@@ -5,10 +5,10 @@
 
 mod braces;
 mod candidates;
+mod edits;
 mod fitting;
 mod grammar;
 mod later;
-mod located;
 mod sections;
 mod syntax;
 mod trials;

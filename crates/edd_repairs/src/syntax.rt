@@ -1,16 +1,15 @@
 //! What is said of a text that spells no unit.
 
-use crate::braces::{help_braces, help_response_codes, number_at};
+use crate::braces::{help_braces, help_response_codes};
 use crate::fitting::what_fits;
-use crate::grammar::{Grammar, TextFault};
-use crate::located::{Where, located, place_on, tokens_on};
+use crate::grammar::Grammar;
 use crate::sections::is_item_word;
 use crate::trials::{Change, Misfit};
 use edd_lexer::token::{Token, TokenKind};
 use edd_lexical_repairs::{Found, help_long_string};
 use edd_reports::diagnostic::{Diagnostic, Finding};
 use edd_reports::outline::Outline;
-use edd_reports::words::{Span, item_kind, kind_word, span_of, word_of};
+use edd_reports::words::{Span, item_kind, kind_word, span_of, tokens_before, word_of};
 use edd_slips::{early_end, help_of_left_out, open_bracket, open_parenthesis, slip_at};
 use edd_syntax::numbers::{ATTRIBUTES, Attr, KINDS, Kind};
 use edd_syntax::symbols::{Keyword, Symbol};
@@ -297,70 +296,6 @@ fn help_end(
     help_open(alloc, tokens, outline, tokens.len(), found)
 }
 
-// Whether the text up to a token's end is refused for this word.
-fn is_left_out<G: Grammar>(
-    alloc: Global,
-    text: &[u8],
-    end: usize,
-    word: &str,
-) -> Result<bool, AllocError> {
-    if text.len() < end {
-        return Ok(false);
-    }
-    match G::text_fault(alloc, &text[..end])? {
-        Some(TextFault::Parse(ParseFault::Unsupported { word: found })) => {
-            Ok(found.as_str() == word)
-        }
-        _ => Ok(false),
-    }
-}
-
-// The tokens that are this word.
-fn places_of<'a>(
-    alloc: Global,
-    text: &[u8],
-    tokens: &'a [Token],
-    word: &str,
-) -> Result<Vec<&'a Token>, AllocError> {
-    let mut places = Vec::new(alloc);
-    for token in tokens {
-        if word_of(text, token) == word {
-            places.push(token)?;
-        }
-    }
-    Ok(places)
-}
-
-// The place at which a word is refused that is left out: the first up to whose end the text is. Up
-// to an earlier one it ends too early, and up to a later one it is refused at this one, so the half
-// that holds it is known from one look.
-fn place_left_out<G: Grammar>(
-    alloc: Global,
-    text: &[u8],
-    tokens: &[Token],
-    word: &str,
-) -> Result<Option<Span>, AllocError> {
-    let places = places_of(alloc, text, tokens, word)?;
-    let mut low = 0;
-    let mut high = places.len();
-    for _ in 0..usize::BITS {
-        let half = high.saturating_sub(low) / 2;
-        let middle = half.saturating_add(low);
-        let Some(token) = places.get(middle) else {
-            break;
-        };
-        if high <= low {
-            break;
-        }
-        if is_left_out::<G>(alloc, text, token.end as usize, word)? {
-            high = middle;
-        } else {
-            low = middle.saturating_add(1);
-        }
-    }
-    Ok(places.get(low).map(|token| span_of(*token)))
-}
-
 // The word of a kind of item is left out after ARRAY OF alone.
 fn help_left_out(alloc: Global, word: &str, found: &mut Diagnostic) -> Result<(), AllocError> {
     if is_item_word(word) {
@@ -399,75 +334,55 @@ fn start_of(tokens: &[Token], number: usize) -> Option<usize> {
     Some(token.start as usize)
 }
 
-// What is said where a token does not fit, and where it begins. Of a line alone nothing more is
-// known.
+// What is said where a token does not fit.
 fn syntax<G: Grammar>(
     alloc: Global,
     text: &[u8],
     tokens: &[Token],
-    line: u32,
+    number: usize,
     found: &mut Diagnostic,
-) -> Result<Option<usize>, AllocError> {
-    let number = match located::<G>(alloc, text, tokens, line)? {
-        Where::Token(number) => number,
-        Where::End => tokens.len(),
-        Where::Line(number) => {
-            found.place = tokens.get(number).map(span_of);
-            return Ok(None);
-        }
+) -> Result<(), AllocError> {
+    let first = match tokens.get(number) {
+        Some(token) => tokens_before(tokens, token.line),
+        None => tokens.len(),
     };
-    let start = start_of(tokens, number);
-    let line = tokens_on(tokens, line);
     let at = Misfit {
         text,
         tokens,
-        line,
+        first,
         number,
     };
     misfit::<G>(alloc, at, found)?;
-    let place = start.map(|start| Span { start, end: start });
-    help_long_string(alloc, text, place, false, found)?;
-    Ok(start)
+    let place = start_of(tokens, number).map(|start| Span { start, end: start });
+    help_long_string(alloc, text, place, false, found)
 }
 
-fn too_deep<G: Grammar>(
+fn too_deep(
     alloc: Global,
-    text: &[u8],
     tokens: &[Token],
-    line: u32,
+    number: usize,
     found: &mut Diagnostic,
-) -> Result<Option<usize>, AllocError> {
-    let at = located::<G>(alloc, text, tokens, line)?;
-    found.place = place_on(tokens, at);
+) -> Result<(), AllocError> {
+    found.place = tokens.get(number).map(span_of);
     let help =
         "more than 100 levels stand inside one another here: give a part to a name of its own";
     found.help(String::from_str(alloc, help)?)?;
-    match at {
-        Where::Token(number) => Ok(start_of(tokens, number)),
-        Where::Line(_) | Where::End => Ok(None),
-    }
+    Ok(())
 }
 
-fn unsupported<G: Grammar>(
+fn unsupported(
     alloc: Global,
     text: &[u8],
     tokens: &[Token],
+    number: usize,
     word: &str,
     found: &mut Diagnostic,
-) -> Result<Option<usize>, AllocError> {
-    let place = place_left_out::<G>(alloc, text, tokens, word)?;
-    found.place = place;
-    match place {
-        Some(place) if word == Keyword::ResponseCodes.spelling() => {
-            let number = number_at(tokens, place);
-            help_response_codes(alloc, text, tokens, number, found)?;
-        }
-        _ => help_left_out(alloc, word, found)?,
+) -> Result<(), AllocError> {
+    found.place = tokens.get(number).map(span_of);
+    if word == Keyword::ResponseCodes.spelling() {
+        return help_response_codes(alloc, text, tokens, number, found);
     }
-    match place {
-        Some(place) => Ok(Some(place.start)),
-        None => Ok(None),
-    }
+    help_left_out(alloc, word, found)
 }
 
 /// What is said of tokens that spell no unit.
@@ -480,14 +395,19 @@ pub fn found_in<G: Grammar>(
 ) -> Result<Found, AllocError> {
     let mut diagnostic = Diagnostic::new(alloc, Finding::Refused(refusal));
     let found = &mut diagnostic;
-    let goes_on = match fault {
-        ParseFault::Syntax { line } => syntax::<G>(alloc, text, tokens, *line, found)?,
-        ParseFault::TooDeep { line } => too_deep::<G>(alloc, text, tokens, *line, found)?,
-        ParseFault::Unsupported { word } => {
-            unsupported::<G>(alloc, text, tokens, word.as_str(), found)?
+    let Some(at) = fault.place() else {
+        return Err(AllocError);
+    };
+    let number = at.0 as usize;
+    match fault {
+        ParseFault::Syntax { .. } => syntax::<G>(alloc, text, tokens, number, found)?,
+        ParseFault::TooDeep { .. } => too_deep(alloc, tokens, number, found)?,
+        ParseFault::Unsupported { word, .. } => {
+            unsupported(alloc, text, tokens, number, word.as_str(), found)?
         }
         ParseFault::Memory => return Err(AllocError),
-    };
+    }
+    let goes_on = start_of(tokens, number);
     Ok(Found {
         diagnostic,
         goes_on,

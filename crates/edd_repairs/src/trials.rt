@@ -3,14 +3,13 @@
 use crate::candidates::{
     BEFORE, BEHIND, Missing, missing_before, nearest_word, signs_for, word_for,
 };
+use crate::edits::Edit;
 use crate::grammar::{Grammar, TextFault};
-use crate::located::{Edit, LineTokens, line_of, spread};
 use edd_lexer::token::{Token, TokenKind};
 use edd_reports::words::{Span, is_sign, item_kind, word_of};
 use edd_slips::{At, is_in_body};
 use edd_syntax::operators::{Comparison, Operator};
 use edd_syntax::symbols::{Keyword, Symbol};
-use edd_token_reader::fault::ParseFault;
 use std::alloc::{AllocError, Global};
 
 /// What an edit does.
@@ -30,23 +29,20 @@ pub enum Change<'a> {
     Renamed,
 }
 
-/// After all lines of a text.
-const PAST: u32 = u32::MAX - 1;
-
-/// A text, its tokens, and the token of a line that does not fit.
+/// A text, its tokens, the one that does not fit, and the first one of its line.
 #[derive(Clone, Copy)]
 pub struct Misfit<'a> {
     pub text: &'a [u8],
     pub tokens: &'a [Token],
-    pub line: LineTokens,
+    pub first: usize,
     pub number: usize,
 }
 
-/// The best change so far, and the line at which the text is refused then.
+/// The best change so far, and the token at which the text is refused then.
 #[derive(Clone, Copy)]
 struct Best<'a> {
     change: Option<Change<'a>>,
-    line: u32,
+    reached: usize,
 }
 
 fn edit_of<'a>(number: usize, change: Change<'a>) -> Edit<'a> {
@@ -66,44 +62,27 @@ fn edit_of<'a>(number: usize, change: Change<'a>) -> Edit<'a> {
 }
 
 impl<'a> Misfit<'a> {
-    // The line of the token in the spread text.
-    fn own_line(&self) -> u32 {
-        let behind = self.number.saturating_sub(self.line.first);
-        let behind = u32::try_from(behind).unwrap_or(u32::MAX);
-        self.line.line.saturating_add(behind)
-    }
-
-    // The line of the token after it in the spread text.
-    fn line_after(&self) -> u32 {
-        let next = self.number.saturating_add(1);
-        let lines = match self.tokens.get(next) {
-            Some(token) if self.line.behind <= next => token.line.saturating_sub(self.line.line),
-            _ => 0,
-        };
-        self.own_line().saturating_add(1).saturating_add(lines)
-    }
-
-    // Whether the token or the one after it is this word.
-    fn is_near(&self, word: &str) -> bool {
-        for token in self.tokens.iter().skip(self.number).take(2) {
-            if word_of(self.text, token) == word {
-                return true;
-            }
+    // The token at which a changed text is refused by its grammar, past all where it is not.
+    fn reached<G: Grammar>(&self, alloc: Global, edit: Edit<'_>) -> Result<usize, AllocError> {
+        let text = edit.applied(alloc, self.text, self.tokens)?;
+        match G::text_fault(alloc, &text)? {
+            None => Ok(usize::MAX),
+            Some(TextFault::Lex(_)) => Ok(0),
+            Some(TextFault::Parse(fault)) => match fault.place() {
+                Some(at) => edit.original(alloc, at.0 as usize),
+                None => Err(AllocError),
+            },
         }
-        false
     }
 
-    // The line at which a changed text is refused by its grammar, as late as it gets where it is
-    // not. That of a word which is left out is not known, but it is a later one of the text.
-    fn line_reached<G: Grammar>(&self, alloc: Global, text: &[u8]) -> Result<u32, AllocError> {
-        let line = match G::text_fault(alloc, text)? {
-            None => u32::MAX,
-            Some(TextFault::Parse(ParseFault::Unsupported { word })) => {
-                if self.is_near(word.as_str()) { 0 } else { PAST }
-            }
-            Some(fault) => line_of(&fault).unwrap_or(0),
-        };
-        Ok(line)
+    // The last token that a change has to lead past: the one after this one, or the text's end,
+    // unless that token is on another line.
+    fn last_near(&self) -> usize {
+        let next = self.number.saturating_add(1);
+        match (self.tokens.get(self.number), self.tokens.get(next)) {
+            (Some(token), Some(behind)) if token.line != behind.line => self.number,
+            _ => next,
+        }
     }
 
     // Tries a change, which has to lead past the token after it.
@@ -113,14 +92,13 @@ impl<'a> Misfit<'a> {
         best: &mut Best<'a>,
         change: Change<'a>,
     ) -> Result<(), AllocError> {
-        let edit = Some(edit_of(self.number, change));
-        let text = spread(alloc, self.text, self.tokens, self.line, edit)?;
-        let reached = self.line_reached::<G>(alloc, &text)?;
-        if matches!(change, Change::LeaveOut) && reached <= self.line_after() {
+        let reached = self.reached::<G>(alloc, edit_of(self.number, change))?;
+        let next = self.number.saturating_add(1);
+        if matches!(change, Change::LeaveOut) && reached <= next {
             return Ok(());
         }
-        if best.line < reached {
-            best.line = reached;
+        if best.reached < reached {
+            best.reached = reached;
             best.change = Some(change);
         }
         Ok(())
@@ -290,7 +268,7 @@ impl<'a> Misfit<'a> {
     pub fn best_change<G: Grammar>(&self, alloc: Global) -> Result<Option<Change<'a>>, AllocError> {
         let mut best = Best {
             change: None,
-            line: self.own_line().saturating_add(1),
+            reached: self.last_near(),
         };
         self.attempt_words::<G>(alloc, &mut best)?;
         for sign in BEHIND {
@@ -321,22 +299,15 @@ impl<'a> Misfit<'a> {
 
     /// Whether the grammar takes a word or a sign in place of the token.
     pub fn takes<G: Grammar>(&self, alloc: Global, word: &str) -> Result<bool, AllocError> {
-        let edit = Some(edit_of(self.number, Change::Instead(word)));
-        let text = spread(alloc, self.text, self.tokens, self.line, edit)?;
-        Ok(match G::text_fault(alloc, &text)? {
-            None => true,
-            Some(TextFault::Parse(ParseFault::Unsupported { word: found })) => {
-                found.as_str() != word
-            }
-            Some(fault) => self.own_line() < line_of(&fault).unwrap_or(0),
-        })
+        let reached = self.reached::<G>(alloc, edit_of(self.number, Change::Instead(word)))?;
+        Ok(self.number < reached)
     }
 
     /// Whether a text fits in place of a name that does not.
     pub fn wants_text<G: Grammar>(&self, alloc: Global) -> Result<bool, AllocError> {
         let mut best = Best {
             change: None,
-            line: self.own_line(),
+            reached: self.number,
         };
         if self.kind_before() != Some(TokenKind::String) {
             self.attempt_kinds::<G>(alloc, &mut best)?;
@@ -350,7 +321,7 @@ impl<'a> Misfit<'a> {
             text: self.text,
             tokens: self.tokens,
             number: self.number,
-            first: self.line.first,
+            first: self.first,
         }
     }
 
@@ -379,20 +350,26 @@ impl<'a> Misfit<'a> {
         Some(Span { start: end, end })
     }
 
+    // The same one token later.
+    fn later(&self) -> Misfit<'a> {
+        let number = self.number.saturating_add(1);
+        Misfit { number, ..*self }
+    }
+
     /// The same one token earlier, where that is on the same line.
     pub fn earlier(&self) -> Option<Misfit<'a>> {
         let number = self.number.checked_sub(1)?;
-        if number < self.line.first {
+        if number < self.first {
             return None;
         }
         Some(Misfit { number, ..*self })
     }
 
-    /// The word or the sign that is meant by the token, if it leads past the token after it.
+    /// The word or the sign that is meant by the token, if it leads past the two after it.
     pub fn best_word<G: Grammar>(&self, alloc: Global) -> Result<Option<Change<'a>>, AllocError> {
         let mut best = Best {
             change: None,
-            line: self.own_line().saturating_add(2),
+            reached: self.later().last_near(),
         };
         self.attempt_words::<G>(alloc, &mut best)?;
         self.attempt_signs::<G>(alloc, &mut best)?;

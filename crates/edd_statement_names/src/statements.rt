@@ -89,8 +89,8 @@ fn copy_stmt<'a>(
             let (on, parts) = copy_switched(parts, on, names, scope, next)?;
             Ok(Stmt::Switch(on, parts))
         }
-        Stmt::Break { line } => Ok(Stmt::Break { line: *line }),
-        Stmt::Continue { line } => Ok(Stmt::Continue { line: *line }),
+        Stmt::Break { at } => Ok(Stmt::Break { at: *at }),
+        Stmt::Continue { at } => Ok(Stmt::Continue { at: *at }),
         Stmt::Return => Ok(Stmt::Return),
     }
 }
@@ -417,10 +417,10 @@ fn copy_part<'a>(
             Ok(Part::Declare(copies))
         }
         Part::Statement(s) => made_of!(copy_stmt(s, names, scope, next), s => Part::Statement(s)),
-        Part::CaseLabel { line, label } => Ok(Part::CaseLabel {
-            line: *line,
+        Part::CaseLabel { at, label } => Ok(Part::CaseLabel {
+            at: *at,
             label: *label,
         }),
-        Part::DefaultLabel { line } => Ok(Part::DefaultLabel { line: *line }),
+        Part::DefaultLabel { at } => Ok(Part::DefaultLabel { at: *at }),
     }
 }

@@ -37,10 +37,11 @@ fn declarator(cursor: &mut Cursor, height_left: u32) -> Result<Declarator<Path>,
     ensures { Gives declarator_view result cursor.new
         (reading.declarator_at height_left cursor.old) }
 {
+    let at = cursor.place();
     let Some(name) = cursor.name() else {
         return Err(cursor.syntax());
     };
-    let place = plain(cursor.alloc(), name)?;
+    let place = plain(cursor.alloc(), at, name)?;
     let value = initial_value(cursor, height_left)?;
     Ok(Declarator { place, value })
 }

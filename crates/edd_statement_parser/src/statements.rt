@@ -14,6 +14,7 @@ use crate::statement_trees::{
 use edd_expression_parser::cond::{condition, label};
 use edd_expression_parser::expr::expr;
 use edd_syntax::expr::Expr;
+use edd_syntax::numbers::TokenNo;
 use edd_syntax::reference::Path;
 use edd_syntax::stmt::{Part, Stmt};
 use edd_syntax::symbols::{Keyword, Symbol};
@@ -105,11 +106,11 @@ fn switch_head(cursor: &mut Cursor, height_left: u32) -> Result<Expr<Path>, Pars
     Ok(on)
 }
 
-// The fault at a line, by the word that is left out if there is one.
-fn wrong_word(alloc: Global, word: Option<&str>, line: u32) -> ParseFault {
+// The fault at a token, by the word that is left out if there is one.
+fn wrong_word(alloc: Global, word: Option<&str>, at: TokenNo) -> ParseFault {
     match word {
-        Some(word) => ParseFault::unsupported(alloc, word),
-        None => ParseFault::Syntax { line },
+        Some(word) => ParseFault::unsupported(alloc, at, word),
+        None => ParseFault::Syntax { at },
     }
 }
 
@@ -124,7 +125,7 @@ fn evaluate(cursor: &mut Cursor, height_left: u32) -> Result<Stmt<Path>, ParseFa
     let word = left_out_reserved(cursor);
     let e = match expr(cursor, Site::Method, height_left, 1) {
         Ok(e) => e.expr,
-        Err(ParseFault::Syntax { line }) => return Err(wrong_word(cursor.alloc(), word, line)),
+        Err(ParseFault::Syntax { at }) => return Err(wrong_word(cursor.alloc(), word, at)),
         Err(fault) => return Err(fault),
     };
     cursor.expect(Symbol::Semicolon)?;
@@ -137,14 +138,14 @@ fn simple_statement(cursor: &mut Cursor, height_left: u32) -> Result<Stmt<Path>,
     requires { height_left ≤ 100 }
     ensures { Gives stmt_view result cursor.new (simple_at height_left cursor.old) }
 {
-    let line = cursor.line();
+    let at = cursor.place();
     if cursor.eat_word(Keyword::Break) {
         cursor.expect(Symbol::Semicolon)?;
-        return Ok(Stmt::Break { line });
+        return Ok(Stmt::Break { at });
     }
     if cursor.eat_word(Keyword::Continue) {
         cursor.expect(Symbol::Semicolon)?;
-        return Ok(Stmt::Continue { line });
+        return Ok(Stmt::Continue { at });
     }
     if cursor.eat_word(Keyword::Return) {
         cursor.expect(Symbol::Semicolon)?;
@@ -246,18 +247,18 @@ fn part(cursor: &mut Cursor, height_left: u32, labels: bool) -> Result<Part<Path
     ensures { Gives part_view result cursor.new
         (reading.part_at height_left (statement_at height_left) labels cursor.old) }
 {
-    let line = cursor.line();
+    let at = cursor.place();
     if is_at_local_type(cursor) {
         cursor.bump();
         return Ok(Part::Declare(declaration(cursor, height_left)?));
     }
     if labels && cursor.eat_word(Keyword::MethodCase) {
         let label = case_label(cursor)?;
-        return Ok(Part::CaseLabel { line, label });
+        return Ok(Part::CaseLabel { at, label });
     }
     if labels && cursor.eat_word(Keyword::MethodDefault) {
         cursor.expect(Symbol::Colon)?;
-        return Ok(Part::DefaultLabel { line });
+        return Ok(Part::DefaultLabel { at });
     }
     Ok(Part::Statement(statement(cursor, height_left)?))
 }

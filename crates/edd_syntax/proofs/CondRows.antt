@@ -1,7 +1,8 @@
 -- What each variant of a conditional stands for.
-use Rattle.std.proofs.Common.{◌≡◌, refl, ap, ◌∙◌, ℕ, ℤ, ◌∷◌}
+use Rattle.std.proofs.Common.{◌≡◌, refl, ap, ◌∙◌, ℤ, ◌∷◌}
 use Rattle.std.specs.Prelude.{Vec, map}
 use Rattle.std.specs.declared.alloc.Global.{Global}
+use Rattle.edd_syntax.specs.declared.numbers.TokenNo.{TokenNo}
 use Rattle.edd_syntax.specs.declared.expr.Expr.{Expr}
 use Rattle.edd_syntax.specs.declared.cond.Cond.{Cond, Row_of-Cond, end_of-Cond, more_of-Cond, Row_of-Arm, end_of-Arm, more_of-Arm}
 use Rattle.edd_syntax.specs.declared.cond.Cond.TheVariants as c
@@ -60,9 +61,9 @@ module _ {R S V W : Type 0} (f : R → S) (g : V → W) where
   unfolding cond_of
   of_case label v = ap (λ xs. pure.Case label (pure.conds_from xs)) (conds_of_vec v)
 
-  pub of_default : (line : ℕ) (v : Vec (Cond R V) Global) → arm_of f g (a.Default line v)
+  pub of_default : (at : TokenNo) (v : Vec (Cond R V) Global) → arm_of f g (a.Default at v)
       ≡ pure.Default (pure.conds_from (map (cond_of f g) v.items))
   unfolding cond_of
-  of_default line v = ap (λ xs. pure.Default (pure.conds_from xs)) (conds_of_vec v)
+  of_default at v = ap (λ xs. pure.Default (pure.conds_from xs)) (conds_of_vec v)
 
 pub ruleset equations = (of_value, of_if, of_select, of_case, of_default)

@@ -1,7 +1,8 @@
 -- The view of a tree whose children a vector holds, over the list of the vector's items.
-use Rattle.std.proofs.Common.{◌≡◌, refl, sym, ap, ◌∙◌, ℕ, List, ◌∷◌}
+use Rattle.std.proofs.Common.{◌≡◌, refl, sym, ap, ◌∙◌, List, ◌∷◌}
 use Rattle.std.specs.Prelude.{Vec, map}
 use Rattle.std.specs.declared.alloc.Global.{Global}
+use Rattle.edd_syntax.specs.declared.numbers.TokenNo.{TokenNo}
 use Rattle.edd_syntax.specs.declared.expr.Expr.{Expr, Row_of-Argument, end_of-Argument, more_of-Argument}
 use Rattle.edd_syntax.specs.declared.expr.Expr.TheVariants as e
 use Rattle.edd_syntax.specs.declared.expr.Argument.{Argument}
@@ -37,10 +38,10 @@ parts_of_vec {R} f v = parts_items f _ (hidden-the_row-Part-0 R v)
 
 -- ---- what a tree stands for that is a variant over a vector
 
-pub call_is : {R S : Type 0} (f : R → S) (x : Expr R) (line : ℕ) (function : R)
-    (v : Vec (Argument R) Global) → x ≡ e.Call line function v
+pub call_is : {R S : Type 0} (f : R → S) (x : Expr R) (at : TokenNo) (function : R)
+    (v : Vec (Argument R) Global) → x ≡ e.Call at function v
     → expr_of f x ≡ pure.Call (f function) (pure.arguments_from (map (argument_of f) v.items))
-call_is f x line function v is = ap (expr_of f) is
+call_is f x at function v is = ap (expr_of f) is
     ∙ ap (λ xs. pure.Call (f function) (pure.arguments_from xs)) (arguments_of_vec f v)
 
 pub block_is : {R S : Type 0} (f : R → S) (x : Stmt R) (v : Vec (Part R) Global) → x ≡ s.Block v
@@ -56,10 +57,10 @@ switch_is f x on v is = ap (stmt_of f) is
 
 -- ---- a tree rebuilt from an equal list
 
-pub call_rebuilt : {R S : Type 0} (f : R → S) (x : Expr R) (line : ℕ) (function : R)
-    (v w : Vec (Argument R) Global) (items : List (Argument R)) → x ≡ e.Call line function v
+pub call_rebuilt : {R S : Type 0} (f : R → S) (x : Expr R) (at : TokenNo) (function : R)
+    (v w : Vec (Argument R) Global) (items : List (Argument R)) → x ≡ e.Call at function v
     → items ≡ v.items → map (argument_of f) w.items ≡ map (argument_of f) items
-    → expr_of f (e.Call line function w) ≡ expr_of f x
-call_rebuilt f x line function v w items is same_items same =
-    call_is f _ line function w refl ∙ ap (λ xs. pure.Call (f function) (pure.arguments_from xs))
-    (same ∙ ap (map (argument_of f)) same_items) ∙ sym (call_is f x line function v is)
+    → expr_of f (e.Call at function w) ≡ expr_of f x
+call_rebuilt f x at function v w items is same_items same =
+    call_is f _ at function w refl ∙ ap (λ xs. pure.Call (f function) (pure.arguments_from xs))
+    (same ∙ ap (map (argument_of f)) same_items) ∙ sym (call_is f x at function v is)

@@ -48,7 +48,7 @@ unfoldable mutual
   -- an arm
   pub arm_of : {R S V W : Type 0} → (R → S) → (V → W) → Arm R V → pure.Arm S W
   arm_of f g (Case' label shape body) = pure.Case label (pure.conds_from (conds_in f g body))
-  arm_of f g (Default' line shape body) = pure.Default (pure.conds_from (conds_in f g body))
+  arm_of f g (Default' at shape body) = pure.Default (pure.conds_from (conds_in f g body))
 
   -- the conditionals that a vector holds
   pub conds_in : {R S V W : Type 0} {n : _} → (R → S) → (V → W) → Row_of-Cond R V n
@@ -83,8 +83,8 @@ entry_of f (entry.Reference to qualifiers) = items.Reference (f to) qualifiers
 
 -- a data item
 abbrev pub data_item_of : {R S : Type 0} → (R → S) → DataItem R → items.DataItem S
-data_item_of f (data_item.Constant line value) = items.Constant value
-data_item_of f (data_item.Variable line variable mask qualifiers) =
+data_item_of f (data_item.Constant at value) = items.Constant value
+data_item_of f (data_item.Variable at variable mask qualifiers) =
     items.Variable (f variable) mask qualifiers
 
 -- a response code
@@ -117,39 +117,39 @@ type_word_of (word.Other text) = items.Other (string_bytes text)
 
 -- what is in the braces of a type
 abbrev pub type_part_of : {R S : Type 0} → (R → S) → TypePart R → items.TypePart S
-type_part_of f (part.DefaultValue line value) = items.DefaultValue (cond_of f (expr_of f) value)
-type_part_of f (part.MinValue line value) = items.MinValue (cond_of f (expr_of f) value)
-type_part_of f (part.MaxValue line value) = items.MaxValue (cond_of f (expr_of f) value)
-type_part_of f (part.DisplayFormat line format) = items.DisplayFormat (cond_of f text_of format)
-type_part_of f (part.EditFormat line format) = items.EditFormat (cond_of f text_of format)
+type_part_of f (part.DefaultValue at value) = items.DefaultValue (cond_of f (expr_of f) value)
+type_part_of f (part.MinValue at value) = items.MinValue (cond_of f (expr_of f) value)
+type_part_of f (part.MaxValue at value) = items.MaxValue (cond_of f (expr_of f) value)
+type_part_of f (part.DisplayFormat at format) = items.DisplayFormat (cond_of f text_of format)
+type_part_of f (part.EditFormat at format) = items.EditFormat (cond_of f text_of format)
 type_part_of f (part.Element element) = items.Element (cond_of f enumerator_of element)
 
 -- a REQUEST or a REPLY
 abbrev pub transaction_part_of : {R S : Type 0} → (R → S) → TransactionPart R
     → items.TransactionPart S
-transaction_part_of f (transaction.Request all) =
+transaction_part_of f (transaction.Request at all) =
     items.Request (conds_of f (data_item_of f) all.items)
-transaction_part_of f (transaction.Reply all) = items.Reply (conds_of f (data_item_of f) all.items)
+transaction_part_of f (transaction.Reply at all) = items.Reply (conds_of f (data_item_of f) all.items)
 
 -- an attribute
 abbrev pub attribute_of : {R S : Type 0} → (R → S) → Attribute R → items.Attribute S
-attribute_of f (attribute.OneText which c) = items.OneText which (cond_of f text_of c)
-attribute_of f (attribute.Class words) = items.Class (map string_bytes words.items)
-attribute_of f (attribute.Handling c) = items.Handling (cond_of f (λ h. h) c)
-attribute_of f (attribute.Validity c) = items.Validity (cond_of f (λ b. b) c)
-attribute_of f (attribute.TypeOf word parts) =
+attribute_of f (attribute.OneText at which c) = items.OneText which (cond_of f text_of c)
+attribute_of f (attribute.Class at words) = items.Class (map string_bytes words.items)
+attribute_of f (attribute.Handling at c) = items.Handling (cond_of f (λ h. h) c)
+attribute_of f (attribute.Validity at c) = items.Validity (cond_of f (λ b. b) c)
+attribute_of f (attribute.TypeOf at word parts) =
     items.TypeOf (type_word_of word) (map (type_part_of f) parts.items)
-attribute_of f (attribute.Number n) = items.Number n
-attribute_of f (attribute.Operation operation) = items.Operation operation
-attribute_of f (attribute.Transaction number parts) =
+attribute_of f (attribute.Number at n) = items.Number n
+attribute_of f (attribute.Operation at operation) = items.Operation operation
+attribute_of f (attribute.Transaction at number parts) =
     items.Transaction number (map (transaction_part_of f) parts.items)
-attribute_of f (attribute.ResponseCodes codes) =
+attribute_of f (attribute.ResponseCodes at codes) =
     items.ResponseCodes (map response_code_of codes.items)
-attribute_of f (attribute.Items entries) = items.Items (conds_of f (entry_of f) entries.items)
-attribute_of f (attribute.Members members) = items.Members (map (member_of f) members.items)
-attribute_of f (attribute.Elements elements) =
+attribute_of f (attribute.Items at entries) = items.Items (conds_of f (entry_of f) entries.items)
+attribute_of f (attribute.Members at members) = items.Members (map (member_of f) members.items)
+attribute_of f (attribute.Elements at elements) =
     items.Elements (map (array_element_of f) elements.items)
-attribute_of f (attribute.Definition parts) =
+attribute_of f (attribute.Definition at parts) =
     items.Definition (statement.body_from (map (part_of f) parts.items))
 
 -- ---- items

@@ -1,4 +1,4 @@
--- What expressions and statements in the code stand for: trees of the pure syntax, without lines
+-- What expressions and statements in the code stand for: trees of the pure syntax, without places
 -- and pointers. `f` says what a reference stands for.
 use Rattle.std.specs.Prelude.{List, [], ◌∷◌, map, option_map, string_bytes}
 use Rattle.edd_syntax.specs.declared.reference.Path.{Path}
@@ -25,7 +25,7 @@ path_of p = record { base = string_bytes p.base; members = map string_bytes p.me
 abbrev mutual
   pub expr_of : {R S : Type 0} → (R → S) → Expr R → pure.Expr S
   expr_of f (Literal value) = pure.Literal value
-  expr_of f (Decimal line) = pure.Decimal
+  expr_of f (Decimal at) = pure.Decimal
   expr_of f (Reference from) = pure.Reference (f from)
   expr_of f (Indexed' array p index) = pure.Indexed (f array) (expr_of f index)
   expr_of f (Parentheses' p inner) = pure.Parentheses (expr_of f inner)
@@ -39,7 +39,7 @@ abbrev mutual
   expr_of f (Assign' to p value) = pure.Assign (f to) (expr_of f value)
   expr_of f (CompoundAssign' op to p value) = pure.CompoundAssign op (f to) (expr_of f value)
   expr_of f (Increment by to) = pure.Increment by (f to)
-  expr_of f (Call' line function shape arguments) =
+  expr_of f (Call' at function shape arguments) =
       pure.Call (f function) (pure.arguments_from (arguments_in f arguments))
 
   -- the arguments that a vector holds
@@ -72,8 +72,8 @@ abbrev mutual
       (option_map (expr_of f) update) (stmt_of f body)
   stmt_of f (Switch' on shape parts) =
       statement.Switch (expr_of f on) (statement.body_from (parts_in f parts))
-  stmt_of f (Break line) = statement.Break
-  stmt_of f (Continue line) = statement.Continue
+  stmt_of f (Break at) = statement.Break
+  stmt_of f (Continue at) = statement.Continue
   stmt_of f Return = statement.Return
 
   -- the parts that a vector holds
@@ -85,8 +85,8 @@ abbrev mutual
   pub part_of : {R S : Type 0} → (R → S) → Part R → statement.Part S
   part_of f (Declare declarators) = statement.Declare (map (declarator_of f) declarators.items)
   part_of f (Statement s) = statement.Statement (stmt_of f s)
-  part_of f (CaseLabel line label) = statement.CaseLabel label
-  part_of f (DefaultLabel line) = statement.DefaultLabel
+  part_of f (CaseLabel at label) = statement.CaseLabel label
+  part_of f (DefaultLabel at) = statement.DefaultLabel
 
 -- ---- trees whose references are numbers already
 

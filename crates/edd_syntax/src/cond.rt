@@ -1,6 +1,7 @@
 //! Conditionals, over the types R of references and V of values.
 
 use crate::expr::Expr;
+use crate::numbers::TokenNo;
 
 /// A value, or values that depend on expressions. A single value has one conditional at each
 /// branch, a list any number.
@@ -24,5 +25,5 @@ pub enum Cond<R, V> {
 #[derive(Drop)]
 pub enum Arm<R, V> {
     Case { label: i64, body: Vec<Cond<R, V>> },
-    Default { line: u32, body: Vec<Cond<R, V>> },
+    Default { at: TokenNo, body: Vec<Cond<R, V>> },
 }

@@ -55,7 +55,7 @@ fn push_attribute(
         (listed.written_elements (numbered_attribute attribute.now))) }
 {
     match attribute {
-        Attribute::Elements(elements) => push_elements(found, array, elements),
+        Attribute::Elements(_, elements) => push_elements(found, array, elements),
         _ => Ok(()),
     }
 }

@@ -1,17 +1,17 @@
 //! Expressions, over the type R of their references.
 
+use crate::numbers::TokenNo;
 use crate::operators::{Comparison, IncrementOperator, Operator, UnaryOperator};
 use crate::text::Text;
 
-/// An expression of an attribute or a method. Lines are where a refusal may name them, and have
-/// no meaning.
+/// An expression of an attribute or a method. What is at a token is where a refusal may name it.
 #[cycle(expr)]
 #[derive(Drop)]
 pub enum Expr<R> {
     Literal(u32),
     /// A number with a fraction or an exponent, which no checked unit has.
     Decimal {
-        line: u32,
+        at: TokenNo,
     },
     Reference(R),
     /// `array [ index ]`
@@ -29,7 +29,7 @@ pub enum Expr<R> {
     CompoundAssign(Operator, R, Box<Expr<R>>),
     Increment(IncrementOperator, R),
     Call {
-        line: u32,
+        at: TokenNo,
         function: R,
         arguments: Vec<Argument<R>>,
     },

@@ -6,7 +6,7 @@ ghost use Rattle.edd_syntax.specs.ItemView.{sort_of, name_of, attributes_of};
 
 use crate::cond::Cond;
 use crate::expr::Expr;
-use crate::numbers::{Kind, TextAttribute};
+use crate::numbers::{Kind, TextAttribute, TokenNo};
 use crate::stmt::Part;
 use crate::text::Text;
 use crate::types::{Handling, Operation, ResponseClass, VarType};
@@ -15,7 +15,7 @@ use crate::types::{Handling, Operation, ResponseClass, VarType};
 #[derive(Drop)]
 pub struct Enumerator {
     /// Where its brace is.
-    pub line: u32,
+    pub at: TokenNo,
     pub value: i64,
     pub text: Text,
     pub help: Option<Text>,
@@ -48,11 +48,11 @@ pub struct DataQualifiers {
 #[derive(Drop)]
 pub enum DataItem<R> {
     Constant {
-        line: u32,
+        at: TokenNo,
         value: u32,
     },
     Variable {
-        line: u32,
+        at: TokenNo,
         variable: R,
         mask: Option<u32>,
         qualifiers: DataQualifiers,
@@ -70,6 +70,8 @@ pub struct ResponseCode {
 /// `name, item, label, help;`
 #[derive(Drop)]
 pub struct Member<R> {
+    /// Where its name is.
+    pub at: TokenNo,
     pub name: String,
     pub item: R,
     pub label: Option<Text>,
@@ -79,7 +81,8 @@ pub struct Member<R> {
 /// `number, variable, label, help;`
 #[derive(Drop)]
 pub struct ArrayElement<R> {
-    pub line: u32,
+    /// Where its number is.
+    pub at: TokenNo,
     pub number: u32,
     pub variable: R,
     pub label: Option<Text>,
@@ -93,69 +96,94 @@ pub enum TypeWord {
     Other(String),
 }
 
-/// What is in the braces of a type.
+/// What is in the braces of a type. An option is where its word is.
 #[derive(Drop)]
 pub enum TypePart<R> {
-    DefaultValue { line: u32, value: Cond<R, Expr<R>> },
-    MinValue { line: u32, value: Cond<R, Expr<R>> },
-    MaxValue { line: u32, value: Cond<R, Expr<R>> },
-    DisplayFormat { line: u32, format: Cond<R, Text> },
-    EditFormat { line: u32, format: Cond<R, Text> },
+    DefaultValue {
+        at: TokenNo,
+        value: Cond<R, Expr<R>>,
+    },
+    MinValue {
+        at: TokenNo,
+        value: Cond<R, Expr<R>>,
+    },
+    MaxValue {
+        at: TokenNo,
+        value: Cond<R, Expr<R>>,
+    },
+    DisplayFormat {
+        at: TokenNo,
+        format: Cond<R, Text>,
+    },
+    EditFormat {
+        at: TokenNo,
+        format: Cond<R, Text>,
+    },
     /// An element of the type's list of enumerators.
     Element(Cond<R, Enumerator>),
 }
 
-/// What is in the braces of a transaction.
+/// What is in the braces of a transaction, each where its word is.
 #[derive(Drop)]
 pub enum TransactionPart<R> {
-    Request(Vec<Cond<R, DataItem<R>>>),
-    Reply(Vec<Cond<R, DataItem<R>>>),
+    Request(TokenNo, Vec<Cond<R, DataItem<R>>>),
+    Reply(TokenNo, Vec<Cond<R, DataItem<R>>>),
 }
 
-/// An attribute as it is written.
+/// An attribute as it is written, where its word is.
 #[derive(Drop)]
 pub enum Attribute<R> {
-    OneText(TextAttribute, Cond<R, Text>),
-    Class(Vec<String>),
-    Handling(Cond<R, Handling>),
-    Validity(Cond<R, bool>),
+    OneText(TokenNo, TextAttribute, Cond<R, Text>),
+    Class(TokenNo, Vec<String>),
+    Handling(TokenNo, Cond<R, Handling>),
+    Validity(TokenNo, Cond<R, bool>),
     TypeOf {
+        at: TokenNo,
         word: TypeWord,
         parts: Vec<TypePart<R>>,
     },
-    Number(u32),
-    Operation(Operation),
+    Number(TokenNo, u32),
+    Operation(TokenNo, Operation),
     Transaction {
+        at: TokenNo,
         number: Option<u32>,
         parts: Vec<TransactionPart<R>>,
     },
-    ResponseCodes(Vec<ResponseCode>),
-    Items(Vec<Cond<R, MenuEntry<R>>>),
-    Members(Vec<Member<R>>),
-    Definition(Vec<Part<R>>),
-    Elements(Vec<ArrayElement<R>>),
+    ResponseCodes(TokenNo, Vec<ResponseCode>),
+    Items(TokenNo, Vec<Cond<R, MenuEntry<R>>>),
+    Members(TokenNo, Vec<Member<R>>),
+    Definition(TokenNo, Vec<Part<R>>),
+    Elements(TokenNo, Vec<ArrayElement<R>>),
 }
 
 #[derive(Drop)]
 pub struct VariableDef<R> {
+    /// Where its name is.
+    pub at: TokenNo,
     pub name: String,
     pub attributes: Vec<Attribute<R>>,
 }
 
 #[derive(Drop)]
 pub struct CommandDef<R> {
+    /// Where its name is.
+    pub at: TokenNo,
     pub name: String,
     pub attributes: Vec<Attribute<R>>,
 }
 
 #[derive(Drop)]
 pub struct MenuDef<R> {
+    /// Where its name is.
+    pub at: TokenNo,
     pub name: String,
     pub attributes: Vec<Attribute<R>>,
 }
 
 #[derive(Drop)]
 pub struct CollectionDef<R> {
+    /// Where its name is.
+    pub at: TokenNo,
     /// The kind of its members.
     pub of: Kind,
     pub name: String,
@@ -164,6 +192,8 @@ pub struct CollectionDef<R> {
 
 #[derive(Drop)]
 pub struct MethodDef<R> {
+    /// Where its name is.
+    pub at: TokenNo,
     pub name: String,
     pub attributes: Vec<Attribute<R>>,
 }
@@ -171,6 +201,8 @@ pub struct MethodDef<R> {
 /// An array of variables.
 #[derive(Drop)]
 pub struct ArrayDef<R> {
+    /// Where its name is.
+    pub at: TokenNo,
     pub name: String,
     pub attributes: Vec<Attribute<R>>,
 }

@@ -1,11 +1,13 @@
 //! What names refer to.
 
-use crate::numbers::ItemNo;
+use crate::numbers::{ItemNo, TokenNo};
 use crate::operators::Builtin;
 
 /// `name`, or `c.m` for a member of a collection, and so on.
 #[derive(Drop)]
 pub struct Path {
+    /// Where its first name is; the others are after it, each behind a dot.
+    pub at: TokenNo,
     pub base: String,
     pub members: Vec<String>,
 }

@@ -53,19 +53,19 @@ fn stands_for(attribute: &Attribute<Target>, attr: Attr) -> bool
     ensures { result ≡ order.stands_for attr (numbered_attribute attribute.now) }
 {
     let written = match attribute {
-        Attribute::OneText(which, _) => which.attr(),
-        Attribute::Class(_) => Attr::Class,
-        Attribute::Handling(_) => Attr::Handling,
-        Attribute::Validity(_) => Attr::Validity,
+        Attribute::OneText(_, which, _) => which.attr(),
+        Attribute::Class(_, _) => Attr::Class,
+        Attribute::Handling(_, _) => Attr::Handling,
+        Attribute::Validity(_, _) => Attr::Validity,
         Attribute::TypeOf { parts, .. } => return has_part(parts, attr),
-        Attribute::Number(_) => Attr::Number,
-        Attribute::Operation(_) => Attr::Operation,
+        Attribute::Number(_, _) => Attr::Number,
+        Attribute::Operation(_, _) => Attr::Operation,
         Attribute::Transaction { .. } => return false,
-        Attribute::ResponseCodes(_) => Attr::ResponseCodes,
-        Attribute::Items(_) => Attr::Items,
-        Attribute::Members(_) => Attr::Members,
-        Attribute::Definition(_) => Attr::Definition,
-        Attribute::Elements(_) => Attr::Elements,
+        Attribute::ResponseCodes(_, _) => Attr::ResponseCodes,
+        Attribute::Items(_, _) => Attr::Items,
+        Attribute::Members(_, _) => Attr::Members,
+        Attribute::Definition(_, _) => Attr::Definition,
+        Attribute::Elements(_, _) => Attr::Elements,
     };
     attr == written
 }

@@ -1,6 +1,7 @@
 //! Statements, over the type R of their references.
 
 use crate::expr::Expr;
+use crate::numbers::TokenNo;
 
 #[cycle(stmt)]
 #[derive(Drop)]
@@ -21,10 +22,10 @@ pub enum Stmt<R> {
     },
     Switch(Expr<R>, Vec<Part<R>>),
     Break {
-        line: u32,
+        at: TokenNo,
     },
     Continue {
-        line: u32,
+        at: TokenNo,
     },
     Return,
 }
@@ -35,8 +36,8 @@ pub enum Stmt<R> {
 pub enum Part<R> {
     Declare(Vec<Declarator<R>>),
     Statement(Stmt<R>),
-    CaseLabel { line: u32, label: i64 },
-    DefaultLabel { line: u32 },
+    CaseLabel { at: TokenNo, label: i64 },
+    DefaultLabel { at: TokenNo },
 }
 
 /// A declared local, with its value if one is written.

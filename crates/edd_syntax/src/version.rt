@@ -169,7 +169,7 @@ fn in_attribute(attribute: &Attribute<Target>) -> bool
     ensures { result ≡ list_any body_names_it (bodies_in (numbered_attribute attribute.now)) }
 {
     match attribute {
-        Attribute::Definition(parts) => in_body(parts),
+        Attribute::Definition(_, parts) => in_body(parts),
         _ => false,
     }
 }

@@ -32,9 +32,9 @@ assignment_view (assignment.Compound op) = signs.Compound op
 
 -- What a refusal says: this, unless memory ran out.
 abbrev pub Says : ParseFault → Type 0 → Type 0
-Says (fault.Syntax line) P = P
-Says (fault.TooDeep line) P = P
-Says (fault.Unsupported word) P = P
+Says (fault.Syntax at) P = P
+Says (fault.TooDeep at) P = P
+Says (fault.Unsupported at word) P = P
 Says fault.Memory P = Unit {0}
 
 -- What a call answered, seen by `view`, with the tokens that it left, is what reading gives, unless
@@ -43,17 +43,17 @@ abbrev pub Gives : {X Y : Type 0} → (X → Y) → Result X ParseFault → List
     → Type 0
 Gives view (Ok x) left read = read ≡ Some (view x, left)
 Gives view (Err fault.Memory) left read = Unit {0}
-Gives view (Err (fault.Syntax line)) left read = read ≡ None
-Gives view (Err (fault.TooDeep line)) left read = read ≡ None
-Gives view (Err (fault.Unsupported word)) left read = read ≡ None
+Gives view (Err (fault.Syntax at)) left read = read ≡ None
+Gives view (Err (fault.TooDeep at)) left read = read ≡ None
+Gives view (Err (fault.Unsupported at word)) left read = read ≡ None
 
 -- the same of a call that gives nothing but the tokens left
 abbrev pub Leaves : Result Unit ParseFault → List pure.Token → Option (List pure.Token) → Type 0
 Leaves (Ok u) left read = read ≡ Some left
 Leaves (Err fault.Memory) left read = Unit {0}
-Leaves (Err (fault.Syntax line)) left read = read ≡ None
-Leaves (Err (fault.TooDeep line)) left read = read ≡ None
-Leaves (Err (fault.Unsupported word)) left read = read ≡ None
+Leaves (Err (fault.Syntax at)) left read = read ≡ None
+Leaves (Err (fault.TooDeep at)) left read = read ≡ None
+Leaves (Err (fault.Unsupported at word)) left read = read ≡ None
 
 -- What a call took from the front, seen by `view`, is what reading gives; where it took nothing,
 -- the tokens stay.

@@ -15,7 +15,7 @@ use crate::fault::ParseFault;
 use crate::operators::{Assignment, Infix, after_of, assignment_of, infix_of, precedence_of};
 use crate::token_text::{name_in, string_in};
 use edd_lexer::token::{Token, TokenKind};
-use edd_syntax::numbers::{Kind, TextAttribute};
+use edd_syntax::numbers::{Kind, TextAttribute, TokenNo};
 use edd_syntax::operators::{IncrementOperator, Operator};
 use edd_syntax::symbols::{Keyword, Symbol};
 use std::alloc::Global;
@@ -27,9 +27,8 @@ pub struct Cursor<'a> {
     alloc: Global,
     text: &'a [u8],
     rest: &'a [Token],
-    /// All tokens, for their lines.
+    /// All tokens, for their numbers.
     tokens: &'a [Token],
-    last_line: u32,
 }
 
 impl<'a> Model for Cursor<'a> {
@@ -44,9 +43,14 @@ impl<'a> Model for Cursor<'a> {
     ghost invariant = { λ c. All (IsReadable c.text.now) c.rest.now };
 }
 
+// The number of a token, of which a text has less than 2^32.
+fn place_of(count: usize) -> TokenNo {
+    TokenNo(u32::try_from(count).unwrap_or(u32::MAX))
+}
+
 impl<'a> Cursor<'a> {
-    /// At the first token of a text. The last line is that of the text's end.
-    pub fn new(alloc: Global, text: &'a [u8], tokens: &'a [Token], last_line: u32) -> Self
+    /// At the first token of a text.
+    pub fn new(alloc: Global, text: &'a [u8], tokens: &'a [Token]) -> Self
         requires { All (IsReadable text.now) tokens.now }
         ensures { result ≡ tokens_in text.now tokens.now }
     {
@@ -55,7 +59,6 @@ impl<'a> Cursor<'a> {
             text,
             rest: tokens,
             tokens,
-            last_line,
         }
     }
 
@@ -64,70 +67,62 @@ impl<'a> Cursor<'a> {
         self.alloc
     }
 
-    // The first of the last `left` tokens, if there are so many and not none.
-    fn first_of_last(&self, left: usize) -> Option<&'a Token> {
-        if left > self.tokens.len() {
-            return None;
-        }
-        self.tokens.get(self.tokens.len() - left)
-    }
-
-    // The token that was taken last.
-    fn taken(&self) -> Option<&'a Token> {
-        self.first_of_last(self.rest.len().saturating_add(1))
-    }
-
-    // The line of a token, or of the text's end.
-    fn line_of(&self, token: Option<&Token>) -> u32 {
-        match token {
-            Some(token) => token.line,
-            None => self.last_line,
-        }
+    // How many tokens were taken.
+    fn count_taken(&self) -> usize {
+        self.tokens.len().saturating_sub(self.rest.len())
     }
 
     // Whether the token that was taken last is a name.
     fn has_taken_name(&self) -> bool {
-        match self.taken() {
+        let Some(last) = self.count_taken().checked_sub(1) else {
+            return false;
+        };
+        match self.tokens.get(last) {
             Some(token) => matches!(token.kind, TokenKind::Name),
             None => false,
         }
     }
 
-    /// The line of the token that is next, or of the text's end.
-    pub fn line(&self) -> u32 {
-        self.line_of(self.first_of_last(self.rest.len()))
+    /// The number of the token that is next, at the text's end that of all tokens.
+    pub fn place(&self) -> TokenNo {
+        place_of(self.count_taken())
     }
 
-    /// The line of the token that was taken last.
-    pub fn taken_line(&self) -> u32 {
-        self.line_of(self.taken())
+    /// The number of the token that was taken last.
+    pub fn taken_place(&self) -> TokenNo {
+        place_of(self.count_taken().saturating_sub(1))
+    }
+
+    /// The number of the token after the next one.
+    pub fn second_place(&self) -> TokenNo {
+        place_of(self.count_taken().saturating_add(1))
     }
 
     /// The fault where the next token fits nothing. LIKE after a name would change another item,
     /// and is refused by its name.
     pub fn syntax(&self) -> ParseFault {
         if self.has_taken_name() && self.at_name("LIKE") {
-            return ParseFault::unsupported(self.alloc, "LIKE");
+            return ParseFault::unsupported(self.alloc, self.place(), "LIKE");
         }
-        ParseFault::Syntax { line: self.line() }
+        ParseFault::Syntax { at: self.place() }
     }
 
     /// The fault where the token that was taken last fits nothing.
     pub fn syntax_taken(&self) -> ParseFault {
         ParseFault::Syntax {
-            line: self.taken_line(),
+            at: self.taken_place(),
         }
     }
 
     /// The fault where the next token would be too deep.
     pub fn too_deep(&self) -> ParseFault {
-        ParseFault::TooDeep { line: self.line() }
+        ParseFault::TooDeep { at: self.place() }
     }
 
     /// The fault where the token that was taken last would be too deep.
     pub fn too_deep_taken(&self) -> ParseFault {
         ParseFault::TooDeep {
-            line: self.taken_line(),
+            at: self.taken_place(),
         }
     }
 

@@ -3,29 +3,39 @@
 ghost use Rattle.std.specs.Prelude.{◌≡◌};
 ghost use Rattle.edd_token_reader.specs.declared.fault.ParseFault.TheVariants.{Memory};
 
+use edd_syntax::numbers::TokenNo;
 use std::alloc::{AllocError, AllocFailed, Global};
 use thiserror::Error;
 
-/// Why tokens were refused. It prints its number, its kind and its line, counted from 1, or the
-/// word.
-#[derive(Debug, Drop, PartialEq, Eq, Error)]
+/// Why tokens were refused, and at which. It prints its number, its kind and the word.
+#[derive(Debug, Drop, Error)]
 pub enum ParseFault {
-    #[error("10 SYNTAX line {line}")]
-    Syntax { line: u32 },
-    #[error("11 TOO_DEEP line {line}")]
-    TooDeep { line: u32 },
+    #[error("10 SYNTAX")]
+    Syntax { at: TokenNo },
+    #[error("11 TOO_DEEP")]
+    TooDeep { at: TokenNo },
     #[error("12 UNSUPPORTED {word}")]
-    Unsupported { word: String },
+    Unsupported { at: TokenNo, word: String },
     #[error("no memory")]
     Memory,
 }
 
 impl ParseFault {
     /// The refusal of a word that the profile leaves out.
-    pub fn unsupported(alloc: Global, word: &str) -> ParseFault {
+    pub fn unsupported(alloc: Global, at: TokenNo, word: &str) -> ParseFault {
         match String::from_str(alloc, word) {
-            Ok(word) => ParseFault::Unsupported { word },
+            Ok(word) => ParseFault::Unsupported { at, word },
             Err(_) => ParseFault::Memory,
+        }
+    }
+
+    /// The token that fits nothing or would be too deep, unless memory ran out.
+    pub fn place(&self) -> Option<TokenNo> {
+        match self {
+            ParseFault::Syntax { at }
+            | ParseFault::TooDeep { at }
+            | ParseFault::Unsupported { at, .. } => Some(*at),
+            ParseFault::Memory => None,
         }
     }
 }

@@ -86,7 +86,7 @@ fn left_out<'a>(cursor: &Cursor<'a>) -> Option<&'a str> {
 /// fits nothing.
 pub fn misfit(cursor: &Cursor) -> ParseFault {
     match left_out(cursor) {
-        Some(word) => ParseFault::unsupported(cursor.alloc(), word),
+        Some(word) => ParseFault::unsupported(cursor.alloc(), cursor.place(), word),
         None => cursor.syntax(),
     }
 }
@@ -94,7 +94,7 @@ pub fn misfit(cursor: &Cursor) -> ParseFault {
 /// The fault of a name that was taken as a qualifier and is none.
 pub fn misfit_name(cursor: &Cursor, name: &str) -> ParseFault {
     if is_left_out(name) {
-        return ParseFault::unsupported(cursor.alloc(), name);
+        return ParseFault::unsupported(cursor.alloc(), cursor.taken_place(), name);
     }
     cursor.syntax_taken()
 }
@@ -121,7 +121,7 @@ fn is_of_items(word: Keyword) -> bool {
 pub fn misfit_array(cursor: &Cursor) -> ParseFault {
     match cursor.peek() {
         Some(TokenKind::Keyword(word)) if is_of_items(word) => {
-            ParseFault::unsupported(cursor.alloc(), word.spelling())
+            ParseFault::unsupported(cursor.alloc(), cursor.place(), word.spelling())
         }
         _ => cursor.syntax(),
     }
@@ -131,7 +131,7 @@ pub fn misfit_array(cursor: &Cursor) -> ParseFault {
 /// either.
 pub fn misfit_without_codes(cursor: &Cursor) -> ParseFault {
     if cursor.at_word(Keyword::ResponseCodes) {
-        return ParseFault::unsupported(cursor.alloc(), "RESPONSE_CODES");
+        return ParseFault::unsupported(cursor.alloc(), cursor.place(), "RESPONSE_CODES");
     }
     misfit(cursor)
 }
@@ -139,7 +139,7 @@ pub fn misfit_without_codes(cursor: &Cursor) -> ParseFault {
 /// The fault where an item may begin, where LIKE may come after a name.
 pub fn misfit_item(cursor: &Cursor) -> ParseFault {
     if let (Some(_), Some("LIKE")) = (cursor.peek_name(), cursor.peek_second_name()) {
-        return ParseFault::unsupported(cursor.alloc(), "LIKE");
+        return ParseFault::unsupported(cursor.alloc(), cursor.second_place(), "LIKE");
     }
     misfit_without_codes(cursor)
 }

@@ -8,6 +8,7 @@ ghost use Rattle.edd_token_reader.specs.Views.{Gives};
 
 use crate::cursor::Cursor;
 use crate::fault::ParseFault;
+use edd_syntax::numbers::TokenNo;
 use edd_syntax::reference::Path;
 use edd_syntax::symbols::Symbol;
 use edd_syntax::text::Text;
@@ -24,14 +25,14 @@ fn members(cursor: &mut Cursor) -> Result<Vec<String>, ParseFault>
     Ok(members)
 }
 
-/// The path whose first name was read.
+/// The path whose first name was read there.
 #[tactic(auto, unfolding(edd_grammar::specs::Reading::path_behind))]
-pub fn path_from(cursor: &mut Cursor, base: &str) -> Result<Path, ParseFault>
+pub fn path_from(cursor: &mut Cursor, at: TokenNo, base: &str) -> Result<Path, ParseFault>
     ensures { Gives path_of result cursor.new (Some (path_behind base.now cursor.old)) }
 {
     let members = members(cursor)?;
     let base = String::from_str(cursor.alloc(), base)?;
-    Ok(Path { base, members })
+    Ok(Path { at, base, members })
 }
 
 /// A reference.
@@ -39,10 +40,11 @@ pub fn path_from(cursor: &mut Cursor, base: &str) -> Result<Path, ParseFault>
 pub fn path(cursor: &mut Cursor) -> Result<Path, ParseFault>
     ensures { Gives path_of result cursor.new (path_at cursor.old) }
 {
+    let at = cursor.place();
     let Some(base) = cursor.name() else {
         return Err(cursor.syntax());
     };
-    path_from(cursor, base)
+    path_from(cursor, at, base)
 }
 
 // The strings that follow each other, joined.

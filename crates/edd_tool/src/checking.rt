@@ -144,7 +144,7 @@ pub fn check_sources<'a, F: Files, W: Write>(
     let sources = read_sources(alloc, &checking.names, files)?;
     let looks = looks_at(alloc, &sources, &choices, files)?;
     print_looks(alloc, &looks, checking.form, checking.is_coloured, out)?;
-    if looks.iter().any(|look| look.is_refused()) {
+    if looks.iter().any(|look| look.fails()) {
         Err(Stop::Shown)
     } else {
         Ok(())

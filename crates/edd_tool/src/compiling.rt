@@ -31,7 +31,9 @@ pub fn write_image<'a, F: Files, W: Write>(
     match compile_named(alloc, words, source, image, files)? {
         Compiled::Saved(_) if is_quiet => Ok(()),
         Compiled::Saved(length) => Ok(print(alloc, out, format_args!("image {length}"))?),
-        Compiled::Refused(_, fault) if !is_explained => Err(Stop::NotCompiled(fault)),
+        Compiled::Refused(text, fault) if !is_explained => {
+            Err(Stop::NotCompiled(fault.refusal(alloc, &text)?))
+        }
         Compiled::Refused(text, fault) => {
             explain_refusal(alloc, source, &text, &fault, files, out)
         }

@@ -50,7 +50,7 @@ pub fn compiled<'a>(alloc: Global, name: &'a str, text: &[u8]) -> Result<Vec<u8>
     match compile(alloc, text) {
         Ok(bytes) => Ok(bytes),
         Err(Fault::Memory) => Err(Stop::Memory),
-        Err(fault) => Err(Stop::NoSource(name, fault)),
+        Err(fault) => Err(Stop::NoSource(name, fault.refusal(alloc, text)?)),
     }
 }
 

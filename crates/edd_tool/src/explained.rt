@@ -51,7 +51,8 @@ pub fn explain_refusal<'a, F: Files, W: Write>(
 ) -> Result<(), Stop<'a>>
     ensures kept { F.account files.new ≡ F.account files.old }
 {
-    print(alloc, out, format_args!("refused {fault}"))?;
+    let refusal = fault.refusal(alloc, text)?;
+    print(alloc, out, format_args!("refused {refusal}"))?;
     explain_source(alloc, source, text, files, out)?;
     Err(Stop::Shown)
 }
@@ -75,7 +76,7 @@ pub fn image_of_source<'a, F: Files, W: Write>(
         Err(fault) => fault,
     };
     if !is_explained {
-        return Err(Stop::NotCompiled(fault));
+        return Err(Stop::NotCompiled(fault.refusal(alloc, text)?));
     }
     explain_refusal(alloc, source, text, &fault, files, out)?;
     Err(Stop::Shown)

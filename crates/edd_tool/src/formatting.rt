@@ -6,13 +6,13 @@ ghost use Rattle.edd_layout.specs.Same.{HaveSameBytes, SameTokens};
 ghost use Rattle.edd_tool.specs.Layouts.{saving_of};
 ghost use Rattle.edd_files.specs.Saves.{Account, IsLayoutSaving, IsRead, SavesEach};
 
-use edd_compiler::Fault;
 use edd_display::print;
 use edd_files::{
     FileFault, Files, INPUT, STANDARD, Source, Stop, are_words, input_of, of_file, read,
     read_sources,
 };
 use edd_layout::laid_out;
+use edd_lexer::fault::LexFault;
 use std::alloc::Global;
 use std::io::Write;
 
@@ -31,10 +31,8 @@ fn layout_of<'a>(alloc: Global, name: &'a str, text: &[u8]) -> Result<Option<Vec
     match laid_out(alloc, text) {
         Ok(layout) if layout.as_slice() == text => Ok(None),
         Ok(layout) => Ok(Some(layout)),
-        Err(fault) => match Fault::from(fault) {
-            Fault::Memory => Err(Stop::Memory),
-            fault => Err(Stop::NoSource(name, fault)),
-        },
+        Err(LexFault::Memory) => Err(Stop::Memory),
+        Err(fault) => Err(Stop::NoSource(name, fault.to_string(alloc)?)),
     }
 }
 

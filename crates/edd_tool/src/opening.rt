@@ -6,9 +6,10 @@ ghost use Rattle.edd_files.specs.Saves.{IsRecord, NameRecord, SavesEach, Saving}
 use crate::devices::compiled;
 use crate::running::read_device;
 use edd_command_line::{Opening, RawTerminal};
-use edd_compiler::compile;
 use edd_device::Device;
-use edd_files::{FileFault, Files, INPUT, Stop, name_record, of_file, read, read_script};
+use edd_files::{
+    FileFault, Files, INPUT, Stop, compile_text, name_record, of_file, read, read_script,
+};
 use edd_loader::{Image, load};
 use edd_machine::ValuesFault;
 use edd_panel::{Panel, start_values};
@@ -39,7 +40,7 @@ fn image_of<'a>(alloc: Global, bytes: Vec<u8>) -> Result<Vec<u8>, Stop<'a>> {
     if is_image(&bytes) {
         return Ok(bytes);
     }
-    Ok(compile(alloc, &bytes)?)
+    compile_text(alloc, &bytes)
 }
 
 // Talks about an image up to the end, and gives what was set and answered as a script.

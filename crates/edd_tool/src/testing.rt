@@ -13,10 +13,10 @@ use edd_cases::{
     compare, ending_of, push_as_it_is, push_case, read_tests, refusal_in,
 };
 use edd_command_line::Run;
-use edd_compiler::compile;
 use edd_display::{print, print_text};
 use edd_files::{
-    FileFault, Files, INPUT, Source, Stop, are_words, is_word, of_file, read_bytes, read_sources,
+    FileFault, Files, INPUT, Source, Stop, are_words, compile_text, is_word, of_file, read_bytes,
+    read_sources,
 };
 use std::alloc::Global;
 use std::io::Write;
@@ -70,7 +70,7 @@ fn image_of<'a>(
     bytes: Vec<u8>,
 ) -> Result<Vec<u8>, Stop<'a>> {
     match description {
-        Description::Source(_) => Ok(compile(alloc, &bytes)?),
+        Description::Source(_) => compile_text(alloc, &bytes),
         Description::Image(_) => Ok(bytes),
     }
 }

@@ -42,7 +42,7 @@ fn body_of(items: &[Item<Target>], method: MethNo) -> Option<&[Part<Target>]> {
 
 fn definition_in(attributes: &[Attribute<Target>]) -> Option<&[Part<Target>]> {
     for attribute in attributes {
-        if let Attribute::Definition(parts) = attribute {
+        if let Attribute::Definition(_, parts) = attribute {
             return Some(parts.as_slice());
         }
     }

@@ -51,7 +51,7 @@ module _ {V W : Type 0} (b : Breach) (of : W → List Refusal) (g : V → W) whe
         (bare_conds _ body)
         ∙ ap (λ xs. in_conds b of (conds_from (conds_in (λ r. r) g body)) ++ xs)
         (bare_arms _ rest had)
-    bare_arms n (more_of-Arm (Default' line shape body) rest) had =
+    bare_arms n (more_of-Arm (Default' at shape body) rest) had =
         ap (λ xs. in_default b had
         ++ (xs ++ in_arms b (λ v. of (g v)) true (arms_from (arms_in (λ r. r) (λ v. v) rest))))
         (bare_conds _ body)

@@ -12,12 +12,12 @@ refusal_of_fault (fault.FloatVariable variable) =
 refusal_of_fault (fault.OtherType variable word) =
     Some (refusal.OtherType (string_bytes variable) (string_bytes word))
 refusal_of_fault (fault.BadSize variable) = Some (refusal.BadSize (string_bytes variable))
-refusal_of_fault (fault.Mismatch line) = Some refusal.Mismatch
-refusal_of_fault (fault.FloatValue line) = Some refusal.FloatValue
-refusal_of_fault (fault.BreakOutside line) = Some refusal.BreakOutside
-refusal_of_fault (fault.ConstRange line) = Some refusal.ConstRange
-refusal_of_fault (fault.DuplicateCase line) = Some refusal.DuplicateCase
-refusal_of_fault (fault.DuplicateElement line) = Some refusal.DuplicateElement
+refusal_of_fault (fault.Mismatch at) = Some refusal.Mismatch
+refusal_of_fault (fault.FloatValue at) = Some refusal.FloatValue
+refusal_of_fault (fault.BreakOutside at) = Some refusal.BreakOutside
+refusal_of_fault (fault.ConstRange at) = Some refusal.ConstRange
+refusal_of_fault (fault.DuplicateCase at) = Some refusal.DuplicateCase
+refusal_of_fault (fault.DuplicateElement at) = Some refusal.DuplicateElement
 refusal_of_fault fault.Memory = None
 
 -- the fault is the first of the breaches, unless it is out of memory

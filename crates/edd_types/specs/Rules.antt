@@ -1,4 +1,4 @@
--- The rules of the profile that are broken on a line, one attribute after another.
+-- The rules of the profile that are broken at a token, one attribute after another.
 use Rattle.std.specs.Prelude.{Bool, true, false, List, ◌++◌}
 use Rattle.std.specs.List.{flat_map}
 use Rattle.edd_syntax.specs.declared.reference.Target.{Target}

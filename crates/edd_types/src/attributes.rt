@@ -11,11 +11,12 @@ use crate::breach::Breach;
 use crate::conditionals::{check_cond, check_conds};
 use crate::statements::check_parts;
 use edd_syntax::item::{Attribute, TransactionPart, TypePart};
+use edd_syntax::numbers::TokenNo;
 use edd_syntax::reference::Target;
 
-/// The line of the first such breach in an option or an enumerator of a type.
+/// The place of the first such breach in an option or an enumerator of a type.
 #[tactic(auto, using(crate::proofs::BareViews::bare_values))]
-pub fn check_type_part(part: &TypePart<Target>, breach: Breach) -> Result<(), u32>
+pub fn check_type_part(part: &TypePart<Target>, breach: Breach) -> Result<(), TokenNo>
     ensures { found (refusal_of breach) result
         ≡ first_of (in_type_part breach (numbered_type_part part.now)) }
 {
@@ -29,7 +30,7 @@ pub fn check_type_part(part: &TypePart<Target>, breach: Breach) -> Result<(), u3
     }
 }
 
-fn check_type_parts(parts: &[TypePart<Target>], breach: Breach) -> Result<(), u32>
+fn check_type_parts(parts: &[TypePart<Target>], breach: Breach) -> Result<(), TokenNo>
     ensures { found (refusal_of breach) result
         ≡ first_of (flat_map (in_type_part breach) (map numbered_type_part parts.now)) }
 {
@@ -40,18 +41,18 @@ fn check_type_parts(parts: &[TypePart<Target>], breach: Breach) -> Result<(), u3
 }
 
 #[tactic(auto, using(crate::proofs::BareViews::bare_values))]
-fn check_transaction_part(part: &TransactionPart<Target>, breach: Breach) -> Result<(), u32>
+fn check_transaction_part(part: &TransactionPart<Target>, breach: Breach) -> Result<(), TokenNo>
     ensures { found (refusal_of breach) result
         ≡ first_of (in_transaction_part breach (numbered_transaction_part part.now)) }
 {
     match part {
-        TransactionPart::Request(all) => check_conds(all, breach),
-        TransactionPart::Reply(all) => check_conds(all, breach),
+        TransactionPart::Request(_, all) => check_conds(all, breach),
+        TransactionPart::Reply(_, all) => check_conds(all, breach),
     }
 }
 
-/// The line of the first such breach in a transaction.
-pub fn check_transaction(parts: &[TransactionPart<Target>], breach: Breach) -> Result<(), u32>
+/// The place of the first such breach in a transaction.
+pub fn check_transaction(parts: &[TransactionPart<Target>], breach: Breach) -> Result<(), TokenNo>
     ensures { found (refusal_of breach) result
         ≡ first_of (flat_map (in_transaction_part breach)
         (map numbered_transaction_part parts.now)) }
@@ -62,25 +63,25 @@ pub fn check_transaction(parts: &[TransactionPart<Target>], breach: Breach) -> R
     Ok(())
 }
 
-/// The line of the first such breach in an attribute.
+/// The place of the first such breach in an attribute.
 #[tactic(auto, using(crate::proofs::BareViews::bare_values))]
-pub fn check_inside(attribute: &Attribute<Target>, breach: Breach) -> Result<(), u32>
+pub fn check_inside(attribute: &Attribute<Target>, breach: Breach) -> Result<(), TokenNo>
     ensures { found (refusal_of breach) result
         ≡ first_of (in_attribute breach (numbered_attribute attribute.now)) }
 {
     match attribute {
-        Attribute::OneText(_, c) => check_cond(c, breach),
-        Attribute::Handling(c) => check_cond(c, breach),
-        Attribute::Validity(c) => check_cond(c, breach),
+        Attribute::OneText(_, _, c) => check_cond(c, breach),
+        Attribute::Handling(_, c) => check_cond(c, breach),
+        Attribute::Validity(_, c) => check_cond(c, breach),
         Attribute::TypeOf { parts, .. } => check_type_parts(parts, breach),
         Attribute::Transaction { parts, .. } => check_transaction(parts, breach),
-        Attribute::Items(entries) => check_conds(entries, breach),
-        Attribute::Definition(parts) => check_parts(parts, breach),
-        Attribute::Class(_)
-        | Attribute::Number(_)
-        | Attribute::Operation(_)
-        | Attribute::ResponseCodes(_)
-        | Attribute::Members(_)
-        | Attribute::Elements(_) => Ok(()),
+        Attribute::Items(_, entries) => check_conds(entries, breach),
+        Attribute::Definition(_, parts) => check_parts(parts, breach),
+        Attribute::Class(_, _)
+        | Attribute::Number(_, _)
+        | Attribute::Operation(_, _)
+        | Attribute::ResponseCodes(_, _)
+        | Attribute::Members(_, _)
+        | Attribute::Elements(_, _) => Ok(()),
     }
 }

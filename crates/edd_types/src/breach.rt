@@ -9,6 +9,7 @@ ghost use Rattle.edd_types.specs.Found.{found};
 use crate::calls::check_calls;
 use crate::decimals::check_decimals;
 use edd_syntax::expr::Expr;
+use edd_syntax::numbers::TokenNo;
 use edd_syntax::reference::Target;
 
 /// An enumerator, a call that doesn't fit its function, a decimal, a constant out of range, or a
@@ -22,8 +23,8 @@ pub enum Breach {
     Default,
 }
 
-/// The line of the first such breach in an expression, which may be a whole statement.
-pub fn check_expression(breach: Breach, e: &Expr<Target>, is_statement: bool) -> Result<(), u32>
+/// The place of the first such breach in an expression, which may be a whole statement.
+pub fn check_expression(breach: Breach, e: &Expr<Target>, is_statement: bool) -> Result<(), TokenNo>
     ensures { found (refusal_of breach) result
         ≡ first_of (in_placed breach
         (record { is_statement = is_statement; expression = numbered_expr e.now })) }

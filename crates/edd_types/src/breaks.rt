@@ -7,13 +7,14 @@ ghost use Rattle.edd_syntax.specs.SubsetRules.{breaks_outside, breaks_outside_in
 ghost use Rattle.edd_syntax.specs.Refusal.{first_of, BreakOutside};
 ghost use Rattle.edd_types.specs.Found.{found};
 
+use edd_syntax::numbers::TokenNo;
 use edd_syntax::reference::Target;
 use edd_syntax::stmt::{Part, Stmt};
 
-/// The line of the first `break` or `continue` that has nothing to leave.
+/// The place of the first `break` or `continue` that has nothing to leave.
 #[cycle(breaks)]
 #[tactic(auto, using(edd_syntax::proofs::FirstLaws::firsts))]
-pub fn check_breaks(s: &Stmt<Target>, in_loop: bool, in_switch: bool) -> Result<(), u32>
+pub fn check_breaks(s: &Stmt<Target>, in_loop: bool, in_switch: bool) -> Result<(), TokenNo>
     ensures { found BreakOutside result
         ≡ first_of (breaks_outside in_loop in_switch (numbered_stmt s.now)) }
 {
@@ -29,20 +30,20 @@ pub fn check_breaks(s: &Stmt<Target>, in_loop: bool, in_switch: bool) -> Result<
             check_breaks(body, true, in_switch)
         }
         Stmt::Switch(_, parts) => check_parts(parts, in_loop, true),
-        Stmt::Break { line } => {
+        Stmt::Break { at } => {
             if in_loop || in_switch {
                 Ok(())
             } else {
-                Err(*line)
+                Err(*at)
             }
         }
-        Stmt::Continue { line } => { if in_loop { Ok(()) } else { Err(*line) } }
+        Stmt::Continue { at } => { if in_loop { Ok(()) } else { Err(*at) } }
     }
 }
 
 #[cycle(breaks)]
 #[tactic(auto, using(edd_syntax::proofs::FirstLaws::firsts))]
-pub fn check_parts(parts: &[Part<Target>], in_loop: bool, in_switch: bool) -> Result<(), u32>
+pub fn check_parts(parts: &[Part<Target>], in_loop: bool, in_switch: bool) -> Result<(), TokenNo>
     ensures { found BreakOutside result
         ≡ first_of (breaks_outside_in in_loop in_switch (body_from (map numbered_part parts.now))) }
 {
@@ -54,7 +55,7 @@ pub fn check_parts(parts: &[Part<Target>], in_loop: bool, in_switch: bool) -> Re
 
 #[cycle(breaks)]
 #[tactic(auto, using(edd_syntax::proofs::FirstLaws::firsts))]
-fn check_part(part: &Part<Target>, in_loop: bool, in_switch: bool) -> Result<(), u32>
+fn check_part(part: &Part<Target>, in_loop: bool, in_switch: bool) -> Result<(), TokenNo>
     ensures { found BreakOutside result
         ≡ first_of (breaks_outside_in in_loop in_switch (body_from (numbered_part part.now ∷ []))) }
 {

@@ -9,7 +9,7 @@ ghost use Rattle.edd_syntax.specs.Refusal.{first_of, Mismatch};
 ghost use Rattle.edd_types.specs.Found.{found};
 
 use edd_syntax::expr::{Argument, Expr};
-use edd_syntax::numbers::ItemNo;
+use edd_syntax::numbers::{ItemNo, TokenNo};
 use edd_syntax::operators::{Builtin, Parameter};
 use edd_syntax::reference::Target;
 
@@ -112,11 +112,11 @@ fn is_call(function: Target, arguments: &[Argument<Target>], is_statement: bool)
     }
 }
 
-/// The line of the first call with arguments that its function does not take, or of an abort inside
+/// The place of the first call with arguments that its function does not take, or of an abort inside
 /// an expression.
 #[cycle(calls)]
 #[tactic(auto, using(edd_syntax::proofs::FirstLaws::firsts))]
-pub fn check_calls(e: &Expr<Target>, is_statement: bool) -> Result<(), u32>
+pub fn check_calls(e: &Expr<Target>, is_statement: bool) -> Result<(), TokenNo>
     ensures { found Mismatch result
         ≡ first_of (call_mismatches is_statement (numbered_expr e.now)) }
 {
@@ -142,12 +142,12 @@ pub fn check_calls(e: &Expr<Target>, is_statement: bool) -> Result<(), u32>
             check_calls(b, false)
         }
         Expr::Call {
-            line,
+            at,
             function,
             arguments,
         } => {
             if !is_call(*function, arguments, is_statement) {
-                return Err(*line);
+                return Err(*at);
             }
             check_arguments(arguments)
         }
@@ -156,7 +156,7 @@ pub fn check_calls(e: &Expr<Target>, is_statement: bool) -> Result<(), u32>
 
 #[cycle(calls)]
 #[tactic(auto, using(edd_syntax::proofs::FirstLaws::firsts))]
-fn check_arguments(arguments: &[Argument<Target>]) -> Result<(), u32>
+fn check_arguments(arguments: &[Argument<Target>]) -> Result<(), TokenNo>
     ensures { found Mismatch result
         ≡ first_of (argument_mismatches (arguments_from (map numbered_argument arguments.now))) }
 {
@@ -168,7 +168,7 @@ fn check_arguments(arguments: &[Argument<Target>]) -> Result<(), u32>
 
 #[cycle(calls)]
 #[tactic(auto, using(edd_syntax::proofs::FirstLaws::firsts))]
-fn check_argument(argument: &Argument<Target>) -> Result<(), u32>
+fn check_argument(argument: &Argument<Target>) -> Result<(), TokenNo>
     ensures { found Mismatch result
         ≡ first_of (argument_mismatches (arguments_from (numbered_argument argument.now ∷ []))) }
 {

@@ -14,6 +14,7 @@ use crate::rules::{Rule, check_items};
 use crate::types::{WrongType, wrong_type};
 use edd_syntax::checked::Checked;
 use edd_syntax::item::Item;
+use edd_syntax::numbers::TokenNo;
 use edd_syntax::reference::Target;
 use edd_syntax::resolved::Resolved;
 use std::alloc::{AllocError, Global};
@@ -31,16 +32,16 @@ fn fault_of_type(alloc: Global, wrong: WrongType) -> Result<TypeFault, AllocErro
     })
 }
 
-fn fault_of_rule(rule: Rule, line: u32) -> TypeFault
+fn fault_of_rule(rule: Rule, at: TokenNo) -> TypeFault
     ensures { refusal_of_fault result ≡ Some (why rule) }
 {
     match rule {
-        Rule::Mismatch => TypeFault::Mismatch { line },
-        Rule::FloatValue => TypeFault::FloatValue { line },
-        Rule::BreakOutside => TypeFault::BreakOutside { line },
-        Rule::ConstRange => TypeFault::ConstRange { line },
-        Rule::DuplicateCase => TypeFault::DuplicateCase { line },
-        Rule::DuplicateElement => TypeFault::DuplicateElement { line },
+        Rule::Mismatch => TypeFault::Mismatch { at },
+        Rule::FloatValue => TypeFault::FloatValue { at },
+        Rule::BreakOutside => TypeFault::BreakOutside { at },
+        Rule::ConstRange => TypeFault::ConstRange { at },
+        Rule::DuplicateCase => TypeFault::DuplicateCase { at },
+        Rule::DuplicateElement => TypeFault::DuplicateElement { at },
     }
 }
 
@@ -60,7 +61,7 @@ fn check_rule(alloc: Global, items: &[Item<Target>], rule: Rule) -> Result<(), T
 {
     match check_items(items, rule, alloc)? {
         None => Ok(()),
-        Some(line) => Err(fault_of_rule(rule, line)),
+        Some(at) => Err(fault_of_rule(rule, at)),
     }
 }
 

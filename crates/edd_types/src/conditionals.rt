@@ -10,12 +10,13 @@ ghost use Rattle.edd_types.specs.Found.{found};
 use crate::breach::{Breach, check_expression};
 use crate::values::CheckValue;
 use edd_syntax::cond::{Arm, Cond};
+use edd_syntax::numbers::TokenNo;
 use edd_syntax::reference::Target;
 
-/// The line of the first such breach in a single value.
+/// The place of the first such breach in a single value.
 #[cycle(conditionals)]
 #[tactic(auto, using(crate::proofs::UnderConditions::walks))]
-pub fn check_cond<V: CheckValue>(c: &Cond<Target, V>, breach: Breach) -> Result<(), u32>
+pub fn check_cond<V: CheckValue>(c: &Cond<Target, V>, breach: Breach) -> Result<(), TokenNo>
     ensures { found (refusal_of breach) result
         ≡ first_of (in_cond breach (V.breaches breach) (numbered_cond (λ v. v) c.now)) }
 {
@@ -37,10 +38,10 @@ pub fn check_cond<V: CheckValue>(c: &Cond<Target, V>, breach: Breach) -> Result<
     }
 }
 
-/// The line of the first such breach in a list.
+/// The place of the first such breach in a list.
 #[cycle(conditionals)]
 #[tactic(auto, using(crate::proofs::UnderConditions::walks))]
-pub fn check_conds<V: CheckValue>(all: &[Cond<Target, V>], breach: Breach) -> Result<(), u32>
+pub fn check_conds<V: CheckValue>(all: &[Cond<Target, V>], breach: Breach) -> Result<(), TokenNo>
     ensures { found (refusal_of breach) result
         ≡ first_of (in_conds breach (V.breaches breach)
         (conds_from (map (numbered_cond (λ v. v)) all.now))) }
@@ -53,7 +54,7 @@ pub fn check_conds<V: CheckValue>(all: &[Cond<Target, V>], breach: Breach) -> Re
 
 #[cycle(conditionals)]
 #[tactic(auto, using(crate::proofs::UnderConditions::walks))]
-fn check_arms<V: CheckValue>(arms: &[Arm<Target, V>], breach: Breach) -> Result<(), u32>
+fn check_arms<V: CheckValue>(arms: &[Arm<Target, V>], breach: Breach) -> Result<(), TokenNo>
     ensures { found (refusal_of breach) result
         ≡ first_of (in_arms breach (V.breaches breach) false
         (arms_from (map (numbered_arm (λ v. v)) arms.now))) }
@@ -68,15 +69,15 @@ fn check_arms<V: CheckValue>(arms: &[Arm<Target, V>], breach: Breach) -> Result<
 
 #[cycle(conditionals)]
 #[tactic(auto, using(crate::proofs::UnderConditions::walks))]
-fn check_arm<V: CheckValue>(arm: &Arm<Target, V>, breach: Breach, had: bool) -> Result<(), u32>
+fn check_arm<V: CheckValue>(arm: &Arm<Target, V>, breach: Breach, had: bool) -> Result<(), TokenNo>
     ensures { found (refusal_of breach) result
         ≡ first_of (in_arm breach (V.breaches breach) had (numbered_arm (λ v. v) arm.now)) }
 {
     match arm {
         Arm::Case { body, .. } => check_conds(body, breach),
-        Arm::Default { line, body } => {
+        Arm::Default { at, body } => {
             if had && matches!(breach, Breach::Default) {
-                return Err(*line);
+                return Err(*at);
             }
             check_conds(body, breach)
         }

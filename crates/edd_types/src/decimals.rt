@@ -8,17 +8,18 @@ ghost use Rattle.edd_syntax.specs.Refusal.{first_of, FloatValue};
 ghost use Rattle.edd_types.specs.Found.{found};
 
 use edd_syntax::expr::{Argument, Expr};
+use edd_syntax::numbers::TokenNo;
 use edd_syntax::reference::Target;
 
-/// The line of the first decimal in an expression, if it has one.
+/// The place of the first decimal in an expression, if it has one.
 #[cycle(decimals)]
 #[tactic(auto, using(edd_syntax::proofs::FirstLaws::firsts))]
-pub fn check_decimals(e: &Expr<Target>) -> Result<(), u32>
+pub fn check_decimals(e: &Expr<Target>) -> Result<(), TokenNo>
     ensures { found FloatValue result ≡ first_of (decimals (numbered_expr e.now)) }
 {
     match e {
         Expr::Literal(_) | Expr::Reference(_) | Expr::Increment(_, _) => Ok(()),
-        Expr::Decimal { line } => Err(*line),
+        Expr::Decimal { at } => Err(*at),
         Expr::Indexed(_, inner)
         | Expr::Parentheses(inner)
         | Expr::Unary(_, inner)
@@ -42,7 +43,7 @@ pub fn check_decimals(e: &Expr<Target>) -> Result<(), u32>
 
 #[cycle(decimals)]
 #[tactic(auto, using(edd_syntax::proofs::FirstLaws::firsts))]
-fn check_arguments(arguments: &[Argument<Target>]) -> Result<(), u32>
+fn check_arguments(arguments: &[Argument<Target>]) -> Result<(), TokenNo>
     ensures { found FloatValue result
         ≡ first_of (argument_decimals (arguments_from (map numbered_argument arguments.now))) }
 {
@@ -54,7 +55,7 @@ fn check_arguments(arguments: &[Argument<Target>]) -> Result<(), u32>
 
 #[cycle(decimals)]
 #[tactic(auto, using(edd_syntax::proofs::FirstLaws::firsts))]
-fn check_argument(argument: &Argument<Target>) -> Result<(), u32>
+fn check_argument(argument: &Argument<Target>) -> Result<(), TokenNo>
     ensures { found FloatValue result
         ≡ first_of (argument_decimals (arguments_from (numbered_argument argument.now ∷ []))) }
 {

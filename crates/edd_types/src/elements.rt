@@ -8,37 +8,38 @@ ghost use Rattle.edd_types.specs.ElementNumbers.{HasNumbers};
 ghost use Rattle.edd_types.specs.Found.{found_at};
 
 use edd_syntax::item::ArrayElement;
+use edd_syntax::numbers::TokenNo;
 use edd_syntax::reference::Target;
 use std::alloc::{AllocError, Global};
 use std::collections::BTreeSet;
 
-// Adds the number of an element, or gives its line where it was there.
+// Adds the number of an element, or gives its place where it was there.
 fn add_element(
     element: &ArrayElement<Target>,
     numbers: &mut BTreeSet<u32>,
-) -> Result<Option<u32>, AllocError>
+) -> Result<Option<TokenNo>, AllocError>
     ensures found { (before : List ℕ) → HasNumbers numbers.old before
-        → IfOk result (λ line. found_at DuplicateElement line
+        → IfOk result (λ at. found_at DuplicateElement at
         ≡ first_of (refused_if (is_number_in before element.now.number) DuplicateElement)) }
     ensures adds { (before : List ℕ) → HasNumbers numbers.old before
         → OnOk result (HasNumbers numbers.new (element.now.number ∷ before)) }
 {
     let is_new = numbers.insert(element.number)?;
-    Ok(if is_new { None } else { Some(element.line) })
+    Ok(if is_new { None } else { Some(element.at) })
 }
 
-/// The line of the first element whose number an element before it has.
+/// The place of the first element whose number an element before it has.
 pub fn check_elements(
     elements: &[ArrayElement<Target>],
     alloc: Global,
-) -> Result<Option<u32>, AllocError>
-    ensures { IfOk result (λ line. found_at DuplicateElement line
+) -> Result<Option<TokenNo>, AllocError>
+    ensures { IfOk result (λ at. found_at DuplicateElement at
         ≡ first_of (repeated_numbers [] (map numbered_array_element elements.now))) }
 {
     let mut numbers = BTreeSet::new(alloc);
     for element in elements {
-        if let Some(line) = add_element(element, &mut numbers)? {
-            return Ok(Some(line));
+        if let Some(at) = add_element(element, &mut numbers)? {
+            return Ok(Some(at));
         }
     }
     Ok(None)

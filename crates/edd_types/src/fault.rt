@@ -3,6 +3,7 @@
 ghost use Rattle.std.specs.Prelude.{◌≡◌};
 ghost use Rattle.edd_types.specs.declared.fault.TypeFault.TheVariants.{Memory};
 
+use edd_syntax::numbers::TokenNo;
 use std::alloc::AllocError;
 use thiserror::Error;
 
@@ -12,7 +13,7 @@ use thiserror::Error;
 /// expression; `break` outside a loop and `switch`, or `continue` outside a loop; a data constant
 /// over 255, or a mask of 0; two equal labels of one `switch`, a second `default`, or a second
 /// DEFAULT of one SELECT; two elements of one array with one number. It prints its number, its kind
-/// and its names or its line, counted from 1.
+/// and its names.
 #[derive(Debug, Drop, Error)]
 pub enum TypeFault {
     #[error("30 FLOAT_VARIABLE {0}")]
@@ -21,20 +22,35 @@ pub enum TypeFault {
     OtherType { variable: String, word: String },
     #[error("32 BAD_SIZE {0}")]
     BadSize(String),
-    #[error("33 MISMATCH line {line}")]
-    Mismatch { line: u32 },
-    #[error("34 FLOAT_VALUE line {line}")]
-    FloatValue { line: u32 },
-    #[error("35 BREAK_OUTSIDE line {line}")]
-    BreakOutside { line: u32 },
-    #[error("36 CONST_RANGE line {line}")]
-    ConstRange { line: u32 },
-    #[error("37 DUPLICATE_CASE line {line}")]
-    DuplicateCase { line: u32 },
-    #[error("38 DUPLICATE_ELEMENT line {line}")]
-    DuplicateElement { line: u32 },
+    #[error("33 MISMATCH")]
+    Mismatch { at: TokenNo },
+    #[error("34 FLOAT_VALUE")]
+    FloatValue { at: TokenNo },
+    #[error("35 BREAK_OUTSIDE")]
+    BreakOutside { at: TokenNo },
+    #[error("36 CONST_RANGE")]
+    ConstRange { at: TokenNo },
+    #[error("37 DUPLICATE_CASE")]
+    DuplicateCase { at: TokenNo },
+    #[error("38 DUPLICATE_ELEMENT")]
+    DuplicateElement { at: TokenNo },
     #[error("no memory")]
     Memory,
+}
+
+impl TypeFault {
+    /// The token at fault, unless the fault has names or is out of memory.
+    pub fn place(&self) -> Option<TokenNo> {
+        match self {
+            TypeFault::Mismatch { at }
+            | TypeFault::FloatValue { at }
+            | TypeFault::BreakOutside { at }
+            | TypeFault::ConstRange { at }
+            | TypeFault::DuplicateCase { at }
+            | TypeFault::DuplicateElement { at } => Some(*at),
+            _ => None,
+        }
+    }
 }
 
 impl From<AllocError> for TypeFault {

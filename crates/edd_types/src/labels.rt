@@ -9,6 +9,7 @@ ghost use Rattle.edd_syntax.specs.Refusal.{first_of, refused_if, DuplicateCase};
 ghost use Rattle.edd_types.specs.Found.{found_at};
 ghost use Rattle.edd_types.specs.SwitchLabels.{Holds, repeats, behind};
 
+use edd_syntax::numbers::TokenNo;
 use edd_syntax::reference::Target;
 use edd_syntax::stmt::{Part, Stmt};
 use edd_syntax::wrap::wrap;
@@ -33,17 +34,17 @@ impl Labels {
     }
 }
 
-/// The line of the first label that its `switch` has already, in the body of a `switch` or in
+/// The place of the first label that its `switch` has already, in the body of a `switch` or in
 /// another block.
 #[cycle(labels)]
-pub fn check_labels(parts: &[Part<Target>], alloc: Global) -> Result<Option<u32>, AllocError>
-    ensures { IfOk result (λ line. found_at DuplicateCase line
+pub fn check_labels(parts: &[Part<Target>], alloc: Global) -> Result<Option<TokenNo>, AllocError>
+    ensures { IfOk result (λ at. found_at DuplicateCase at
         ≡ first_of (repeated_labels no_labels (body_from (map numbered_part parts.now)))) }
 {
     let mut labels = Labels::new(alloc);
     for part in parts {
-        if let Some(line) = add_part(part, &mut labels, alloc)? {
-            return Ok(Some(line));
+        if let Some(at) = add_part(part, &mut labels, alloc)? {
+            return Ok(Some(at));
         }
     }
     Ok(None)
@@ -54,9 +55,9 @@ fn add_part(
     part: &Part<Target>,
     labels: &mut Labels,
     alloc: Global,
-) -> Result<Option<u32>, AllocError>
+) -> Result<Option<TokenNo>, AllocError>
     ensures found { (so_far : rules.Labels) → Holds labels.old so_far
-        → IfOk result (λ line. found_at DuplicateCase line
+        → IfOk result (λ at. found_at DuplicateCase at
         ≡ first_of (repeats so_far (numbered_part part.now))) }
     ensures adds { (so_far : rules.Labels) → Holds labels.old so_far
         → OnOk result (Holds labels.new (behind so_far (numbered_part part.now))) }
@@ -64,22 +65,22 @@ fn add_part(
     match part {
         Part::Declare(_) => Ok(None),
         Part::Statement(s) => check_inside(s, alloc),
-        Part::CaseLabel { line, label } => {
+        Part::CaseLabel { at, label } => {
             let is_new = labels.cases.insert(wrap(32, i128::from(*label)))?;
-            Ok(if is_new { None } else { Some(*line) })
+            Ok(if is_new { None } else { Some(*at) })
         }
-        Part::DefaultLabel { line } => {
+        Part::DefaultLabel { at } => {
             let had = labels.has_default;
             labels.has_default = true;
-            Ok(if had { Some(*line) } else { None })
+            Ok(if had { Some(*at) } else { None })
         }
     }
 }
 
 #[cycle(labels)]
 #[tactic(auto, using(edd_syntax::proofs::FirstLaws::firsts))]
-fn check_inside(s: &Stmt<Target>, alloc: Global) -> Result<Option<u32>, AllocError>
-    ensures { IfOk result (λ line. found_at DuplicateCase line
+fn check_inside(s: &Stmt<Target>, alloc: Global) -> Result<Option<TokenNo>, AllocError>
+    ensures { IfOk result (λ at. found_at DuplicateCase at
         ≡ first_of (repeated_labels_inside (numbered_stmt s.now))) }
 {
     match s {
@@ -88,8 +89,8 @@ fn check_inside(s: &Stmt<Target>, alloc: Global) -> Result<Option<u32>, AllocErr
         Stmt::If(_, body) | Stmt::While(_, body) | Stmt::Do(body, _) | Stmt::For { body, .. } =>
             check_inside(body, alloc),
         Stmt::IfElse(_, first, otherwise) => {
-            if let Some(line) = check_inside(first, alloc)? {
-                return Ok(Some(line));
+            if let Some(at) = check_inside(first, alloc)? {
+                return Ok(Some(at));
             }
             check_inside(otherwise, alloc)
         }

@@ -11,6 +11,7 @@ ghost use Rattle.edd_types.specs.Found.{found};
 use crate::attributes::check_type_part;
 use crate::breach::Breach;
 use edd_syntax::item::{Attribute, TypePart, TypeWord};
+use edd_syntax::numbers::TokenNo;
 use edd_syntax::reference::Target;
 use edd_syntax::types::VarType;
 
@@ -24,7 +25,7 @@ fn is_enumerated(kind: VarType) -> bool
 }
 
 #[tactic(auto, using(crate::proofs::RuleLaws::enumerators_in_cond))]
-fn check_option(part: &TypePart<Target>, kind: VarType) -> Result<(), u32>
+fn check_option(part: &TypePart<Target>, kind: VarType) -> Result<(), TokenNo>
     ensures { found Mismatch result ≡ first_of (part_breaches kind (numbered_type_part part.now)) }
 {
     match (part, is_enumerated(kind)) {
@@ -32,16 +33,16 @@ fn check_option(part: &TypePart<Target>, kind: VarType) -> Result<(), u32>
         (TypePart::Element(_), true) => Ok(()),
         (TypePart::Element(_), false) => check_type_part(part, Breach::Enumerator),
         (
-            TypePart::MinValue { line, .. }
-            | TypePart::MaxValue { line, .. }
-            | TypePart::DisplayFormat { line, .. }
-            | TypePart::EditFormat { line, .. },
+            TypePart::MinValue { at, .. }
+            | TypePart::MaxValue { at, .. }
+            | TypePart::DisplayFormat { at, .. }
+            | TypePart::EditFormat { at, .. },
             is_enumerated,
-        ) => { if is_enumerated { Err(*line) } else { Ok(()) } }
+        ) => { if is_enumerated { Err(*at) } else { Ok(()) } }
     }
 }
 
-fn check_options(parts: &[TypePart<Target>], kind: VarType) -> Result<(), u32>
+fn check_options(parts: &[TypePart<Target>], kind: VarType) -> Result<(), TokenNo>
     ensures { found Mismatch result
         ≡ first_of (flat_map (part_breaches kind) (map numbered_type_part parts.now)) }
 {
@@ -51,8 +52,8 @@ fn check_options(parts: &[TypePart<Target>], kind: VarType) -> Result<(), u32>
     Ok(())
 }
 
-/// The line of the first option or enumerator that the type in an attribute does not have.
-pub fn check_type(attribute: &Attribute<Target>) -> Result<(), u32>
+/// The place of the first option or enumerator that the type in an attribute does not have.
+pub fn check_type(attribute: &Attribute<Target>) -> Result<(), TokenNo>
     ensures { found Mismatch result
         ≡ first_of (type_option_breaches (numbered_attribute attribute.now)) }
 {
@@ -60,6 +61,7 @@ pub fn check_type(attribute: &Attribute<Target>) -> Result<(), u32>
         Attribute::TypeOf {
             word: TypeWord::Known { kind, .. },
             parts,
+            ..
         } => check_options(parts, *kind),
         _ => Ok(()),
     }

@@ -1,4 +1,4 @@
-//! The rules of the profile that are broken on a line.
+//! The rules of the profile that are broken at a token.
 
 ghost use Rattle.std.specs.Prelude.{◌≡◌, false, map, IfOk};
 ghost use Rattle.edd_syntax.specs.ItemView.{numbered_attribute, numbered_item};
@@ -15,6 +15,7 @@ use crate::elements::check_elements;
 use crate::labels::check_labels;
 use crate::options::check_type;
 use edd_syntax::item::{Attribute, Item};
+use edd_syntax::numbers::TokenNo;
 use edd_syntax::reference::Target;
 use std::alloc::{AllocError, Global};
 
@@ -31,7 +32,7 @@ pub enum Rule {
 }
 
 #[tactic(auto, using(edd_syntax::proofs::FirstLaws::firsts, crate::proofs::RuleLaws::calls_in_attribute))]
-fn check_mismatches(attribute: &Attribute<Target>) -> Result<(), u32>
+fn check_mismatches(attribute: &Attribute<Target>) -> Result<(), TokenNo>
     ensures { found Mismatch result
         ≡ first_of (broken_in rule.Mismatch (numbered_attribute attribute.now)) }
 {
@@ -40,18 +41,18 @@ fn check_mismatches(attribute: &Attribute<Target>) -> Result<(), u32>
 }
 
 #[tactic(auto, using(edd_syntax::proofs::FirstLaws::flat_one))]
-fn check_breaks_in(attribute: &Attribute<Target>) -> Result<(), u32>
+fn check_breaks_in(attribute: &Attribute<Target>) -> Result<(), TokenNo>
     ensures { found BreakOutside result
         ≡ first_of (broken_in rule.BreakOutside (numbered_attribute attribute.now)) }
 {
     match attribute {
-        Attribute::Definition(parts) => check_parts(parts, false, false),
+        Attribute::Definition(_, parts) => check_parts(parts, false, false),
         _ => Ok(()),
     }
 }
 
 #[tactic(auto, using(crate::proofs::RuleLaws::constants_in_parts))]
-fn check_constants(attribute: &Attribute<Target>) -> Result<(), u32>
+fn check_constants(attribute: &Attribute<Target>) -> Result<(), TokenNo>
     ensures { found ConstRange result
         ≡ first_of (broken_in rule.ConstRange (numbered_attribute attribute.now)) }
 {
@@ -62,7 +63,7 @@ fn check_constants(attribute: &Attribute<Target>) -> Result<(), u32>
 }
 
 #[tactic(auto, using(crate::proofs::RuleLaws::defaults_in_attribute))]
-fn check_defaults(attribute: &Attribute<Target>) -> Result<(), u32>
+fn check_defaults(attribute: &Attribute<Target>) -> Result<(), TokenNo>
     requires { is_definition (numbered_attribute attribute.now) ≡ false }
     ensures { found (why rule.DuplicateCase) result
         ≡ first_of (broken_in rule.DuplicateCase (numbered_attribute attribute.now)) }
@@ -70,34 +71,40 @@ fn check_defaults(attribute: &Attribute<Target>) -> Result<(), u32>
     check_inside(attribute, Breach::Default)
 }
 
-fn check_repeats(attribute: &Attribute<Target>, alloc: Global) -> Result<Option<u32>, AllocError>
-    ensures { IfOk result (λ line. found_at (why rule.DuplicateCase) line
+fn check_repeats(
+    attribute: &Attribute<Target>,
+    alloc: Global,
+) -> Result<Option<TokenNo>, AllocError>
+    ensures { IfOk result (λ at. found_at (why rule.DuplicateCase) at
         ≡ first_of (broken_in rule.DuplicateCase (numbered_attribute attribute.now))) }
 {
     match attribute {
-        Attribute::Definition(parts) => check_labels(parts, alloc),
+        Attribute::Definition(_, parts) => check_labels(parts, alloc),
         _ => Ok(check_defaults(attribute).err()),
     }
 }
 
-fn check_numbers(attribute: &Attribute<Target>, alloc: Global) -> Result<Option<u32>, AllocError>
-    ensures { IfOk result (λ line. found_at (why rule.DuplicateElement) line
+fn check_numbers(
+    attribute: &Attribute<Target>,
+    alloc: Global,
+) -> Result<Option<TokenNo>, AllocError>
+    ensures { IfOk result (λ at. found_at (why rule.DuplicateElement) at
         ≡ first_of (broken_in rule.DuplicateElement (numbered_attribute attribute.now))) }
 {
     match attribute {
-        Attribute::Elements(elements) => check_elements(elements, alloc),
+        Attribute::Elements(_, elements) => check_elements(elements, alloc),
         _ => Ok(None),
     }
 }
 
-/// The line of the first breach of a rule in an attribute.
+/// The place of the first breach of a rule in an attribute.
 #[tactic(auto, using(crate::proofs::RuleLaws::decimals_in_attribute))]
 fn check_attribute(
     attribute: &Attribute<Target>,
     rule: Rule,
     alloc: Global,
-) -> Result<Option<u32>, AllocError>
-    ensures { IfOk result (λ line. found_at (why rule) line
+) -> Result<Option<TokenNo>, AllocError>
+    ensures { IfOk result (λ at. found_at (why rule) at
         ≡ first_of (broken_in rule (numbered_attribute attribute.now))) }
 {
     match rule {
@@ -114,30 +121,30 @@ fn check_attributes(
     attributes: &[Attribute<Target>],
     rule: Rule,
     alloc: Global,
-) -> Result<Option<u32>, AllocError>
-    ensures { IfOk result (λ line. found_at (why rule) line
+) -> Result<Option<TokenNo>, AllocError>
+    ensures { IfOk result (λ at. found_at (why rule) at
         ≡ first_of (flat_map (broken_in rule) (map numbered_attribute attributes.now))) }
 {
     for attribute in attributes {
-        if let Some(line) = check_attribute(attribute, rule, alloc)? {
-            return Ok(Some(line));
+        if let Some(at) = check_attribute(attribute, rule, alloc)? {
+            return Ok(Some(at));
         }
     }
     Ok(None)
 }
 
-/// The line of the first breach of a rule in items.
+/// The place of the first breach of a rule in items.
 pub fn check_items(
     items: &[Item<Target>],
     rule: Rule,
     alloc: Global,
-) -> Result<Option<u32>, AllocError>
-    ensures { IfOk result (λ line. found_at (why rule) line
+) -> Result<Option<TokenNo>, AllocError>
+    ensures { IfOk result (λ at. found_at (why rule) at
         ≡ first_of (broken rule (map numbered_item items.now))) }
 {
     for item in items {
-        if let Some(line) = check_attributes(item.attributes(), rule, alloc)? {
-            return Ok(Some(line));
+        if let Some(at) = check_attributes(item.attributes(), rule, alloc)? {
+            return Ok(Some(at));
         }
     }
     Ok(None)

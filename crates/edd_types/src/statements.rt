@@ -9,11 +9,12 @@ ghost use Rattle.edd_types.specs.Found.{found};
 
 use crate::breach::{Breach, check_expression};
 use edd_syntax::expr::Expr;
+use edd_syntax::numbers::TokenNo;
 use edd_syntax::reference::Target;
 use edd_syntax::stmt::{Declarator, Part, Stmt};
 
 #[tactic(auto, using(crate::proofs::InStatements::walks))]
-fn check_optional(e: &Option<Expr<Target>>, breach: Breach) -> Result<(), u32>
+fn check_optional(e: &Option<Expr<Target>>, breach: Breach) -> Result<(), TokenNo>
     ensures { found (refusal_of breach) result
         ≡ first_of (in_optional breach (option_map numbered_expr e.now)) }
 {
@@ -30,7 +31,7 @@ fn check_header(
     condition: &Option<Expr<Target>>,
     update: &Option<Expr<Target>>,
     breach: Breach,
-) -> Result<(), u32>
+) -> Result<(), TokenNo>
     ensures { found (refusal_of breach) result
         ≡ first_of (in_header breach (option_map numbered_expr initial.now)
         (option_map numbered_expr condition.now) (option_map numbered_expr update.now)) }
@@ -40,10 +41,10 @@ fn check_header(
     check_optional(update, breach)
 }
 
-/// The line of the first such breach in a statement.
+/// The place of the first such breach in a statement.
 #[cycle(statements)]
 #[tactic(auto, using(crate::proofs::InStatements::walks))]
-pub fn check_statement(s: &Stmt<Target>, breach: Breach) -> Result<(), u32>
+pub fn check_statement(s: &Stmt<Target>, breach: Breach) -> Result<(), TokenNo>
     ensures { found (refusal_of breach) result
         ≡ first_of (in_statement breach (numbered_stmt s.now)) }
 {
@@ -84,10 +85,10 @@ pub fn check_statement(s: &Stmt<Target>, breach: Breach) -> Result<(), u32>
     }
 }
 
-/// The line of the first such breach in a body.
+/// The place of the first such breach in a body.
 #[cycle(statements)]
 #[tactic(auto, using(crate::proofs::InStatements::walks))]
-pub fn check_parts(parts: &[Part<Target>], breach: Breach) -> Result<(), u32>
+pub fn check_parts(parts: &[Part<Target>], breach: Breach) -> Result<(), TokenNo>
     ensures { found (refusal_of breach) result
         ≡ first_of (in_body breach (body_from (map numbered_part parts.now))) }
 {
@@ -99,7 +100,7 @@ pub fn check_parts(parts: &[Part<Target>], breach: Breach) -> Result<(), u32>
 
 #[cycle(statements)]
 #[tactic(auto, using(crate::proofs::InStatements::walks))]
-fn check_part(part: &Part<Target>, breach: Breach) -> Result<(), u32>
+fn check_part(part: &Part<Target>, breach: Breach) -> Result<(), TokenNo>
     ensures { found (refusal_of breach) result
         ≡ first_of (in_body breach (body_from (numbered_part part.now ∷ []))) }
 {
@@ -111,7 +112,7 @@ fn check_part(part: &Part<Target>, breach: Breach) -> Result<(), u32>
 }
 
 #[tactic(auto, using(crate::proofs::InStatements::walks))]
-fn check_declarators(declarators: &[Declarator<Target>], breach: Breach) -> Result<(), u32>
+fn check_declarators(declarators: &[Declarator<Target>], breach: Breach) -> Result<(), TokenNo>
     ensures { found (refusal_of breach) result
         ≡ first_of (in_declarators breach (map numbered_declarator declarators.now)) }
 {

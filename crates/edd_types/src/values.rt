@@ -12,6 +12,7 @@ use crate::breach::{Breach, check_expression};
 use crate::constants::check_item;
 use edd_syntax::expr::Expr;
 use edd_syntax::item::{DataItem, Enumerator, MenuEntry};
+use edd_syntax::numbers::TokenNo;
 use edd_syntax::reference::Target;
 use edd_syntax::text::Text;
 use edd_syntax::types::Handling;
@@ -20,15 +21,15 @@ use edd_syntax::types::Handling;
 pub trait CheckValue {
     ghost breaches: { Breach → Self → List Refusal };
 
-    /// The line of the first such breach.
-    fn check_value(&self, breach: Breach) -> Result<(), u32>
+    /// The place of the first such breach.
+    fn check_value(&self, breach: Breach) -> Result<(), TokenNo>
         ensures { found (refusal_of breach) result ≡ first_of (breaches breach self.now) };
 }
 
 impl CheckValue for Text {
     ghost breaches = { in_nothing };
 
-    fn check_value(&self, _breach: Breach) -> Result<(), u32> {
+    fn check_value(&self, _breach: Breach) -> Result<(), TokenNo> {
         Ok(())
     }
 }
@@ -36,7 +37,7 @@ impl CheckValue for Text {
 impl CheckValue for Handling {
     ghost breaches = { in_nothing };
 
-    fn check_value(&self, _breach: Breach) -> Result<(), u32> {
+    fn check_value(&self, _breach: Breach) -> Result<(), TokenNo> {
         Ok(())
     }
 }
@@ -44,7 +45,7 @@ impl CheckValue for Handling {
 impl CheckValue for bool {
     ghost breaches = { in_nothing };
 
-    fn check_value(&self, _breach: Breach) -> Result<(), u32> {
+    fn check_value(&self, _breach: Breach) -> Result<(), TokenNo> {
         Ok(())
     }
 }
@@ -52,7 +53,7 @@ impl CheckValue for bool {
 impl CheckValue for MenuEntry<Target> {
     ghost breaches = { in_nothing };
 
-    fn check_value(&self, _breach: Breach) -> Result<(), u32> {
+    fn check_value(&self, _breach: Breach) -> Result<(), TokenNo> {
         Ok(())
     }
 }
@@ -60,7 +61,7 @@ impl CheckValue for MenuEntry<Target> {
 impl CheckValue for Expr<Target> {
     ghost breaches = { λ b e. in_part b (numbered_expr e) };
 
-    fn check_value(&self, breach: Breach) -> Result<(), u32> {
+    fn check_value(&self, breach: Breach) -> Result<(), TokenNo> {
         check_expression(breach, self, false)
     }
 }
@@ -68,9 +69,9 @@ impl CheckValue for Expr<Target> {
 impl CheckValue for Enumerator {
     ghost breaches = { λ b e. in_enumerator b (enumerator_of e) };
 
-    fn check_value(&self, breach: Breach) -> Result<(), u32> {
+    fn check_value(&self, breach: Breach) -> Result<(), TokenNo> {
         match breach {
-            Breach::Enumerator => Err(self.line),
+            Breach::Enumerator => Err(self.at),
             Breach::Call | Breach::Decimal | Breach::Constant | Breach::Default => Ok(()),
         }
     }
@@ -79,7 +80,7 @@ impl CheckValue for Enumerator {
 impl CheckValue for DataItem<Target> {
     ghost breaches = { λ b d. in_data_item b (numbered_data_item d) };
 
-    fn check_value(&self, breach: Breach) -> Result<(), u32> {
+    fn check_value(&self, breach: Breach) -> Result<(), TokenNo> {
         match breach {
             Breach::Constant => check_item(self),
             Breach::Enumerator | Breach::Call | Breach::Decimal | Breach::Default => Ok(()),

@@ -51,18 +51,18 @@ pub fn check_command<'a>(
     );
     for attribute in attributes {
         match attribute {
-            Attribute::Number(number) => {
+            Attribute::Number(_, number) => {
                 let at = tokens_left.to_word(Keyword::Number);
                 commands.add(i64::from(*number), at, findings)?;
             }
-            Attribute::Transaction { number, parts } => {
+            Attribute::Transaction { number, parts, .. } => {
                 let at = tokens_left.to_word(Keyword::Transaction);
-                check_messages(parts, tokens_left, instrument, findings)?;
+                check_messages(parts, instrument, findings)?;
                 if let Some(number) = number {
                     transactions.add(i64::from(*number), at, findings)?;
                 }
             }
-            Attribute::ResponseCodes(codes) => check_codes(codes, &mut tokens_left, findings)?,
+            Attribute::ResponseCodes(_, codes) => check_codes(codes, &mut tokens_left, findings)?,
             _ => {}
         }
     }

@@ -141,7 +141,7 @@ fn check_transaction_part(
     findings: &mut Findings,
 ) -> Result<(), AllocError> {
     match part {
-        TransactionPart::Request(items) | TransactionPart::Reply(items) => {
+        TransactionPart::Request(_, items) | TransactionPart::Reply(_, items) => {
             check_conds(items, walk, findings)
         }
     }
@@ -153,9 +153,9 @@ fn check_attribute(
     findings: &mut Findings,
 ) -> Result<(), AllocError> {
     match attribute {
-        Attribute::OneText(_, text) => check_cond(text, walk, findings)?,
-        Attribute::Handling(handling) => check_cond(handling, walk, findings)?,
-        Attribute::Validity(validity) => check_cond(validity, walk, findings)?,
+        Attribute::OneText(_, _, text) => check_cond(text, walk, findings)?,
+        Attribute::Handling(_, handling) => check_cond(handling, walk, findings)?,
+        Attribute::Validity(_, validity) => check_cond(validity, walk, findings)?,
         Attribute::TypeOf { parts, .. } => {
             for part in parts {
                 check_type_part(part, walk, findings)?;
@@ -166,14 +166,14 @@ fn check_attribute(
                 check_transaction_part(part, walk, findings)?;
             }
         }
-        Attribute::Items(entries) => check_conds(entries, walk, findings)?,
-        Attribute::Class(_)
-        | Attribute::Number(_)
-        | Attribute::Operation(_)
-        | Attribute::ResponseCodes(_)
-        | Attribute::Members(_)
-        | Attribute::Definition(_)
-        | Attribute::Elements(_) => {}
+        Attribute::Items(_, entries) => check_conds(entries, walk, findings)?,
+        Attribute::Class(_, _)
+        | Attribute::Number(_, _)
+        | Attribute::Operation(_, _)
+        | Attribute::ResponseCodes(_, _)
+        | Attribute::Members(_, _)
+        | Attribute::Definition(_, _)
+        | Attribute::Elements(_, _) => {}
     }
     Ok(())
 }

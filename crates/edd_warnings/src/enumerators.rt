@@ -2,13 +2,13 @@
 
 use crate::repeats::Numbers;
 use crate::variables::check_range;
-use edd_lexer::token::TokenKind;
 use edd_lints::lint::Lint;
 use edd_lints::range::Range;
-use edd_lints::tokens_left::{Mark, TokensLeft};
+use edd_lints::tokens_left::Mark;
 use edd_lints::warning::Findings;
 use edd_syntax::cond::{Arm, Cond};
 use edd_syntax::item::{Enumerator, TypePart};
+use edd_syntax::numbers::TokenNo;
 use edd_syntax::reference::Target;
 use edd_syntax::types::VarType;
 use std::alloc::{AllocError, Global};
@@ -21,12 +21,12 @@ fn check_enumerator<'a>(
     enumerator: &Enumerator,
     range: Range,
     kind: VarType,
-    tokens_left: &mut TokensLeft<'a>,
     list: &mut Numbers<'a>,
-    findings: &mut Findings,
+    findings: &mut Findings<'a>,
 ) -> Result<(), AllocError> {
-    let written = u32::try_from(enumerator.value.unsigned_abs()).unwrap_or(u32::MAX);
-    let at = tokens_left.to_on(enumerator.line, TokenKind::Integer(written));
+    let sign = if enumerator.value < 0 { 1 } else { 0 };
+    let behind = enumerator.at.0.saturating_add(1).saturating_add(sign);
+    let at = findings.mark(TokenNo(behind));
     check_range(range, "the enumerator", enumerator.value, at, findings)?;
     check_bit(enumerator.value, kind, at, findings)?;
     list.add(enumerator.value, at, findings)
@@ -64,53 +64,48 @@ fn check_element<'a>(
     c: &Cond<Target, Enumerator>,
     range: Range,
     kind: VarType,
-    tokens_left: &mut TokensLeft<'a>,
     list: &mut Numbers<'a>,
-    findings: &mut Findings,
+    findings: &mut Findings<'a>,
 ) -> Result<(), AllocError> {
     match c {
-        Cond::Value(enumerator) => {
-            check_enumerator(enumerator, range, kind, tokens_left, list, findings)
-        }
+        Cond::Value(enumerator) => { check_enumerator(enumerator, range, kind, list, findings) }
         Cond::If {
             first,
             otherwise,
             ..
         } => {
-            check_list(first, range, kind, tokens_left, findings)?;
-            check_list(otherwise, range, kind, tokens_left, findings)
+            check_list(first, range, kind, findings)?;
+            check_list(otherwise, range, kind, findings)
         }
-        Cond::Select { arms, .. } => check_arms(arms, range, kind, tokens_left, findings),
+        Cond::Select { arms, .. } => check_arms(arms, range, kind, findings),
     }
 }
 
 #[cycle(enumerators)]
-fn check_list<'a>(
+fn check_list(
     elements: &[Cond<Target, Enumerator>],
     range: Range,
     kind: VarType,
-    tokens_left: &mut TokensLeft<'a>,
     findings: &mut Findings,
 ) -> Result<(), AllocError> {
     let mut list = new_list(findings.alloc);
     for c in elements {
-        check_element(c, range, kind, tokens_left, &mut list, findings)?;
+        check_element(c, range, kind, &mut list, findings)?;
     }
     Ok(())
 }
 
 #[cycle(enumerators)]
-fn check_arms<'a>(
+fn check_arms(
     arms: &[Arm<Target, Enumerator>],
     range: Range,
     kind: VarType,
-    tokens_left: &mut TokensLeft<'a>,
     findings: &mut Findings,
 ) -> Result<(), AllocError> {
     for arm in arms {
         match arm {
             Arm::Case { body, .. } | Arm::Default { body, .. } => {
-                check_list(body, range, kind, tokens_left, findings)?;
+                check_list(body, range, kind, findings)?;
             }
         }
     }
@@ -118,17 +113,16 @@ fn check_arms<'a>(
 }
 
 /// The enumerators of a type.
-pub fn check_enumerators<'a>(
+pub fn check_enumerators(
     parts: &[TypePart<Target>],
     range: Range,
     kind: VarType,
-    tokens_left: &mut TokensLeft<'a>,
     findings: &mut Findings,
 ) -> Result<(), AllocError> {
     let mut list = new_list(findings.alloc);
     for part in parts {
         if let TypePart::Element(c) = part {
-            check_element(c, range, kind, tokens_left, &mut list, findings)?;
+            check_element(c, range, kind, &mut list, findings)?;
         }
     }
     Ok(())

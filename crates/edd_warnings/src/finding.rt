@@ -30,13 +30,11 @@ struct Gathered<'a> {
 fn check_variable(
     attributes: &[Attribute<Target>],
     variable: u16,
-    tokens_left: TokensLeft<'_>,
     instrument: &Instrument,
     findings: &mut Findings,
 ) -> Result<(), AllocError> {
-    let mut tokens_left = tokens_left;
     for attribute in attributes {
-        check_type(attribute, variable, instrument, &mut tokens_left, findings)?;
+        check_type(attribute, variable, instrument, findings)?;
     }
     Ok(())
 }
@@ -58,7 +56,7 @@ fn check_item<'a>(
         Item::Variable(_) => {
             let variable = gathered.variables;
             gathered.variables = variable.saturating_add(1);
-            check_variable(attributes, variable, tokens_left, instrument, findings)
+            check_variable(attributes, variable, instrument, findings)
         }
         Item::Command(_) => {
             let commands = &mut gathered.commands;
@@ -78,7 +76,7 @@ pub fn warnings(
     tokens: &[Token],
     checked: &Checked,
 ) -> Result<Vec<Warning>, AllocError> {
-    let mut findings = Findings::new(alloc);
+    let mut findings = Findings::new(alloc, &*text, &*tokens);
     let items = items_of(alloc, tokens)?;
     let elements = checked.elements(alloc)?;
     let instrument = Instrument::of(alloc, &checked.items, &elements)?;

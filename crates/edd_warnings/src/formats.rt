@@ -2,11 +2,10 @@
 
 use crate::steps::{Step, push_cond};
 use edd_lints::lint::Lint;
-use edd_lints::tokens_left::first_on;
 use edd_lints::warning::Findings;
 use edd_syntax::cond::Cond;
 use edd_syntax::item::TypePart;
-use edd_syntax::numbers::Attr;
+use edd_syntax::numbers::TokenNo;
 use edd_syntax::reference::Target;
 use edd_syntax::text::Text;
 use std::alloc::AllocError;
@@ -48,8 +47,7 @@ fn is_format(text: &str) -> bool {
 }
 
 fn check_format(
-    attr: Attr,
-    line: u32,
+    at: TokenNo,
     format: &Cond<Target, Text>,
     findings: &mut Findings,
 ) -> Result<(), AllocError> {
@@ -63,11 +61,8 @@ fn check_format(
                     alloc,
                     "this is no format of a whole number, as 4d or 04x is",
                 )?;
-                findings.add(
-                    Lint::MeaninglessFormat,
-                    first_on(line, attr.word()),
-                    message,
-                )?;
+                let at = findings.mark(at);
+                findings.add(Lint::MeaninglessFormat, at, message)?;
             }
             _ => {}
         }
@@ -82,11 +77,8 @@ pub fn check_formats(
 ) -> Result<(), AllocError> {
     for part in parts {
         match part {
-            TypePart::DisplayFormat { line, format } => {
-                check_format(Attr::DisplayFormat, *line, format, findings)?;
-            }
-            TypePart::EditFormat { line, format } => {
-                check_format(Attr::EditFormat, *line, format, findings)?;
+            TypePart::DisplayFormat { at, format } | TypePart::EditFormat { at, format } => {
+                check_format(*at, format, findings)?;
             }
             _ => {}
         }

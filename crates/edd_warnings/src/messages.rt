@@ -2,12 +2,12 @@
 
 use edd_lints::instrument::{Instrument, variable_of};
 use edd_lints::lint::Lint;
-use edd_lints::tokens_left::{Mark, TokensLeft};
+use edd_lints::tokens_left::Mark;
 use edd_lints::warning::Findings;
 use edd_syntax::cond::{Arm, Cond};
 use edd_syntax::item::{DataItem, TransactionPart};
+use edd_syntax::numbers::TokenNo;
 use edd_syntax::reference::Target;
-use edd_syntax::symbols::Keyword;
 use std::alloc::AllocError;
 use std::collections::BTreeMap;
 
@@ -21,10 +21,9 @@ struct Carried<'a> {
     is_whole: bool,
 }
 
-/// A way through the messages of a command.
-#[derive(Drop)]
-struct Messages<'a, 'i> {
-    tokens_left: TokensLeft<'a>,
+/// A message of a command.
+#[derive(Clone, Copy)]
+struct Message<'i> {
     instrument: &'i Instrument,
     is_reply: bool,
 }
@@ -54,20 +53,18 @@ fn check_mask(
     Ok(())
 }
 
-impl<'a> Messages<'a, '_> {
+impl Message<'_> {
     // A variable of a list.
-    fn check_variable(
-        &mut self,
-        line: u32,
+    fn check_variable<'a>(
+        &self,
+        at: TokenNo,
         variable: u16,
         mask: Option<u32>,
         is_info: bool,
         list: &mut BTreeMap<u16, Carried<'a>>,
-        findings: &mut Findings,
+        findings: &mut Findings<'a>,
     ) -> Result<(), AllocError> {
-        let at = self
-            .tokens_left
-            .to_text_on(line, self.instrument.name_of(variable));
+        let at = findings.mark(at);
         let before = list.get(&variable).copied();
         let bits = before.map(|carried| carried.bits).unwrap_or(0);
         if let (Some(mask), Some(range)) = (mask, self.instrument.range(variable)) {
@@ -100,14 +97,14 @@ impl<'a> Messages<'a, '_> {
         Ok(())
     }
 
-    fn check_item(
-        &mut self,
+    fn check_item<'a>(
+        &self,
         item: &DataItem<Target>,
         list: &mut BTreeMap<u16, Carried<'a>>,
-        findings: &mut Findings,
+        findings: &mut Findings<'a>,
     ) -> Result<(), AllocError> {
         let DataItem::Variable {
-            line,
+            at,
             variable,
             mask,
             qualifiers,
@@ -117,7 +114,7 @@ impl<'a> Messages<'a, '_> {
         };
         match variable_of(*variable) {
             Some(number) => {
-                self.check_variable(*line, number, *mask, qualifiers.info, list, findings)
+                self.check_variable(*at, number, *mask, qualifiers.info, list, findings)
             }
             None => Ok(()),
         }
@@ -128,74 +125,69 @@ impl<'a> Messages<'a, '_> {
 #[cycle(messages)]
 fn check_element<'a>(
     c: &Cond<Target, DataItem<Target>>,
-    messages: &mut Messages<'a, '_>,
+    message: Message<'_>,
     list: &mut BTreeMap<u16, Carried<'a>>,
-    findings: &mut Findings,
+    findings: &mut Findings<'a>,
 ) -> Result<(), AllocError> {
     match c {
-        Cond::Value(item) => messages.check_item(item, list, findings),
+        Cond::Value(item) => message.check_item(item, list, findings),
         Cond::If {
             first,
             otherwise,
             ..
         } => {
-            check_list(first, messages, findings)?;
-            check_list(otherwise, messages, findings)
+            check_list(first, message, findings)?;
+            check_list(otherwise, message, findings)
         }
-        Cond::Select { arms, .. } => check_arms(arms, messages, findings),
+        Cond::Select { arms, .. } => check_arms(arms, message, findings),
     }
 }
 
 #[cycle(messages)]
-fn check_list<'a>(
+fn check_list(
     elements: &[Cond<Target, DataItem<Target>>],
-    messages: &mut Messages<'a, '_>,
+    message: Message<'_>,
     findings: &mut Findings,
 ) -> Result<(), AllocError> {
     let mut list = BTreeMap::new(findings.alloc);
     for c in elements {
-        check_element(c, messages, &mut list, findings)?;
+        check_element(c, message, &mut list, findings)?;
     }
     Ok(())
 }
 
 #[cycle(messages)]
-fn check_arms<'a>(
+fn check_arms(
     arms: &[Arm<Target, DataItem<Target>>],
-    messages: &mut Messages<'a, '_>,
+    message: Message<'_>,
     findings: &mut Findings,
 ) -> Result<(), AllocError> {
     for arm in arms {
         match arm {
             Arm::Case { body, .. } | Arm::Default { body, .. } => {
-                check_list(body, messages, findings)?;
+                check_list(body, message, findings)?;
             }
         }
     }
     Ok(())
 }
 
-/// The messages of a transaction, whose tokens begin after its word.
+/// The messages of a transaction.
 pub fn check_messages(
     parts: &[TransactionPart<Target>],
-    tokens_left: TokensLeft<'_>,
     instrument: &Instrument,
     findings: &mut Findings,
 ) -> Result<(), AllocError> {
     for part in parts {
         let (items, is_reply) = match part {
-            TransactionPart::Request(items) => (items, false),
-            TransactionPart::Reply(items) => (items, true),
+            TransactionPart::Request(_, items) => (items, false),
+            TransactionPart::Reply(_, items) => (items, true),
         };
-        let mut messages = Messages {
-            tokens_left,
+        let message = Message {
             instrument,
             is_reply,
         };
-        if is_reply {
-            messages.tokens_left.to_word(Keyword::Reply);
-        }
-        check_list(items, &mut messages, findings)?;
+        check_list(items, message, findings)?;
     }
     Ok(())
 }

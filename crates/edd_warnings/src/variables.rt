@@ -7,12 +7,12 @@ use edd_lints::constants::{Known, Width, evaluate};
 use edd_lints::instrument::Instrument;
 use edd_lints::lint::Lint;
 use edd_lints::range::Range;
-use edd_lints::tokens_left::{Mark, TokensLeft, first_on};
+use edd_lints::tokens_left::Mark;
 use edd_lints::warning::Findings;
 use edd_syntax::cond::{Arm, Cond};
 use edd_syntax::expr::Expr;
 use edd_syntax::item::{Attribute, TypePart, TypeWord};
-use edd_syntax::numbers::Attr;
+use edd_syntax::numbers::{Attr, TokenNo};
 use edd_syntax::reference::Target;
 use edd_syntax::types::VarType;
 use std::alloc::{AllocError, Global};
@@ -39,12 +39,6 @@ pub fn check_range(
 struct Placed<'a> {
     what: &'a str,
     at: Mark<'a>,
-}
-
-fn option_at<'a>(attr: Attr, line: u32) -> Placed<'a> {
-    let what = attr.word();
-    let at = first_on(line, what);
-    Placed { what, at }
 }
 
 // The constants of an option, in all its branches.
@@ -106,7 +100,7 @@ fn check_arms(
 #[derive(Clone, Copy)]
 struct Constant {
     number: i64,
-    line: u32,
+    at: TokenNo,
 }
 
 // The options of a type that are one constant each.
@@ -117,12 +111,12 @@ struct Options {
     greatest: Option<Constant>,
 }
 
-fn constant_of(c: &Cond<Target, Expr<Target>>, line: u32) -> Option<Constant> {
+fn constant_of(c: &Cond<Target, Expr<Target>>, at: TokenNo) -> Option<Constant> {
     let Cond::Value(e) = c else {
         return None;
     };
     match evaluate(e, Width::Attribute) {
-        Known::Number(number) => Some(Constant { number, line }),
+        Known::Number(number) => Some(Constant { number, at }),
         Known::Traps(_) | Known::Nothing => None,
     }
 }
@@ -135,9 +129,9 @@ fn options_of(parts: &[TypePart<Target>]) -> Options {
     };
     for part in parts {
         match part {
-            TypePart::DefaultValue { line, value } => options.default = constant_of(value, *line),
-            TypePart::MinValue { line, value } => options.least = constant_of(value, *line),
-            TypePart::MaxValue { line, value } => options.greatest = constant_of(value, *line),
+            TypePart::DefaultValue { at, value } => options.default = constant_of(value, *at),
+            TypePart::MinValue { at, value } => options.least = constant_of(value, *at),
+            TypePart::MaxValue { at, value } => options.greatest = constant_of(value, *at),
             TypePart::DisplayFormat { .. } | TypePart::EditFormat { .. } | TypePart::Element(_) =>
                 {}
         }
@@ -158,8 +152,8 @@ fn check_limits(options: Options, findings: &mut Findings) -> Result<(), AllocEr
         return Ok(());
     };
     let (low, high) = (least.number, greatest.number);
-    let at = option_at(Attr::MinValue, least.line).at;
-    let other = option_at(Attr::MaxValue, greatest.line).at;
+    let at = findings.mark(least.at);
+    let other = findings.mark(greatest.at);
     let message = format!(in findings.alloc; "MIN_VALUE {low} is over MAX_VALUE {high}")?;
     findings.add_beside(Lint::LimitsCrossed, at, message, other)
 }
@@ -167,16 +161,16 @@ fn check_limits(options: Options, findings: &mut Findings) -> Result<(), AllocEr
 fn check_default(options: Options, findings: &mut Findings) -> Result<(), AllocError> {
     if let Some((least, default)) = crossed(options.least, options.default) {
         let (low, number) = (least.number, default.number);
-        let at = option_at(Attr::DefaultValue, default.line).at;
-        let other = option_at(Attr::MinValue, least.line).at;
+        let at = findings.mark(default.at);
+        let other = findings.mark(least.at);
         let alloc = findings.alloc;
         let message = format!(in alloc; "DEFAULT_VALUE {number} is below MIN_VALUE {low}")?;
         findings.add_beside(Lint::DefaultOutsideLimits, at, message, other)?;
     }
     if let Some((default, greatest)) = crossed(options.default, options.greatest) {
         let (number, high) = (default.number, greatest.number);
-        let at = option_at(Attr::DefaultValue, default.line).at;
-        let other = option_at(Attr::MaxValue, greatest.line).at;
+        let at = findings.mark(default.at);
+        let other = findings.mark(greatest.at);
         let alloc = findings.alloc;
         let message = format!(in alloc; "DEFAULT_VALUE {number} is over MAX_VALUE {high}")?;
         findings.add_beside(Lint::DefaultOutsideLimits, at, message, other)?;
@@ -190,15 +184,19 @@ fn check_option(
     range: Range,
     findings: &mut Findings,
 ) -> Result<(), AllocError> {
-    let (attr, line, value) = match part {
-        TypePart::DefaultValue { line, value } => (Attr::DefaultValue, *line, value),
-        TypePart::MinValue { line, value } => (Attr::MinValue, *line, value),
-        TypePart::MaxValue { line, value } => (Attr::MaxValue, *line, value),
+    let (attr, at, value) = match part {
+        TypePart::DefaultValue { at, value } => (Attr::DefaultValue, *at, value),
+        TypePart::MinValue { at, value } => (Attr::MinValue, *at, value),
+        TypePart::MaxValue { at, value } => (Attr::MaxValue, *at, value),
         TypePart::DisplayFormat { .. } | TypePart::EditFormat { .. } | TypePart::Element(_) => {
             return Ok(());
         }
     };
-    check_constants(value, range, option_at(attr, line), findings)
+    let option = Placed {
+        what: attr.word(),
+        at: findings.mark(at),
+    };
+    check_constants(value, range, option, findings)
 }
 
 // All bits of the enumerators of a type; nothing where it has none.
@@ -247,7 +245,7 @@ fn check_named(
     instrument: &Instrument,
     findings: &mut Findings,
 ) -> Result<(), AllocError> {
-    let TypePart::DefaultValue { line, value } = part else {
+    let TypePart::DefaultValue { at, value } = part else {
         return Ok(());
     };
     let alloc = findings.alloc;
@@ -261,7 +259,7 @@ fn check_named(
             _ => None,
         };
         if let Some(message) = message {
-            let at = option_at(Attr::DefaultValue, *line).at;
+            let at = findings.mark(*at);
             findings.add(Lint::UnlistedValue, at, message)?;
         }
     }
@@ -298,10 +296,9 @@ pub fn check_type(
     attribute: &Attribute<Target>,
     variable: u16,
     instrument: &Instrument,
-    tokens_left: &mut TokensLeft<'_>,
     findings: &mut Findings,
 ) -> Result<(), AllocError> {
-    let Attribute::TypeOf { word, parts } = attribute else {
+    let Attribute::TypeOf { word, parts, .. } = attribute else {
         return Ok(());
     };
     let TypeWord::Known { kind, size } = word else {
@@ -316,5 +313,5 @@ pub fn check_type(
     check_default(options, findings)?;
     check_defaults(parts, variable, instrument, findings)?;
     check_formats(parts, findings)?;
-    check_enumerators(parts, range, *kind, tokens_left, findings)
+    check_enumerators(parts, range, *kind, findings)
 }

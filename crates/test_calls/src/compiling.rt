@@ -39,7 +39,7 @@ pub fn unit(alloc: Global, items: &str) -> Result<String, AllocError> {
     let text = text_of(alloc, items)?;
     match unit_of(alloc, text.as_bytes()) {
         Ok(unit) => summary(alloc, &unit),
-        Err(fault) => format!(in alloc; "{fault}"),
+        Err(fault) => fault.refusal(alloc, text.as_bytes()),
     }
 }
 
@@ -81,7 +81,7 @@ pub fn steps(alloc: Global, items: &str, steps: &str) -> Result<String, AllocErr
     let text = text_of(alloc, items)?;
     let wrong = match compile(alloc, text.as_bytes()) {
         Ok(bytes) => wrong_steps(alloc, &bytes, steps)?,
-        Err(fault) => return format!(in alloc; "{fault}"),
+        Err(fault) => return fault.refusal(alloc, text.as_bytes()),
     };
     if wrong.is_empty() {
         return String::from_str(alloc, steps);

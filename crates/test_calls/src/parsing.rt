@@ -3,7 +3,9 @@
 //! text stand as many times as is asked. `nested`: how many statements are read, where the lines with
 //! a `$` stand around those without one, two of them around each.
 
-use edd_lexer::lex;
+use edd_lexer::token::Token;
+use edd_lexer::{lex, line_of};
+use edd_parser::fault::ParseFault;
 use edd_parser::parse;
 use edd_syntax::unit::Unit;
 use std::alloc::{AllocError, Global};
@@ -18,6 +20,21 @@ pub fn unit_of_items(alloc: Global, items: &str) -> Option<Unit> {
     parse(alloc, text.as_bytes(), &tokens).ok()
 }
 
+// A fault with the line of its token.
+fn refusal_of(
+    alloc: Global,
+    text: &[u8],
+    tokens: &[Token],
+    fault: &ParseFault,
+) -> Result<String, AllocError> {
+    match fault {
+        ParseFault::Syntax { at } | ParseFault::TooDeep { at } => {
+            format!(in alloc; "{fault} line {}", line_of(text, tokens, *at))
+        }
+        ParseFault::Unsupported { .. } | ParseFault::Memory => fault.to_string(alloc),
+    }
+}
+
 pub fn answer(alloc: Global, text: &str) -> Result<String, AllocError> {
     let tokens = match lex(alloc, text.as_bytes()) {
         Ok(tokens) => tokens,
@@ -25,7 +42,7 @@ pub fn answer(alloc: Global, text: &str) -> Result<String, AllocError> {
     };
     match parse(alloc, text.as_bytes(), &tokens) {
         Ok(unit) => format!(in alloc; "{}", unit.items.len()),
-        Err(fault) => format!(in alloc; "{fault}"),
+        Err(fault) => refusal_of(alloc, text.as_bytes(), &tokens, &fault),
     }
 }
 

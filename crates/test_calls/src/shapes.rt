@@ -22,7 +22,7 @@ fn attributes(unit: &Unit) -> &[Attribute<Path>] {
 
 // The first statement of the first item's first attribute, where that is a body.
 fn first_statement(unit: &Unit) -> Option<&Stmt<Path>> {
-    let Some(Attribute::Definition(parts)) = attributes(unit).first() else {
+    let Some(Attribute::Definition(_, parts)) = attributes(unit).first() else {
         return None;
     };
     match parts.first() {
@@ -114,7 +114,7 @@ pub fn inner_else(alloc: Global, body: &str) -> Result<String, AllocError> {
 
 // How many entries a menu's list has, and how many come after its first ELSE.
 fn entries(unit: &Unit) -> Option<(usize, usize)> {
-    let Some(Attribute::Items(entries)) = attributes(unit).first() else {
+    let Some(Attribute::Items(_, entries)) = attributes(unit).first() else {
         return None;
     };
     let after = match entries.first() {
@@ -126,7 +126,7 @@ fn entries(unit: &Unit) -> Option<(usize, usize)> {
 
 // Whether an entry is a reference to this name, in a list of entries.
 fn is_last(unit: &Unit, name: &str) -> bool {
-    let Some(Attribute::Items(entries)) = attributes(unit).first() else {
+    let Some(Attribute::Items(_, entries)) = attributes(unit).first() else {
         return false;
     };
     match entries.last() {

@@ -33,12 +33,15 @@ pub fn tried(text: &[u8], counts: &mut Counts) -> Result<Result<Vec<u8>, String>
                 .split(|byte| *byte == b'\n')
                 .next()
                 .unwrap_or_default();
-            let wanted = format!(": refused {fault}");
+            let Ok(refusal) = fault.refusal(Global, text) else {
+                return Err("a refusal has no line".into());
+            };
+            let wanted = format!(": refused {refusal}");
             let is_said = is_refused && first.ends_with(wanted.as_bytes());
             if is_said {
-                Ok(Err(fault.to_string()))
+                Ok(Err(refusal.to_string()))
             } else {
-                Err(format!("check says other than `refused {fault}`"))
+                Err(format!("check says other than `refused {refusal}`"))
             }
         }
     }

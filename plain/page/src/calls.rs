@@ -7,7 +7,7 @@ use edd_check::{Choices, Format, ReportFault};
 use edd_compiler::Fault;
 use edd_display::ShowFault;
 use edd_loader::LoadFault;
-use std::alloc::Global;
+use std::alloc::{AllocError, Global};
 use std::vec::Vec;
 
 /// The statuses of calls: it gives something, a line that says why not, or nothing since there was no
@@ -133,8 +133,15 @@ pub extern "C" fn told(text: u32, byte: u32) -> u32 {
 }
 
 fn compile_text(text: &[u8]) -> Result<Vec<u8>, Stop> {
-    edd_compiler::compile(Global, text)
-        .map_err(|fault| Stop::of(&fault, matches!(fault, Fault::Memory)))
+    let fault = match edd_compiler::compile(Global, text) {
+        Ok(image) => return Ok(image),
+        Err(Fault::Memory) => return Err(Stop::Memory),
+        Err(fault) => fault,
+    };
+    match fault.refusal(Global, text) {
+        Ok(line) => Err(Stop::Refused(line)),
+        Err(AllocError) => Err(Stop::Memory),
+    }
 }
 
 /// The image of a text, or why it is refused.

@@ -68,7 +68,13 @@ pub unsafe extern "C" fn compile(text: *const u8, length: usize) -> u64 {
     let text = unsafe { slice::from_raw_parts(text, length) };
     match edd_compiler::compile(Global, text) {
         Ok(image) => u64::from(give(&image)) << 32,
-        Err(fault) => u64::from(give(heap::format!("{fault}").as_bytes())) << 32 | 1,
+        Err(fault) => {
+            let length = match fault.refusal(Global, text) {
+                Ok(line) => give(line.as_bytes()),
+                Err(_) => give(b"no memory"),
+            };
+            u64::from(length) << 32 | 1
+        }
     }
 }
 

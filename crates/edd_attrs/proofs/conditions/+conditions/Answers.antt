@@ -369,7 +369,7 @@ write_arm-returns-in-Default-default-clause-sound g t c =
     subst (λ (arm : Arm Target g.V.Element.Meant). WritesArm g.V.Element.strings
     g.V.Element.is_block c.args.table.now c.args.code.now c.args.hole arm c.args.table.now
     c.args.code.now)
-    (sym (default_is g.V.Element.view c.args.arm.now c.in-Default-default.line-0
+    (sym (default_is g.V.Element.view c.args.arm.now c.in-Default-default.at-0
     c.in-Default-default.body-0 c.in-Default-default.body-0.items c.in-Default-default.is-0
     refl))
     (default_written g.V.Element.strings g.V.Element.is_block c.args.table.now c.args.code.now

@@ -8,5 +8,5 @@ returns-in-Case g c = sym (case_has_none g.V.Element.view c.args.arm.now c.in-Ca
 
 pub returns-in-Default : goal.returns-in-Default
 returns-in-Default g c =
-    sym (default_has_it g.V.Element.view c.args.arm.now c.in-Default.line c.in-Default.body
+    sym (default_has_it g.V.Element.view c.args.arm.now c.in-Default.at c.in-Default.body
     c.deref.result.now c.in-Default.is c.deref.ensures.value)

@@ -30,10 +30,10 @@ returns-in_ok-open-in-Case-clause-hole g c = ap Some c.in_ok-open-in-Case.ensure
 pub returns-in-Default-clause-code : goal.returns-in-Default-clause-code
 returns-in-Default-clause-code g c =
     sym (append-nil c.args.code.now) ∙ ap (λ (bytes : List ℕ). c.args.code.now ++ bytes)
-    (sym (default_header g.V.Element.view c.args.arm.now c.in-Default.line c.in-Default.body
+    (sym (default_header g.V.Element.view c.args.arm.now c.in-Default.at c.in-Default.body
     c.in-Default.is))
 
 pub returns-in-Default-clause-hole : goal.returns-in-Default-clause-hole
 returns-in-Default-clause-hole g c =
-    sym (default_hole g.V.Element.view c.args.arm.now (length c.args.code.now) c.in-Default.line
+    sym (default_hole g.V.Element.view c.args.arm.now (length c.args.code.now) c.in-Default.at
     c.in-Default.body c.in-Default.is)

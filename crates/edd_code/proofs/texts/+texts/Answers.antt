@@ -77,12 +77,12 @@ add_both-returns-clause-refused t c h =
 
 pub add_texts-add_argument_texts-requires : goal.add_texts-add_argument_texts-requires
 add_texts-add_argument_texts-requires t c =
-    let h = call_nodes c.args.e.now c.in-Call.line c.in-Call.function c.in-Call.arguments
+    let h = call_nodes c.args.e.now c.in-Call.at c.in-Call.function c.in-Call.arguments
     c.deref-in-Call.result.now c.in-Call.is c.deref-in-Call.ensures.value in
     let m = c.decreases in (
       omega (arith, h, m),
       subst (λ (ts : List texts.Text). list_all is_text ts ≡ true)
-          (sym (call_texts c.args.e.now c.in-Call.line c.in-Call.function c.in-Call.arguments
+          (sym (call_texts c.args.e.now c.in-Call.at c.in-Call.function c.in-Call.arguments
           c.deref-in-Call.result.now c.in-Call.is c.deref-in-Call.ensures.value)) c.requires,
     )
 
@@ -90,14 +90,14 @@ pub add_texts-returns-in-Call-clause-sound : goal.add_texts-returns-in-Call-clau
 add_texts-returns-in-Call-clause-sound t c =
     carried c.add_argument_texts.result (λ w.
     subst (λ (ts : List texts.Text). HoldsTexts c.args.table.now ts c.add_argument_texts.new.table)
-    (call_texts c.args.e.now c.in-Call.line c.in-Call.function c.in-Call.arguments
+    (call_texts c.args.e.now c.in-Call.at c.in-Call.function c.in-Call.arguments
     c.deref-in-Call.result.now c.in-Call.is c.deref-in-Call.ensures.value) w)
     c.add_argument_texts.ensures.sound
 
 pub add_texts-returns-in-Call-clause-refused : goal.add_texts-returns-in-Call-clause-refused
 add_texts-returns-in-Call-clause-refused t c h =
     subst (λ (ts : List texts.Text). Overflows c.args.table.now (strings_of_texts ts))
-    (call_texts c.args.e.now c.in-Call.line c.in-Call.function c.in-Call.arguments
+    (call_texts c.args.e.now c.in-Call.at c.in-Call.function c.in-Call.arguments
     c.deref-in-Call.result.now c.in-Call.is c.deref-in-Call.ensures.value)
     (c.add_argument_texts.ensures.refused h)
 

@@ -973,12 +973,12 @@ write_value-returns-in_err-write_either-in-Conditional-clause-refused t c h =
 
 pub write_value-write_call-requires : goal.write_value-write_call-requires
 write_value-write_call-requires t c =
-    let h = call_nodes c.args.e.now c.in-Call.line c.in-Call.function c.in-Call.arguments
+    let h = call_nodes c.args.e.now c.in-Call.at c.in-Call.function c.in-Call.arguments
     c.deref-in-Call.result.now c.in-Call.is c.deref-in-Call.ensures.value in
     let m = c.decreases in (
       omega (arith, h, m),
       subst (λ (ts : List texts.Text). list_all is_text ts ≡ true)
-          (sym (call_texts c.args.e.now c.in-Call.line c.in-Call.function c.in-Call.arguments
+          (sym (call_texts c.args.e.now c.in-Call.at c.in-Call.function c.in-Call.arguments
           c.deref-in-Call.result.now c.in-Call.is c.deref-in-Call.ensures.value)) c.requires,
     )
 
@@ -988,13 +988,13 @@ write_value-returns-in-Call-clause-sound t c =
     (expression_part (numbered_expr c.args.e.now)
     (Call c.in-Call.function
     (arguments_from (map numbered_argument c.deref-in-Call.result.now)))
-    (call_of c.args.e.now c.in-Call.line c.in-Call.function c.in-Call.arguments
+    (call_of c.args.e.now c.in-Call.at c.in-Call.function c.in-Call.arguments
     c.deref-in-Call.result.now c.in-Call.is c.deref-in-Call.ensures.value))
     c.write_call.ensures.sound
 
 pub write_value-returns-in-Call-clause-refused : goal.write_value-returns-in-Call-clause-refused
 write_value-returns-in-Call-clause-refused t c h =
     subst (λ (e : Expr Target). Overflows c.args.table.now (strings_of_texts (expr_texts e)))
-    (sym (call_of c.args.e.now c.in-Call.line c.in-Call.function c.in-Call.arguments
+    (sym (call_of c.args.e.now c.in-Call.at c.in-Call.function c.in-Call.arguments
     c.deref-in-Call.result.now c.in-Call.is c.deref-in-Call.ensures.value))
     (c.write_call.ensures.refused h)

@@ -12,7 +12,7 @@ invariant_of-result c =
     record {
       counted = omega (
         arith,
-        ap height (call_is path_of _ c.args.line c.in_ok-function.function all.arguments
+        ap height (call_is path_of _ c.args.at c.in_ok-function.function all.arguments
             refl),
         all.counted,
       );
@@ -21,5 +21,5 @@ invariant_of-result c =
 pub returns : goal.returns
 returns c =
     let all = c.args.arguments.arguments in
-    call_is path_of _ c.args.line c.in_ok-function.function all refl
+    call_is path_of _ c.args.at c.in_ok-function.function all refl
     ∙ ap (λ f. tree.Call f (listed all.items)) c.in_ok-function.ensures

@@ -13,17 +13,17 @@ returns-in-Some c =
     c.loop-element.invariant.0 c.loop-element.element-index c.args.elements.now
     c.element-item.result DuplicateElement _ (omega arith) c.element-item.is
     (ap (found_at DuplicateElement) (sym c.in-Some.is)
-    ∙ c.in_ok-line.ensures.found c.loop-element.invariant.0 c.loop-element.invariant.1)
+    ∙ c.in_ok-at.ensures.found c.loop-element.invariant.0 c.loop-element.invariant.1)
     c.loop-element.invariant.2
 
 pub loop-element-preserved : goal.loop-element-preserved
 loop-element-preserved c = (
   behind c.loop-element.invariant.0 (numbered_array_element c.element-item.result),
-  c.in_ok-line.ensures.adds c.loop-element.invariant.0 c.loop-element.invariant.1,
+  c.in_ok-at.ensures.adds c.loop-element.invariant.0 c.loop-element.invariant.1,
   goes_on repeated_numbers repeats behind numbered_array_element elements_split
       c.loop-element.invariant.0 c.loop-element.element-index c.args.elements.now
       c.element-item.result _ (omega arith) c.element-item.is
       (ap (found_at DuplicateElement) (sym c.in_default.is)
-      ∙ c.in_ok-line.ensures.found c.loop-element.invariant.0 c.loop-element.invariant.1)
+      ∙ c.in_ok-at.ensures.found c.loop-element.invariant.0 c.loop-element.invariant.1)
       c.loop-element.invariant.2,
 )

@@ -13,7 +13,7 @@ use Rattle.edd_types.proofs.labels.+labels.Goals as goal
 
 pub check_inside-returns-in-Block : goal.check_inside-returns-in-Block
 check_inside-returns-in-Block t c =
-    subst (λ first. IfOk c.check_labels.result (λ line. found_at DuplicateCase line ≡ first))
+    subst (λ first. IfOk c.check_labels.result (λ at. found_at DuplicateCase at ≡ first))
     (ap (λ xs. first_of (repeated_labels no_labels (body_from (map numbered_part xs))))
     c.deref.ensures.value ∙ ap (λ s. first_of (repeated_labels_inside s))
     (sym (block_is (λ r. r) c.args.s.now _ c.in-Block.is)))
@@ -21,7 +21,7 @@ check_inside-returns-in-Block t c =
 
 pub check_inside-returns-in-Switch : goal.check_inside-returns-in-Switch
 check_inside-returns-in-Switch t c =
-    subst (λ first. IfOk c.check_labels-in-Switch.result (λ line. found_at DuplicateCase line
+    subst (λ first. IfOk c.check_labels-in-Switch.result (λ at. found_at DuplicateCase at
     ≡ first))
     (ap (λ xs. first_of (repeated_labels no_labels (body_from (map numbered_part xs))))
     c.deref-in-Switch.ensures.value ∙ ap (λ s. first_of (repeated_labels_inside s))
@@ -35,17 +35,17 @@ check_labels-returns-in-Some t c =
     c.loop-part.part-index c.args.parts.now c.part-item.result DuplicateCase _ (omega arith)
     c.part-item.is
     (ap (found_at DuplicateCase) (sym c.in-Some.is)
-    ∙ c.in_ok-line.ensures.found c.loop-part.invariant.0 c.loop-part.invariant.1)
+    ∙ c.in_ok-at.ensures.found c.loop-part.invariant.0 c.loop-part.invariant.1)
     c.loop-part.invariant.2
 
 pub check_labels-loop-part-preserved : goal.check_labels-loop-part-preserved
 check_labels-loop-part-preserved t c = (
   behind c.loop-part.invariant.0 (numbered_part c.part-item.result),
-  c.in_ok-line.ensures.adds c.loop-part.invariant.0 c.loop-part.invariant.1,
+  c.in_ok-at.ensures.adds c.loop-part.invariant.0 c.loop-part.invariant.1,
   goes_on (λ s xs. repeated_labels s (body_from xs)) repeats behind numbered_part labels_split
       c.loop-part.invariant.0
       c.loop-part.part-index c.args.parts.now c.part-item.result _ (omega arith) c.part-item.is
       (ap (found_at DuplicateCase) (sym c.in_default.is)
-      ∙ c.in_ok-line.ensures.found c.loop-part.invariant.0 c.loop-part.invariant.1)
+      ∙ c.in_ok-at.ensures.found c.loop-part.invariant.0 c.loop-part.invariant.1)
       c.loop-part.invariant.2,
 )

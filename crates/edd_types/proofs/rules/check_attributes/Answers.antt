@@ -12,7 +12,7 @@ loop-attribute-preserved c =
     goes_on (flat_map (broken_in c.args.rule)) numbered_attribute
     (flat_split (broken_in c.args.rule)) c.loop-attribute.attribute-index c.args.attributes.now
     c.attribute-item.result (omega arith) c.attribute-item.is
-    (ap (found_at (why c.args.rule)) (sym c.in_default.is) ∙ c.in_ok-line.ensures
+    (ap (found_at (why c.args.rule)) (sym c.in_default.is) ∙ c.in_ok-at.ensures
     ∙ ap first_of (sym (flat_one (broken_in c.args.rule) _))) c.loop-attribute.invariant
 
 pub returns-in-Some : goal.returns-in-Some
@@ -20,5 +20,5 @@ returns-in-Some c =
     stops_at (flat_map (broken_in c.args.rule)) numbered_attribute
     (flat_split (broken_in c.args.rule)) c.loop-attribute.attribute-index c.args.attributes.now
     c.attribute-item.result (why c.args.rule) (omega arith) c.attribute-item.is
-    (ap (found_at (why c.args.rule)) (sym c.in-Some.is) ∙ c.in_ok-line.ensures
+    (ap (found_at (why c.args.rule)) (sym c.in-Some.is) ∙ c.in_ok-at.ensures
     ∙ ap first_of (sym (flat_one (broken_in c.args.rule) _))) c.loop-attribute.invariant

@@ -12,7 +12,7 @@ returns-in-Some c =
     stops_at (flat_map (λ i. flat_map (broken_in c.args.rule) i.attributes)) numbered_item
     (flat_split (λ i. flat_map (broken_in c.args.rule) i.attributes)) c.loop-item.item-index
     c.args.items.now c.item-item.result (why c.args.rule) (omega arith) c.item-item.is
-    (ap (found_at (why c.args.rule)) (sym c.in-Some.is) ∙ c.in_ok-line.ensures
+    (ap (found_at (why c.args.rule)) (sym c.in-Some.is) ∙ c.in_ok-at.ensures
     ∙ ap (λ xs. first_of (flat_map (broken_in c.args.rule) (map numbered_attribute xs)))
     c.attributes.ensures
     ∙ ap first_of (sym (flat_one (λ i. flat_map (broken_in c.args.rule) i.attributes)

@@ -4,8 +4,7 @@ use crate::breach::{Breach, Rule};
 use crate::directory::Directory;
 use crate::locals::{Declaration, Locals};
 use crate::paths::{Meaning, item_meant, local_meant};
-use crate::trail::Trail;
-use edd_syntax::numbers::Kind;
+use edd_syntax::numbers::{Kind, TokenNo};
 use edd_syntax::reference::Path;
 use std::alloc::{AllocError, Global};
 
@@ -19,10 +18,10 @@ const ARRAYS: [Kind; 1] = [Kind::Array];
 pub const ENTRIES: [Kind; 4] = [Kind::Variable, Kind::Menu, Kind::Collection, Kind::Method];
 
 /// The words so far, with their tokens.
-pub type Words = Vec<(&'static str, Option<usize>)>;
+pub type Words = Vec<(&'static str, TokenNo)>;
 
 // The place of a word, if it was there.
-fn find_word(words: &Words, word: &str) -> Option<(&'static str, Option<usize>)> {
+fn find_word(words: &Words, word: &str) -> Option<(&'static str, TokenNo)> {
     words.iter().copied().find(|seen| seen.0 == word)
 }
 
@@ -31,7 +30,12 @@ pub fn has_word(words: &Words, word: &str) -> bool {
     find_word(words, word).is_some()
 }
 
-/// A walk: what is known, where it is, and what it found so far.
+/// The token that comes so many tokens after one.
+pub fn behind_token(at: TokenNo, count: u32) -> TokenNo {
+    TokenNo(at.0.saturating_add(count))
+}
+
+/// A walk: what is known, and what it found so far.
 #[derive(Drop)]
 pub struct Walk<'a> {
     pub alloc: Global,
@@ -39,22 +43,31 @@ pub struct Walk<'a> {
     pub locals: Locals<'a>,
     /// How many locals the item has so far.
     pub declared: usize,
-    pub trail: Trail<'a>,
     pub found: Vec<Breach<'a>>,
 }
 
 impl<'a> Walk<'a> {
     /// Notes a rule that is broken at a token.
-    pub fn note(&mut self, rule: Rule<'a>, place: Option<usize>) -> Result<(), AllocError> {
-        self.note_clash(rule, place, None)
+    pub fn note(&mut self, rule: Rule<'a>, at: TokenNo) -> Result<(), AllocError> {
+        self.note_with(rule, Some(at), None)
     }
 
     /// Notes a rule that is broken at a token by what an earlier one says.
     pub fn note_clash(
         &mut self,
         rule: Rule<'a>,
-        place: Option<usize>,
-        earlier: Option<usize>,
+        at: TokenNo,
+        earlier: TokenNo,
+    ) -> Result<(), AllocError> {
+        self.note_with(rule, Some(at), Some(earlier))
+    }
+
+    /// Notes a rule that is broken, with the tokens that there are for it.
+    pub fn note_with(
+        &mut self,
+        rule: Rule<'a>,
+        place: Option<TokenNo>,
+        earlier: Option<TokenNo>,
     ) -> Result<(), AllocError> {
         self.found.push(Breach {
             rule,
@@ -66,7 +79,7 @@ impl<'a> Walk<'a> {
 
     /// What a reference means where items of these kinds may be.
     pub fn meaning(&self, path: &'a Path, allowed: &[Kind]) -> Meaning<'a> {
-        if self.locals.has(path.base.as_str()) {
+        if self.locals.token(path.base.as_str()).is_some() {
             local_meant(path)
         } else {
             item_meant(&self.directory, path, allowed)
@@ -76,69 +89,57 @@ impl<'a> Walk<'a> {
     // What the name before an index means; no local is an array.
     fn meaning_of_array(&self, path: &'a Path) -> Meaning<'a> {
         let name = path.base.as_str();
-        if self.locals.has(name) {
+        if self.locals.token(name).is_some() {
             Meaning::Broken(Rule::WrongKind(name), 0)
         } else {
             item_meant(&self.directory, path, &ARRAYS)
         }
     }
 
-    /// Passes a reference where items of these kinds may be.
+    /// A reference where items of these kinds may be.
     pub fn refer(&mut self, path: &'a Path, allowed: &[Kind]) -> Result<(), AllocError> {
         let meaning = self.meaning(path, allowed);
-        self.pass_path(path, meaning)
+        self.note_meaning(path, meaning)
     }
 
-    /// Passes the name of an array before an index.
+    /// The name of an array before an index.
     pub fn refer_array(&mut self, path: &'a Path) -> Result<(), AllocError> {
         let meaning = self.meaning_of_array(path);
-        self.pass_path(path, meaning)
+        self.note_meaning(path, meaning)
     }
 
-    // Passes the names of a path, and notes what is broken at the one that breaks it.
-    fn pass_path(&mut self, path: &'a Path, meaning: Meaning<'a>) -> Result<(), AllocError> {
-        let mut place = self.trail.name(path.base.as_str());
-        let broken = match meaning {
-            Meaning::Broken(rule, dots) => Some((rule, dots)),
-            _ => None,
+    // Notes what a reference breaks, at the name that breaks it: a dot is before each member.
+    fn note_meaning(&mut self, path: &'a Path, meaning: Meaning<'a>) -> Result<(), AllocError> {
+        let Meaning::Broken(rule, dots) = meaning else {
+            return Ok(());
         };
-        for (number, member) in path.members.iter().enumerate() {
-            let here = self.trail.name(member.as_str());
-            if let Some((_, dots)) = broken {
-                if number < dots {
-                    place = here;
-                }
-            }
-        }
-        match broken {
-            Some((rule, _)) => {
-                let local = self.locals.token(path.base.as_str());
-                self.note_clash(rule, place, local)
-            }
-            None => Ok(()),
-        }
+        let behind = u32::try_from(dots).unwrap_or(0).saturating_mul(2);
+        let local = self.locals.token(path.base.as_str());
+        self.note_with(rule, Some(behind_token(path.at, behind)), local)
     }
 
     /// Declares a local of the block.
-    pub fn declare(&mut self, name: &'a str, place: Option<usize>) -> Result<(), AllocError> {
+    pub fn declare(&mut self, name: &'a str, at: TokenNo) -> Result<(), AllocError> {
         self.declared = self.declared.saturating_add(1);
-        match self.locals.declare(name, place)? {
+        match self.locals.declare(name, at)? {
             Declaration::New => Ok(()),
             Declaration::Repeated(earlier) => {
-                self.note_clash(Rule::DuplicateName(name), place, earlier)
+                self.note_clash(Rule::DuplicateName(name), at, earlier)
             }
         }
     }
 
-    /// Passes a word that may be there once in its braces.
-    pub fn pass_word(&mut self, before: &mut Words, word: &'static str) -> Result<(), AllocError> {
-        let place = self.trail.spelled(word);
+    /// A word that may be there once in its braces.
+    pub fn pass_word(
+        &mut self,
+        before: &mut Words,
+        word: &'static str,
+        at: TokenNo,
+    ) -> Result<(), AllocError> {
         match find_word(before, word) {
-            Some((_, earlier)) => {
-                self.note_clash(Rule::DuplicateAttribute(word), place, earlier)
-            }
+            Some((_, earlier)) => self.note_clash(Rule::DuplicateAttribute(word), at, earlier),
             None => {
-                before.push((word, place))?;
+                before.push((word, at))?;
                 Ok(())
             }
         }

@@ -1,12 +1,13 @@
 //! The locals of a method that can be used at a place.
 
+use edd_syntax::numbers::TokenNo;
 use indexmap::IndexMap;
 use std::alloc::{AllocError, Global};
 
 /// A local, by the token that declares it and the number of its block.
 #[derive(Clone, Copy)]
 struct Local {
-    token: Option<usize>,
+    token: TokenNo,
     block: usize,
 }
 
@@ -31,7 +32,7 @@ pub struct Mark {
 pub enum Declaration {
     New,
     /// The block has a local of this name, which this token declares.
-    Repeated(Option<usize>),
+    Repeated(TokenNo),
 }
 
 impl<'a> Locals<'a> {
@@ -51,16 +52,9 @@ impl<'a> Locals<'a> {
         }
     }
 
-    pub fn has(&self, name: &str) -> bool {
-        self.local(name).is_some()
-    }
-
-    /// The token that declares the local of a name.
-    pub fn token(&self, name: &str) -> Option<usize> {
-        match self.local(name) {
-            Some(local) => local.token,
-            None => None,
-        }
+    /// The token that declares the local of a name, if there is one.
+    pub fn token(&self, name: &str) -> Option<TokenNo> {
+        Some(self.local(name)?.token)
     }
 
     /// A block begins.
@@ -86,11 +80,7 @@ impl<'a> Locals<'a> {
     }
 
     /// One more local of the block.
-    pub fn declare(
-        &mut self,
-        name: &'a str,
-        token: Option<usize>,
-    ) -> Result<Declaration, AllocError> {
+    pub fn declare(&mut self, name: &'a str, token: TokenNo) -> Result<Declaration, AllocError> {
         let before = self.local(name);
         if let Some(earlier) = before {
             if earlier.block == self.block {

@@ -42,7 +42,7 @@ fn members_of<'a>(
 ) -> Result<IndexMap<&'a str, &'a Member<Path>>, AllocError> {
     let mut members = IndexMap::new(alloc);
     for attribute in item.attributes() {
-        if let Attribute::Members(list) = attribute {
+        if let Attribute::Members(_, list) = attribute {
             add_members(&mut members, list)?;
         }
     }

@@ -1,6 +1,7 @@
 //! A rule that is broken at a place.
 
 use edd_syntax::limits::Limit;
+use edd_syntax::numbers::TokenNo;
 
 /// A rule that is broken, with the names that a refusal says.
 #[derive(Clone, Copy)]
@@ -14,27 +15,26 @@ pub enum Rule<'a> {
     FloatVariable(&'a str),
     OtherType { variable: &'a str, word: &'a str },
     BadSize(&'a str),
-    /// The last six with the line that a refusal says, counted from 1.
-    Mismatch(u32),
-    FloatValue(u32),
-    BreakOutside(u32),
-    ConstRange(u32),
-    DuplicateCase(u32),
-    DuplicateElement(u32),
+    Mismatch,
+    FloatValue,
+    BreakOutside,
+    ConstRange,
+    DuplicateCase,
+    DuplicateElement,
 }
 
 /// A rule that is broken, and where.
 #[derive(Clone, Copy)]
 pub struct Breach<'a> {
     pub rule: Rule<'a>,
-    /// The number of its token; none where no token stands for it.
-    pub place: Option<usize>,
+    /// None where no token stands for it.
+    pub place: Option<TokenNo>,
     /// Where two clash, the token of the earlier one.
-    pub earlier: Option<usize>,
+    pub earlier: Option<TokenNo>,
 }
 
 /// The rules in the order in which they are answered.
-#[derive(Clone, Copy, PartialEq, Eq)]
+#[derive(Clone, Copy)]
 pub enum Rank {
     Counts,
     Names,
@@ -50,21 +50,6 @@ pub enum Rank {
     Elements,
 }
 
-pub const RANKS: [Rank; 12] = [
-    Rank::Counts,
-    Rank::Names,
-    Rank::Attributes,
-    Rank::Missing,
-    Rank::Uses,
-    Rank::Types,
-    Rank::Mismatches,
-    Rank::Decimals,
-    Rank::Breaks,
-    Rank::Constants,
-    Rank::Cases,
-    Rank::Elements,
-];
-
 impl<'a> Rule<'a> {
     pub fn rank(&self) -> Rank {
         match self {
@@ -74,12 +59,24 @@ impl<'a> Rule<'a> {
             Rule::MissingAttribute { .. } => Rank::Missing,
             Rule::UnknownName(_) | Rule::WrongKind(_) => Rank::Uses,
             Rule::FloatVariable(_) | Rule::OtherType { .. } | Rule::BadSize(_) => Rank::Types,
-            Rule::Mismatch(_) => Rank::Mismatches,
-            Rule::FloatValue(_) => Rank::Decimals,
-            Rule::BreakOutside(_) => Rank::Breaks,
-            Rule::ConstRange(_) => Rank::Constants,
-            Rule::DuplicateCase(_) => Rank::Cases,
-            Rule::DuplicateElement(_) => Rank::Elements,
+            Rule::Mismatch => Rank::Mismatches,
+            Rule::FloatValue => Rank::Decimals,
+            Rule::BreakOutside => Rank::Breaks,
+            Rule::ConstRange => Rank::Constants,
+            Rule::DuplicateCase => Rank::Cases,
+            Rule::DuplicateElement => Rank::Elements,
         }
+    }
+}
+
+impl<'a> Breach<'a> {
+    /// The number of its token.
+    pub fn token(&self) -> Option<usize> {
+        Some(self.place?.0 as usize)
+    }
+
+    /// The number of the earlier one's token.
+    pub fn earlier_token(&self) -> Option<usize> {
+        Some(self.earlier?.0 as usize)
     }
 }
