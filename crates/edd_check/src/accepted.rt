@@ -3,9 +3,8 @@
 use crate::choices::{Choices, Level};
 use crate::remarks::Remarks;
 use crate::reports::Reports;
-use edd_compiler::checked_of;
+use edd_compiler::Compiled;
 use edd_lexer::token::Token;
-use edd_repairs::tokens_of;
 use edd_reports::diagnostic::{Diagnostic, Finding};
 use edd_reports::words::{Span, span_of, tokens_before, word_of};
 use edd_warnings::{Warning, warnings};
@@ -103,17 +102,17 @@ fn show_warnings(
     Ok(())
 }
 
-/// What is said of a text that is accepted.
+/// What is said of a text that is accepted, of which this was made.
 pub fn of_text(
     alloc: Global,
     text: &[u8],
+    made: &Compiled,
     choices: &Choices,
     reports: &mut Reports,
 ) -> Result<(), AllocError> {
-    let Ok(checked) = checked_of(alloc, text) else {
-        return Err(AllocError);
-    };
-    let tokens = tokens_of(alloc, text)?;
-    let found = warnings(alloc, text, &tokens, &checked)?;
-    show_warnings(alloc, text, &tokens, &found, choices, reports)
+    let found = warnings(alloc, text, &made.tokens, &made.checked)?;
+    if found.is_empty() {
+        return Ok(());
+    }
+    show_warnings(alloc, text, &made.tokens, &found, choices, reports)
 }

@@ -23,7 +23,7 @@ mod rules;
 mod sources;
 
 pub use choices::{Choices, Level};
-use edd_compiler::{Fault, compile};
+use edd_compiler::{Fault, compiled_of};
 pub use edd_reports::diagnostic::{Diagnostic, Finding};
 pub use edd_reports::nearest::Nearest;
 pub use edd_reports::words::Span;
@@ -40,9 +40,9 @@ pub fn diagnose(alloc: Global, text: &[u8], choices: &Choices) -> Result<Reports
     ensures refused { IfOk result (λ said. said.is_refused ≡ true → HasFault text.now) }
 {
     let mut reports = Reports::new(alloc);
-    let fault = match compile(alloc, text) {
-        Ok(_image) => {
-            accepted::of_text(alloc, text, choices, &mut reports)?;
+    let fault = match compiled_of(alloc, text) {
+        Ok(made) => {
+            accepted::of_text(alloc, text, &made, choices, &mut reports)?;
             reports.is_refused = false;
             return Ok(reports);
         }

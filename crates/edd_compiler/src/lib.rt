@@ -6,6 +6,6 @@ mod fault;
 mod lowering;
 mod source;
 
-pub use compiling::compile;
+pub use compiling::{Compiled, compile, compiled_of};
 pub use fault::Fault;
 pub use source::{checked_of, unit_of};

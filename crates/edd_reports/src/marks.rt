@@ -73,6 +73,9 @@ impl<'a> Marks<'a> {
         let mut marks = Marks {
             marks: Vec::new(alloc),
         };
+        if !text.contains(&b'#') {
+            return Ok(marks);
+        }
         let mut inside = Inside::Code;
         let mut before = 0;
         let mut line: usize = 0;

@@ -5,27 +5,27 @@ use Rattle.edd_syntax.specs.Resolved.{description}
 use Rattle.edd_syntax.specs.SubsetRules.{subset_breaches}
 use Rattle.edd_parser.specs.Units.{unit_view}
 use Rattle.edd_compiler.proofs.Refused.{name_refused, type_refused}
-use Rattle.edd_compiler.proofs.source.checked_of.Goals as goal
+use Rattle.edd_compiler.proofs.source.checked_unit.Goals as goal
 
 pub returns-in_err-resolved-clause-refused : goal.returns-in_err-resolved-clause-refused
-returns-in_err-resolved-clause-refused c =
+returns-in_err-resolved-clause-refused c text of =
     let p = err_from_is_err_and c.from_residual-in_err-resolved.result
     c.from_residual-in_err-resolved.ensures.1 in rw (p.1, p.2)
-    (name_refused c.args.text.now (unit_view c.in_ok-unit.unit) c.in_ok-unit.ensures.sound
+    (name_refused text (unit_view c.args.unit.now) of
     c.in_err-resolved.field-0.0 c.in_err-resolved.ensures.refused)
 
 pub returns-in_err-check-clause-refused : goal.returns-in_err-check-clause-refused
-returns-in_err-check-clause-refused c =
+returns-in_err-check-clause-refused c text of =
     let p = err_from_is_err_and c.from_residual-in_err-check.result
     c.from_residual-in_err-check.ensures.1 in rw (p.1, p.2)
-    (type_refused c.args.text.now (unit_view c.in_ok-unit.unit) c.in_ok-unit.ensures.sound
+    (type_refused text (unit_view c.args.unit.now) of
     (description (identification_of c.in_ok-resolved.resolved.identification)
     (numbered_items c.in_ok-resolved.resolved.items.value.items))
     c.in_ok-resolved.ensures.sound c.in_ok-resolved.ensures.accepted
     c.in_err-check.field-0.0 c.in_err-check.ensures.refused)
 
 pub returns-clause-sound : goal.returns-clause-sound
-returns-clause-sound c =
+returns-clause-sound c text of =
     let same = ap (λ i. description (identification_of i)
     (numbered_items c.in_ok-check.field-0.items.value.items))
     c.in_ok-check.ensures.identification
@@ -33,12 +33,12 @@ returns-clause-sound c =
     (numbered_items items.items)) c.in_ok-check.ensures.items in (
       record {
         is_resolved = record {
-          unit = unit_view c.in_ok-unit.unit;
-          well_formed = c.in_ok-unit.unit.kept;
+          unit = unit_view c.args.unit.now;
+          well_formed = c.args.unit.now.kept;
           meanings = c.in_ok-resolved.ensures.sound ∙ ap Some (sym same);
           no_breach = c.in_ok-resolved.ensures.accepted;
         };
         no_breach = ap subset_breaches same ∙ c.in_ok-check.ensures.accepted;
       },
-      c.in_ok-unit.ensures.sound,
+      of,
     )
