@@ -3,10 +3,10 @@
 use crate::choices::{Choices, Level};
 use crate::remarks::Remarks;
 use crate::reports::Reports;
-use edd_compiler::Compiled;
 use edd_lexer::token::Token;
 use edd_reports::diagnostic::{Diagnostic, Finding};
 use edd_reports::words::{Span, span_of, tokens_before, word_of};
+use edd_syntax::checked::Checked;
 use edd_warnings::{Warning, warnings};
 use std::alloc::{AllocError, Global};
 
@@ -102,17 +102,18 @@ fn show_warnings(
     Ok(())
 }
 
-/// What is said of a text that is accepted, of which this was made.
+/// What is said of a text that is accepted: these are its tokens and its description.
 pub fn of_text(
     alloc: Global,
     text: &[u8],
-    made: &Compiled,
+    tokens: &[Token],
+    checked: &Checked,
     choices: &Choices,
-    reports: &mut Reports,
-) -> Result<(), AllocError> {
-    let found = warnings(alloc, text, &made.tokens, &made.checked)?;
-    if found.is_empty() {
-        return Ok(());
+) -> Result<Reports, AllocError> {
+    let mut reports = Reports::new(alloc);
+    let found = warnings(alloc, text, tokens, checked)?;
+    if !found.is_empty() {
+        show_warnings(alloc, text, tokens, &found, choices, &mut reports)?;
     }
-    show_warnings(alloc, text, &made.tokens, &found, choices, reports)
+    Ok(reports)
 }

@@ -6,12 +6,12 @@
 //! bounded time.
 #![tactic(auto)]
 
-ghost use Rattle.std.specs.Prelude.{◌≡◌, false, true, IfOk};
-ghost use Rattle.edd_compiler.specs.Faults.{HasFault};
+ghost use Rattle.std.specs.Prelude.{◌≡◌, false, IfOk};
 ghost use Rattle.edd_compiler.specs.Images.{HasImage};
 
 mod accepted;
 mod choices;
+mod diagnosing;
 mod grammar;
 mod kinds;
 mod look;
@@ -23,7 +23,7 @@ mod rules;
 mod sources;
 
 pub use choices::{Choices, Level};
-use edd_compiler::{Fault, compiled_of};
+pub use diagnosing::diagnose;
 pub use edd_reports::diagnostic::{Diagnostic, Finding};
 pub use edd_reports::nearest::Nearest;
 pub use edd_reports::words::Span;
@@ -33,26 +33,6 @@ pub use look::{Look, print_document};
 pub use reports::Reports;
 use std::alloc::{AllocError, Global};
 use std::io::Write;
-
-/// What is said of a text. It is refused exactly where `compile` refuses it for a fault of its own.
-pub fn diagnose(alloc: Global, text: &[u8], choices: &Choices) -> Result<Reports, AllocError>
-    ensures accepted { IfOk result (λ said. said.is_refused ≡ false → HasImage text.now) }
-    ensures refused { IfOk result (λ said. said.is_refused ≡ true → HasFault text.now) }
-{
-    let mut reports = Reports::new(alloc);
-    let fault = match compiled_of(alloc, text) {
-        Ok(made) => {
-            accepted::of_text(alloc, text, &made, choices, &mut reports)?;
-            reports.is_refused = false;
-            return Ok(reports);
-        }
-        Err(Fault::Memory) => return Err(AllocError),
-        Err(fault) => fault,
-    };
-    refusals::of_fault(alloc, text, fault, &mut reports)?;
-    reports.is_refused = true;
-    Ok(reports)
-}
 
 /// Prints what is said of the text of the source of this name. Says whether it is refused, or a
 /// lint that is denied finds something; else it has an image.

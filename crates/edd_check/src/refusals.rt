@@ -6,10 +6,11 @@ use crate::reports::Reports;
 use crate::rules::diagnostic;
 use crate::sources::Source;
 use edd_breaches::{Breach, Rule, breaches};
-use edd_compiler::{Fault, unit_of};
+use edd_compiler::Fault;
 use edd_lexer::token::Token;
-use edd_repairs::{LaterFault, TextFault, explained, found_in, later_faults, tokens_of};
+use edd_repairs::{LaterFault, TextFault, explained, found_in, later_faults};
 use edd_reports::diagnostic::{Diagnostic, Finding};
+use edd_syntax::unit::Unit;
 use indexmap::IndexMap;
 use std::alloc::{AllocError, Global};
 
@@ -157,30 +158,26 @@ fn of_limit(alloc: Global, refusal: String) -> Result<Diagnostic, AllocError> {
     Ok(found)
 }
 
-fn of_tokens(
+/// What is said of a unit that breaks rules, and of which these are the tokens.
+pub fn of_unit(
     alloc: Global,
     text: &[u8],
     tokens: &[Token],
+    unit: &Unit,
     refusal: String,
-    reports: &mut Reports,
-) -> Result<(), AllocError> {
-    let Ok(unit) = unit_of(alloc, text) else {
-        return Err(AllocError);
-    };
+) -> Result<Reports, AllocError> {
+    let mut reports = Reports::new(alloc);
     let source = Source::of(alloc, text, tokens)?;
     let found = breaches(alloc, &unit.items)?;
-    show_breaches(alloc, &source, &found, refusal, reports)
+    show_breaches(alloc, &source, &found, refusal, &mut reports)?;
+    Ok(reports)
 }
 
-// What is said of a text that breaks rules.
-fn of_rules(
-    alloc: Global,
-    text: &[u8],
-    refusal: String,
-    reports: &mut Reports,
-) -> Result<(), AllocError> {
-    let tokens = tokens_of(alloc, text)?;
-    of_tokens(alloc, text, &tokens, refusal, reports)
+/// What is said of a description that has too many strings.
+pub fn of_strings(alloc: Global, refusal: String) -> Result<Reports, AllocError> {
+    let mut reports = Reports::new(alloc);
+    reports.show(of_limit(alloc, refusal)?)?;
+    Ok(reports)
 }
 
 /// What an image begins with, and no source does.
@@ -197,33 +194,25 @@ fn name_commands(alloc: Global, reports: &mut Reports) -> Result<(), AllocError>
     Ok(())
 }
 
-/// What is said of a text with this fault.
-pub fn of_fault(
+/// What is said of a text that has no tokens, or whose tokens spell no unit.
+pub fn of_words(
     alloc: Global,
     text: &[u8],
     fault: Fault,
-    reports: &mut Reports,
-) -> Result<(), AllocError> {
-    of_source(alloc, text, fault, reports)?;
-    if text.starts_with(MAGIC) {
-        name_commands(alloc, reports)?;
-    }
-    Ok(())
-}
-
-fn of_source(
-    alloc: Global,
-    text: &[u8],
-    fault: Fault,
-    reports: &mut Reports,
-) -> Result<(), AllocError> {
-    let refusal = fault.refusal(alloc, text)?;
+    refusal: String,
+) -> Result<Reports, AllocError> {
+    let mut reports = Reports::new(alloc);
     match fault {
-        Fault::Lex(why) => of_text(alloc, text, &TextFault::Lex(why), refusal, reports),
-        Fault::Parse(why) => of_text(alloc, text, &TextFault::Parse(why), refusal, reports),
-        Fault::Name(_why) => of_rules(alloc, text, refusal, reports),
-        Fault::Type(_why) => of_rules(alloc, text, refusal, reports),
-        Fault::TooManyStrings => reports.show(of_limit(alloc, refusal)?),
-        Fault::Memory => Err(AllocError),
+        Fault::Lex(why) => {
+            of_text(alloc, text, &TextFault::Lex(why), refusal, &mut reports)?;
+        }
+        Fault::Parse(why) => {
+            of_text(alloc, text, &TextFault::Parse(why), refusal, &mut reports)?;
+        }
+        _ => reports.show(of_limit(alloc, refusal)?)?,
     }
+    if text.starts_with(MAGIC) {
+        name_commands(alloc, &mut reports)?;
+    }
+    Ok(reports)
 }

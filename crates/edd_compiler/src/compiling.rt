@@ -8,8 +8,6 @@ ghost use Rattle.edd_syntax.specs.Accepted.{IsAccepted};
 ghost use Rattle.edd_syntax.specs.Refusal.{TooMany};
 ghost use Rattle.edd_syntax.specs.WordsView.{string_of};
 ghost use Rattle.edd_syntax.specs.Strings.{too_many_strings};
-ghost use Rattle.edd_lexer.specs.Tokens.{AreTokens};
-ghost use Rattle.edd_lexer.specs.Views.{lexeme_of};
 ghost use Rattle.edd_image.specs.Contents.{contents_in};
 ghost use Rattle.edd_instructions.specs.MethodAgreement.{Agrees};
 ghost use Rattle.edd_instructions.specs.Validity.{IsValid};
@@ -24,7 +22,7 @@ ghost use Rattle.edd_compiler.specs.Sources.{IsUnitOf, IsDescriptionOf};
 
 use crate::fault::Fault;
 use crate::lowering::{Lowering, lower_rows};
-use crate::source::{checked_from, checked_of};
+use crate::source::checked_of;
 use edd_assembly::{
     assemble, code_is_short, different_strings_count, method_code_is_body_code, methods_agree,
     sections_agree, sections_are_sound, strings_stand_in_rows,
@@ -33,8 +31,6 @@ use edd_grammar::laws::one_tree;
 use edd_image::{WriteFault, fields_are_parts, write};
 use edd_instructions::sound_parts_are_valid;
 use edd_lexer::laws::one_reading;
-use edd_lexer::lex;
-use edd_lexer::token::Token;
 use edd_syntax::checked::Checked;
 use std::alloc::Global;
 
@@ -83,8 +79,9 @@ fn lower(alloc: Global, checked: &Checked) -> Result<Lowering, Fault>
     lower_rows(alloc, checked, &rows)
 }
 
-// The image of a description, unless it has more strings than a table holds.
-fn image_of(alloc: Global, checked: &Checked) -> Result<Vec<u8>, Fault>
+/// The image of a description, unless it has more strings than a table holds: that of each text
+/// which stands for the description.
+pub fn image_from(alloc: Global, checked: &Checked) -> Result<Vec<u8>, Fault>
     ensures sound { (text : List ℕ) → IsDescriptionOf text (description_of checked.now)
         → IfOk result (λ bytes. IsImageOf text bytes.items) }
     ensures refused { (text : List ℕ) → IsDescriptionOf text (description_of checked.now)
@@ -107,31 +104,5 @@ pub fn compile(alloc: Global, text: &[u8]) -> Result<Vec<u8>, Fault>
     one_reading();
     one_tree();
     let checked = checked_of(alloc, text)?;
-    image_of(alloc, &checked)
-}
-
-/// A text that has an image, and what was made of it on the way.
-#[derive(Drop)]
-pub struct Compiled {
-    pub tokens: Vec<Token>,
-    pub checked: Checked,
-    pub image: Vec<u8>,
-}
-
-/// Compiles a text as `compile` does, and keeps its tokens and its description beside the image.
-pub fn compiled_of(alloc: Global, text: &[u8]) -> Result<Compiled, Fault>
-    ensures sound { IfOk result (λ c. IsImageOf text.now c.image.items) }
-    ensures tokens { IfOk result
-        (λ c. AreTokens text.now (map (lexeme_of text.now) c.tokens.items)) }
-    ensures description { IfOk result (λ c. IsDescriptionOf text.now (description_of c.checked)) }
-    ensures refused { IfErr result (Explains text.now) }
-{
-    let tokens = lex(alloc, text)?;
-    let checked = checked_from(alloc, text, &tokens)?;
-    let image = image_of(alloc, &checked)?;
-    Ok(Compiled {
-        tokens,
-        checked,
-        image,
-    })
+    image_from(alloc, &checked)
 }

@@ -5,6 +5,7 @@ ghost use Rattle.edd_compiler.specs.Faults.{of_lex, of_parse, of_name, of_type, 
 
 use edd_code::LowerFault;
 use edd_lexer::fault::LexFault;
+use edd_lexer::token::Token;
 use edd_lexer::{lex, line_of};
 use edd_names::fault::NameFault;
 use edd_parser::fault::ParseFault;
@@ -45,15 +46,29 @@ impl Fault {
     /// The refusal of the text that has this fault: its number, its kind, and the names or the line
     /// at fault, which counts from 1.
     pub fn refusal(&self, alloc: Global, text: &[u8]) -> Result<String, AllocError> {
-        let Some(at) = self.token() else {
+        if self.token().is_none() {
             return self.to_string(alloc);
-        };
-        let tokens = match lex(alloc, text) {
-            Ok(tokens) => tokens,
-            Err(_) => return Err(AllocError),
-        };
-        let line = line_of(text, &tokens, at);
-        format!(in alloc; "{self} line {line}")
+        }
+        match lex(alloc, text) {
+            Ok(tokens) => self.refusal_among(alloc, text, &tokens),
+            Err(_) => Err(AllocError),
+        }
+    }
+
+    /// The same, where the tokens of the text are at hand.
+    pub fn refusal_among(
+        &self,
+        alloc: Global,
+        text: &[u8],
+        tokens: &[Token],
+    ) -> Result<String, AllocError> {
+        match self.token() {
+            Some(at) => {
+                let line = line_of(text, tokens, at);
+                format!(in alloc; "{self} line {line}")
+            }
+            None => self.to_string(alloc),
+        }
     }
 }
 

@@ -6,6 +6,6 @@ mod fault;
 mod lowering;
 mod source;
 
-pub use compiling::{Compiled, compile, compiled_of};
+pub use compiling::{compile, image_from};
 pub use fault::Fault;
-pub use source::{checked_of, unit_of};
+pub use source::{checked_from, checked_of, tokens_of, unit_from, unit_of};

@@ -1,4 +1,4 @@
-//! The description of a text.
+//! The description of a text, step by step: its tokens, the unit that they spell, and what is checked.
 
 ghost use Rattle.std.specs.Prelude.{◌≡◌, ℕ, List, IfOk, IfErr, MatchResult, map};
 ghost use Rattle.edd_syntax.specs.ItemView.{identification_of, numbered_items};
@@ -23,7 +23,17 @@ use edd_syntax::unit::Unit;
 use edd_types::check;
 use std::alloc::Global;
 
-// The unit that these tokens spell, which are those of the text.
+/// The tokens of a text.
+pub fn tokens_of(alloc: Global, text: &[u8]) -> Result<Vec<Token>, Fault>
+    ensures sound { IfOk result (λ list. AreTokens text.now (map (lexeme_of text.now) list.items)) }
+    ensures refused { IfErr result (Explains text.now) }
+    ensures complete { (unit : Description Path) → IsUnitOf text.now unit
+        → IfErr result (λ e. e ≡ Memory) }
+{
+    Ok(lex(alloc, text)?)
+}
+
+/// The unit that these tokens spell, which are those of the text.
 pub fn unit_from(alloc: Global, text: &[u8], tokens: &[Token]) -> Result<Unit, Fault>
     requires { AreTokens text.now (map (lexeme_of text.now) tokens.now) }
     ensures sound { IfOk result (λ u. IsUnitOf text.now (unit_view u)) }
@@ -35,19 +45,9 @@ pub fn unit_from(alloc: Global, text: &[u8], tokens: &[Token]) -> Result<Unit, F
     Ok(parse(alloc, text, tokens)?)
 }
 
-/// The unit that the tokens of a text spell. There is at most one.
-pub fn unit_of(alloc: Global, text: &[u8]) -> Result<Unit, Fault>
-    ensures sound { IfOk result (λ u. IsUnitOf text.now (unit_view u)) }
-    ensures refused { IfErr result (Explains text.now) }
-    ensures complete { (unit : Description Path) → IsUnitOf text.now unit
-        → MatchResult result (λ u. unit_view u ≡ unit) (λ e. e ≡ Memory) }
-{
-    let tokens = lex(alloc, text)?;
-    unit_from(alloc, text, &tokens)
-}
-
-// The description of a unit, if no rule is broken. It is that of each text that spells the unit.
-pub fn checked_unit(alloc: Global, unit: &Unit) -> Result<Checked, Fault>
+/// The description of a unit, if no rule is broken: that of each text which spells the unit.
+/// Strings are counted where they are written.
+pub fn checked_from(alloc: Global, unit: &Unit) -> Result<Checked, Fault>
     ensures sound { (text : List ℕ) → IsUnitOf text (unit_view unit.now) → IfOk result
         (λ c. IsDescriptionOf text
         (description (identification_of c.identification) (numbered_items c.items.value.items))) }
@@ -58,16 +58,15 @@ pub fn checked_unit(alloc: Global, unit: &Unit) -> Result<Checked, Fault>
     Ok(check(alloc, &resolved)?)
 }
 
-// The description that these tokens stand for, which are those of the text.
-pub fn checked_from(alloc: Global, text: &[u8], tokens: &[Token]) -> Result<Checked, Fault>
-    requires { AreTokens text.now (map (lexeme_of text.now) tokens.now) }
-    ensures sound { IfOk result
-        (λ c. IsDescriptionOf text.now
-        (description (identification_of c.identification) (numbered_items c.items.value.items))) }
+/// The unit that the tokens of a text spell. There is at most one.
+pub fn unit_of(alloc: Global, text: &[u8]) -> Result<Unit, Fault>
+    ensures sound { IfOk result (λ u. IsUnitOf text.now (unit_view u)) }
     ensures refused { IfErr result (Explains text.now) }
+    ensures complete { (unit : Description Path) → IsUnitOf text.now unit
+        → MatchResult result (λ u. unit_view u ≡ unit) (λ e. e ≡ Memory) }
 {
-    let unit = unit_from(alloc, text, tokens)?;
-    checked_unit(alloc, &unit)
+    let tokens = tokens_of(alloc, text)?;
+    unit_from(alloc, text, &tokens)
 }
 
 /// The description that a text stands for, if no rule is broken. Strings are counted where they are
@@ -79,5 +78,5 @@ pub fn checked_of(alloc: Global, text: &[u8]) -> Result<Checked, Fault>
     ensures refused { IfErr result (Explains text.now) }
 {
     let unit = unit_of(alloc, text)?;
-    checked_unit(alloc, &unit)
+    checked_from(alloc, &unit)
 }

@@ -5,16 +5,16 @@ use Rattle.edd_compiler.proofs.compiling.compile.Goals as goal
 
 pub returns-clause-sound : goal.returns-clause-sound
 returns-clause-sound c =
-    c.image_of.ensures.sound c.args.text.now c.in_ok-checked.ensures.sound
+    c.image_from.ensures.sound c.args.text.now c.in_ok-checked.ensures.sound
 
 pub returns-clause-refused : goal.returns-clause-refused
 returns-clause-refused c =
-    c.image_of.ensures.refused c.args.text.now c.in_ok-checked.ensures.sound
+    c.image_from.ensures.refused c.args.text.now c.in_ok-checked.ensures.sound
 
 pub returns-clause-complete : goal.returns-clause-complete
 returns-clause-complete c unit of accepted =
-    of_bad c.image_of.result
-    (c.image_of.ensures.refused c.args.text.now c.in_ok-checked.ensures.sound)
+    of_bad c.image_from.result
+    (c.image_from.ensures.refused c.args.text.now c.in_ok-checked.ensures.sound)
     (memory_alone c.args.text.now unit (c.one_reading.ensures.one_list c.args.text.now)
     (c.one_reading.ensures.not_both c.args.text.now) c.one_tree.ensures of accepted)
 

@@ -5,7 +5,7 @@ use Rattle.edd_syntax.specs.Resolved.{description}
 use Rattle.edd_syntax.specs.SubsetRules.{subset_breaches}
 use Rattle.edd_parser.specs.Units.{unit_view}
 use Rattle.edd_compiler.proofs.Refused.{name_refused, type_refused}
-use Rattle.edd_compiler.proofs.source.checked_unit.Goals as goal
+use Rattle.edd_compiler.proofs.source.checked_from.Goals as goal
 
 pub returns-in_err-resolved-clause-refused : goal.returns-in_err-resolved-clause-refused
 returns-in_err-resolved-clause-refused c text of =

@@ -3,7 +3,7 @@ use Rattle.std.proofs.lemmas.Result.{err_from_is_err_and}
 use Rattle.edd_code.specs.Units.{description_of}
 use Rattle.edd_compiler.specs.Faults.{Explains}
 use Rattle.edd_compiler.proofs.CompiledTexts.{is_image, explained, of_good, of_bad}
-use Rattle.edd_compiler.proofs.compiling.image_of.Goals as goal
+use Rattle.edd_compiler.proofs.compiling.image_from.Goals as goal
 
 pub returns-clause-sound : goal.returns-clause-sound
 returns-clause-sound c text of = of_good c.write_image.result c.write_image.ensures.valid
