@@ -10,4 +10,3 @@ pub mod Stepping
 pub mod Tops
 pub mod UnitFacts
 pub mod VariableTypes
-pub mod Widths

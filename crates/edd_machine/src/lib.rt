@@ -2,7 +2,6 @@
 #![tactic(auto)]
 
 mod abort_methods;
-mod arithmetic;
 mod code_unit;
 mod fault;
 mod laws;

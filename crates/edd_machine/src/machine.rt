@@ -18,12 +18,12 @@ ghost use Rattle.edd_machine.specs.Running.{running_unit, start_of, state_of, Is
 ghost use Rattle.edd_machine.specs.Types.{types_in};
 
 use crate::abort_methods::AbortMethods;
-use crate::arithmetic::wrapped;
 use crate::code_unit::{CodeUnit, code_of};
 use crate::operands::Operands;
 use crate::outcome::{Outcome, perform};
 use crate::ranges::stored;
 use arrayvec::ArrayVec;
+use edd_arithmetic::wrapped;
 use edd_instructions::{Ask, Emitted, Instruction, Request, Sort, Status, decode};
 use edd_loader::Image;
 use edd_syntax::numbers::{MethNo, VarNo};

@@ -12,10 +12,10 @@ ghost use Rattle.edd_syntax.specs.Elements.{element_value};
 ghost use Rattle.edd_instructions.specs.Units.{takes, leaves};
 ghost use Rattle.edd_machine.specs.Outcomes.{IsShared, Performs, PerformsWith, gives_record};
 
-use crate::arithmetic::{
+use crate::operands::Operands;
+use edd_arithmetic::{
     compare, complement, logical_not, negate, operate, wrapped, wrapped_constant,
 };
-use crate::operands::Operands;
 use edd_instructions::{Instruction, Record, Sort};
 use edd_loader::Image;
 use edd_syntax::answer::Trap;

@@ -1,6 +1,6 @@
 //! Arithmetic at the width of a unit: 64 bits in attributes, 32 in methods.
 
-ghost use Rattle.std.specs.Prelude.{◌≡◌, ℕ, ◌<◌, ◌-◌, ◌^◌, ◌+ℤ◌, ◌-ℤ◌, ◌*ℤ◌, neg_ℤ, pos, int_div, int_rem, bit_and, bit_or, bit_xor};
+ghost use Rattle.std.specs.Prelude.{◌≡◌, ℕ, ◌<◌, ◌-◌, ◌^◌, ℤ, ◌+ℤ◌, ◌-ℤ◌, ◌*ℤ◌, neg_ℤ, pos, int_div, int_rem, bit_and, bit_or, bit_xor, IfSome, IsOk};
 ghost use Rattle.std.specs.Int.{int_shr};
 ghost use Rattle.edd_syntax.specs.declared.operators.UnaryOperator.TheVariants as unary_operator;
 ghost use Rattle.edd_syntax.specs.TwosComplement.{wrap, bitwise, divide, shift, operate, compare, apply, truth};
@@ -8,7 +8,7 @@ ghost use Rattle.edd_instructions.specs.Steps.{Fits, width_of};
 
 use edd_instructions::Sort;
 use edd_syntax::answer::Trap;
-use edd_syntax::operators::{Comparison, Operator};
+use edd_syntax::operators::{Comparison, Operator, UnaryOperator};
 
 fn add(sort: Sort, a: i64, b: i64) -> i64
     requires left { Fits sort a }
@@ -68,6 +68,21 @@ pub fn complement(a: i64) -> i64
     ensures { (w : ℕ) → result ≡ apply w unary_operator.Complement a }
 {
     -1 - a
+}
+
+/// The value of an operator before its operand.
+#[inline(always)]
+#[tactic(auto, unfolding(edd_syntax::specs::TwosComplement::apply))]
+pub fn apply(sort: Sort, operator: UnaryOperator, a: i64) -> i64
+    requires { Fits sort a }
+    ensures { result ≡ apply (width_of sort) operator a }
+{
+    match operator {
+        UnaryOperator::Plus => a,
+        UnaryOperator::Minus => negate(sort, a),
+        UnaryOperator::Not => logical_not(a),
+        UnaryOperator::Complement => complement(a),
+    }
 }
 
 fn and(sort: Sort, a: i64, b: i64) -> i64
@@ -196,6 +211,22 @@ fn remainder(sort: Sort, a: i64, b: i64) -> Result<i64, Trap>
     }
 }
 
+/// The trap of an operator with this second operand, whatever the first one is.
+#[tactic(auto, unfolding(edd_syntax::specs::TwosComplement::operate))]
+pub fn trap_of(sort: Sort, operator: Operator, b: i64) -> Option<Trap>
+    ensures always { IfSome result (λ why. (a : ℤ)
+        → operate (width_of sort) operator a b ≡ Err why) }
+    ensures otherwise { result ≡ None → IsOk (operate (width_of sort) operator (pos 0) b) }
+{
+    match operator {
+        Operator::Divide | Operator::Remainder if b == 0 => Some(Trap::DivZero),
+        Operator::ShiftLeft | Operator::ShiftRight if b < 0 || b >= bits(sort) => {
+            Some(Trap::BadShift)
+        }
+        _ => None,
+    }
+}
+
 /// The value of an operator on two operands, or the trap.
 #[inline(always)]
 #[tactic(auto, unfolding(edd_syntax::specs::TwosComplement::operate))]
@@ -218,20 +249,28 @@ pub fn operate(sort: Sort, operator: Operator, a: i64, b: i64) -> Result<i64, Tr
     }
 }
 
-/// 1 where the comparison holds, else 0.
+/// Whether two numbers compare so.
 #[inline(always)]
 #[tactic(auto, unfolding(edd_syntax::specs::TwosComplement::compare))]
-pub fn compare(comparison: Comparison, a: i64, b: i64) -> i64
-    ensures { result ≡ compare comparison a b }
+pub fn holds(comparison: Comparison, a: i64, b: i64) -> bool
+    ensures { truth result ≡ compare comparison a b }
 {
-    truth(match comparison {
+    match comparison {
         Comparison::Equal => a == b,
         Comparison::NotEqual => a != b,
         Comparison::Less => a < b,
         Comparison::LessOrEqual => a <= b,
         Comparison::Greater => a > b,
         Comparison::GreaterOrEqual => a >= b,
-    })
+    }
+}
+
+/// 1 where the comparison holds, else 0.
+#[inline(always)]
+pub fn compare(comparison: Comparison, a: i64, b: i64) -> i64
+    ensures { result ≡ compare comparison a b }
+{
+    truth(holds(comparison, a, b))
 }
 
 // The number of 32 bits that equals it modulo 2 to the 32.

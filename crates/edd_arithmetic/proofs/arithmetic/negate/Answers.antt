@@ -2,8 +2,8 @@ use Rattle.std.proofs.Common.{◌≡◌, rules, sym, ◌∙◌, neg_ℤ, w32, w6
 use Rattle.std.specs.Int.{int_wrap}
 use Rattle.std.proofs.lemmas.Int.{wraps}
 use Rattle.edd_syntax.specs.TwosComplement.{apply}
-use Rattle.edd_machine.proofs.Widths.{wrap_64, short_neg}
-use Rattle.edd_machine.proofs.arithmetic.negate.Goals as goal
+use Rattle.edd_arithmetic.proofs.Widths.{wrap_64, short_neg}
+use Rattle.edd_arithmetic.proofs.arithmetic.negate.Goals as goal
 
 pub returns-in-Attribute : goal.returns-in-Attribute
 unfolding apply

@@ -1,8 +1,8 @@
 use Rattle.std.proofs.Common.{◌<◌, rules, ap, ◌∙◌, ℤ, w32, w64, FitsSigned}
 use Rattle.std.specs.Int.{int_shl}
 use Rattle.std.proofs.lemmas.Int.{to_z-of_z}
-use Rattle.edd_machine.proofs.Widths.{shl_64, shl_32}
-use Rattle.edd_machine.proofs.arithmetic.shifted_left.Goals as goal
+use Rattle.edd_arithmetic.proofs.Widths.{shl_64, shl_32}
+use Rattle.edd_arithmetic.proofs.arithmetic.shifted_left.Goals as goal
 
 pub returns-in-Attribute : goal.returns-in-Attribute
 returns-in-Attribute c =

@@ -3,9 +3,9 @@ use Rattle.std.specs.Prelude.{int_rem, Ok}
 use Rattle.std.proofs.lemmas.Int.{rem_is}
 use Rattle.edd_syntax.specs.TwosComplement.{divide}
 use Rattle.edd_instructions.specs.Steps.{width_of}
-use Rattle.edd_machine.proofs.Widths.{again, divide_ok}
-use Rattle.edd_machine.proofs.arithmetic.remainder.Goals as goal
-use Rattle.edd_machine.proofs.arithmetic.remainder.Goals.{else-a-least-via-then-a-least+else-b-eqminus1, else-a-least-via-else-a-least}
+use Rattle.edd_arithmetic.proofs.Widths.{again, divide_ok}
+use Rattle.edd_arithmetic.proofs.arithmetic.remainder.Goals as goal
+use Rattle.edd_arithmetic.proofs.arithmetic.remainder.Goals.{else-a-least-via-then-a-least+else-b-eqminus1, else-a-least-via-else-a-least}
 
 divides : (c : goal.Joined-else-a-least) → (c.args.a ≡ neg_ℤ (pos (2 ^ (width_of c.args.sort - 1)))
     → c.args.b ≡ negsuc 0 → ⊥) → divide int_rem (width_of c.args.sort) c.args.a c.args.b

@@ -1,7 +1,7 @@
 use Rattle.std.proofs.Common.{rules, sym, ◌∙◌, pos, w32, w64, FitsSigned}
 use Rattle.std.proofs.lemmas.Int.{to_z-of_z, int_wrap_fits}
-use Rattle.edd_machine.proofs.Widths.{wrap_64, wrap_32, power_read}
-use Rattle.edd_machine.proofs.arithmetic.wrapped_constant.Goals as goal
+use Rattle.edd_arithmetic.proofs.Widths.{wrap_64, wrap_32, power_read}
+use Rattle.edd_arithmetic.proofs.arithmetic.wrapped_constant.Goals as goal
 
 pub returns-in-Attribute : goal.returns-in-Attribute
 returns-in-Attribute c =

@@ -1,7 +1,7 @@
 use Rattle.std.proofs.Common.{rules, sym, ◌∙◌, ◌*ℤ◌, w32, w64, FitsSigned}
 use Rattle.std.proofs.lemmas.Int.{wrapping_mul_is}
-use Rattle.edd_machine.proofs.Widths.{wrap_64, short_mul}
-use Rattle.edd_machine.proofs.arithmetic.multiply.Goals as goal
+use Rattle.edd_arithmetic.proofs.Widths.{wrap_64, short_mul}
+use Rattle.edd_arithmetic.proofs.arithmetic.multiply.Goals as goal
 
 pub returns-in-Attribute : goal.returns-in-Attribute
 returns-in-Attribute c =
