@@ -198,6 +198,7 @@ fn number_from<'a>(whole: &[u8], rest: &'a [u8]) -> Number<'a>
 }
 
 /// The number at the front.
+#[inline(always)]
 #[tactic(auto, unfolding(crate::specs::Reading::number_at), using(crate::proofs::Runs::runs))]
 pub fn number_at(text: &[u8]) -> Number
     ensures { step_of_number result ≡ reading.number_at text.now }
