@@ -73,14 +73,14 @@ pub fn behind_name(text: &[u8]) -> &[u8]
     ensures rest { result.now ≡ behind names.goes_on_name text.now }
     ensures shorter { length result.now ≤ length text.now }
 {
-    let mut rest = text;
-    while let [first, tail @ ..] = rest {
+    let mut letters = text.iter();
+    while let Some(first) = letters.as_slice().first() {
         if !goes_on_name(*first) {
-            return rest;
+            break;
         }
-        rest = tail;
+        letters.next();
     }
-    rest
+    letters.as_slice()
 }
 
 /// What comes after the digits at the front.
@@ -88,14 +88,14 @@ pub fn behind_digits(text: &[u8]) -> &[u8]
     ensures rest { result.now ≡ behind is_ascii_digit text.now }
     ensures shorter { length result.now ≤ length text.now }
 {
-    let mut rest = text;
-    while let [first, tail @ ..] = rest {
+    let mut digits = text.iter();
+    while let Some(first) = digits.as_slice().first() {
         if !first.is_ascii_digit() {
-            return rest;
+            break;
         }
-        rest = tail;
+        digits.next();
     }
-    rest
+    digits.as_slice()
 }
 
 /// What comes after the hexadecimal digits at the front.

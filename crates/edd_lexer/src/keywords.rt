@@ -205,6 +205,7 @@ fn of_fifteen(first: u8, word: &[u8]) -> Option<Keyword>
 }
 
 /// The reserved word that these bytes spell.
+#[inline(never)]
 #[tactic(auto, unfolding(crate::specs::Keywords::keyword_by_length))]
 pub fn keyword(word: &[u8]) -> Option<Keyword>
     ensures { result ≡ words.keyword_by_length word.now }

@@ -25,7 +25,7 @@ use crate::fault::{Fault, LexFault};
 use crate::gaps::{behind_close, makes_mark};
 use crate::keywords::keyword;
 use crate::lines::last_line;
-use crate::numbers::{Number, number_at};
+use crate::numbers::{Number, begins_sticking, digit_value, number_at};
 use crate::strings::string_end;
 use crate::symbols::{slash, symbol_at};
 use crate::token::{Token, TokenKind};
@@ -56,9 +56,10 @@ fn word_kind(word: &[u8]) -> TokenKind
 // A word, unless it is too long.
 #[tactic(auto, unfolding(crate::specs::Reading::word_at), using(crate::proofs::Runs::runs))]
 fn word_at(text: &[u8]) -> Step
+    requires { begins names.begins_name text.now ≡ true }
     ensures { step_of text.now result ≡ reading.word_at text.now }
 {
-    let rest = behind_name(text);
+    let rest = behind_name(behind_byte(text));
     let length = text.len() - rest.len();
     if length > 255 {
         return Step::Wrong(Fault::BadCharacter);
@@ -191,6 +192,10 @@ fn step_here(fresh: bool, text: &[u8]) -> Step
         return word_at(text);
     }
     if begins_longer(first) {
+        // Most integers have one digit.
+        if first.is_ascii_digit() && !begins_sticking(rest) {
+            return Step::Token(TokenKind::Integer(digit_value(first)), 0, rest);
+        }
         return longer_step(fresh, text);
     }
     symbol_step(text, first, rest)
@@ -243,7 +248,7 @@ fn tokens(alloc: Global, text: &[u8]) -> Result<Vec<Token>, LexFault>
     requires { length text.now ≤ 1048576 }
     ensures { Gives text.now result (tokens_of text.now) }
 {
-    let mut tokens = Vec::new(alloc);
+    let mut tokens = Vec::with_capacity(alloc, text.len() / 16)?;
     let mut rest = behind_byte_order_mark(text);
     let mut fresh = true;
     let mut line: u32 = 1;

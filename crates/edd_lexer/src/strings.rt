@@ -48,14 +48,14 @@ fn behind_plain(text: &[u8]) -> &[u8]
         ≡ reading.string_end good text.now }
     ensures shorter { length result.now ≤ length text.now }
 {
-    let mut rest = text;
-    while let [first, tail @ ..] = rest {
+    let mut plain = text.iter();
+    while let Some(first) = plain.as_slice().first() {
         if !is_plain(*first) {
-            return rest;
+            break;
         }
-        rest = tail;
+        plain.next();
     }
-    rest
+    plain.as_slice()
 }
 
 /// The end of the string whose opening quote is before this text, if it has one.

@@ -135,6 +135,7 @@ fn single_symbol(first: u8) -> Option<Symbol>
 }
 
 /// The sign that begins with this byte, and what comes after it.
+#[inline(always)]
 #[tactic(auto, unfolding(crate::specs::Reading::symbol_at))]
 pub fn symbol_at(first: u8, rest: &[u8]) -> Option<(Symbol, &[u8])>
     ensures { sign_of result ≡ reading.symbol_at first rest.now }
