@@ -103,14 +103,14 @@ pub fn behind_hex_digits(text: &[u8]) -> &[u8]
     ensures rest { result.now ≡ behind is_ascii_hexdigit text.now }
     ensures shorter { length result.now ≤ length text.now }
 {
-    let mut rest = text;
-    while let [first, tail @ ..] = rest {
+    let mut digits = text.iter();
+    while let Some(first) = digits.as_slice().first() {
         if !first.is_ascii_hexdigit() {
-            return rest;
+            break;
         }
-        rest = tail;
+        digits.next();
     }
-    rest
+    digits.as_slice()
 }
 
 /// What comes after the blanks of this line.
@@ -118,14 +118,14 @@ pub fn behind_line_blanks(text: &[u8]) -> &[u8]
     ensures rest { result.now ≡ behind bytes.is_line_blank text.now }
     ensures shorter { length result.now ≤ length text.now }
 {
-    let mut rest = text;
-    while let [first, tail @ ..] = rest {
+    let mut blanks = text.iter();
+    while let Some(first) = blanks.as_slice().first() {
         if !is_line_blank(*first) {
-            return rest;
+            break;
         }
-        rest = tail;
+        blanks.next();
     }
-    rest
+    blanks.as_slice()
 }
 
 /// The end of the line.
@@ -133,14 +133,14 @@ pub fn behind_line(text: &[u8]) -> &[u8]
     ensures rest { result.now ≡ behind bytes.in_line text.now }
     ensures shorter { length result.now ≤ length text.now }
 {
-    let mut rest = text;
-    while let [first, tail @ ..] = rest {
+    let mut line = text.iter();
+    while let Some(first) = line.as_slice().first() {
         if *first == b'\n' {
-            return rest;
+            break;
         }
-        rest = tail;
+        line.next();
     }
-    rest
+    line.as_slice()
 }
 
 /// This byte is next.

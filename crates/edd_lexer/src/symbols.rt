@@ -70,6 +70,7 @@ fn shifted(
 }
 
 // The sign that begins with this byte, where it can be longer.
+#[inline(always)]
 #[tactic(auto, unfolding(crate::specs::Reading::operator_at))]
 fn operator_at(first: u8, rest: &[u8]) -> Option<(Symbol, &[u8])>
     ensures { sign_of result ≡ reading.operator_at first rest.now }
