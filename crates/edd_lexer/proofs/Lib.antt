@@ -18,3 +18,4 @@ pub mod Longest
 pub mod Loop
 pub mod Answered
 pub mod Keeping
+pub mod ByteTables

@@ -1,17 +1,31 @@
 //! Bytes by what they may stand for, and runs of them.
 
-ghost use Rattle.std.specs.Prelude.{◌≡◌, ◌<◌, ◌≤◌, drop, length};
+ghost use Rattle.std.specs.Prelude.{◌≡◌, ◌<◌, ◌≤◌, ◌==◌, ◌||◌, drop, length};
 ghost use Rattle.std.specs.Char.{is_ascii_digit, is_ascii_hexdigit};
 ghost use Rattle.edd_syntax.specs.Names as names;
 ghost use Rattle.edd_lexer.specs.Bytes as bytes;
 ghost use Rattle.edd_lexer.specs.Bytes.{begins, behind};
 ghost use Rattle.edd_lexer.specs.Reading as reading;
+ghost use Rattle.edd_lexer.specs.Strings.{quote};
 ghost use Rattle.edd_lexer.specs.Tokens as tokens;
 
+// What each byte may stand for: `-` is a blank, `0` a digit, `a` a letter or `_`, `/` one of the
+// four bytes at which more than a sign may begin, and `,` any other.
+static CLASSES: [u8; 256] = *b"\
+    ,,,,,,,,,-----,,,,,,,,,,,,,,,,,,\
+    -,//,,,,,,,,,,//0000000000,,,,,,\
+    ,aaaaaaaaaaaaaaaaaaaaaaaaaa,,,,a\
+    ,aaaaaaaaaaaaaaaaaaaaaaaaaa,,,,,\
+    ,,,,,,,,,,,,,,,,,,,,,,,,,,,,,,,,\
+    ,,,,,,,,,,,,,,,,,,,,,,,,,,,,,,,,\
+    ,,,,,,,,,,,,,,,,,,,,,,,,,,,,,,,,\
+    ,,,,,,,,,,,,,,,,,,,,,,,,,,,,,,,,";
+
+/// The space, which is by far the most common, is looked at first.
 pub fn is_blank(b: u8) -> bool
     ensures { result ≡ bytes.is_blank b }
 {
-    b == b' ' || (b >= 9 && b <= 13)
+    b == b' ' || CLASSES[b as usize] == b'-'
 }
 
 pub fn is_line_blank(b: u8) -> bool
@@ -23,13 +37,21 @@ pub fn is_line_blank(b: u8) -> bool
 pub fn begins_name(b: u8) -> bool
     ensures { result ≡ names.begins_name b }
 {
-    (b >= b'A' && b <= b'Z') || (b >= b'a' && b <= b'z') || b == b'_'
+    CLASSES[b as usize] == b'a'
 }
 
 pub fn goes_on_name(b: u8) -> bool
     ensures { result ≡ names.goes_on_name b }
 {
-    begins_name(b) || (b >= b'0' && b <= b'9')
+    CLASSES[b as usize] >= b'0'
+}
+
+/// A number, a string, a comment or a mark may begin with this byte.
+pub fn begins_longer(b: u8) -> bool
+    ensures { result ≡ (is_ascii_digit b || b == 46 || b == quote || b == 47 || b == 35) }
+{
+    let class = CLASSES[b as usize];
+    (class == b'/') | (class == b'0')
 }
 
 pub fn goes_on_number(b: u8) -> bool
@@ -51,14 +73,14 @@ pub fn behind_name(text: &[u8]) -> &[u8]
     ensures rest { result.now ≡ behind names.goes_on_name text.now }
     ensures shorter { length result.now ≤ length text.now }
 {
-    let mut rest = text;
-    while let [first, tail @ ..] = rest {
+    let mut letters = text.iter();
+    while let Some(first) = letters.as_slice().first() {
         if !goes_on_name(*first) {
-            return rest;
+            break;
         }
-        rest = tail;
+        letters.next();
     }
-    rest
+    letters.as_slice()
 }
 
 /// What comes after the digits at the front.
@@ -66,14 +88,14 @@ pub fn behind_digits(text: &[u8]) -> &[u8]
     ensures rest { result.now ≡ behind is_ascii_digit text.now }
     ensures shorter { length result.now ≤ length text.now }
 {
-    let mut rest = text;
-    while let [first, tail @ ..] = rest {
+    let mut digits = text.iter();
+    while let Some(first) = digits.as_slice().first() {
         if !first.is_ascii_digit() {
-            return rest;
+            break;
         }
-        rest = tail;
+        digits.next();
     }
-    rest
+    digits.as_slice()
 }
 
 /// What comes after the hexadecimal digits at the front.
@@ -81,14 +103,14 @@ pub fn behind_hex_digits(text: &[u8]) -> &[u8]
     ensures rest { result.now ≡ behind is_ascii_hexdigit text.now }
     ensures shorter { length result.now ≤ length text.now }
 {
-    let mut rest = text;
-    while let [first, tail @ ..] = rest {
+    let mut digits = text.iter();
+    while let Some(first) = digits.as_slice().first() {
         if !first.is_ascii_hexdigit() {
-            return rest;
+            break;
         }
-        rest = tail;
+        digits.next();
     }
-    rest
+    digits.as_slice()
 }
 
 /// What comes after the blanks of this line.
@@ -96,14 +118,14 @@ pub fn behind_line_blanks(text: &[u8]) -> &[u8]
     ensures rest { result.now ≡ behind bytes.is_line_blank text.now }
     ensures shorter { length result.now ≤ length text.now }
 {
-    let mut rest = text;
-    while let [first, tail @ ..] = rest {
+    let mut blanks = text.iter();
+    while let Some(first) = blanks.as_slice().first() {
         if !is_line_blank(*first) {
-            return rest;
+            break;
         }
-        rest = tail;
+        blanks.next();
     }
-    rest
+    blanks.as_slice()
 }
 
 /// The end of the line.
@@ -111,14 +133,14 @@ pub fn behind_line(text: &[u8]) -> &[u8]
     ensures rest { result.now ≡ behind bytes.in_line text.now }
     ensures shorter { length result.now ≤ length text.now }
 {
-    let mut rest = text;
-    while let [first, tail @ ..] = rest {
+    let mut line = text.iter();
+    while let Some(first) = line.as_slice().first() {
         if *first == b'\n' {
-            return rest;
+            break;
         }
-        rest = tail;
+        line.next();
     }
-    rest
+    line.as_slice()
 }
 
 /// This byte is next.
@@ -143,7 +165,7 @@ pub fn begins_digit(text: &[u8]) -> bool
 /// One more line where this byte ends one. A text within the limit has fewer lines than would fit.
 pub fn lines_after(lines: u32, b: u8) -> u32 {
     if b == b'\n' {
-        lines.saturating_add(1)
+        lines.wrapping_add(1)
     } else {
         lines
     }

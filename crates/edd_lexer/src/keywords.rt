@@ -1,20 +1,18 @@
 //! The reserved words.
 
 ghost use Rattle.std.specs.Prelude.{◌≡◌, length};
+ghost use Rattle.edd_syntax.specs.Token.{spelling};
 ghost use Rattle.edd_lexer.specs.Keywords as words;
 
 use edd_syntax::symbols::Keyword;
 
-// This reserved word or none.
+// This reserved word, with its letters, or none.
 #[tactic(auto, unfolding(crate::specs::Keywords::only))]
-fn only(word: &[u8], keyword: Keyword) -> Option<Keyword>
+fn only(word: &[u8], letters: &[u8], keyword: Keyword) -> Option<Keyword>
+    requires { letters.now ≡ spelling keyword }
     ensures { result ≡ words.only word.now keyword }
 {
-    if word == keyword.spelling().as_bytes() {
-        Some(keyword)
-    } else {
-        None
-    }
+    if word == letters { Some(keyword) } else { None }
 }
 
 #[tactic(auto, unfolding(crate::specs::Keywords::of_two))]
@@ -22,10 +20,10 @@ fn of_two(first: u8, word: &[u8]) -> Option<Keyword>
     ensures { result ≡ words.of_two first word.now }
 {
     match first {
-        b'O' => only(word, Keyword::Of),
-        b'I' => only(word, Keyword::If),
-        b'i' => only(word, Keyword::MethodIf),
-        b'd' => only(word, Keyword::Do),
+        b'O' => only(word, b"OF", Keyword::Of),
+        b'I' => only(word, b"IF", Keyword::If),
+        b'i' => only(word, b"if", Keyword::MethodIf),
+        b'd' => only(word, b"do", Keyword::Do),
         _ => None,
     }
 }
@@ -35,8 +33,8 @@ fn of_three(first: u8, word: &[u8]) -> Option<Keyword>
     ensures { result ≡ words.of_three first word.now }
 {
     match first {
-        b'i' => only(word, Keyword::Int),
-        b'f' => only(word, Keyword::For),
+        b'i' => only(word, b"int", Keyword::Int),
+        b'f' => only(word, b"for", Keyword::For),
         _ => None,
     }
 }
@@ -47,16 +45,16 @@ fn of_four(first: u8, word: &[u8]) -> Option<Keyword>
     ensures { result ≡ words.of_four first word.now }
 {
     match first {
-        b'M' => only(word, Keyword::Menu),
-        b'H' => only(word, Keyword::Help),
-        b'T' => only(word, Keyword::Type),
-        b'E' => only(word, Keyword::Else),
-        b'C' => only(word, Keyword::Case),
-        b'l' => only(word, Keyword::Long),
-        b'e' => only(word, Keyword::MethodElse),
-        b'c' if word[2] == b's' => only(word, Keyword::MethodCase),
-        b'c' => only(word, Keyword::Char),
-        b'g' => only(word, Keyword::Goto),
+        b'M' => only(word, b"MENU", Keyword::Menu),
+        b'H' => only(word, b"HELP", Keyword::Help),
+        b'T' => only(word, b"TYPE", Keyword::Type),
+        b'E' => only(word, b"ELSE", Keyword::Else),
+        b'C' => only(word, b"CASE", Keyword::Case),
+        b'l' => only(word, b"long", Keyword::Long),
+        b'e' => only(word, b"else", Keyword::MethodElse),
+        b'c' if word[2] == b's' => only(word, b"case", Keyword::MethodCase),
+        b'c' => only(word, b"char", Keyword::Char),
+        b'g' => only(word, b"goto", Keyword::Goto),
         _ => None,
     }
 }
@@ -66,15 +64,15 @@ fn of_five(first: u8, word: &[u8]) -> Option<Keyword>
     ensures { result ≡ words.of_five first word.now }
 {
     match first {
-        b'L' => only(word, Keyword::Label),
-        b'C' => only(word, Keyword::Class),
-        b'R' => only(word, Keyword::Reply),
-        b'I' => only(word, Keyword::Items),
-        b'w' => only(word, Keyword::While),
-        b'b' => only(word, Keyword::Break),
-        b's' => only(word, Keyword::Short),
-        b'f' => only(word, Keyword::Float),
-        b'A' => only(word, Keyword::Array),
+        b'L' => only(word, b"LABEL", Keyword::Label),
+        b'C' => only(word, b"CLASS", Keyword::Class),
+        b'R' => only(word, b"REPLY", Keyword::Reply),
+        b'I' => only(word, b"ITEMS", Keyword::Items),
+        b'w' => only(word, b"while", Keyword::While),
+        b'b' => only(word, b"break", Keyword::Break),
+        b's' => only(word, b"short", Keyword::Short),
+        b'f' => only(word, b"float", Keyword::Float),
+        b'A' => only(word, b"ARRAY", Keyword::Array),
         _ => None,
     }
 }
@@ -85,13 +83,13 @@ fn of_six(first: u8, word: &[u8]) -> Option<Keyword>
     ensures { result ≡ words.of_six first word.now }
 {
     match first {
-        b'M' => only(word, Keyword::Method),
-        b'N' => only(word, Keyword::Number),
-        b'S' => only(word, Keyword::Select),
-        b's' if word[2] == b'i' => only(word, Keyword::Switch),
-        b's' => only(word, Keyword::Signed),
-        b'r' => only(word, Keyword::Return),
-        b'd' => only(word, Keyword::Double),
+        b'M' => only(word, b"METHOD", Keyword::Method),
+        b'N' => only(word, b"NUMBER", Keyword::Number),
+        b'S' => only(word, b"SELECT", Keyword::Select),
+        b's' if word[2] == b'i' => only(word, b"switch", Keyword::Switch),
+        b's' => only(word, b"signed", Keyword::Signed),
+        b'r' => only(word, b"return", Keyword::Return),
+        b'd' => only(word, b"double", Keyword::Double),
         _ => None,
     }
 }
@@ -101,11 +99,11 @@ fn of_seven(first: u8, word: &[u8]) -> Option<Keyword>
     ensures { result ≡ words.of_seven first word.now }
 {
     match first {
-        b'C' => only(word, Keyword::Command),
-        b'R' => only(word, Keyword::Request),
-        b'M' => only(word, Keyword::Members),
-        b'D' => only(word, Keyword::Default),
-        b'd' => only(word, Keyword::MethodDefault),
+        b'C' => only(word, b"COMMAND", Keyword::Command),
+        b'R' => only(word, b"REQUEST", Keyword::Request),
+        b'M' => only(word, b"MEMBERS", Keyword::Members),
+        b'D' => only(word, b"DEFAULT", Keyword::Default),
+        b'd' => only(word, b"default", Keyword::MethodDefault),
         _ => None,
     }
 }
@@ -116,12 +114,12 @@ fn of_eight(first: u8, word: &[u8]) -> Option<Keyword>
     ensures { result ≡ words.of_eight first word.now }
 {
     match first {
-        b'V' if word[2] == b'R' => only(word, Keyword::Variable),
-        b'V' => only(word, Keyword::Validity),
-        b'H' => only(word, Keyword::Handling),
-        b'c' => only(word, Keyword::Continue),
-        b'u' => only(word, Keyword::Unsigned),
-        b'E' => only(word, Keyword::Elements),
+        b'V' if word[2] == b'R' => only(word, b"VARIABLE", Keyword::Variable),
+        b'V' => only(word, b"VALIDITY", Keyword::Validity),
+        b'H' => only(word, b"HANDLING", Keyword::Handling),
+        b'c' => only(word, b"continue", Keyword::Continue),
+        b'u' => only(word, b"unsigned", Keyword::Unsigned),
+        b'E' => only(word, b"ELEMENTS", Keyword::Elements),
         _ => None,
     }
 }
@@ -132,9 +130,9 @@ fn of_nine(first: u8, word: &[u8]) -> Option<Keyword>
     ensures { result ≡ words.of_nine first word.now }
 {
     match first {
-        b'O' => only(word, Keyword::Operation),
-        b'M' if word[2] == b'N' => only(word, Keyword::MinValue),
-        b'M' => only(word, Keyword::MaxValue),
+        b'O' => only(word, b"OPERATION", Keyword::Operation),
+        b'M' if word[2] == b'N' => only(word, b"MIN_VALUE", Keyword::MinValue),
+        b'M' => only(word, b"MAX_VALUE", Keyword::MaxValue),
         _ => None,
     }
 }
@@ -144,8 +142,8 @@ fn of_ten(first: u8, word: &[u8]) -> Option<Keyword>
     ensures { result ≡ words.of_ten first word.now }
 {
     match first {
-        b'C' => only(word, Keyword::Collection),
-        b'D' => only(word, Keyword::Definition),
+        b'C' => only(word, b"COLLECTION", Keyword::Collection),
+        b'D' => only(word, b"DEFINITION", Keyword::Definition),
         _ => None,
     }
 }
@@ -156,10 +154,10 @@ fn of_eleven(first: u8, word: &[u8]) -> Option<Keyword>
     ensures { result ≡ words.of_eleven first word.now }
 {
     match first {
-        b'D' if word[2] == b'V' => only(word, Keyword::DeviceType),
-        b'D' => only(word, Keyword::DdRevision),
-        b'T' => only(word, Keyword::Transaction),
-        b'E' => only(word, Keyword::EditFormat),
+        b'D' if word[2] == b'V' => only(word, b"DEVICE_TYPE", Keyword::DeviceType),
+        b'D' => only(word, b"DD_REVISION", Keyword::DdRevision),
+        b'T' => only(word, b"TRANSACTION", Keyword::Transaction),
+        b'E' => only(word, b"EDIT_FORMAT", Keyword::EditFormat),
         _ => None,
     }
 }
@@ -169,7 +167,7 @@ fn of_twelve(first: u8, word: &[u8]) -> Option<Keyword>
     ensures { result ≡ words.of_twelve first word.now }
 {
     match first {
-        b'M' => only(word, Keyword::Manufacturer),
+        b'M' => only(word, b"MANUFACTURER", Keyword::Manufacturer),
         _ => None,
     }
 }
@@ -179,8 +177,8 @@ fn of_thirteen(first: u8, word: &[u8]) -> Option<Keyword>
     ensures { result ≡ words.of_thirteen first word.now }
 {
     match first {
-        b'C' => only(word, Keyword::ConstantUnit),
-        b'D' => only(word, Keyword::DefaultValue),
+        b'C' => only(word, b"CONSTANT_UNIT", Keyword::ConstantUnit),
+        b'D' => only(word, b"DEFAULT_VALUE", Keyword::DefaultValue),
         _ => None,
     }
 }
@@ -190,8 +188,8 @@ fn of_fourteen(first: u8, word: &[u8]) -> Option<Keyword>
     ensures { result ≡ words.of_fourteen first word.now }
 {
     match first {
-        b'R' => only(word, Keyword::ResponseCodes),
-        b'D' => only(word, Keyword::DisplayFormat),
+        b'R' => only(word, b"RESPONSE_CODES", Keyword::ResponseCodes),
+        b'D' => only(word, b"DISPLAY_FORMAT", Keyword::DisplayFormat),
         _ => None,
     }
 }
@@ -201,12 +199,13 @@ fn of_fifteen(first: u8, word: &[u8]) -> Option<Keyword>
     ensures { result ≡ words.of_fifteen first word.now }
 {
     match first {
-        b'D' => only(word, Keyword::DeviceRevision),
+        b'D' => only(word, b"DEVICE_REVISION", Keyword::DeviceRevision),
         _ => None,
     }
 }
 
 /// The reserved word that these bytes spell.
+#[inline(never)]
 #[tactic(auto, unfolding(crate::specs::Keywords::keyword_by_length))]
 pub fn keyword(word: &[u8]) -> Option<Keyword>
     ensures { result ≡ words.keyword_by_length word.now }

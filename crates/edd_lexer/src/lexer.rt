@@ -1,10 +1,13 @@
 //! Reading a text from left to right.
 
-ghost use Rattle.std.specs.Prelude.{◌≡◌, ◌<◌, ◌≤◌, drop, length, IfOk, IfErr, IfSome, MatchResult, ◌⊎◌, List, true, false, Some, map, ◌∷◌, ◌||◌};
+ghost use Rattle.std.specs.Prelude.{◌≡◌, ◌<◌, ◌≤◌, ◌-◌, drop, length, IfOk, IfErr, IfSome, MatchResult, ◌⊎◌, List, true, false, Some, map, ◌∷◌, ◌==◌, ◌||◌};
+ghost use Rattle.std.specs.Char.{is_ascii_digit};
+ghost use Rattle.edd_syntax.specs.Names as names;
 ghost use Rattle.edd_syntax.specs.Token.{word_token};
 ghost use Rattle.edd_lexer.specs.Bytes as bytes;
 ghost use Rattle.edd_lexer.specs.Bytes.{begins};
 ghost use Rattle.edd_lexer.specs.Numbers as spelled;
+ghost use Rattle.edd_lexer.specs.Strings.{quote};
 ghost use Rattle.edd_lexer.specs.Tokens.{Lexeme, AreTokens};
 ghost use Rattle.edd_lexer.specs.Faults.{LexicalFault};
 ghost use Rattle.edd_lexer.specs.Faults as kinds;
@@ -15,16 +18,18 @@ ghost use Rattle.edd_lexer.specs.Views.{token_of, lexeme_of, fault_of, Answers};
 ghost use Rattle.edd_lexer.specs.Parts.{step_of, Leads, Gives};
 
 use crate::bytes::{
-    begins_digit, begins_name, behind_byte, behind_byte_order_mark, behind_line, behind_name,
-    is_blank, lines_after, next_is,
+    begins_digit, begins_longer, begins_name, behind_byte, behind_byte_order_mark, behind_line,
+    behind_name, is_blank, lines_after, next_is,
 };
 use crate::fault::{Fault, LexFault};
 use crate::gaps::{behind_close, makes_mark};
 use crate::keywords::keyword;
-use crate::numbers::{Number, number_at};
+use crate::lines::last_line;
+use crate::numbers::{Number, begins_sticking, digit_value, number_at};
 use crate::strings::string_end;
 use crate::symbols::{slash, symbol_at};
 use crate::token::{Token, TokenKind};
+use edd_syntax::symbols::Symbol;
 use std::alloc::Global;
 
 // What begins at a place: a token or a gap, with how many lines end in it and what comes after
@@ -51,9 +56,10 @@ fn word_kind(word: &[u8]) -> TokenKind
 // A word, unless it is too long.
 #[tactic(auto, unfolding(crate::specs::Reading::word_at), using(crate::proofs::Runs::runs))]
 fn word_at(text: &[u8]) -> Step
+    requires { begins names.begins_name text.now ≡ true }
     ensures { step_of text.now result ≡ reading.word_at text.now }
 {
-    let rest = behind_name(text);
+    let rest = behind_name(behind_byte(text));
     let length = text.len() - rest.len();
     if length > 255 {
         return Step::Wrong(Fault::BadCharacter);
@@ -146,6 +152,32 @@ fn begins_number(first: u8, rest: &[u8]) -> bool
     first.is_ascii_digit() || (first == b'.' && begins_digit(rest))
 }
 
+// What begins with a byte at which more than a sign may begin. Few tokens do, and apart from the
+// others they leave the registers to these.
+#[inline(never)]
+#[tactic(auto, unfolding(crate::specs::Reading::step_at))]
+fn longer_step(fresh: bool, text: &[u8]) -> Step
+    requires no_blank { begins bytes.is_blank text.now ≡ false }
+    requires no_name { begins names.begins_name text.now ≡ false }
+    requires longer { begins (λ b. is_ascii_digit b || b == 46 || b == quote || b == 47 || b == 35)
+        text.now ≡ true }
+    ensures { step_of text.now result ≡ reading.step_at fresh text.now }
+{
+    let [first, rest @ ..] = text else {
+        return Step::Wrong(Fault::BadCharacter);
+    };
+    let first = *first;
+    if begins_number(first, rest) {
+        return number_step(text);
+    }
+    match first {
+        b'"' => string_at(text),
+        b'/' => slash_at(text),
+        b'#' => hash_at(fresh, text),
+        _ => Step::Token(TokenKind::Symbol(Symbol::Dot), 0, rest),
+    }
+}
+
 // What begins at a place where there is no blank.
 #[tactic(auto, unfolding(crate::specs::Reading::step_at))]
 fn step_here(fresh: bool, text: &[u8]) -> Step
@@ -159,15 +191,14 @@ fn step_here(fresh: bool, text: &[u8]) -> Step
     if begins_name(first) {
         return word_at(text);
     }
-    if begins_number(first, rest) {
-        return number_step(text);
+    if begins_longer(first) {
+        // Most integers have one digit.
+        if first.is_ascii_digit() && !begins_sticking(rest) {
+            return Step::Token(TokenKind::Integer(digit_value(first)), 0, rest);
+        }
+        return longer_step(fresh, text);
     }
-    match first {
-        b'"' => string_at(text),
-        b'/' => slash_at(text),
-        b'#' => hash_at(fresh, text),
-        _ => symbol_step(text, first, rest),
-    }
+    symbol_step(text, first, rest)
 }
 
 // The same, with the fact that what comes after it is an end of what is here.
@@ -203,16 +234,25 @@ fn fresh_behind(fresh: bool, blank: u8) -> bool
     fresh || blank == b'\n'
 }
 
+// How many bytes of a text are before its last ones. The contract says that nothing wraps.
+fn offset(total: u32, left: u32) -> u32
+    requires { left ≤ total }
+    ensures { result ≡ total - left }
+{
+    total.wrapping_sub(left)
+}
+
 // The tokens of a text that is short enough and in UTF-8, or its first fault.
 #[tactic(auto, using(crate::proofs::Loop::loop_starts))]
 fn tokens(alloc: Global, text: &[u8]) -> Result<Vec<Token>, LexFault>
     requires { length text.now ≤ 1048576 }
     ensures { Gives text.now result (tokens_of text.now) }
 {
-    let mut tokens = Vec::new(alloc);
+    let mut tokens = Vec::with_capacity(alloc, text.len() / 16)?;
     let mut rest = behind_byte_order_mark(text);
     let mut fresh = true;
     let mut line: u32 = 1;
+    let total = text.len() as u32;
     while let [first, ..] = rest {
         let first = *first;
         if is_blank(first) {
@@ -225,32 +265,23 @@ fn tokens(alloc: Global, text: &[u8]) -> Result<Vec<Token>, LexFault>
             Step::Wrong(fault) => return Err(refusal(fault, line)),
             Step::Gap(next, lines, behind) => {
                 fresh = next;
-                line = line.saturating_add(lines);
+                line = line.wrapping_add(lines);
                 rest = behind;
             }
             Step::Token(kind, lines, behind) => {
                 tokens.push(Token {
-                    start: (text.len() - rest.len()) as u32,
-                    end: (text.len() - behind.len()) as u32,
+                    start: offset(total, rest.len() as u32),
+                    end: offset(total, behind.len() as u32),
                     line,
                     kind,
                 })?;
                 fresh = false;
-                line = line.saturating_add(lines);
+                line = line.wrapping_add(lines);
                 rest = behind;
             }
         }
     }
     Ok(tokens)
-}
-
-// The line that follows this part of a text.
-fn line_behind(text: &[u8]) -> u32 {
-    let mut line = 1;
-    for b in text {
-        line = lines_after(line, *b);
-    }
-    line
 }
 
 // The tokens of a text, or its fault.
@@ -261,7 +292,7 @@ fn read(alloc: Global, text: &[u8]) -> Result<Vec<Token>, LexFault>
         return Err(LexFault::TooLong);
     }
     if let Err(fault) = str::from_utf8(text) {
-        let line = line_behind(&text[..fault.valid_up_to()]);
+        let line = last_line(&text[..fault.valid_up_to()]);
         return Err(LexFault::NotUtf8 { line });
     }
     tokens(alloc, text)

@@ -3,8 +3,8 @@
 use crate::token::Token;
 use edd_syntax::numbers::TokenNo;
 
-// The line on which a text ends.
-fn last_line(text: &[u8]) -> u32 {
+/// The line on which a text ends.
+pub fn last_line(text: &[u8]) -> u32 {
     let mut line: u32 = 1;
     for byte in text {
         if *byte == b'\n' {

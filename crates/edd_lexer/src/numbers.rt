@@ -19,8 +19,8 @@ pub enum Number<'a> {
     Bad,
 }
 
-// Here is something that no number may be directly followed by.
-fn begins_sticking(text: &[u8]) -> bool
+/// Here is something that no number may be directly followed by.
+pub fn begins_sticking(text: &[u8]) -> bool
     ensures { result ≡ begins bytes.goes_on_number text.now }
 {
     match text {
@@ -41,8 +41,8 @@ fn begins_exponent(text: &[u8]) -> bool
     matches!(text, [b'e' | b'E', ..])
 }
 
-// The value of a digit.
-fn digit_value(b: u8) -> u32
+/// The value of a digit.
+pub fn digit_value(b: u8) -> u32
     requires { is_ascii_hexdigit b ≡ true }
     ensures { result ≡ spelled.digit_value b }
 {
@@ -198,6 +198,7 @@ fn number_from<'a>(whole: &[u8], rest: &'a [u8]) -> Number<'a>
 }
 
 /// The number at the front.
+#[inline(always)]
 #[tactic(auto, unfolding(crate::specs::Reading::number_at), using(crate::proofs::Runs::runs))]
 pub fn number_at(text: &[u8]) -> Number
     ensures { step_of_number result ≡ reading.number_at text.now }

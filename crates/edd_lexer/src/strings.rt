@@ -1,7 +1,9 @@
 //! The ends of strings.
 
-ghost use Rattle.std.specs.Prelude.{◌≡◌, true};
+ghost use Rattle.std.specs.Prelude.{◌≡◌, ◌≤◌, ◌==◌, ◌||◌, Bool, true, not, length};
 ghost use Rattle.edd_syntax.specs.Words as words;
+ghost use Rattle.edd_lexer.specs.Bytes as bytes;
+ghost use Rattle.edd_lexer.specs.Strings.{quote};
 ghost use Rattle.edd_lexer.specs.Reading as reading;
 ghost use Rattle.edd_lexer.specs.Parts.{end_of};
 
@@ -20,6 +22,40 @@ fn is_escape(b: u8) -> bool
     ensures { result ≡ words.is_escape b }
 {
     matches!(b, b'"' | b'\\' | b'n' | b't' | b'|')
+}
+
+// Where a string has more than text: `!` stands at a quote, at a backslash and at LF.
+static STOPS: [u8; 256] = *b"\
+    ..........!.....................\
+    ..!.............................\
+    ............................!...\
+    ................................\
+    ................................\
+    ................................\
+    ................................\
+    ................................";
+
+fn is_plain(b: u8) -> bool
+    ensures { result ≡ not (b == quote || b == words.backslash || bytes.is_line_end b) }
+{
+    STOPS[b as usize] != b'!'
+}
+
+// What comes after the bytes that are only text of a string: the end of the string is the same.
+#[tactic(auto, unfolding(crate::specs::Reading::string_end))]
+fn behind_plain(text: &[u8]) -> &[u8]
+    ensures same_end { (good : Bool) → reading.string_end good result.now
+        ≡ reading.string_end good text.now }
+    ensures shorter { length result.now ≤ length text.now }
+{
+    let mut plain = text.iter();
+    while let Some(first) = plain.as_slice().first() {
+        if !is_plain(*first) {
+            break;
+        }
+        plain.next();
+    }
+    plain.as_slice()
 }
 
 /// The end of the string whose opening quote is before this text, if it has one.
@@ -47,7 +83,7 @@ pub fn string_end(inside: &[u8]) -> Option<StringEnd>
             });
         } else {
             lines = lines_after(lines, first);
-            rest = tail;
+            rest = behind_plain(tail);
         }
     }
     None

@@ -70,6 +70,7 @@ fn shifted(
 }
 
 // The sign that begins with this byte, where it can be longer.
+#[inline(always)]
 #[tactic(auto, unfolding(crate::specs::Reading::operator_at))]
 fn operator_at(first: u8, rest: &[u8]) -> Option<(Symbol, &[u8])>
     ensures { sign_of result ≡ reading.operator_at first rest.now }
@@ -135,6 +136,7 @@ fn single_symbol(first: u8) -> Option<Symbol>
 }
 
 /// The sign that begins with this byte, and what comes after it.
+#[inline(always)]
 #[tactic(auto, unfolding(crate::specs::Reading::symbol_at))]
 pub fn symbol_at(first: u8, rest: &[u8]) -> Option<(Symbol, &[u8])>
     ensures { sign_of result ≡ reading.symbol_at first rest.now }

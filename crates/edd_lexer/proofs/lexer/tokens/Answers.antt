@@ -42,7 +42,7 @@ loop-rest-preserved c =
       within = (let lt = c.in-Token.ensures.leads.shorter in omega arith);
       is_end = end_of_end text here behind c.loop-rest.invariant.is_end c.loop-rest.invariant.within
           c.in-Token.ensures.leads;
-      read = rw (c.in_ok-push-in-Token.ensures.items, map_push)
+      read = rw (c.in_ok-push-in-Token.ensures.items, map_push, c.offset-in-Token.ensures, c.offset.ensures)
           (sym same ∙ c.loop-rest.invariant.read);
     }
 
