@@ -121,9 +121,15 @@ struct Places {
 
 impl Places {
     fn of(items: &[Item<Target>]) -> Places {
-        let mut places = Places { of_kind: [0; KINDS] };
+        let mut places = Places {
+            of_kind: [0; KINDS],
+        };
         for item in items {
-            for kind in places.of_kind.iter_mut().skip(kind_number(item.kind()).saturating_add(1)) {
+            for kind in places
+                .of_kind
+                .iter_mut()
+                .skip(kind_number(item.kind()).saturating_add(1))
+            {
                 *kind = kind.saturating_add(1);
             }
         }
@@ -308,7 +314,9 @@ impl<'i, 'a> Shown<'i, 'a> {
             (_, Some(menu)) if !said.is_labelled && !has_label(attributes) => {
                 let at = name_of_item(keyword_of(item), &mut ahead);
                 let name = item.name();
-                let message = format!(in findings.alloc; "{name} has no LABEL, and a menu shows it")?;
+                let message = format!(in findings.alloc;
+                    "{name} has no LABEL, and a menu shows it"
+                )?;
                 findings.add_beside(Lint::MissingLabel, at, message, menu)
             }
             _ => Ok(()),

@@ -66,8 +66,7 @@ pub fn place_of(code: &[u8]) -> usize {
         [first @ b'0'..=b'9', second, third, ..] => {
             let tens = before(*first, b'0').saturating_mul(10);
             let tens = tens.saturating_add(before(*second, b'0'));
-            tens.saturating_mul(10)
-                .saturating_add(before(*third, b'0'))
+            tens.saturating_mul(10).saturating_add(before(*third, b'0'))
         }
         [first, second, ..] => before(*first, b'a')
             .saturating_mul(26)

@@ -22,10 +22,10 @@ impl Counts {
         })
     }
 
-    // Adds a text with the languages of these places.
-    fn add(&mut self, places: &[usize]) {
+    // Adds a text with the languages of these places, from a number on.
+    fn add(&mut self, places: &[usize], from: usize) {
         self.texts = self.texts.saturating_add(1);
-        for place in places {
+        for place in places.get(from..).unwrap_or(&[]) {
             let count = self.of_language.get(*place);
             self.of_language.set(*place, count.saturating_add(1));
         }
@@ -108,19 +108,19 @@ impl<'a, 'r> Languages<'a, 'r> {
             has_number = has_number || is_number(variant.code);
             self.add_language(text, variant.code)?;
         }
-        let places = self.places.get(from..).unwrap_or(&[]);
-        if places.len() < 2 {
+        let to = self.places.len();
+        if to.saturating_sub(from) < 2 {
             return Ok(());
         }
         if has_number {
-            self.numbered.add(places);
+            self.numbered.add(&self.places, from);
         } else {
-            self.lettered.add(places);
+            self.lettered.add(&self.places, from);
         }
         self.texts.push(Manifold {
             at,
             from,
-            to: self.places.len(),
+            to,
             has_number,
         })?;
         Ok(())
@@ -156,7 +156,11 @@ impl<'a, 'r> Languages<'a, 'r> {
         let mut number = 0usize;
         for text in &self.texts {
             number = number.saturating_add(1);
-            mark_places(self.places.get(text.from..text.to).unwrap_or(&[]), number, &mut here);
+            mark_places(
+                self.places.get(text.from..text.to).unwrap_or(&[]),
+                number,
+                &mut here,
+            );
             let usual = if text.has_number { &numbers } else { &letters };
             self.check_text(*text, usual, &here, number, findings)?;
         }
