@@ -144,7 +144,7 @@ fn check_entered(
     };
     match walk.instrument.variable(variable) {
         Some(facts) if facts.is_read_only => {
-            let name = facts.name.as_str();
+            let name = facts.name;
             let alloc = findings.alloc;
             let message = format!(in alloc; "{name} can't be entered: its HANDLING is READ")?;
             findings.add(Lint::UnwritableVariable, at, message)

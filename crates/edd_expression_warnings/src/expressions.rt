@@ -218,7 +218,7 @@ pub fn check_expression(
         }
         Expr::Compare(comparison, first, second) => {
             if is_statement {
-                walk.expect(first)?;
+                walk.expect(first);
             }
             check_expression(first, false, walk, findings)?;
             let sign = Symbol::Comparison(*comparison);

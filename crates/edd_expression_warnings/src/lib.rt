@@ -5,5 +5,6 @@
 mod calls;
 pub mod expressions;
 pub mod operands;
+pub mod slots;
 pub mod stores;
 pub mod walk;

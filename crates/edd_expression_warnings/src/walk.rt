@@ -1,12 +1,12 @@
 //! A way through the trees of an item, with what they read, set and ask for.
 
+use crate::slots::Slots;
 use edd_lints::constants::Width;
 use edd_lints::instrument::Instrument;
 use edd_lints::tokens_left::TokensLeft;
 use edd_syntax::expr::Expr;
 use edd_syntax::reference::Target;
 use std::alloc::{AllocError, Global};
-use std::collections::BTreeSet;
 
 /// What an expression does with a place.
 #[derive(Clone, Copy)]
@@ -21,12 +21,12 @@ pub struct Walk<'a> {
     pub tokens_left: TokensLeft<'a>,
     pub width: Width,
     /// The slots of a method that are read so far.
-    pub reads: BTreeSet<u8>,
+    pub reads: Slots,
     /// Those that are set so far.
-    pub writes: BTreeSet<u8>,
+    pub writes: Slots,
     /// Those that were read outside of loops when nothing had set them.
-    pub early: BTreeSet<u8>,
-    /// What was read and set, in the order of the source.
+    pub early: Slots,
+    /// What was read and set in loops, in the order of the source.
     pub uses: Vec<Use>,
     /// How many loops are open.
     pub loops: usize,
@@ -42,7 +42,7 @@ pub struct Walk<'a> {
     pub assigned: Option<Target>,
     /// The variables that the open switches are over.
     pub selected: Vec<Option<u16>>,
-    pub instrument: &'a Instrument,
+    pub instrument: &'a Instrument<'a>,
 }
 
 impl<'a> Walk<'a> {
@@ -50,14 +50,14 @@ impl<'a> Walk<'a> {
         alloc: Global,
         tokens_left: TokensLeft<'a>,
         width: Width,
-        instrument: &'a Instrument,
+        instrument: &'a Instrument<'a>,
     ) -> Walk<'a> {
         Walk {
             tokens_left,
             width,
-            reads: BTreeSet::new(alloc),
-            writes: BTreeSet::new(alloc),
-            early: BTreeSet::new(alloc),
+            reads: Slots::new(),
+            writes: Slots::new(),
+            early: Slots::new(),
             uses: Vec::new(alloc),
             loops: 0,
             asks: false,
@@ -70,35 +70,40 @@ impl<'a> Walk<'a> {
         }
     }
 
+    // Notes a use, which only matters in a loop.
+    fn add_use(&mut self, one: Use) -> Result<(), AllocError> {
+        if 0 < self.loops {
+            self.uses.push(one)?;
+        }
+        Ok(())
+    }
+
     /// Notes that a place is read.
     pub fn read(&mut self, target: Target) -> Result<(), AllocError> {
         if let Target::Local(slot) = target {
-            self.reads.insert(slot)?;
-            let is_known = self.writes.contains(&slot) || self.assigned == Some(target);
+            self.reads.insert(slot);
+            let is_known = self.writes.contains(slot) || self.assigned == Some(target);
             if self.loops == 0 && !is_known {
-                self.early.insert(slot)?;
+                self.early.insert(slot);
             }
         }
-        self.uses.push(Use::Read(target))?;
-        Ok(())
+        self.add_use(Use::Read(target))
     }
 
     /// Notes that a place is set.
     pub fn write(&mut self, target: Target) -> Result<(), AllocError> {
         if let Target::Local(slot) = target {
-            self.writes.insert(slot)?;
+            self.writes.insert(slot);
         }
         self.acts = true;
-        self.uses.push(Use::Write(target))?;
-        Ok(())
+        self.add_use(Use::Write(target))
     }
 
     /// Takes a local as set where a comparison is in the place of an assignment to it.
-    pub fn expect(&mut self, e: &Expr<Target>) -> Result<(), AllocError> {
+    pub fn expect(&mut self, e: &Expr<Target>) {
         if let Expr::Reference(Target::Local(slot)) = e {
-            self.writes.insert(*slot)?;
+            self.writes.insert(*slot);
         }
-        Ok(())
     }
 
     /// Notes that a place is changed from what it was.

@@ -5,12 +5,11 @@ use edd_syntax::cond::Cond;
 use edd_syntax::item::{Attribute, TypePart, TypeWord, VariableDef};
 use edd_syntax::reference::Target;
 use edd_syntax::types::{Handling, VarType};
-use std::alloc::{AllocError, Global};
 
 /// What a variable is called and may hold.
 #[derive(Drop)]
-pub struct Facts {
-    pub name: String,
+pub struct Facts<'i> {
+    pub name: &'i str,
     pub range: Option<Range>,
     pub kind: Option<VarType>,
     /// Whether its type has enumerators.
@@ -19,11 +18,11 @@ pub struct Facts {
     pub is_read_only: bool,
 }
 
-impl Facts {
+impl<'i> Facts<'i> {
     /// What is known of a variable.
-    pub fn of(alloc: Global, variable: &VariableDef<Target>) -> Result<Facts, AllocError> {
+    pub fn of(variable: &'i VariableDef<Target>) -> Facts<'i> {
         let mut facts = Facts {
-            name: String::from_str(alloc, variable.name.as_str())?,
+            name: variable.name.as_str(),
             range: None,
             kind: None,
             has_enumerators: false,
@@ -32,7 +31,7 @@ impl Facts {
         for attribute in &variable.attributes {
             facts.add(attribute);
         }
-        Ok(facts)
+        facts
     }
 
     fn add(&mut self, attribute: &Attribute<Target>) {

@@ -2,30 +2,32 @@
 
 use crate::facts::{Facts, type_parts};
 use crate::listed::add_enumerators;
+use crate::names::Names;
 use crate::range::Range;
+use crate::sorted::Sorted;
 use edd_syntax::item::{Attribute, Item, VariableDef};
 use edd_syntax::numbers::{Element, ItemNo};
 use edd_syntax::reference::Target;
 use edd_syntax::types::VarType;
 use std::alloc::{AllocError, Global};
-use std::collections::BTreeSet;
 
 /// The variables, the elements of the arrays, the numbers of commands and transactions, and the
 /// names of all items.
 #[derive(Drop)]
-pub struct Instrument {
-    variables: Vec<Facts>,
+pub struct Instrument<'i> {
+    variables: Vec<Facts<'i>>,
     /// A variable and an enumerator of its type.
-    listed: BTreeSet<(u16, i64)>,
+    listed: Sorted<(u16, i64)>,
     /// An array and the number of an element, which is there.
-    elements: BTreeSet<(u16, u32)>,
+    elements: Sorted<(u16, u32)>,
     /// The numbers of the commands.
-    commands: BTreeSet<u32>,
+    commands: Sorted<u32>,
     /// The numbers of the commands all of whose transactions have numbers.
-    numbered: BTreeSet<u32>,
+    numbered: Sorted<u32>,
     /// The number of a command and that of a transaction, which it has.
-    transactions: BTreeSet<(u32, u32)>,
-    names: BTreeSet<String>,
+    transactions: Sorted<(u32, u32)>,
+    /// The names of all items.
+    pub names: Names<'i>,
 }
 
 fn command_number(attributes: &[Attribute<Target>]) -> Option<u32> {
@@ -45,53 +47,57 @@ pub fn variable_of(target: Target) -> Option<u16> {
     }
 }
 
-impl Instrument {
+impl<'i> Instrument<'i> {
     /// What is known of items and of the elements of their arrays.
     pub fn of(
         alloc: Global,
-        items: &[Item<Target>],
+        items: &'i [Item<Target>],
         elements: &[Element],
-    ) -> Result<Instrument, AllocError> {
+    ) -> Result<Instrument<'i>, AllocError> {
         let mut known = Instrument {
             variables: Vec::new(alloc),
-            listed: BTreeSet::new(alloc),
-            elements: BTreeSet::new(alloc),
-            commands: BTreeSet::new(alloc),
-            numbered: BTreeSet::new(alloc),
-            transactions: BTreeSet::new(alloc),
-            names: BTreeSet::new(alloc),
+            listed: Sorted::new(alloc),
+            elements: Sorted::new(alloc),
+            commands: Sorted::new(alloc),
+            numbered: Sorted::new(alloc),
+            transactions: Sorted::new(alloc),
+            names: Names::of(alloc, items)?,
         };
         for item in items {
-            known.add_item(alloc, item)?;
+            known.add_item(item)?;
         }
         known.add_elements(elements)?;
+        known.sort()?;
         Ok(known)
     }
 
-    fn add_item(&mut self, alloc: Global, item: &Item<Target>) -> Result<(), AllocError> {
-        self.names.insert(String::from_str(alloc, item.name())?)?;
+    // Sorts what is looked for from here on.
+    fn sort(&mut self) -> Result<(), AllocError> {
+        self.listed.sort()?;
+        self.elements.sort()?;
+        self.commands.sort()?;
+        self.numbered.sort()?;
+        self.transactions.sort()
+    }
+
+    fn add_item(&mut self, item: &'i Item<Target>) -> Result<(), AllocError> {
         match item {
-            Item::Variable(variable) => self.add_variable(alloc, variable),
+            Item::Variable(variable) => self.add_variable(variable),
             Item::Command(command) => self.add_command(&command.attributes),
             _ => Ok(()),
         }
     }
 
-    fn add_variable(
-        &mut self,
-        alloc: Global,
-        variable: &VariableDef<Target>,
-    ) -> Result<(), AllocError> {
+    fn add_variable(&mut self, variable: &'i VariableDef<Target>) -> Result<(), AllocError> {
         let number = u16::try_from(self.variables.len()).unwrap_or(u16::MAX);
         add_enumerators(type_parts(variable), number, &mut self.listed)?;
-        let facts = Facts::of(alloc, variable)?;
-        self.variables.push(facts)?;
+        self.variables.push(Facts::of(variable))?;
         Ok(())
     }
 
     fn add_elements(&mut self, elements: &[Element]) -> Result<(), AllocError> {
         for element in elements {
-            self.elements.insert((element.array.0, element.number))?;
+            self.elements.add((element.array.0, element.number))?;
         }
         Ok(())
     }
@@ -100,7 +106,7 @@ impl Instrument {
         let Some(command) = command_number(attributes) else {
             return Ok(());
         };
-        self.commands.insert(command)?;
+        self.commands.add(command)?;
         let mut are_numbered = true;
         for attribute in attributes {
             match attribute {
@@ -108,27 +114,27 @@ impl Instrument {
                     number: Some(number),
                     ..
                 } => {
-                    self.transactions.insert((command, *number))?;
+                    self.transactions.add((command, *number))?;
                 }
                 Attribute::Transaction { number: None, .. } => are_numbered = false,
                 _ => {}
             }
         }
         if are_numbered {
-            self.numbered.insert(command)?;
+            self.numbered.add(command)?;
         }
         Ok(())
     }
 
     /// What is known of the variable of this number.
-    pub fn variable(&self, variable: u16) -> Option<&Facts> {
+    pub fn variable(&self, variable: u16) -> Option<&Facts<'i>> {
         self.variables.get(usize::from(variable))
     }
 
     /// What the variable of this number is called.
-    pub fn name_of(&self, variable: u16) -> &str {
+    pub fn name_of(&self, variable: u16) -> &'i str {
         match self.variable(variable) {
-            Some(facts) => facts.name.as_str(),
+            Some(facts) => facts.name,
             None => "",
         }
     }
@@ -156,8 +162,8 @@ impl Instrument {
     }
 
     /// Whether an item has this name.
-    pub fn has_name(&self, name: &str) -> bool {
-        self.names.contains(name)
+    pub fn has_name(&self, name: &[u8]) -> bool {
+        self.names.number_of(name).is_some()
     }
 
     /// Whether an array has an element of this number.

@@ -8,6 +8,8 @@ pub mod instrument;
 pub mod lint;
 mod lint_words;
 mod listed;
+pub mod names;
 pub mod range;
+mod sorted;
 pub mod tokens_left;
 pub mod warning;

@@ -1,22 +1,19 @@
 //! The enumerators of a variable, under whatever conditions.
 
+use crate::sorted::Sorted;
 use edd_syntax::cond::{Arm, Cond};
 use edd_syntax::item::{Enumerator, TypePart};
 use edd_syntax::reference::Target;
 use std::alloc::AllocError;
-use std::collections::BTreeSet;
 
 #[cycle(listed)]
 fn add_element(
     c: &Cond<Target, Enumerator>,
     variable: u16,
-    listed: &mut BTreeSet<(u16, i64)>,
+    listed: &mut Sorted<(u16, i64)>,
 ) -> Result<(), AllocError> {
     match c {
-        Cond::Value(enumerator) => {
-            listed.insert((variable, enumerator.value))?;
-            Ok(())
-        }
+        Cond::Value(enumerator) => listed.add((variable, enumerator.value)),
         Cond::If {
             first,
             otherwise,
@@ -33,7 +30,7 @@ fn add_element(
 fn add_list(
     elements: &[Cond<Target, Enumerator>],
     variable: u16,
-    listed: &mut BTreeSet<(u16, i64)>,
+    listed: &mut Sorted<(u16, i64)>,
 ) -> Result<(), AllocError> {
     for c in elements {
         add_element(c, variable, listed)?;
@@ -45,7 +42,7 @@ fn add_list(
 fn add_arms(
     arms: &[Arm<Target, Enumerator>],
     variable: u16,
-    listed: &mut BTreeSet<(u16, i64)>,
+    listed: &mut Sorted<(u16, i64)>,
 ) -> Result<(), AllocError> {
     for arm in arms {
         match arm {
@@ -61,7 +58,7 @@ fn add_arms(
 pub fn add_enumerators(
     parts: &[TypePart<Target>],
     variable: u16,
-    listed: &mut BTreeSet<(u16, i64)>,
+    listed: &mut Sorted<(u16, i64)>,
 ) -> Result<(), AllocError> {
     for part in parts {
         if let TypePart::Element(c) = part {

@@ -4,37 +4,48 @@ use edd_lexer::token::{Token, TokenKind};
 use edd_syntax::symbols::{Keyword, Symbol};
 use std::alloc::{AllocError, Global};
 
-/// A token by its line, its text and the byte at which it begins. Without a byte it is the first
-/// token of the line with this text, without a text the first of the line.
+/// A token by its line, the bytes of its text and the byte at which it begins. Without a start it is
+/// the first token of the line with this text, without a text the first of the line.
 #[derive(Clone, Copy)]
 pub struct Mark<'a> {
     pub line: u32,
-    pub word: Option<&'a str>,
+    pub bytes: Option<&'a [u8]>,
     pub start: Option<u32>,
+}
+
+impl<'a> Mark<'a> {
+    /// The text of the token.
+    pub fn word(self) -> Option<&'a str> {
+        match self.bytes {
+            Some(bytes) => Some(str::from_utf8(bytes).unwrap_or("")),
+            None => None,
+        }
+    }
+
+    /// The text of the token, which is nothing where it is not known.
+    pub fn name(self) -> &'a str {
+        self.word().unwrap_or("")
+    }
 }
 
 /// The place of a text that has no tokens.
 pub const NOWHERE: Mark<'static> = Mark {
     line: 1,
-    word: None,
+    bytes: None,
     start: None,
 };
 
-/// A token as it is written.
-pub fn word_of<'a>(text: &'a [u8], token: &Token) -> &'a str {
-    let start = token.start as usize;
-    let end = token.end as usize;
-    if end < start || text.len() < end {
-        return "";
-    }
-    str::from_utf8(&text[start..end]).unwrap_or("")
+/// The bytes of a token.
+pub fn bytes_of<'a>(text: &'a [u8], token: &Token) -> &'a [u8] {
+    text.get(token.start as usize..token.end as usize)
+        .unwrap_or(b"")
 }
 
 /// The place of a token.
 pub fn mark_of<'a>(text: &'a [u8], token: &Token) -> Mark<'a> {
     Mark {
         line: token.line,
-        word: Some(word_of(text, token)),
+        bytes: Some(bytes_of(text, token)),
         start: Some(token.start),
     }
 }
@@ -46,15 +57,16 @@ pub fn items_of<'a>(alloc: Global, tokens: &'a [Token]) -> Result<Vec<&'a [Token
     let mut start = 0;
     let mut depth = 0usize;
     for (number, token) in tokens.iter().enumerate() {
-        if token.kind == TokenKind::Symbol(Symbol::OpenBrace) {
-            depth = depth.saturating_add(1);
-        }
-        if token.kind == TokenKind::Symbol(Symbol::CloseBrace) {
-            depth = depth.saturating_sub(1);
-            if depth == 0 && start <= number {
-                items.push(&tokens[start..number + 1])?;
-                start = number + 1;
+        match token.kind {
+            TokenKind::Symbol(Symbol::OpenBrace) => depth = depth.saturating_add(1),
+            TokenKind::Symbol(Symbol::CloseBrace) => {
+                depth = depth.saturating_sub(1);
+                if depth == 0 && start <= number {
+                    items.push(&tokens[start..number + 1])?;
+                    start = number + 1;
+                }
             }
+            _ => {}
         }
     }
     Ok(items)
@@ -111,18 +123,19 @@ impl<'a> TokensLeft<'a> {
         let rest = self.rest;
         let mut depth = 0usize;
         for (number, token) in rest.iter().enumerate() {
-            if token.kind == TokenKind::Symbol(Symbol::OpenParenthesis) {
-                depth = depth.saturating_add(1);
-            }
-            if token.kind == TokenKind::Symbol(Symbol::CloseParenthesis) {
-                depth = depth.saturating_sub(1);
-                if depth == 0 {
-                    return TokensLeft {
-                        text: self.text,
-                        rest: &rest[number + 1..],
-                        last: mark_of(self.text, token),
-                    };
+            match token.kind {
+                TokenKind::Symbol(Symbol::OpenParenthesis) => depth = depth.saturating_add(1),
+                TokenKind::Symbol(Symbol::CloseParenthesis) => {
+                    depth = depth.saturating_sub(1);
+                    if depth == 0 {
+                        return TokensLeft {
+                            text: self.text,
+                            rest: &rest[number + 1..],
+                            last: mark_of(self.text, token),
+                        };
+                    }
                 }
+                _ => {}
             }
         }
         *self
@@ -135,7 +148,7 @@ impl<'a> TokensLeft<'a> {
         };
         let text = self.text;
         let start = (self.last.start.unwrap_or(next.start) as usize).saturating_add(
-            self.last.word.unwrap_or("").len(),
+            self.last.bytes.unwrap_or(b"").len(),
         );
         let end = next.start as usize;
         if end < start || text.len() < end {
@@ -152,7 +165,7 @@ impl<'a> TokensLeft<'a> {
             if NEAR <= number {
                 break;
             }
-            if word_of(self.text, token) == word {
+            if bytes_of(self.text, token) == word.as_bytes() {
                 self.rest = &rest[number + 1..];
                 self.last = mark_of(self.text, token);
                 return self.last;

@@ -71,7 +71,7 @@ impl<'t> Findings<'t> {
         self.warnings.push(Warning {
             lint,
             line: at.line,
-            word: owned(self.alloc, at.word)?,
+            word: owned(self.alloc, at.word())?,
             start: at.start,
             message,
             other: None,
@@ -89,13 +89,13 @@ impl<'t> Findings<'t> {
     ) -> Result<(), AllocError> {
         let spot = Spot {
             line: other.line,
-            word: owned(self.alloc, other.word)?,
+            word: owned(self.alloc, other.word())?,
             start: other.start,
         };
         self.warnings.push(Warning {
             lint,
             line: at.line,
-            word: owned(self.alloc, at.word)?,
+            word: owned(self.alloc, at.word())?,
             start: at.start,
             message,
             other: Some(spot),

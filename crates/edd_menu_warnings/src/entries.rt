@@ -11,7 +11,7 @@ use edd_syntax::numbers::{ItemNo, Kind, TextAttribute};
 use edd_syntax::reference::Target;
 use edd_syntax::symbols::Keyword;
 use std::alloc::{AllocError, Global};
-use std::collections::{BTreeMap, BTreeSet};
+use std::collections::BTreeMap;
 
 /// An entry of a menu that is an item.
 #[derive(Clone, Copy)]
@@ -98,28 +98,72 @@ pub fn entries_of(
     Ok(entries)
 }
 
-/// A kind of item and the number of an item of it, as one key.
-type Key = (u8, u16);
+/// How many kinds of items there are.
+const KINDS: usize = 6;
 
-fn key_of(item: ItemNo) -> Key {
-    match item {
-        ItemNo::Variable(number) => (kind_number(Kind::Variable), number.0),
-        ItemNo::Command(number) => (kind_number(Kind::Command), number.0),
-        ItemNo::Menu(number) => (kind_number(Kind::Menu), number.0),
-        ItemNo::Collection(number) => (kind_number(Kind::Collection), number.0),
-        ItemNo::Method(number) => (kind_number(Kind::Method), number.0),
-        ItemNo::Array(number) => (kind_number(Kind::Array), number.0),
+fn kind_number(kind: Kind) -> usize {
+    match kind {
+        Kind::Variable => 0,
+        Kind::Command => 1,
+        Kind::Menu => 2,
+        Kind::Collection => 3,
+        Kind::Method => 4,
+        Kind::Array => 5,
     }
 }
 
-// Adds the members that have labels in their collection.
-fn add_members(members: &[Member<Target>], labelled: &mut BTreeSet<Key>) -> Result<(), AllocError> {
-    for member in members {
-        if let (Target::Item(item), Some(_)) = (member.item, &member.label) {
-            labelled.insert(key_of(item))?;
+/// The places of items in a list of all of them, kind by kind.
+#[derive(Clone, Copy)]
+struct Places {
+    /// The place of the first item of each kind; and of the next one, while they are counted.
+    of_kind: [usize; KINDS],
+}
+
+impl Places {
+    fn of(items: &[Item<Target>]) -> Places {
+        let mut places = Places {
+            of_kind: [0; KINDS],
+        };
+        for item in items {
+            for kind in places
+                .of_kind
+                .iter_mut()
+                .skip(kind_number(item.kind()).saturating_add(1))
+            {
+                *kind = kind.saturating_add(1);
+            }
+        }
+        places
+    }
+
+    fn at(&self, kind: Kind, number: u16) -> usize {
+        let first = self.of_kind.get(kind_number(kind)).copied().unwrap_or(0);
+        first.saturating_add(usize::from(number))
+    }
+
+    // The place of an item.
+    fn place_of(&self, item: ItemNo) -> usize {
+        match item {
+            ItemNo::Variable(number) => self.at(Kind::Variable, number.0),
+            ItemNo::Command(number) => self.at(Kind::Command, number.0),
+            ItemNo::Menu(number) => self.at(Kind::Menu, number.0),
+            ItemNo::Collection(number) => self.at(Kind::Collection, number.0),
+            ItemNo::Method(number) => self.at(Kind::Method, number.0),
+            ItemNo::Array(number) => self.at(Kind::Array, number.0),
         }
     }
-    Ok(())
+
+    // The place of the next item of a kind.
+    fn take(&mut self, kind: Kind) -> usize {
+        match self.of_kind.get_mut(kind_number(kind)) {
+            Some(next) => {
+                let place = *next;
+                *next = place.saturating_add(1);
+                place
+            }
+            None => 0,
+        }
+    }
 }
 
 fn has_label(attributes: &[Attribute<Target>]) -> bool {
@@ -129,81 +173,87 @@ fn has_label(attributes: &[Attribute<Target>]) -> bool {
     ))
 }
 
-/// An item with its key and its tokens.
+/// What the menus and the collections say of an item.
 #[derive(Clone, Copy)]
-struct Placed<'i, 'a> {
-    item: &'i Item<Target>,
-    key: Key,
-    tokens_left: TokensLeft<'a>,
+struct Said<'i, 'a> {
+    name: &'i str,
+    /// The first menu with a LABEL that shows it.
+    by: Option<Mark<'a>>,
+    /// The number of the last menu of which it is an entry, counted from 1.
+    menu: usize,
+    /// Whether a member of a collection has a label for it.
+    is_labelled: bool,
 }
 
-// The items with their keys, which count the items of each kind.
-fn all_placed<'i, 'a>(
-    alloc: Global,
-    text: &'a [u8],
-    items: &'i [Item<Target>],
-    item_tokens: &[&'a [Token]],
-) -> Result<Vec<Placed<'i, 'a>>, AllocError> {
-    let mut counts = BTreeMap::new(alloc);
-    let mut all = Vec::new(alloc);
-    for (item, own) in items.iter().zip(item_tokens) {
-        let kind = kind_number(item.kind());
-        let count = counts.entry(kind)?.or_insert(0u16);
-        let key = (kind, *count);
-        *count = count.saturating_add(1);
-        let tokens_left = TokensLeft::new(text, own);
-        all.push(Placed {
-            item,
-            key,
-            tokens_left,
-        })?;
-    }
-    Ok(all)
-}
-
-/// What the menus show.
+/// What the menus and the collections say of all items.
 #[derive(Drop)]
 struct Shown<'i, 'a> {
-    names: BTreeMap<Key, &'i str>,
-    /// Items that a menu with a LABEL shows, with the first of these menus.
-    by: BTreeMap<Key, Mark<'a>>,
-    /// Items that are entries.
-    entries: BTreeSet<Key>,
-    /// Items with a label of a collection's member.
-    labelled: BTreeSet<Key>,
+    places: Places,
+    said: Vec<Said<'i, 'a>>,
+    /// How many menus are passed.
+    menus: usize,
 }
 
 impl<'i, 'a> Shown<'i, 'a> {
-    // Notes what an item is called, and what labels its members have.
-    fn add_names(&mut self, one: &Placed<'i, 'a>) -> Result<(), AllocError> {
-        self.names.insert(one.key, one.item.name())?;
-        for attribute in one.item.attributes() {
-            if let Attribute::Members(_, members) = attribute {
-                add_members(members, &mut self.labelled)?;
+    // Notes the members that have labels in their collection.
+    fn add_members(&mut self, members: &[Member<Target>]) {
+        for member in members {
+            if let (Target::Item(item), Some(_)) = (member.item, &member.label) {
+                if let Some(said) = self.said.get_mut(self.places.place_of(item)) {
+                    said.is_labelled = true;
+                }
             }
         }
-        Ok(())
+    }
+
+    // Notes what an item is called, and what labels its members have.
+    fn add_item(&mut self, item: &'i Item<Target>, place: usize) {
+        if let Some(said) = self.said.get_mut(place) {
+            said.name = item.name();
+        }
+        for attribute in item.attributes() {
+            if let Attribute::Members(_, members) = attribute {
+                self.add_members(members);
+            }
+        }
+    }
+
+    // Notes that a menu shows an item. Says whether it did already.
+    fn add_entry(&mut self, item: ItemNo, by: Option<Mark<'a>>) -> bool {
+        let menu = self.menus;
+        match self.said.get_mut(self.places.place_of(item)) {
+            Some(said) => {
+                let is_twice = said.menu == menu;
+                said.menu = menu;
+                said.by = said.by.or(by);
+                is_twice
+            }
+            None => false,
+        }
     }
 
     // Notes what a menu shows.
     fn add_menu(
         &mut self,
-        one: &Placed<'i, 'a>,
+        attributes: &[Attribute<Target>],
+        tokens_left: TokensLeft<'a>,
         findings: &mut Findings,
     ) -> Result<(), AllocError> {
-        let mut tokens_left = one.tokens_left;
-        let menu = name_of_item(Keyword::Menu, &mut tokens_left);
-        let attributes = one.item.attributes();
-        let entries = entries_of(findings.alloc, attributes)?;
-        self.check_repeated(&entries, one.tokens_left, findings)?;
+        let mut ahead = tokens_left;
+        let menu = name_of_item(Keyword::Menu, &mut ahead);
         let is_labelled = has_label(attributes);
+        let entries = entries_of(findings.alloc, attributes)?;
+        let mut has_twice = false;
+        self.menus = self.menus.saturating_add(1);
         for entry in &entries {
             if let Target::Item(item) = entry.to {
-                self.entries.insert(key_of(item))?;
-                if is_labelled && !entry.qualifiers.hidden {
-                    self.by.entry(key_of(item))?.or_insert(menu);
-                }
+                let shows = is_labelled && !entry.qualifiers.hidden;
+                let is_twice = self.add_entry(item, shows.then_some(menu));
+                has_twice = has_twice || is_twice;
             }
+        }
+        if has_twice {
+            self.check_repeated(&entries, tokens_left, findings)?;
         }
         Ok(())
     }
@@ -220,17 +270,17 @@ impl<'i, 'a> Shown<'i, 'a> {
         let mut seen = BTreeMap::new(findings.alloc);
         for entry in entries {
             if let Target::Item(item) = entry.to {
-                let name = self.names.get(&key_of(item)).copied().unwrap_or("");
+                let place = self.places.place_of(item);
+                let name = self.said.get(place).map(|said| said.name).unwrap_or("");
                 let at = tokens_left.to_text(name);
-                let place = (entry.list, key_of(item));
-                match seen.get(&place).copied() {
+                match seen.get(&(entry.list, place)).copied() {
                     Some((qualifiers, earlier)) if qualifiers == entry.qualifiers => {
                         let message = format!(in findings.alloc; "{name} is in this list already")?;
                         findings.add_beside(Lint::RepeatedEntry, at, message, earlier)?;
                     }
                     _ => {}
                 }
-                seen.insert(place, (entry.qualifiers, at))?;
+                seen.insert((entry.list, place), (entry.qualifiers, at))?;
             }
         }
         Ok(())
@@ -238,57 +288,67 @@ impl<'i, 'a> Shown<'i, 'a> {
 
     // An item that a menu shows without a LABEL, or an empty menu. The name of a menu often says
     // enough.
-    fn check(&self, one: &Placed<'i, 'a>, findings: &mut Findings) -> Result<(), AllocError> {
-        let attributes = one.item.attributes();
-        let name = one.item.name();
-        let is_labelled = has_label(attributes);
-        let mut tokens_left = one.tokens_left;
-        let at = name_of_item(keyword_of(one.item), &mut tokens_left);
-        let alloc = findings.alloc;
-        let is_menu = matches!(one.item, Item::Menu(_));
-        if is_menu && !has_entries(attributes) && (is_labelled || self.entries.contains(&one.key)) {
-            let message = format!(in alloc; "the menu {name} has no entries")?;
-            findings.add(Lint::EmptyMenu, at, message)?;
-        }
-        match self.by.get(&one.key) {
-            Some(menu) if !is_menu && !is_labelled && !self.labelled.contains(&one.key) => {
-                let message = format!(in alloc; "{name} has no LABEL, and a menu shows it")?;
-                findings.add_beside(Lint::MissingLabel, at, message, *menu)
+    fn check(
+        &self,
+        item: &Item<Target>,
+        place: usize,
+        tokens_left: TokensLeft<'_>,
+        findings: &mut Findings,
+    ) -> Result<(), AllocError> {
+        let Some(said) = self.said.get(place) else {
+            return Ok(());
+        };
+        let attributes = item.attributes();
+        let mut ahead = tokens_left;
+        match (item, said.by) {
+            (Item::Command(_), _) => Ok(()),
+            (Item::Menu(_), _) => {
+                if has_entries(attributes) || (said.menu == 0 && !has_label(attributes)) {
+                    return Ok(());
+                }
+                let at = name_of_item(Keyword::Menu, &mut ahead);
+                let name = item.name();
+                let message = format!(in findings.alloc; "the menu {name} has no entries")?;
+                findings.add(Lint::EmptyMenu, at, message)
+            }
+            (_, Some(menu)) if !said.is_labelled && !has_label(attributes) => {
+                let at = name_of_item(keyword_of(item), &mut ahead);
+                let name = item.name();
+                let message = format!(in findings.alloc;
+                    "{name} has no LABEL, and a menu shows it"
+                )?;
+                findings.add_beside(Lint::MissingLabel, at, message, menu)
             }
             _ => Ok(()),
         }
     }
 }
 
-fn kind_number(kind: Kind) -> u8 {
-    match kind {
-        Kind::Variable => 0,
-        Kind::Command => 1,
-        Kind::Menu => 2,
-        Kind::Collection => 3,
-        Kind::Method => 4,
-        Kind::Array => 5,
-    }
-}
-
 // Notes what all items are called and what all menus show.
 fn all_shown<'i, 'a>(
-    all: &[Placed<'i, 'a>],
+    text: &'a [u8],
+    items: &'i [Item<Target>],
+    item_tokens: &[&'a [Token]],
     findings: &mut Findings,
 ) -> Result<Shown<'i, 'a>, AllocError> {
-    let alloc = findings.alloc;
-    let mut shown = Shown {
-        names: BTreeMap::new(alloc),
-        by: BTreeMap::new(alloc),
-        entries: BTreeSet::new(alloc),
-        labelled: BTreeSet::new(alloc),
+    let new = Said {
+        name: "",
+        by: None,
+        menu: 0,
+        is_labelled: false,
     };
-    for one in all {
-        shown.add_names(one)?;
+    let mut shown = Shown {
+        places: Places::of(items),
+        said: Vec::from_elem(findings.alloc, new, items.len())?,
+        menus: 0,
+    };
+    let mut next = shown.places;
+    for item in items {
+        shown.add_item(item, next.take(item.kind()));
     }
-    for one in all {
-        if let Item::Menu(_) = one.item {
-            shown.add_menu(one, findings)?;
+    for (item, own) in items.iter().zip(item_tokens) {
+        if let Item::Menu(menu) = item {
+            shown.add_menu(&menu.attributes, TokensLeft::new(text, own), findings)?;
         }
     }
     Ok(shown)
@@ -301,12 +361,11 @@ pub fn check_entries(
     item_tokens: &[&[Token]],
     findings: &mut Findings,
 ) -> Result<(), AllocError> {
-    let all = all_placed(findings.alloc, text, items, item_tokens)?;
-    let shown = all_shown(&all, findings)?;
-    for one in &all {
-        if !matches!(one.item, Item::Command(_)) {
-            shown.check(one, findings)?;
-        }
+    let shown = all_shown(text, items, item_tokens, findings)?;
+    let mut next = shown.places;
+    for (item, own) in items.iter().zip(item_tokens) {
+        let place = next.take(item.kind());
+        shown.check(item, place, TokensLeft::new(text, own), findings)?;
     }
     Ok(())
 }

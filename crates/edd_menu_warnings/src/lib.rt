@@ -7,6 +7,7 @@ mod menus;
 mod unused;
 
 use edd_lexer::token::Token;
+use edd_lints::names::Names;
 use edd_lints::warning::Findings;
 use edd_syntax::item::Item;
 use edd_syntax::reference::Target;
@@ -18,9 +19,10 @@ pub fn check_uses(
     tokens: &[Token],
     items: &[Item<Target>],
     item_tokens: &[&[Token]],
+    names: &Names<'_>,
     findings: &mut Findings,
 ) -> Result<(), AllocError> {
     menus::check_menus(text, items, item_tokens, findings)?;
     entries::check_entries(text, items, item_tokens, findings)?;
-    unused::check_uses(text, tokens, items, item_tokens, findings)
+    unused::check_uses(text, tokens, items, item_tokens, names, findings)
 }

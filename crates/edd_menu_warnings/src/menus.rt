@@ -103,7 +103,7 @@ fn enter(
         }
         State::Open => {
             menu.state = State::Said;
-            let name = menu.name.word.unwrap_or("");
+            let name = menu.name.name();
             let message = format!(in findings.alloc; "the menu {name} contains itself")?;
             let at = menu.name;
             findings.add_beside(Lint::CyclicMenu, at, message, by)?;

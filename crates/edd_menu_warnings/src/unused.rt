@@ -2,14 +2,14 @@
 
 use edd_lexer::token::{Token, TokenKind};
 use edd_lints::lint::Lint;
-use edd_lints::tokens_left::{Mark, TokensLeft, word_of};
+use edd_lints::names::Names;
+use edd_lints::tokens_left::{Mark, TokensLeft, bytes_of};
 use edd_lints::warning::Findings;
 use edd_syntax::item::{Attribute, Item};
 use edd_syntax::numbers::Kind;
 use edd_syntax::reference::Target;
 use edd_syntax::symbols::Keyword;
 use std::alloc::{AllocError, Global};
-use std::collections::BTreeMap;
 
 /// The word with which an item begins.
 pub fn keyword_of(item: &Item<Target>) -> Keyword {
@@ -29,20 +29,30 @@ pub fn name_of_item<'a>(word: Keyword, tokens_left: &mut TokensLeft<'a>) -> Mark
     tokens_left.to(TokenKind::Name)
 }
 
-// How often each name is in a text.
-fn uses_of<'a>(
+// How often each name of an item is in a text.
+fn uses_of(
     alloc: Global,
-    text: &'a [u8],
+    text: &[u8],
     tokens: &[Token],
-) -> Result<BTreeMap<&'a str, u32>, AllocError> {
-    let mut uses = BTreeMap::new(alloc);
+    names: &Names<'_>,
+) -> Result<Vec<u32>, AllocError> {
+    let mut uses = Vec::from_elem(alloc, 0u32, names.count())?;
     for token in tokens {
         if token.kind == TokenKind::Name {
-            let count = uses.entry(word_of(text, token))?.or_insert(0u32);
-            *count = count.saturating_add(1);
+            add_use(names.number_of(bytes_of(text, token)), &mut uses);
         }
     }
     Ok(uses)
+}
+
+// Notes that the name of a number is used.
+fn add_use(number: Option<usize>, uses: &mut [u32]) {
+    let Some(number) = number else {
+        return;
+    };
+    if let Some(count) = uses.get_mut(number) {
+        *count = count.saturating_add(1);
+    }
 }
 
 // What else is in a description than the items themselves.
@@ -95,18 +105,14 @@ fn lint_of(kind: Kind, number: usize, around: Around) -> Option<(Lint, &'static 
     }
 }
 
-fn check_item<'a>(
+// What is told of an item to which nothing refers.
+fn add_unused<'a>(
     item: &'a Item<Target>,
     lint: (Lint, &'static str),
     tokens_left: TokensLeft<'a>,
-    uses: &BTreeMap<&'a str, u32>,
     findings: &mut Findings,
 ) -> Result<(), AllocError> {
     let name = item.name();
-    let used = uses.get(&name).copied().unwrap_or(0);
-    if 1 < used {
-        return Ok(());
-    }
     let mut tokens_left = tokens_left;
     let at = name_of_item(keyword_of(item), &mut tokens_left);
     let (lint, what) = lint;
@@ -121,13 +127,19 @@ pub fn check_uses<'a>(
     tokens: &'a [Token],
     items: &'a [Item<Target>],
     item_tokens: &[&'a [Token]],
+    names: &Names<'_>,
     findings: &mut Findings,
 ) -> Result<(), AllocError> {
-    let uses = uses_of(findings.alloc, text, tokens)?;
+    let uses = uses_of(findings.alloc, text, tokens, names)?;
     let around = around_items(items);
     for (number, (item, own)) in items.iter().zip(item_tokens).enumerate() {
+        let used = names.number_of(item.name().as_bytes());
+        let is_used = matches!(used.and_then(|name| uses.get(name)), Some(count) if 1 < *count);
+        if is_used {
+            continue;
+        }
         if let Some(lint) = lint_of(item.kind(), number, around) {
-            check_item(item, lint, TokensLeft::new(text, own), &uses, findings)?;
+            add_unused(item, lint, TokensLeft::new(text, own), findings)?;
         }
     }
     Ok(())

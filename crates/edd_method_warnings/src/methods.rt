@@ -56,19 +56,19 @@ fn check_local(
     walk: &Walk<'_>,
     findings: &mut Findings,
 ) -> Result<(), AllocError> {
-    let name = at.word.unwrap_or("");
+    let name = at.name();
     let alloc = findings.alloc;
-    if !walk.reads.contains(&slot) {
+    if !walk.reads.contains(slot) {
         let message = format!(in alloc; "the local {name} is never read")?;
         findings.add(Lint::UnreadLocal, at, message)?;
-    } else if !walk.writes.contains(&slot) {
+    } else if !walk.writes.contains(slot) {
         let message = format!(in alloc; "nothing ever sets the local {name}: it is 0")?;
         findings.add(Lint::UnsetLocal, at, message)?;
-    } else if walk.early.contains(&slot) {
+    } else if walk.early.contains(slot) {
         let message = format!(in alloc; "the local {name} is read before anything sets it")?;
         findings.add(Lint::UnsetLocal, at, message)?;
     }
-    if walk.instrument.has_name(name) {
+    if walk.instrument.has_name(name.as_bytes()) {
         let message = format!(in alloc; "this local hides the item {name}")?;
         findings.add(Lint::HidingLocal, at, message)?;
     }

@@ -8,19 +8,19 @@ use edd_lints::warning::Findings;
 use std::alloc::AllocError;
 
 /// The first byte of each character that turns the direction, which are of three bytes.
-const LEAD: u8 = 0xE2;
+pub const LEAD: u8 = 0xE2;
 
 /// The fewest bytes of a comment with one.
 const SHORTEST: usize = 5;
 
 // The character that the text begins with, if it turns the direction, and its number in Unicode.
-fn turn_of(text: &[u8]) -> Option<(&str, u16)> {
+fn turn_of(text: &[u8]) -> Option<(&[u8], u16)> {
     let number = match text {
         [LEAD, 0x80, last @ 0xAA..=0xAE, ..] => 0x2000 | u16::from(*last & 0x3F),
         [LEAD, 0x81, last @ 0xA6..=0xA9, ..] => 0x2040 | u16::from(*last & 0x3F),
         _ => return None,
     };
-    Some((str::from_utf8(text.get(..3)?).ok()?, number))
+    Some((text.get(..3)?, number))
 }
 
 fn add_turn(at: Mark<'_>, number: u16, findings: &mut Findings) -> Result<(), AllocError> {
@@ -55,7 +55,7 @@ fn check_gap(text: &[u8], gap: Gap, findings: &mut Findings) -> Result<(), Alloc
                 let start = u32::try_from(place).ok();
                 let at = Mark {
                     line,
-                    word: Some(word),
+                    bytes: Some(word),
                     start,
                 };
                 add_turn(at, number, findings)?;
@@ -81,6 +81,9 @@ pub fn check_comments(
     tokens: &[Token],
     findings: &mut Findings,
 ) -> Result<(), AllocError> {
+    if !text.contains(&LEAD) {
+        return Ok(());
+    }
     let mut gap = Gap {
         before: 0,
         line: 1,

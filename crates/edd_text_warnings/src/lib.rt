@@ -4,10 +4,12 @@
 #![tactic(auto)]
 
 mod classes;
+mod codes;
 mod comments;
 mod languages;
 mod signs;
 mod texts;
+mod usual;
 mod variants;
 
 use edd_lexer::token::Token;

@@ -1,6 +1,7 @@
 //! Signs in texts that are not what they look like: placeholders that nothing reads, strings that
 //! are one, and characters that turn the direction.
 
+use crate::comments::LEAD;
 use crate::texts::Spoken;
 use edd_lints::lint::Lint;
 use edd_lints::tokens_left::Mark;
@@ -45,6 +46,9 @@ fn is_placeholder(behind: &[u8]) -> bool {
 
 // Whether a text has a placeholder. After a digit a percent sign is that of a number.
 fn has_placeholder(raw: &[u8]) -> bool {
+    if !raw.contains(&b'%') {
+        return false;
+    }
     let mut before = b' ';
     for (at, byte) in raw.iter().enumerate() {
         let behind = raw.get(at.saturating_add(1)..).unwrap_or(b"");
@@ -64,11 +68,14 @@ fn has_leftward_letters(raw: &[u8]) -> bool {
 // Whether a text has a character that turns the direction: an override in any text, and an
 // embedding or an isolate in one whose letters all go one way.
 fn has_turn(raw: &[u8]) -> bool {
+    if !raw.contains(&LEAD) {
+        return false;
+    }
     let is_mixed = has_leftward_letters(raw);
     for at in 0..raw.len() {
         match raw.get(at..).unwrap_or(b"") {
-            [0xE2, 0x80, 0xAD | 0xAE, ..] => return true,
-            [0xE2, 0x80, 0xAA..=0xAC, ..] | [0xE2, 0x81, 0xA6..=0xA9, ..] if !is_mixed => {
+            [LEAD, 0x80, 0xAD | 0xAE, ..] => return true,
+            [LEAD, 0x80, 0xAA..=0xAC, ..] | [LEAD, 0x81, 0xA6..=0xA9, ..] if !is_mixed => {
                 return true;
             }
             _ => {}
@@ -100,7 +107,7 @@ fn is_shown_as_it_is(spoken: &Spoken<'_>) -> bool {
 
 fn check_text(spoken: &Spoken<'_>, findings: &mut Findings) -> Result<(), AllocError> {
     let alloc = findings.alloc;
-    if is_shown_as_it_is(spoken) && has_placeholder(&spoken.raw) {
+    if is_shown_as_it_is(spoken) && has_placeholder(spoken.raw()) {
         let message = String::from_str(
             alloc,
             "texts are shown as they are: nothing is put in place of this %",
@@ -114,7 +121,7 @@ fn check_text(spoken: &Spoken<'_>, findings: &mut Findings) -> Result<(), AllocE
         )?;
         findings.add(Lint::JoinedTexts, at, message)?;
     }
-    if has_turn(&spoken.raw) {
+    if has_turn(spoken.raw()) {
         let message = String::from_str(
             alloc,
             "this text has a character that turns its direction and is not seen",

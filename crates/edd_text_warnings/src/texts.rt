@@ -1,18 +1,24 @@
 //! The texts of a description, each with what it is for.
 
 use edd_lexer::token::{Token, TokenKind};
-use edd_lints::tokens_left::{Mark, mark_of, word_of};
+use edd_lints::tokens_left::{Mark, bytes_of, mark_of};
 use edd_syntax::operators::Builtin;
 use edd_syntax::symbols::{Keyword, Symbol};
 use std::alloc::{AllocError, Global};
+
+/// The insides of the strings of a text, joined.
+#[derive(Drop)]
+enum Raw<'a> {
+    One(&'a [u8]),
+    Joined(Vec<u8>),
+}
 
 /// A text: strings that follow each other are one.
 #[derive(Drop)]
 pub struct Spoken<'a> {
     /// Of its first string.
     pub at: Mark<'a>,
-    /// The insides of its strings, joined.
-    pub raw: Vec<u8>,
+    raw: Raw<'a>,
     /// The attribute or the option that it belongs to.
     pub section: Option<Keyword>,
     /// Whether it is the list of choices of a SELECT_FROM_LIST.
@@ -23,6 +29,30 @@ pub struct Spoken<'a> {
     pub is_before_comma: bool,
     /// A string that begins with a letter where the one before it ends with one.
     pub seam: Option<Mark<'a>>,
+}
+
+impl Spoken<'_> {
+    /// The insides of its strings, joined.
+    pub fn raw(&self) -> &[u8] {
+        match &self.raw {
+            Raw::One(inside) => inside,
+            Raw::Joined(all) => all.as_slice(),
+        }
+    }
+
+    // Adds the inside of one more string.
+    fn join(&mut self, alloc: Global, behind: &[u8]) -> Result<(), AllocError> {
+        match &mut self.raw {
+            Raw::One(inside) => {
+                let mut all = Vec::new(alloc);
+                all.extend_from_slice(inside)?;
+                all.extend_from_slice(behind)?;
+                self.raw = Raw::Joined(all);
+                Ok(())
+            }
+            Raw::Joined(all) => all.extend_from_slice(behind),
+        }
+    }
 }
 
 /// Where a list of texts has come.
@@ -42,10 +72,7 @@ struct Gathering<'a> {
 fn inside<'a>(text: &'a [u8], token: &Token) -> &'a [u8] {
     let start = (token.start as usize).saturating_add(1);
     let end = (token.end as usize).saturating_sub(1);
-    if end < start || text.len() < end {
-        return b"";
-    }
-    &text[start..end]
+    text.get(start..end).unwrap_or(b"")
 }
 
 // Whether a word begins an attribute, an option or a part of a transaction.
@@ -88,12 +115,10 @@ fn meets(before: &[u8], behind: &[u8]) -> bool {
 
 impl<'a> Gathering<'a> {
     // A string that begins a text.
-    fn begin(&mut self, alloc: Global, text: &'a [u8], token: &Token) -> Result<(), AllocError> {
-        let mut raw = Vec::new(alloc);
-        raw.extend_from_slice(inside(text, token))?;
+    fn begin(&mut self, text: &'a [u8], token: &Token) -> Result<(), AllocError> {
         self.all.push(Spoken {
             at: mark_of(text, token),
-            raw,
+            raw: Raw::One(inside(text, token)),
             section: self.section,
             is_choices: self.lists,
             is_after_comma: self.is_after_comma,
@@ -104,13 +129,13 @@ impl<'a> Gathering<'a> {
     }
 
     // A string that goes on with a text.
-    fn go_on(&mut self, text: &'a [u8], token: &Token) -> Result<(), AllocError> {
+    fn go_on(&mut self, alloc: Global, text: &'a [u8], token: &Token) -> Result<(), AllocError> {
         let behind = inside(text, token);
         if let Some(last) = self.all.last_mut() {
-            if last.seam.is_none() && meets(&last.raw, behind) {
+            if last.seam.is_none() && meets(last.raw(), behind) {
                 last.seam = Some(mark_of(text, token));
             }
-            last.raw.extend_from_slice(behind)?;
+            last.join(alloc, behind)?;
         }
         Ok(())
     }
@@ -120,7 +145,7 @@ impl<'a> Gathering<'a> {
         match token.kind {
             TokenKind::Keyword(word) if begins_section(word) => self.section = Some(word),
             TokenKind::Name => {
-                self.selects = word_of(text, token) == Builtin::SelectFromList.name();
+                self.selects = bytes_of(text, token) == Builtin::SelectFromList.name().as_bytes();
                 self.lists = false;
             }
             TokenKind::Symbol(Symbol::Comma) => {
@@ -145,9 +170,9 @@ impl<'a> Gathering<'a> {
             return Ok(());
         }
         if self.goes_on {
-            self.go_on(text, token)?;
+            self.go_on(alloc, text, token)?;
         } else {
-            self.begin(alloc, text, token)?;
+            self.begin(text, token)?;
         }
         self.goes_on = true;
         Ok(())

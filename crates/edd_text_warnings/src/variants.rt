@@ -35,6 +35,14 @@ fn code_len(here: &[u8]) -> Option<usize> {
 }
 
 impl<'r> Variants<'r> {
+    /// No languages yet.
+    pub fn new(alloc: Global) -> Variants<'r> {
+        Variants {
+            all: Vec::new(alloc),
+            has_stray_bar: false,
+        }
+    }
+
     // What is between two places; nothing of the text before a first code.
     fn add(
         &mut self,
@@ -52,37 +60,34 @@ impl<'r> Variants<'r> {
         })?;
         Ok(())
     }
-}
 
-/// The languages of a text. A backslash and the byte after it are passed together. What is before
-/// the first code is English.
-pub fn variants_of<'r>(alloc: Global, raw: &'r [u8]) -> Result<Variants<'r>, AllocError> {
-    let mut found = Variants {
-        all: Vec::new(alloc),
-        has_stray_bar: false,
-    };
-    let mut code = None;
-    let mut from = 0usize;
-    let mut passed = 0usize;
-    for (at, byte) in raw.iter().enumerate() {
-        if at < passed {
-            continue;
-        }
-        if *byte == b'\\' {
-            passed = at.saturating_add(2);
-        } else if *byte == b'|' {
+    /// Reads the languages of a text in place of those that were read before. A backslash and the
+    /// byte after it are passed together. What is before the first code is English.
+    pub fn read(&mut self, raw: &'r [u8]) -> Result<(), AllocError> {
+        self.all.clear();
+        self.has_stray_bar = false;
+        let mut code = None;
+        let mut from = 0usize;
+        let mut passed = 0usize;
+        for (at, byte) in raw.iter().enumerate() {
+            if !matches!(*byte, b'|' | b'\\') || at < passed {
+                continue;
+            }
+            if *byte == b'\\' {
+                passed = at.saturating_add(2);
+                continue;
+            }
             let behind = raw.get(at.saturating_add(1)..).unwrap_or(b"");
             match code_len(behind) {
                 Some(len) => {
-                    found.add(raw, code, from, at)?;
+                    self.add(raw, code, from, at)?;
                     code = behind.get(..len);
                     passed = at.saturating_add(len).saturating_add(2);
                     from = passed;
                 }
-                None => found.has_stray_bar = true,
+                None => self.has_stray_bar = true,
             }
         }
+        self.add(raw, code, from, raw.len())
     }
-    found.add(raw, code, from, raw.len())?;
-    Ok(found)
 }

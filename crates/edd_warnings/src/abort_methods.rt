@@ -2,22 +2,29 @@
 
 use edd_lexer::token::{Token, TokenKind};
 use edd_lints::lint::Lint;
-use edd_lints::tokens_left::{Mark, mark_of, word_of};
+use edd_lints::tokens_left::{Mark, bytes_of, mark_of};
 use edd_lints::warning::Findings;
 use edd_syntax::operators::Builtin;
 use edd_syntax::symbols::{Keyword, Symbol};
 use std::alloc::{AllocError, Global};
-use std::collections::{BTreeMap, BTreeSet};
+use std::collections::BTreeSet;
+
+/// A method that adds another one: their names, and where.
+#[derive(Clone, Copy)]
+struct Adding<'a> {
+    method: &'a [u8],
+    name: &'a [u8],
+    at: Mark<'a>,
+}
 
 /// The methods that add abort methods, and those that are added.
 #[derive(Drop)]
 struct Added<'a> {
-    /// The name of each method that adds one, that of the one, and where.
-    adding: Vec<(&'a str, &'a str, Mark<'a>)>,
+    adding: Vec<Adding<'a>>,
     /// The names of those that others add.
-    added: BTreeSet<&'a str>,
-    /// How often each name is there but at declarations and where it is added.
-    others: BTreeMap<&'a str, u32>,
+    added: BTreeSet<&'a [u8]>,
+    /// All names but at declarations and where they are added.
+    others: Vec<&'a [u8]>,
 }
 
 /// Where in a text the tokens are that are passed.
@@ -26,26 +33,37 @@ struct Passed<'a> {
     /// The token before is METHOD, and what comes is a name that is declared.
     declares: bool,
     /// The method whose tokens these are.
-    method: &'a str,
+    method: &'a [u8],
     /// The place of an add_abort_method whose argument comes.
     adds: Option<Mark<'a>>,
 }
 
+// Whether a token is a call that adds an abort method.
+fn is_adding(text: &[u8], token: &Token) -> bool {
+    token.kind == TokenKind::Name
+        && bytes_of(text, token) == Builtin::AddAbortMethod.name().as_bytes()
+}
+
 impl<'a> Added<'a> {
     // A name, where it is not declared.
-    fn add_name(&mut self, at: Mark<'a>, passed: &mut Passed<'a>) -> Result<(), AllocError> {
-        let name = at.word.unwrap_or("");
-        if let Some(call) = passed.adds {
-            self.adding.push((passed.method, name, call))?;
-            if name != passed.method {
+    fn add_name(
+        &mut self,
+        text: &'a [u8],
+        token: &Token,
+        passed: &mut Passed<'a>,
+    ) -> Result<(), AllocError> {
+        let name = bytes_of(text, token);
+        if let Some(at) = passed.adds {
+            let method = passed.method;
+            self.adding.push(Adding { method, name, at })?;
+            if name != method {
                 self.added.insert(name)?;
             }
             passed.adds = None;
-        } else if name == Builtin::AddAbortMethod.name() {
-            passed.adds = Some(at);
+        } else if is_adding(text, token) {
+            passed.adds = Some(mark_of(text, token));
         } else {
-            let count = self.others.entry(name)?.or_insert(0u32);
-            *count = count.saturating_add(1);
+            self.others.push(name)?;
         }
         Ok(())
     }
@@ -64,10 +82,10 @@ impl<'a> Added<'a> {
                 Ok(())
             }
             TokenKind::Name if declares => {
-                passed.method = word_of(text, token);
+                passed.method = bytes_of(text, token);
                 Ok(())
             }
-            TokenKind::Name => self.add_name(mark_of(text, token), passed),
+            TokenKind::Name => self.add_name(text, token, passed),
             TokenKind::Symbol(Symbol::Semicolon) => {
                 passed.adds = None;
                 Ok(())
@@ -76,16 +94,53 @@ impl<'a> Added<'a> {
         }
     }
 
-    // The methods that are added by one which no other method adds.
-    fn surely_added(&self, alloc: Global) -> Result<BTreeSet<&'a str>, AllocError> {
+    // The methods that are added by one which no other method adds, and that add others.
+    fn surely_added(&self, alloc: Global) -> Result<BTreeSet<&'a [u8]>, AllocError> {
         let mut names = BTreeSet::new(alloc);
-        for (method, name, _) in &self.adding {
-            if !self.added.contains(method) && method != name {
-                names.insert(*name)?;
+        for one in &self.adding {
+            if !self.added.contains(&one.method) && one.method != one.name {
+                names.insert(one.name)?;
             }
         }
         Ok(names)
     }
+
+    // Those of these methods whose names are elsewhere too.
+    fn used_of(
+        &self,
+        alloc: Global,
+        methods: &BTreeSet<&'a [u8]>,
+    ) -> Result<BTreeSet<&'a [u8]>, AllocError> {
+        let mut used = BTreeSet::new(alloc);
+        for name in &self.others {
+            if methods.contains(name) {
+                used.insert(*name)?;
+            }
+        }
+        Ok(used)
+    }
+}
+
+// What is added in a text that adds abort methods.
+fn added_in<'a>(
+    alloc: Global,
+    text: &'a [u8],
+    tokens: &[Token],
+) -> Result<Added<'a>, AllocError> {
+    let mut all = Added {
+        adding: Vec::new(alloc),
+        added: BTreeSet::new(alloc),
+        others: Vec::new(alloc),
+    };
+    let mut passed = Passed {
+        declares: false,
+        method: b"",
+        adds: None,
+    };
+    for token in tokens {
+        all.add(text, token, &mut passed)?;
+    }
+    Ok(all)
 }
 
 /// The abort methods of a description.
@@ -94,27 +149,23 @@ pub fn check_abort_methods(
     tokens: &[Token],
     findings: &mut Findings,
 ) -> Result<(), AllocError> {
-    let alloc = findings.alloc;
-    let mut all = Added {
-        adding: Vec::new(alloc),
-        added: BTreeSet::new(alloc),
-        others: BTreeMap::new(alloc),
-    };
-    let mut passed = Passed {
-        declares: false,
-        method: "",
-        adds: None,
-    };
-    for token in tokens {
-        all.add(text, token, &mut passed)?;
+    if !tokens.iter().any(|token| is_adding(text, token)) {
+        return Ok(());
     }
+    let alloc = findings.alloc;
+    let all = added_in(alloc, text, tokens)?;
     let sure = all.surely_added(alloc)?;
-    for (method, _, at) in &all.adding {
-        if sure.contains(method) && !all.others.contains_key(method) {
+    if !all.adding.iter().any(|one| sure.contains(&one.method)) {
+        return Ok(());
+    }
+    let used = all.used_of(alloc, &sure)?;
+    for one in &all.adding {
+        if sure.contains(&one.method) && !used.contains(&one.method) {
+            let method = str::from_utf8(one.method).unwrap_or("");
             let message = format!(in alloc;
                 "{method} is an abort method, in which this lists nothing"
             )?;
-            findings.add(Lint::NestedAbortMethod, *at, message)?;
+            findings.add(Lint::NestedAbortMethod, one.at, message)?;
         }
     }
     Ok(())

@@ -2,7 +2,7 @@
 
 use edd_lexer::token::{Token, TokenKind};
 use edd_lints::lint::Lint;
-use edd_lints::tokens_left::{Mark, mark_of, word_of};
+use edd_lints::tokens_left::{Mark, bytes_of, mark_of};
 use edd_lints::warning::Findings;
 use edd_syntax::symbols::{Keyword, Symbol};
 use std::alloc::{AllocError, Global};
@@ -57,10 +57,9 @@ fn brackets_of<'a>(
     text: &'a [u8],
     tokens: &'a [Token],
 ) -> Result<Brackets<'a>, AllocError> {
-    let mut closing = Vec::new(alloc);
+    let mut closing = Vec::from_elem(alloc, 0, tokens.len())?;
     let mut open = Vec::new(alloc);
     for (number, token) in tokens.iter().enumerate() {
-        closing.push(0)?;
         if opens(token.kind) {
             open.push(number)?;
         } else if closes(token.kind) {
@@ -159,7 +158,7 @@ impl<'a> Brackets<'a> {
                 _ => {}
             }
             is_after_name = token.kind == TokenKind::Name;
-            written.push_str(word_of(self.text, token))?;
+            written.push_str(mark_of(self.text, token).name())?;
             written.push_str(" ")?;
         }
         Ok(Some(written))
@@ -173,7 +172,7 @@ impl<'a> Brackets<'a> {
             return false;
         }
         for (a, b) in one.iter().zip(other) {
-            if a.kind != b.kind || word_of(self.text, a) != word_of(self.text, b) {
+            if a.kind != b.kind || bytes_of(self.text, a) != bytes_of(self.text, b) {
                 return false;
             }
         }
@@ -212,8 +211,11 @@ impl<'a> Brackets<'a> {
         (self.is_else(behind) && self.is_if(next)).then_some(next)
     }
 
-    // The chain that begins at a number.
+    // The chain that begins at a number, where it has more than one condition.
     fn check_chain(&self, number: usize, findings: &mut Findings) -> Result<(), AllocError> {
+        if self.next(number).is_none() {
+            return Ok(());
+        }
         let alloc = findings.alloc;
         let mut seen = BTreeMap::new(alloc);
         let mut at = Some(number);
@@ -262,8 +264,8 @@ pub fn check_branches(
         return Ok(());
     }
     let brackets = brackets_of(findings.alloc, text, tokens)?;
-    for number in 0..tokens.len() {
-        if brackets.is_if(number) {
+    for (number, token) in tokens.iter().enumerate() {
+        if begins_condition(token.kind) {
             brackets.check_branches(number, findings)?;
             if number == 0 || !brackets.is_else(number.saturating_sub(1)) {
                 brackets.check_chain(number, findings)?;

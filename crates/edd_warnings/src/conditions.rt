@@ -1,7 +1,7 @@
 //! Conditions that never change, and labels that a SELECT has twice.
 
 use crate::repeats::Numbers;
-use crate::steps::{Step, push_cond, push_conds};
+use crate::steps::{Step, push_cond};
 use edd_expression_warnings::expressions::{COMPARED, check_condition, check_expression};
 use edd_expression_warnings::operands::{check_label, selected_variable};
 use edd_expression_warnings::walk::Walk;
@@ -104,6 +104,9 @@ fn check_cond<V: LintValue>(
     walk: &mut Walk<'_>,
     findings: &mut Findings,
 ) -> Result<(), AllocError> {
+    if let Cond::Value(value) = c {
+        return value.check_value(walk, findings);
+    }
     let mut steps = Vec::new(findings.alloc);
     push_cond(c, &mut steps)?;
     check_steps(&steps, walk, findings)
@@ -114,9 +117,10 @@ fn check_conds<V: LintValue>(
     walk: &mut Walk<'_>,
     findings: &mut Findings,
 ) -> Result<(), AllocError> {
-    let mut steps = Vec::new(findings.alloc);
-    push_conds(all, &mut steps)?;
-    check_steps(&steps, walk, findings)
+    for c in all {
+        check_cond(c, walk, findings)?;
+    }
+    Ok(())
 }
 
 fn check_type_part(

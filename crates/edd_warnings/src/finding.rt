@@ -89,6 +89,7 @@ pub fn warnings(
     }
     check_texts(text, tokens, &mut findings)?;
     check_abort_methods(text, tokens, &mut findings)?;
-    check_uses(text, tokens, &checked.items, &items, &mut findings)?;
+    let names = &instrument.names;
+    check_uses(text, tokens, &checked.items, &items, names, &mut findings)?;
     findings.sorted()
 }

@@ -46,25 +46,34 @@ fn is_format(text: &str) -> bool {
     before == Before::Letter
 }
 
+// One of the texts that a format may be.
+fn check_text(at: TokenNo, text: &Text, findings: &mut Findings) -> Result<(), AllocError> {
+    match text {
+        Text::Quoted(text) if !is_format(text.as_str()) => {
+            let message = String::from_str(
+                findings.alloc,
+                "this is no format of a whole number, as 4d or 04x is",
+            )?;
+            let at = findings.mark(at);
+            findings.add(Lint::MeaninglessFormat, at, message)
+        }
+        _ => Ok(()),
+    }
+}
+
 fn check_format(
     at: TokenNo,
     format: &Cond<Target, Text>,
     findings: &mut Findings,
 ) -> Result<(), AllocError> {
-    let alloc = findings.alloc;
-    let mut steps = Vec::new(alloc);
+    if let Cond::Value(text) = format {
+        return check_text(at, text, findings);
+    }
+    let mut steps = Vec::new(findings.alloc);
     push_cond(format, &mut steps)?;
     for step in &steps {
-        match step {
-            Step::Value(Text::Quoted(text)) if !is_format(text.as_str()) => {
-                let message = String::from_str(
-                    alloc,
-                    "this is no format of a whole number, as 4d or 04x is",
-                )?;
-                let at = findings.mark(at);
-                findings.add(Lint::MeaninglessFormat, at, message)?;
-            }
-            _ => {}
+        if let Step::Value(text) = step {
+            check_text(at, text, findings)?;
         }
     }
     Ok(())

@@ -24,7 +24,7 @@ struct Carried<'a> {
 /// A message of a command.
 #[derive(Clone, Copy)]
 struct Message<'i> {
-    instrument: &'i Instrument,
+    instrument: &'i Instrument<'i>,
     is_reply: bool,
 }
 

@@ -12,7 +12,11 @@ pub struct Numbers<'a> {
     lint: Lint,
     /// What has the number, in the words of the message.
     what: &'static str,
-    seen: BTreeMap<i64, Mark<'a>>,
+    /// The numbers that were greater than all before them, and their places.
+    rising: Vec<i64>,
+    places: Vec<Mark<'a>>,
+    /// The other numbers.
+    others: BTreeMap<i64, Mark<'a>>,
 }
 
 impl<'a> Numbers<'a> {
@@ -20,7 +24,25 @@ impl<'a> Numbers<'a> {
         Numbers {
             lint,
             what,
-            seen: BTreeMap::new(alloc),
+            rising: Vec::new(alloc),
+            places: Vec::new(alloc),
+            others: BTreeMap::new(alloc),
+        }
+    }
+
+    // Whether a number is greater than all before it.
+    fn rises(&self, number: i64) -> bool {
+        match self.rising.last() {
+            Some(last) => *last < number,
+            None => true,
+        }
+    }
+
+    // The place of a number that is there already.
+    fn earlier(&self, number: i64) -> Option<Mark<'a>> {
+        match self.rising.binary_search(&number) {
+            Ok(at) => self.places.get(at).copied(),
+            Err(_) => self.others.get(&number).copied(),
         }
     }
 
@@ -31,12 +53,17 @@ impl<'a> Numbers<'a> {
         at: Mark<'a>,
         findings: &mut Findings,
     ) -> Result<(), AllocError> {
-        if let Some(earlier) = self.seen.get(&number) {
+        if self.rises(number) {
+            self.rising.push(number)?;
+            self.places.push(at)?;
+            return Ok(());
+        }
+        if let Some(earlier) = self.earlier(number) {
             let what = self.what;
             let message = format!(in findings.alloc; "{what} {number} is there already")?;
-            return findings.add_beside(self.lint, at, message, *earlier);
+            return findings.add_beside(self.lint, at, message, earlier);
         }
-        self.seen.insert(number, at)?;
+        self.others.insert(number, at)?;
         Ok(())
     }
 }

@@ -52,9 +52,9 @@ pub fn push_cond<'t, V>(
     }
 }
 
-/// The same of a list.
+// The same of a list.
 #[cycle(steps)]
-pub fn push_conds<'t, V>(
+fn push_conds<'t, V>(
     all: &'t [Cond<Target, V>],
     steps: &mut Vec<Step<'t, V>>,
 ) -> Result<(), AllocError> {

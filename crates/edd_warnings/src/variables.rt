@@ -224,9 +224,8 @@ fn unnamed(
     instrument: &Instrument,
     alloc: Global,
 ) -> Result<Option<String>, AllocError> {
-    let is_of_bits = instrument.kind(variable) == Some(VarType::BitEnumerated);
     match bits {
-        Some(bits) if is_of_bits && number & !bits != 0 => Ok(Some(format!(in alloc;
+        Some(bits) if number & !bits != 0 => Ok(Some(format!(in alloc;
             "{number} has bits that no enumerator names"
         )?)),
         _ if instrument.is_unlisted(variable, number) => {
@@ -284,7 +283,16 @@ fn check_defaults(
     instrument: &Instrument,
     findings: &mut Findings,
 ) -> Result<(), AllocError> {
-    let bits = bits_of(findings.alloc, parts)?;
+    let is_default = |part: &TypePart<Target>| matches!(part, TypePart::DefaultValue { .. });
+    if !parts.iter().any(is_default) {
+        return Ok(());
+    }
+    let is_of_bits = instrument.kind(variable) == Some(VarType::BitEnumerated);
+    let bits = if is_of_bits {
+        bits_of(findings.alloc, parts)?
+    } else {
+        None
+    };
     for part in parts {
         check_named(part, variable, bits, instrument, findings)?;
     }

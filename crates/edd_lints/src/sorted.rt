@@ -1,0 +1,47 @@
+//! Elements that are found by their order.
+
+use std::alloc::{AllocError, Global};
+
+/// Elements, which mostly come in their order: no more than a list has to be kept of them.
+#[derive(Drop)]
+pub struct Sorted<T> {
+    all: Vec<T>,
+    /// Whether each element so far is greater than the one before it, or the same.
+    rises: bool,
+}
+
+impl<T: Ord + Copy> Sorted<T> {
+    pub fn new(alloc: Global) -> Sorted<T> {
+        Sorted {
+            all: Vec::new(alloc),
+            rises: true,
+        }
+    }
+
+    /// Adds an element, which is found once they are sorted.
+    pub fn add(&mut self, element: T) -> Result<(), AllocError> {
+        if let Some(last) = self.all.last() {
+            self.rises = self.rises && *last <= element;
+        }
+        self.all.push(element)?;
+        Ok(())
+    }
+
+    /// Sorts the elements where they did not come in their order.
+    pub fn sort(&mut self) -> Result<(), AllocError> {
+        if self.rises {
+            return Ok(());
+        }
+        self.rises = true;
+        self.all.sort()
+    }
+
+    /// Whether an element is there.
+    pub fn contains(&self, element: &T) -> bool {
+        self.all.binary_search(element).is_ok()
+    }
+
+    pub fn is_empty(&self) -> bool {
+        self.all.is_empty()
+    }
+}
