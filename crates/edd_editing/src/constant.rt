@@ -1,10 +1,11 @@
 //! The value of an expression of numbers alone.
 
 use edd_document::Document;
+use edd_instructions::Sort;
 use edd_lexer::fault::LexFault;
 use edd_lexer::lex;
 use edd_lexer::token::TokenKind;
-use edd_lints::constants::{Known, Width, evaluate};
+use edd_lints::constants::{Known, evaluate};
 use edd_names::fault::NameFault;
 use edd_names::resolve;
 use edd_parser::fault::ParseFault;
@@ -94,7 +95,7 @@ fn end_of(document: &Document<'_>, token: usize, is_before: bool) -> Option<usiz
 }
 
 // The expression of the default value of a description's first variable.
-fn value_of(items: &[Item<Target>], width: Width) -> Known {
+fn value_of(items: &[Item<Target>], sort: Sort) -> Known {
     let Some(item) = items.first() else {
         return Known::Nothing;
     };
@@ -105,7 +106,7 @@ fn value_of(items: &[Item<Target>], width: Width) -> Known {
                     value: Cond::Value(value),
                     ..
                 },
-            ] => evaluate(value, width),
+            ] => evaluate(value, sort),
             _ => Known::Nothing,
         },
         _ => Known::Nothing,
@@ -113,7 +114,7 @@ fn value_of(items: &[Item<Target>], width: Width) -> Known {
 }
 
 // What the source of an expression gives.
-fn value_in(alloc: Global, source: &str, width: Width) -> Result<Known, AllocError> {
+fn value_in(alloc: Global, source: &str, sort: Sort) -> Result<Known, AllocError> {
     let text = format!(in alloc; "{BEFORE}{source}{BEHIND}")?;
     let bytes = text.as_bytes();
     let tokens = match lex(alloc, bytes) {
@@ -127,7 +128,7 @@ fn value_in(alloc: Global, source: &str, width: Width) -> Result<Known, AllocErr
         Err(_) => return Ok(Known::Nothing),
     };
     match resolve(alloc, &unit) {
-        Ok(resolved) => Ok(value_of(&resolved.items, width)),
+        Ok(resolved) => Ok(value_of(&resolved.items, sort)),
         Err(NameFault::Memory) => Err(AllocError),
         Err(_) => Ok(Known::Nothing),
     }
@@ -158,10 +159,10 @@ pub fn told(
     alloc: Global,
     document: &Document<'_>,
     place: Span,
-    width: Width,
+    sort: Sort,
 ) -> Result<Option<String>, AllocError> {
     let source = text_in(document.text(), place);
-    match value_in(alloc, source, width)? {
+    match value_in(alloc, source, sort)? {
         Known::Number(value) => {
             let value = format!(in alloc; "{value}")?;
             if value.as_str() == source {

@@ -9,8 +9,8 @@ use crate::keyword_terms::{Section, meaning_of, section_of};
 use crate::markdown::{push_escaped, push_paragraph};
 use crate::place_terms::meaning_at;
 use edd_document::Document;
+use edd_instructions::Sort;
 use edd_lexer::token::TokenKind;
-use edd_lints::constants::Width;
 use edd_reports::words::Span;
 use std::alloc::{AllocError, Global};
 
@@ -58,11 +58,11 @@ fn undeclared(
     }
 }
 
-fn width_at(document: &Document<'_>, token: usize) -> Width {
+fn sort_at(document: &Document<'_>, token: usize) -> Sort {
     if document.spot(token).place.is_in_body() {
-        Width::Method
+        Sort::Method
     } else {
-        Width::Attribute
+        Sort::Attribute
     }
 }
 
@@ -94,7 +94,7 @@ fn of_constant(
     let Some(place) = constant_around(document, token) else {
         return Ok(None);
     };
-    match told(alloc, document, place, width_at(document, token))? {
+    match told(alloc, document, place, sort_at(document, token))? {
         Some(markdown) => Ok(Some(Hover { place, markdown })),
         None => Ok(None),
     }

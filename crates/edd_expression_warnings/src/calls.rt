@@ -2,7 +2,8 @@
 
 use crate::stores::{check_assigned, check_stored};
 use crate::walk::Walk;
-use edd_lints::constants::{Known, Width, evaluate};
+use edd_instructions::Sort;
+use edd_lints::constants::{Known, evaluate};
 use edd_lints::instrument::variable_of;
 use edd_lints::lint::Lint;
 use edd_lints::tokens_left::Mark;
@@ -36,7 +37,7 @@ pub fn asks(function: Builtin) -> bool {
 // The number that an argument is in a method, where that is known.
 fn number_of_argument(arguments: &[Argument<Target>], place: usize) -> Option<i64> {
     match arguments.get(place)? {
-        Argument::Value(e) => match evaluate(e, Width::Method) {
+        Argument::Value(e) => match evaluate(e, Sort::Method) {
             Known::Number(number) => Some(number),
             Known::Traps(_) | Known::Nothing => None,
         },

@@ -8,8 +8,9 @@ use crate::operands::{
 };
 use crate::stores::{check_assigned, check_stored, check_wrapped, is_itself};
 use crate::walk::Walk;
+use edd_arithmetic::trap_of;
 use edd_lexer::token::TokenKind;
-use edd_lints::constants::{Known, Width, evaluate, is_literal, trap_of};
+use edd_lints::constants::{Known, evaluate, is_literal};
 use edd_lints::lint::Lint;
 use edd_lints::tokens_left::Mark;
 use edd_lints::warning::Findings;
@@ -60,7 +61,7 @@ fn check_trap(
         return check_late_trap(at, walk, findings);
     };
     let alloc = findings.alloc;
-    match trap_of(operator, number, walk.width) {
+    match trap_of(walk.width, operator, number) {
         Some(Trap::DivZero) => {
             let message = String::from_str(alloc, "this always traps: it divides by 0")?;
             findings.add(Lint::TrappingExpression, at, message)

@@ -2,7 +2,9 @@
 
 use crate::stores::{check_listed, without_parentheses};
 use crate::walk::Walk;
-use edd_lints::constants::{Known, Width, evaluate, holds};
+use edd_arithmetic::{holds, wrapped};
+use edd_instructions::Sort;
+use edd_lints::constants::{Known, evaluate};
 use edd_lints::instrument::variable_of;
 use edd_lints::lint::Lint;
 use edd_lints::range::Range;
@@ -128,7 +130,7 @@ pub fn check_logical(
     second: &Expr<Target>,
     sign: Symbol,
     at: Mark<'_>,
-    width: Width,
+    width: Sort,
     findings: &mut Findings,
 ) -> Result<(), AllocError> {
     let last = last_of(first, sign);
@@ -162,7 +164,7 @@ pub fn check_logical(
 type Bound = (Comparison, i64);
 
 // A place that is compared with a number, as if the place came first.
-fn compared_with(e: &Expr<Target>, width: Width) -> Option<(Target, Comparison, i64)> {
+fn compared_with(e: &Expr<Target>, width: Sort) -> Option<(Target, Comparison, i64)> {
     let Expr::Compare(comparison, first, second) = without_parentheses(e) else {
         return None;
     };
@@ -285,8 +287,8 @@ fn settled(comparison: Comparison, range: Range, number: i64) -> Option<bool> {
 }
 
 // The numbers that a variable is read as. With 32 bits those of four octets have a sign.
-fn read_range(range: Range, width: Width) -> Range {
-    if width == Width::Method && i64::from(i32::MAX) < range.high {
+fn read_range(range: Range, width: Sort) -> Range {
+    if width == Sort::Method && i64::from(i32::MAX) < range.high {
         return Range {
             low: i64::from(i32::MIN),
             high: i64::from(i32::MAX),
@@ -353,7 +355,7 @@ pub fn check_label(
         return Ok(());
     };
     let range = read_range(range, walk.width);
-    let label = walk.width.keep(label);
+    let label = wrapped(walk.width, label);
     if range.holds(label) {
         return check_listed(variable, label, "the case ", at, walk, findings);
     }

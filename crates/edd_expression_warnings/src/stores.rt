@@ -1,8 +1,9 @@
 //! Constants that what they are assigned to doesn't hold, and numbers of more than 32 bits.
 
 use crate::walk::Walk;
+use edd_instructions::Sort;
 use edd_lexer::token::TokenKind;
-use edd_lints::constants::{Known, Width, evaluate};
+use edd_lints::constants::{Known, evaluate};
 use edd_lints::instrument::variable_of;
 use edd_lints::lint::Lint;
 use edd_lints::range::Range;
@@ -43,7 +44,7 @@ fn keeps_bits(range: Range, value: &Expr<Target>, walk: &Walk<'_>) -> bool {
         Expr::Unary(UnaryOperator::Minus, _)
     );
     let is_wide = range.high.saturating_sub(range.low) == i64::from(u32::MAX);
-    is_wide && !is_negated && walk.width == Width::Method
+    is_wide && !is_negated && walk.width == Sort::Method
 }
 
 /// A constant that a variable can't hold, so that another number is kept, or that is none of its
@@ -129,7 +130,7 @@ pub fn check_wrapped(
     let Expr::Literal(number) = value else {
         return Ok(());
     };
-    if walk.width == Width::Attribute || *number <= GREATEST {
+    if walk.width == Sort::Attribute || *number <= GREATEST {
         return Ok(());
     }
     // No tokens are passed: this number is the next one of its kind.

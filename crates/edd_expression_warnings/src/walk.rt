@@ -1,7 +1,7 @@
 //! A way through the trees of an item, with what they read, set and ask for.
 
 use crate::slots::Slots;
-use edd_lints::constants::Width;
+use edd_instructions::Sort;
 use edd_lints::instrument::Instrument;
 use edd_lints::tokens_left::TokensLeft;
 use edd_syntax::expr::Expr;
@@ -19,7 +19,7 @@ pub enum Use {
 #[derive(Drop)]
 pub struct Walk<'a> {
     pub tokens_left: TokensLeft<'a>,
-    pub width: Width,
+    pub width: Sort,
     /// The slots of a method that are read so far.
     pub reads: Slots,
     /// Those that are set so far.
@@ -49,7 +49,7 @@ impl<'a> Walk<'a> {
     pub fn new(
         alloc: Global,
         tokens_left: TokensLeft<'a>,
-        width: Width,
+        width: Sort,
         instrument: &'a Instrument<'a>,
     ) -> Walk<'a> {
         Walk {

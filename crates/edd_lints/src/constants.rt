@@ -1,17 +1,23 @@
 //! What an expression is for all values of a device.
 
+ghost use Rattle.std.specs.Prelude.{◌≡◌, map};
+ghost use Rattle.edd_syntax.specs.declared.operators.Operator as operators;
+ghost use Rattle.edd_syntax.specs.declared.reference.Target as targets;
+ghost use Rattle.edd_syntax.specs.Expression as tree;
+ghost use Rattle.edd_syntax.specs.Expression.{arguments_from};
+ghost use Rattle.edd_syntax.specs.TreeView.{numbered_argument, numbered_expr};
+ghost use Rattle.edd_syntax.specs.TwosComplement.{is_zero};
+ghost use Rattle.edd_instructions.specs.declared.unit.Sort.{Sort};
+ghost use Rattle.edd_instructions.specs.declared.unit.Sort.TheVariants as sorts;
+ghost use Rattle.edd_instructions.specs.Steps.{Fits};
+ghost use Rattle.edd_lints.specs.Constants.{IsKnown, KnownFits, TellsOfOne, TellsOfTwo, TellsOfThree, truth_of, unused};
+
+use edd_arithmetic::{apply, compare, operate, trap_of, wrapped_constant};
+use edd_instructions::Sort;
 use edd_syntax::answer::Trap;
 use edd_syntax::expr::{Argument, Expr};
 use edd_syntax::operators::{Comparison, Operator, UnaryOperator};
 use edd_syntax::reference::Target;
-use edd_syntax::wrap::wrap;
-
-/// Where an expression is. In an attribute it is computed with 64 bits, in a method with 32.
-#[derive(Clone, Copy, PartialEq, Eq)]
-pub enum Width {
-    Attribute,
-    Method,
-}
 
 /// What is known of an expression's value.
 #[derive(Clone, Copy, PartialEq, Eq)]
@@ -24,121 +30,87 @@ pub enum Known {
     Nothing,
 }
 
-impl Width {
-    fn bits(self) -> i64 {
-        match self {
-            Width::Attribute => 64,
-            Width::Method => 32,
-        }
-    }
-
-    fn least(self) -> i64 {
-        match self {
-            Width::Attribute => i64::MIN,
-            Width::Method => -2_147_483_648,
-        }
-    }
-
-    /// A number as it is computed with here.
-    pub fn keep(self, number: i64) -> i64 {
-        match self {
-            Width::Attribute => number,
-            Width::Method => wrap(32, i128::from(number)),
-        }
-    }
-}
-
-/// The trap of an operator with this second operand, whatever the first one is.
-pub fn trap_of(operator: Operator, second: i64, width: Width) -> Option<Trap> {
-    match operator {
-        Operator::Divide | Operator::Remainder if second == 0 => Some(Trap::DivZero),
-        Operator::ShiftLeft | Operator::ShiftRight if second < 0 || width.bits() <= second => {
-            Some(Trap::BadShift)
-        }
-        _ => None,
-    }
-}
-
-// The number that two numbers give; nothing where they trap.
-fn value_of(operator: Operator, first: i64, second: i64) -> Option<i64> {
-    let count = u32::try_from(second).unwrap_or(0);
-    match operator {
-        Operator::Add => Some(first.wrapping_add(second)),
-        Operator::Subtract => Some(first.wrapping_sub(second)),
-        Operator::Multiply => Some(first.wrapping_mul(second)),
-        Operator::Divide => first.checked_div(second),
-        Operator::Remainder => first.checked_rem(second),
-        Operator::ShiftLeft => first.checked_shl(count),
-        Operator::ShiftRight => first.checked_shr(count),
-        Operator::And => Some(first & second),
-        Operator::Or => Some(first | second),
-        Operator::Xor => Some(first ^ second),
-    }
-}
-
 // What an operator gives of two numbers.
-fn computed(operator: Operator, first: i64, second: i64, width: Width) -> Known {
-    let divides = matches!(operator, Operator::Divide | Operator::Remainder);
-    if divides && second == -1 && first == width.least() {
-        return Known::Traps(Trap::DivOverflow);
+fn computed(operator: Operator, first: i64, second: i64, sort: Sort) -> Known
+    requires left { Fits sort first }
+    requires right { Fits sort second }
+    ensures sound { TellsOfTwo sort (tree.Binary operator) (Known.Number first)
+        (Known.Number second) result }
+    ensures fits { KnownFits sort result }
+{
+    match operate(sort, operator, first, second) {
+        Ok(number) => Known::Number(number),
+        Err(trap) => Known::Traps(trap),
     }
-    match value_of(operator, first, second) {
-        Some(number) => Known::Number(width.keep(number)),
+}
+
+// What an operator gives of an unknown number and this one.
+fn with_second(operator: Operator, second: i64, sort: Sort) -> Known
+    ensures sound { TellsOfTwo sort (tree.Binary operator) Known.Nothing (Known.Number second)
+        result }
+    ensures fits { KnownFits sort result }
+{
+    match trap_of(sort, operator, second) {
+        Some(trap) => Known::Traps(trap),
         None => Known::Nothing,
     }
 }
 
 // What an operator gives of two operands, of which the first is evaluated first.
-fn combined(operator: Operator, first: Known, second: Known, width: Width) -> Known {
-    match (first, second) {
-        (Known::Traps(trap), _) | (_, Known::Traps(trap)) => Known::Traps(trap),
-        (_, Known::Nothing) => Known::Nothing,
-        (first, Known::Number(second)) => match (trap_of(operator, second, width), first) {
-            (Some(trap), _) => Known::Traps(trap),
-            (None, Known::Number(first)) => computed(operator, first, second, width),
-            (None, _) => Known::Nothing,
+fn combined(operator: Operator, first: Known, second: Known, sort: Sort) -> Known
+    requires left { KnownFits sort first }
+    requires right { KnownFits sort second }
+    ensures sound { TellsOfTwo sort (tree.Binary operator) first second result }
+    ensures fits { KnownFits sort result }
+{
+    match first {
+        Known::Traps(trap) => Known::Traps(trap),
+        Known::Number(a) => match second {
+            Known::Traps(trap) => Known::Traps(trap),
+            Known::Number(b) => computed(operator, a, b, sort),
+            Known::Nothing => Known::Nothing,
+        },
+        Known::Nothing => match second {
+            Known::Traps(trap) => Known::Traps(trap),
+            Known::Number(b) => with_second(operator, b, sort),
+            Known::Nothing => Known::Nothing,
         },
     }
 }
 
-/// Whether two numbers compare so.
-pub fn holds(comparison: Comparison, first: i64, second: i64) -> bool {
-    match comparison {
-        Comparison::Equal => first == second,
-        Comparison::NotEqual => first != second,
-        Comparison::Less => first < second,
-        Comparison::LessOrEqual => first <= second,
-        Comparison::Greater => second < first,
-        Comparison::GreaterOrEqual => second <= first,
-    }
-}
-
-fn compared(comparison: Comparison, first: Known, second: Known) -> Known {
-    match (first, second) {
-        (Known::Traps(trap), _) | (_, Known::Traps(trap)) => Known::Traps(trap),
-        (_, Known::Nothing) => Known::Nothing,
-        (first, Known::Number(second)) => match first {
-            Known::Number(first) => Known::Number(i64::from(holds(comparison, first, second))),
-            other => other,
+// What a comparison gives of two operands.
+fn compared(comparison: Comparison, first: Known, second: Known) -> Known
+    ensures sound { (sort : Sort) → TellsOfTwo sort (tree.Compare comparison) first second result }
+    ensures fits { (sort : Sort) → KnownFits sort result }
+{
+    match first {
+        Known::Traps(trap) => Known::Traps(trap),
+        Known::Number(a) => match second {
+            Known::Traps(trap) => Known::Traps(trap),
+            Known::Number(b) => Known::Number(compare(comparison, a, b)),
+            Known::Nothing => Known::Nothing,
         },
+        Known::Nothing => unused(second),
     }
 }
 
-fn applied(operator: UnaryOperator, operand: Known, width: Width) -> Known {
-    let Known::Number(number) = operand else {
-        return operand;
-    };
-    let number = match operator {
-        UnaryOperator::Plus => number,
-        UnaryOperator::Minus => number.wrapping_neg(),
-        UnaryOperator::Not => i64::from(number == 0),
-        UnaryOperator::Complement => !number,
-    };
-    Known::Number(width.keep(number))
+// What an operator gives of its one operand.
+fn applied(operator: UnaryOperator, operand: Known, sort: Sort) -> Known
+    requires { KnownFits sort operand }
+    ensures sound { TellsOfOne sort (tree.Unary operator) operand result }
+    ensures fits { KnownFits sort result }
+{
+    match operand {
+        Known::Number(number) => Known::Number(apply(sort, operator, number)),
+        Known::Traps(trap) => Known::Traps(trap),
+        Known::Nothing => Known::Nothing,
+    }
 }
 
 // The truth of a value as 0 or 1.
-fn truth(known: Known) -> Known {
+fn truth(known: Known) -> Known
+    ensures { result ≡ truth_of known }
+{
     match known {
         Known::Number(number) => Known::Number(i64::from(number != 0)),
         other => other,
@@ -146,78 +118,142 @@ fn truth(known: Known) -> Known {
 }
 
 // What is known of a value that is not used: only whether it traps.
-fn unused(known: Known) -> Known {
+fn unused(known: Known) -> Known
+    ensures { result ≡ unused known }
+{
     match known {
         Known::Traps(trap) => Known::Traps(trap),
         Known::Number(_) | Known::Nothing => Known::Nothing,
     }
 }
 
-// `&&` and `||`: where the first operand has this truth, it decides.
-fn decided(first: Known, second: Known, decides: bool) -> Known {
+fn is_zero(number: i64) -> bool
+    ensures { result ≡ is_zero number }
+{
+    number == 0
+}
+
+// What `first && second` gives.
+fn both(first: Known, second: Known) -> Known
+    ensures sound { (sort : Sort) → TellsOfTwo sort tree.LogicalAnd first second result }
+    ensures fits { (sort : Sort) → KnownFits sort result }
+{
     match first {
-        Known::Number(number) if (number != 0) == decides => { Known::Number(i64::from(decides)) }
-        Known::Number(_) => truth(second),
-        other => other,
+        Known::Number(number) => {
+            if is_zero(number) {
+                Known::Number(0)
+            } else {
+                truth(second)
+            }
+        }
+        Known::Traps(trap) => Known::Traps(trap),
+        Known::Nothing => Known::Nothing,
+    }
+}
+
+// What `first || second` gives.
+fn either(first: Known, second: Known) -> Known
+    ensures sound { (sort : Sort) → TellsOfTwo sort tree.LogicalOr first second result }
+    ensures fits { (sort : Sort) → KnownFits sort result }
+{
+    match first {
+        Known::Number(number) => {
+            if is_zero(number) {
+                truth(second)
+            } else {
+                Known::Number(1)
+            }
+        }
+        Known::Traps(trap) => Known::Traps(trap),
+        Known::Nothing => Known::Nothing,
     }
 }
 
 // What `test ? first : second` gives.
-fn chosen(test: Known, first: Known, second: Known) -> Known {
+fn chosen(test: Known, first: Known, second: Known) -> Known
+    ensures sound { (sort : Sort) → TellsOfThree sort tree.Conditional test first second result }
+    ensures fits { (sort : Sort) → KnownFits sort first → KnownFits sort second
+        → KnownFits sort result }
+{
     match test {
-        Known::Number(0) => second,
-        Known::Number(_) => first,
+        Known::Number(number) => { if is_zero(number) { second } else { first } }
         Known::Traps(trap) => Known::Traps(trap),
-        Known::Nothing if matches!(second, Known::Traps(_)) => unused(first),
-        Known::Nothing => Known::Nothing,
+        Known::Nothing => match second {
+            Known::Traps(_) => unused(first),
+            Known::Number(_) | Known::Nothing => Known::Nothing,
+        },
+    }
+}
+
+// What is known of an assignment of such a value: in an attribute nothing, since none has one.
+fn stored(known: Known, sort: Sort) -> Known
+    ensures assigned { (to : targets.Target) → TellsOfOne sort (tree.Assign to) known result }
+    ensures combined { (operator : operators.Operator) (to : targets.Target)
+        (a : tree.Expr targets.Target)
+        → IsKnown sort (tree.Binary operator (tree.Reference to) a) known
+        → IsKnown sort (tree.CompoundAssign operator to a) result }
+    ensures fits { KnownFits sort result }
+{
+    match sort {
+        Sort::Attribute => Known::Nothing,
+        Sort::Method => unused(known),
     }
 }
 
 /// What an expression is for all values of a device.
 #[cycle(known)]
-pub fn evaluate(e: &Expr<Target>, width: Width) -> Known {
+pub fn evaluate(e: &Expr<Target>, sort: Sort) -> Known
+    ensures sound { IsKnown sort (numbered_expr e.now) result }
+    ensures fits { KnownFits sort result }
+{
     match e {
-        Expr::Literal(number) => Known::Number(width.keep(i64::from(*number))),
-        Expr::Parentheses(inner) => evaluate(inner, width),
-        Expr::Unary(operator, operand) => applied(*operator, evaluate(operand, width), width),
+        Expr::Literal(number) => Known::Number(wrapped_constant(sort, *number)),
+        Expr::Parentheses(inner) => evaluate(inner, sort),
+        Expr::Unary(operator, operand) => applied(*operator, evaluate(operand, sort), sort),
         Expr::Binary(operator, first, second) => {
             combined(
                 *operator,
-                evaluate(first, width),
-                evaluate(second, width),
-                width,
+                evaluate(first, sort),
+                evaluate(second, sort),
+                sort,
             )
         }
         Expr::Compare(comparison, first, second) => {
-            compared(*comparison, evaluate(first, width), evaluate(second, width))
+            compared(*comparison, evaluate(first, sort), evaluate(second, sort))
         }
-        Expr::LogicalAnd(first, second) => {
-            decided(evaluate(first, width), evaluate(second, width), false)
+        Expr::LogicalAnd(first, second) => both(evaluate(first, sort), evaluate(second, sort)),
+        Expr::LogicalOr(first, second) => either(evaluate(first, sort), evaluate(second, sort)),
+        Expr::Conditional(test, first, second) => {
+            chosen(
+                evaluate(test, sort),
+                evaluate(first, sort),
+                evaluate(second, sort),
+            )
         }
-        Expr::LogicalOr(first, second) => {
-            decided(evaluate(first, width), evaluate(second, width), true)
-        }
-        Expr::Conditional(test, first, second) => chosen(
-            evaluate(test, width),
-            evaluate(first, width),
-            evaluate(second, width),
-        ),
-        Expr::Indexed(_, index) => unused(evaluate(index, width)),
-        Expr::Assign(_, value) => unused(evaluate(value, width)),
+        Expr::Indexed(_, index) => unused(evaluate(index, sort)),
+        Expr::Assign(_, value) => stored(evaluate(value, sort), sort),
         Expr::CompoundAssign(operator, _, value) => {
-            combined(*operator, Known::Nothing, evaluate(value, width), width)
+            let read = Known::Nothing;
+            stored(combined(*operator, read, evaluate(value, sort), sort), sort)
         }
-        Expr::Call { arguments, .. } => known_of_call(arguments, width),
+        Expr::Call { arguments, .. } => match sort {
+            Sort::Attribute => Known::Nothing,
+            Sort::Method => known_of_call(arguments),
+        },
         Expr::Decimal { .. } | Expr::Reference(_) | Expr::Increment(_, _) => Known::Nothing,
     }
 }
 
-// Of a call only whether one of its arguments traps.
+// Of a method's call only whether one of its arguments traps.
 #[cycle(known)]
-fn known_of_call(arguments: &[Argument<Target>], width: Width) -> Known {
+fn known_of_call(arguments: &[Argument<Target>]) -> Known
+    ensures sound { (function : targets.Target) → IsKnown sorts.Method
+        (tree.Call function (arguments_from (map numbered_argument arguments.now))) result }
+    ensures fits { (sort : Sort) → KnownFits sort result }
+{
     for argument in arguments {
         if let Argument::Value(e) = argument {
-            if let Known::Traps(trap) = evaluate(e, width) {
+            if let Known::Traps(trap) = evaluate(e, Sort::Method) {
                 return Known::Traps(trap);
             }
         }

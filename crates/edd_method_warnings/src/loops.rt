@@ -2,9 +2,11 @@
 
 use crate::flow::{Flow, GOES_ON};
 use crate::said::say;
+use edd_arithmetic::holds;
 use edd_expression_warnings::operands::{referred, turned};
 use edd_expression_warnings::walk::{Use, Walk};
-use edd_lints::constants::{Known, Width, evaluate, holds, is_literal};
+use edd_instructions::Sort;
+use edd_lints::constants::{Known, evaluate, is_literal};
 use edd_lints::lint::Lint;
 use edd_lints::tokens_left::Mark;
 use edd_lints::warning::Findings;
@@ -93,7 +95,7 @@ fn is_unchanging(
 fn known_of(condition: Option<&Expr<Target>>) -> Known {
     match condition {
         None => Known::Number(1),
-        Some(e) => evaluate(e, Width::Method),
+        Some(e) => evaluate(e, Sort::Method),
     }
 }
 
@@ -154,7 +156,7 @@ pub fn check_loop<'a>(
 // The place that the first part of a `for` sets to a constant.
 fn start_of(initial: &Option<Expr<Target>>) -> Option<(Target, i64)> {
     match initial {
-        Some(Expr::Assign(to, value)) => match evaluate(value, Width::Method) {
+        Some(Expr::Assign(to, value)) => match evaluate(value, Sort::Method) {
             Known::Number(number) => Some((*to, number)),
             Known::Traps(_) | Known::Nothing => None,
         },
@@ -175,7 +177,7 @@ fn limit_of(condition: &Option<Expr<Target>>) -> Option<(Target, Comparison, &Ex
 
 // Whether a constant is added or taken away: 1 or -1.
 fn sign_of(operator: Operator, value: &Expr<Target>) -> Option<i64> {
-    let Known::Number(number) = evaluate(value, Width::Method) else {
+    let Known::Number(number) = evaluate(value, Sort::Method) else {
         return None;
     };
     match operator {
@@ -228,7 +230,7 @@ fn is_set(uses: &[Use], place: Target) -> bool {
 fn only_counts(condition: &Option<Expr<Target>>, update: &Option<Expr<Target>>) -> bool {
     match (limit_of(condition), step_of(update)) {
         (Some((place, _, limit)), Some((counted, _))) => {
-            counted == place && matches!(evaluate(limit, Width::Method), Known::Number(_))
+            counted == place && matches!(evaluate(limit, Sort::Method), Known::Number(_))
         }
         _ => false,
     }
@@ -269,7 +271,7 @@ pub fn check_head(
     };
     if let (Some((started, start)), Known::Number(end)) = (
         start_of(initial),
-        evaluate(limit, Width::Method),
+        evaluate(limit, Sort::Method),
     ) {
         if started == place && !holds(comparison, start, end) {
             let alloc = findings.alloc;

@@ -2,8 +2,8 @@
 
 use crate::statements::check_parts;
 use edd_expression_warnings::walk::Walk;
+use edd_instructions::Sort;
 use edd_lexer::token::{Token, TokenKind};
-use edd_lints::constants::Width;
 use edd_lints::instrument::Instrument;
 use edd_lints::lint::Lint;
 use edd_lints::tokens_left::{Mark, TokensLeft, mark_of};
@@ -129,7 +129,7 @@ pub fn check_method(
 ) -> Result<(), AllocError> {
     let locals = locals_of(findings.alloc, text, tokens)?;
     let tokens_left = TokensLeft::new(text, tokens);
-    let mut walk = Walk::new(findings.alloc, tokens_left, Width::Method, instrument);
+    let mut walk = Walk::new(findings.alloc, tokens_left, Sort::Method, instrument);
     for attribute in attributes {
         if let Attribute::Definition(_, parts) = attribute {
             walk.tokens_left.to_word(Keyword::Definition);

@@ -5,7 +5,7 @@ use crate::steps::{Step, push_cond};
 use edd_expression_warnings::expressions::{COMPARED, check_condition, check_expression};
 use edd_expression_warnings::operands::{check_label, selected_variable};
 use edd_expression_warnings::walk::Walk;
-use edd_lints::constants::Width;
+use edd_instructions::Sort;
 use edd_lints::instrument::Instrument;
 use edd_lints::lint::Lint;
 use edd_lints::tokens_left::TokensLeft;
@@ -189,7 +189,7 @@ pub fn check_conditionals(
     instrument: &Instrument,
     findings: &mut Findings,
 ) -> Result<(), AllocError> {
-    let mut walk = Walk::new(findings.alloc, tokens_left, Width::Attribute, instrument);
+    let mut walk = Walk::new(findings.alloc, tokens_left, Sort::Attribute, instrument);
     for attribute in attributes {
         check_attribute(attribute, &mut walk, findings)?;
     }

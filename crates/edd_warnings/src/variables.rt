@@ -3,7 +3,8 @@
 use crate::enumerators::check_enumerators;
 use crate::formats::check_formats;
 use crate::steps::{Step, push_cond};
-use edd_lints::constants::{Known, Width, evaluate};
+use edd_instructions::Sort;
+use edd_lints::constants::{Known, evaluate};
 use edd_lints::instrument::Instrument;
 use edd_lints::lint::Lint;
 use edd_lints::range::Range;
@@ -50,7 +51,7 @@ fn check_constants(
     findings: &mut Findings,
 ) -> Result<(), AllocError> {
     match c {
-        Cond::Value(e) => match evaluate(e, Width::Attribute) {
+        Cond::Value(e) => match evaluate(e, Sort::Attribute) {
             Known::Number(n) => check_range(range, option.what, n, option.at, findings),
             Known::Traps(_) | Known::Nothing => Ok(()),
         },
@@ -115,7 +116,7 @@ fn constant_of(c: &Cond<Target, Expr<Target>>, at: TokenNo) -> Option<Constant> 
     let Cond::Value(e) = c else {
         return None;
     };
-    match evaluate(e, Width::Attribute) {
+    match evaluate(e, Sort::Attribute) {
         Known::Number(number) => Some(Constant { number, at }),
         Known::Traps(_) | Known::Nothing => None,
     }
@@ -268,7 +269,7 @@ fn check_named(
 // The constant that a step of an option has.
 fn default_of(step: &Step<'_, Expr<Target>>) -> Option<i64> {
     match step {
-        Step::Value(e) => match evaluate(e, Width::Attribute) {
+        Step::Value(e) => match evaluate(e, Sort::Attribute) {
             Known::Number(number) => Some(number),
             Known::Traps(_) | Known::Nothing => None,
         },
