@@ -57,11 +57,11 @@ fn check_trap(
     if !may_trap(operator) {
         return Ok(());
     }
-    let Known::Number(number) = evaluate(second, walk.width) else {
+    let Known::Number(number) = evaluate(second, walk.sort) else {
         return check_late_trap(at, walk, findings);
     };
     let alloc = findings.alloc;
-    match trap_of(walk.width, operator, number) {
+    match trap_of(walk.sort, operator, number) {
         Some(Trap::DivZero) => {
             let message = String::from_str(alloc, "this always traps: it divides by 0")?;
             findings.add(Lint::TrappingExpression, at, message)
@@ -99,7 +99,7 @@ fn check_index(
     let Target::Item(ItemNo::Array(array)) = array else {
         return Ok(());
     };
-    match evaluate(index, walk.width) {
+    match evaluate(index, walk.sort) {
         Known::Number(number) if !walk.instrument.has_element(array.0, number) => {
             let alloc = findings.alloc;
             let message = format!(in alloc;
@@ -233,7 +233,7 @@ pub fn check_expression(
             walk.ranged = ranged_place(first, second, sign).or(before);
             check_expression(first, false, walk, findings)?;
             let at = walk.tokens_left.to(TokenKind::Symbol(sign));
-            check_logical(first, second, sign, at, walk.width, findings)?;
+            check_logical(first, second, sign, at, walk.sort, findings)?;
             check_expression(second, false, walk, findings)?;
             walk.ranged = before;
             Ok(())
@@ -318,7 +318,7 @@ pub fn check_condition(
     walk: &mut Walk<'_>,
     findings: &mut Findings,
 ) -> Result<(), AllocError> {
-    if let Known::Number(number) = evaluate(e, walk.width) {
+    if let Known::Number(number) = evaluate(e, walk.sort) {
         let message = format!(in findings.alloc; "this condition is always {number}")?;
         let lint = if is_literal(e) {
             Lint::LiteralCondition

@@ -130,7 +130,7 @@ pub fn check_logical(
     second: &Expr<Target>,
     sign: Symbol,
     at: Mark<'_>,
-    width: Sort,
+    sort: Sort,
     findings: &mut Findings,
 ) -> Result<(), AllocError> {
     let last = last_of(first, sign);
@@ -142,7 +142,7 @@ pub fn check_logical(
             findings,
         );
     }
-    let (Some(one), Some(other)) = (compared_with(last, width), compared_with(second, width)) else {
+    let (Some(one), Some(other)) = (compared_with(last, sort), compared_with(second, sort)) else {
         return Ok(());
     };
     if one.0 != other.0 {
@@ -164,7 +164,7 @@ pub fn check_logical(
 type Bound = (Comparison, i64);
 
 // A place that is compared with a number, as if the place came first.
-fn compared_with(e: &Expr<Target>, width: Sort) -> Option<(Target, Comparison, i64)> {
+fn compared_with(e: &Expr<Target>, sort: Sort) -> Option<(Target, Comparison, i64)> {
     let Expr::Compare(comparison, first, second) = without_parentheses(e) else {
         return None;
     };
@@ -172,7 +172,7 @@ fn compared_with(e: &Expr<Target>, width: Sort) -> Option<(Target, Comparison, i
         Some(target) => (target, *comparison, second),
         None => (referred(second)?, turned(*comparison), first),
     };
-    match evaluate(other, width) {
+    match evaluate(other, sort) {
         Known::Number(number) => Some((target, comparison, number)),
         Known::Traps(_) | Known::Nothing => None,
     }
@@ -287,8 +287,8 @@ fn settled(comparison: Comparison, range: Range, number: i64) -> Option<bool> {
 }
 
 // The numbers that a variable is read as. With 32 bits those of four octets have a sign.
-fn read_range(range: Range, width: Sort) -> Range {
-    if width == Sort::Method && i64::from(i32::MAX) < range.high {
+fn read_range(range: Range, sort: Sort) -> Range {
+    if sort == Sort::Method && i64::from(i32::MAX) < range.high {
         return Range {
             low: i64::from(i32::MIN),
             high: i64::from(i32::MAX),
@@ -311,7 +311,7 @@ pub fn check_settled(
             return add_text(Lint::EqualOperands, at, message, findings);
         }
     }
-    let Some((target, comparison, number)) = compared_with(compared, walk.width) else {
+    let Some((target, comparison, number)) = compared_with(compared, walk.sort) else {
         return Ok(());
     };
     let Some(variable) = variable_of(target) else {
@@ -320,7 +320,7 @@ pub fn check_settled(
     let Some(range) = walk.instrument.range(variable) else {
         return Ok(());
     };
-    let range = read_range(range, walk.width);
+    let range = read_range(range, walk.sort);
     let is_equality = matches!(comparison, Comparison::Equal | Comparison::NotEqual);
     match settled(comparison, range, number) {
         Some(_) if !is_equality && walk.ranged == Some(target) => Ok(()),
@@ -354,8 +354,8 @@ pub fn check_label(
     let Some(range) = walk.instrument.range(variable) else {
         return Ok(());
     };
-    let range = read_range(range, walk.width);
-    let label = wrapped(walk.width, label);
+    let range = read_range(range, walk.sort);
+    let label = wrapped(walk.sort, label);
     if range.holds(label) {
         return check_listed(variable, label, "the case ", at, walk, findings);
     }

@@ -31,7 +31,7 @@ fn stored_number(value: &Expr<Target>, walk: &Walk<'_>) -> Option<i64> {
     if let Expr::Literal(number) = without_parentheses(value) {
         return Some(i64::from(*number));
     }
-    match evaluate(value, walk.width) {
+    match evaluate(value, walk.sort) {
         Known::Number(number) => Some(number),
         Known::Traps(_) | Known::Nothing => None,
     }
@@ -44,7 +44,7 @@ fn keeps_bits(range: Range, value: &Expr<Target>, walk: &Walk<'_>) -> bool {
         Expr::Unary(UnaryOperator::Minus, _)
     );
     let is_wide = range.high.saturating_sub(range.low) == i64::from(u32::MAX);
-    is_wide && !is_negated && walk.width == Sort::Method
+    is_wide && !is_negated && walk.sort == Sort::Method
 }
 
 /// A constant that a variable can't hold, so that another number is kept, or that is none of its
@@ -130,7 +130,7 @@ pub fn check_wrapped(
     let Expr::Literal(number) = value else {
         return Ok(());
     };
-    if walk.width == Sort::Attribute || *number <= GREATEST {
+    if walk.sort == Sort::Attribute || *number <= GREATEST {
         return Ok(());
     }
     // No tokens are passed: this number is the next one of its kind.
@@ -139,7 +139,7 @@ pub fn check_wrapped(
     if at.word().unwrap_or("0").starts_with('0') {
         return Ok(());
     }
-    let Known::Number(kept) = evaluate(value, walk.width) else {
+    let Known::Number(kept) = evaluate(value, walk.sort) else {
         return Ok(());
     };
     let alloc = findings.alloc;

@@ -19,7 +19,7 @@ pub enum Use {
 #[derive(Drop)]
 pub struct Walk<'a> {
     pub tokens_left: TokensLeft<'a>,
-    pub width: Sort,
+    pub sort: Sort,
     /// The slots of a method that are read so far.
     pub reads: Slots,
     /// Those that are set so far.
@@ -49,12 +49,12 @@ impl<'a> Walk<'a> {
     pub fn new(
         alloc: Global,
         tokens_left: TokensLeft<'a>,
-        width: Sort,
+        sort: Sort,
         instrument: &'a Instrument<'a>,
     ) -> Walk<'a> {
         Walk {
             tokens_left,
-            width,
+            sort,
             reads: Slots::new(),
             writes: Slots::new(),
             early: Slots::new(),
