@@ -9,8 +9,7 @@ use Rattle.edd_compiler.proofs.source.checked_from.Goals as goal
 
 pub returns-in_err-resolved-clause-refused : goal.returns-in_err-resolved-clause-refused
 returns-in_err-resolved-clause-refused c text of =
-    let p = err_from_is_err_and c.from_residual-in_err-resolved.result
-    c.from_residual-in_err-resolved.ensures.1 in rw (p.1, p.2)
+    let p = err_from_is_err_and c.from_residual.result c.from_residual.ensures.1 in rw (p.1, p.2)
     (name_refused text (unit_view c.args.unit.now) of
     c.in_err-resolved.field-0.0 c.in_err-resolved.ensures.refused)
 
