@@ -105,6 +105,16 @@ impl<'a> Added<'a> {
         Ok(names)
     }
 
+    // Whether one of these methods adds another one.
+    fn has_adding(&self, methods: &BTreeSet<&'a [u8]>) -> bool {
+        for one in &self.adding {
+            if methods.contains(&one.method) {
+                return true;
+            }
+        }
+        false
+    }
+
     // Those of these methods whose names are elsewhere too.
     fn used_of(
         &self,
@@ -122,11 +132,7 @@ impl<'a> Added<'a> {
 }
 
 // What is added in a text that adds abort methods.
-fn added_in<'a>(
-    alloc: Global,
-    text: &'a [u8],
-    tokens: &[Token],
-) -> Result<Added<'a>, AllocError> {
+fn added_in<'a>(alloc: Global, text: &'a [u8], tokens: &[Token]) -> Result<Added<'a>, AllocError> {
     let mut all = Added {
         adding: Vec::new(alloc),
         added: BTreeSet::new(alloc),
@@ -155,7 +161,7 @@ pub fn check_abort_methods(
     let alloc = findings.alloc;
     let all = added_in(alloc, text, tokens)?;
     let sure = all.surely_added(alloc)?;
-    if !all.adding.iter().any(|one| sure.contains(&one.method)) {
+    if !all.has_adding(&sure) {
         return Ok(());
     }
     let used = all.used_of(alloc, &sure)?;

@@ -23,8 +23,8 @@ struct Carried<'a> {
 
 /// A message of a command.
 #[derive(Clone, Copy)]
-struct Message<'i> {
-    instrument: &'i Instrument<'i>,
+struct Message<'i, 'n> {
+    instrument: &'i Instrument<'n>,
     is_reply: bool,
 }
 
@@ -53,7 +53,7 @@ fn check_mask(
     Ok(())
 }
 
-impl Message<'_> {
+impl Message<'_, '_> {
     // A variable of a list.
     fn check_variable<'a>(
         &self,
@@ -125,7 +125,7 @@ impl Message<'_> {
 #[cycle(messages)]
 fn check_element<'a>(
     c: &Cond<Target, DataItem<Target>>,
-    message: Message<'_>,
+    message: Message<'_, '_>,
     list: &mut BTreeMap<u16, Carried<'a>>,
     findings: &mut Findings<'a>,
 ) -> Result<(), AllocError> {
@@ -146,7 +146,7 @@ fn check_element<'a>(
 #[cycle(messages)]
 fn check_list(
     elements: &[Cond<Target, DataItem<Target>>],
-    message: Message<'_>,
+    message: Message<'_, '_>,
     findings: &mut Findings,
 ) -> Result<(), AllocError> {
     let mut list = BTreeMap::new(findings.alloc);
@@ -159,7 +159,7 @@ fn check_list(
 #[cycle(messages)]
 fn check_arms(
     arms: &[Arm<Target, DataItem<Target>>],
-    message: Message<'_>,
+    message: Message<'_, '_>,
     findings: &mut Findings,
 ) -> Result<(), AllocError> {
     for arm in arms {
