@@ -19,18 +19,20 @@ use edd_syntax::checked::Checked;
 use edd_syntax::unit::Unit;
 use std::alloc::{AllocError, Global};
 
-fn accepted(mut said: Reports) -> Reports
+fn accepted(said: Reports) -> Reports
     ensures { result.is_refused ≡ false }
 {
-    said.is_refused = false;
-    said
+    let mut made = said;
+    made.is_refused = false;
+    made
 }
 
-fn refused(mut said: Reports) -> Reports
+fn refused(said: Reports) -> Reports
     ensures { result.is_refused ≡ true }
 {
-    said.is_refused = true;
-    said
+    let mut made = said;
+    made.is_refused = true;
+    made
 }
 
 // What is said of the description that a text stands for.
@@ -48,10 +50,7 @@ fn of_description(
     match image_from(alloc, checked) {
         Ok(_image) => Ok(accepted(of_text(alloc, text, tokens, checked, choices)?)),
         Err(Fault::Memory) => Err(AllocError),
-        Err(fault) => {
-            let refusal = fault.refusal_among(alloc, text, tokens)?;
-            Ok(refused(of_strings(alloc, refusal)?))
-        }
+        Err(fault) => Ok(refused(of_strings(alloc, text, tokens, fault)?)),
     }
 }
 
@@ -70,10 +69,7 @@ fn of_whole(
     match checked_from(alloc, unit) {
         Ok(checked) => of_description(alloc, text, tokens, &checked, choices),
         Err(Fault::Memory) => Err(AllocError),
-        Err(fault) => {
-            let refusal = fault.refusal_among(alloc, text, tokens)?;
-            Ok(refused(of_unit(alloc, text, tokens, unit, refusal)?))
-        }
+        Err(fault) => Ok(refused(of_unit(alloc, text, tokens, unit, fault)?)),
     }
 }
 

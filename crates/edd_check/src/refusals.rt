@@ -164,8 +164,9 @@ pub fn of_unit(
     text: &[u8],
     tokens: &[Token],
     unit: &Unit,
-    refusal: String,
+    fault: Fault,
 ) -> Result<Reports, AllocError> {
+    let refusal = fault.refusal_among(alloc, text, tokens)?;
     let mut reports = Reports::new(alloc);
     let source = Source::of(alloc, text, tokens)?;
     let found = breaches(alloc, &unit.items)?;
@@ -174,7 +175,13 @@ pub fn of_unit(
 }
 
 /// What is said of a description that has too many strings.
-pub fn of_strings(alloc: Global, refusal: String) -> Result<Reports, AllocError> {
+pub fn of_strings(
+    alloc: Global,
+    text: &[u8],
+    tokens: &[Token],
+    fault: Fault,
+) -> Result<Reports, AllocError> {
+    let refusal = fault.refusal_among(alloc, text, tokens)?;
     let mut reports = Reports::new(alloc);
     reports.show(of_limit(alloc, refusal)?)?;
     Ok(reports)
