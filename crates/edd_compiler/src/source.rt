@@ -1,4 +1,4 @@
-//! The description of a text, step by step: its tokens, the unit that they spell, and what is checked.
+//! The description of a text, step by step: its tokens, the unit they spell, what is checked.
 
 ghost use Rattle.std.specs.Prelude.{◌≡◌, ℕ, List, IfOk, IfErr, MatchResult, map};
 ghost use Rattle.edd_syntax.specs.ItemView.{identification_of, numbered_items};
