@@ -31,6 +31,7 @@ unused_variables = "allow"
 PROFILES = """[profile.release]
 overflow-checks = true
 panic = "abort"
+lto = "thin"
 
 [profile.small]
 inherits = "release"
@@ -41,6 +42,7 @@ lto = true
 [profile.checked]
 inherits = "release"
 panic = "unwind"
+lto = false
 opt-level = 1
 debug-assertions = true
 
