@@ -1,5 +1,5 @@
 -- Where each row of a transaction follows that of the position before, no position is left out.
-use Rattle.std.proofs.Common.{◌≡◌, ℕ, suc, ◌+◌, ◌-◌, ◌*◌, ◌<◌, ◌≤◌, Bool, true, false, not, ◌&&◌, ◌||◌, ◌==◌, eqb, nat_lt, List, [], ◌∷◌, length, refl, sym, ap, ◌∙◌, arith, inl, inr}
+use Rattle.std.proofs.Common.{◌≡◌, ℕ, ◌+◌, ◌-◌, ◌<◌, ◌≤◌, Bool, true, false, not, ◌&&◌, ◌==◌, nat_lt, List, [], ◌∷◌, refl, ap, ◌∙◌, arith, inl, inr}
 use Rattle.std.specs.Prelude.{is_none, find}
 use Rattle.std.proofs.lemmas.Bool.{and_parts, eqb-true, eq-eqb, cases_Bool}
 use Rattle.std.proofs.lemmas.Bool.Decides.{nat_tests}
@@ -8,12 +8,11 @@ use Rattle.edd_syntax.specs.declared.numbers.Attr.{Attr}
 use Rattle.edd_syntax.specs.declared.numbers.Attr.TheVariants as attr
 use Rattle.edd_syntax.specs.Attributes.{is_of_transaction}
 use Rattle.edd_syntax.specs.Numbers.{attr_number, kind_number, kind_of, index_of}
-use Rattle.edd_image.specs.Contents.{AttributeFields, Contents, attribute_fields, contents_in, rows_from}
+use Rattle.edd_image.specs.Contents.{AttributeFields, attribute_fields, contents_in, rows_from}
 use Rattle.edd_image.specs.Fields.{attribute_count, attribute_rows_start}
-use Rattle.edd_instructions.specs.Reading.{is_row_of, row_of}
+use Rattle.edd_instructions.specs.Reading.{is_row_of}
 use Rattle.edd_display.specs.declared.gaps.RowKey.{RowKey}
 use Rattle.edd_display.specs.Gaps.{HasNoGap, all_follow, follows, key_of, no_row}
-use Rattle.edd_display.specs.Shown.{row_at}
 
 -- the numbers of a row past position 0, of a transaction
 same_numbers : (before row : RowKey) → follows before row ≡ true → 15 ≤ row.attribute

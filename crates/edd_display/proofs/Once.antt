@@ -1,5 +1,5 @@
 -- No entry of an image stands twice: they differ in kind, item, attribute or position.
-use Rattle.std.proofs.Common.{◌≡◌, ◌≢◌, ℕ, zero, suc, ◌+◌, ◌<◌, ◌≤◌, Bool, true, false, List, [], ◌∷◌, ◌++◌, map, refl, sym, ap, subst, ◌∙◌, arith, inl, inr, if◌then◌else◌}
+use Rattle.std.proofs.Common.{◌≡◌, ◌≢◌, ℕ, zero, suc, ◌+◌, ◌≤◌, Bool, true, false, List, [], ◌∷◌, ◌++◌, map, refl, sym, ap, arith, inl, inr, if◌then◌else◌}
 use Rattle.std.specs.Prelude.{⊤, ◌||◌}
 use Rattle.std.proofs.lemmas.Bool.{cases_Bool, eqb-true}
 use Rattle.std.specs.List.{AllByRecursion, filter, flat_map, range_with_len}
@@ -12,7 +12,7 @@ use Rattle.edd_syntax.specs.Numbers.{attr_number, has_attr, index_of, item_numbe
 use Rattle.edd_syntax.specs.Attributes.{is_of_transaction}
 use Rattle.edd_image.specs.Contents.{Contents}
 use Rattle.edd_instructions.specs.Agreement.{count_in}
-use Rattle.edd_display.specs.Shown.{AreOnce, Entry, Identification, Head, Row, attribute_entries, attributes, entries_at, entries_of, has_transaction, item_entries, kind_entries, kinds, positions_of, row_at, transaction_entries}
+use Rattle.edd_display.specs.Shown.{AreOnce, Entry, Identification, Head, Row, attribute_entries, attributes, entries_of, has_transaction, item_entries, kind_entries, kinds, positions_of, row_at, transaction_entries}
 
 -- ---- numbers that rise
 

@@ -1,6 +1,6 @@
 -- The positions of transactions, one after the other.
-use Rattle.std.proofs.Common.{◌≡◌, ℕ, zero, suc, ◌+◌, ◌-◌, ◌<◌, ◌≤◌, ℤ, Bool, true, false, not, ◌||◌, List, [], ◌∷◌, ◌++◌, Option, Some, None, Result, Ok, Err, refl, sym, ap, ◌∙◌, arith, inl, inr, subst, true≢false, append-nil, if◌then◌else◌}
-use Rattle.std.specs.Prelude.{is_none, option_map}
+use Rattle.std.proofs.Common.{◌≡◌, ℕ, zero, suc, ◌+◌, ◌-◌, ◌<◌, ℤ, Bool, true, false, not, ◌||◌, List, [], ◌∷◌, ◌++◌, Option, Some, None, Result, Ok, Err, refl, sym, ap, ◌∙◌, arith, inl, inr, subst, true≢false, append-nil, if◌then◌else◌}
+use Rattle.std.specs.Prelude.{option_map}
 use Rattle.std.proofs.lemmas.Bool.{cases_Bool}
 use Rattle.std.proofs.lemmas.List.Concat.{flat_map-append}
 use Rattle.std.proofs.lemmas.List.Elements.{filter-append}
@@ -15,7 +15,7 @@ use Rattle.edd_syntax.specs.Numbers.{has_attr, kind_of}
 use Rattle.edd_image.specs.Existing.{item_exists}
 use Rattle.edd_image.specs.Contents.{AttributeFields, Contents, contents_in}
 use Rattle.edd_instructions.specs.declared.records.Record.{Record}
-use Rattle.edd_instructions.specs.Reading.{Reading, NoItem, Records, Fault, IsReading, default_records, environment_of, given_within, is_no_item, opening_of, reading_of, row_of}
+use Rattle.edd_instructions.specs.Reading.{Reading, NoItem, Records, IsReading, default_records, environment_of, given_within, is_no_item, opening_of, reading_of, row_of}
 use Rattle.edd_display.specs.Gaps.{HasNoGap}
 use Rattle.edd_display.specs.Shown.{Prints, Row, has_transaction, is_absent, positions_of, reading_line, row_at, transaction_entries}
 use Rattle.edd_display.proofs.Printing.{flat_map_one, prints_join, prints_row, range_more}

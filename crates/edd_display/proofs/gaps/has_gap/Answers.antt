@@ -1,9 +1,7 @@
-use Rattle.std.proofs.Common.{◌≡◌, ◌∙◌, sym, ap, arith}
-use Rattle.edd_image.specs.Contents.{attribute_fields, rows_from}
-use Rattle.edd_image.specs.Fields.{attribute_count, attribute_rows_start}
+use Rattle.std.proofs.Common.{◌∙◌, sym, ap}
+use Rattle.edd_image.specs.Fields.{attribute_count}
 use Rattle.edd_loader.proofs.Spaces.{rooms}
 use Rattle.edd_loader.proofs.RuleOrder.{has_header, valid_sections}
-use Rattle.edd_display.specs.Gaps.{all_follow, no_row}
 use Rattle.edd_display.proofs.Following.{no_gap, not_false}
 use Rattle.edd_display.proofs.gaps.has_gap.Goals as goal
 

@@ -1,4 +1,4 @@
-use Rattle.std.proofs.Common.{◌≡◌, ◌∙◌, sym, ap, arith}
+use Rattle.std.proofs.Common.{◌∙◌, sym, ap, arith}
 use Rattle.edd_image.specs.Contents.{attribute_fields}
 use Rattle.edd_loader.proofs.RowTurns.{no_row, row_at}
 use Rattle.edd_display.specs.Gaps.{follows}
