@@ -27,6 +27,42 @@ fn loaded<'a, 'b>(alloc: Global, name: &'a str, bytes: &'b [u8]) -> Result<Image
     }
 }
 
+// Prints what differs between two images.
+fn print_differences<'a, W: Write>(
+    alloc: Global,
+    old: &Image<'_>,
+    new: &Image<'_>,
+    form: Form,
+    out: &mut W,
+) -> Result<(), Stop<'a>> {
+    let found = differences(alloc, old, new)?;
+    match form {
+        Form::Json => print_objects(alloc, &found, out)?,
+        Form::Text | Form::Sarif => print_lines(alloc, &found, out)?,
+    }
+    if found.is_empty() {
+        Ok(())
+    } else {
+        Err(Stop::Shown)
+    }
+}
+
+// The same of two sources or images, each with its name.
+fn diff_bytes<'a, W: Write>(
+    alloc: Global,
+    old: (&'a str, Vec<u8>),
+    new: (&'a str, Vec<u8>),
+    form: Form,
+    out: &mut W,
+) -> Result<(), Stop<'a>> {
+    let (old_name, new_name) = (old.0, new.0);
+    let old_bytes = image_bytes(alloc, old_name, old.1)?;
+    let new_bytes = image_bytes(alloc, new_name, new.1)?;
+    let old_image = loaded(alloc, old_name, &old_bytes)?;
+    let new_image = loaded(alloc, new_name, &new_bytes)?;
+    print_differences(alloc, &old_image, &new_image, form, out)
+}
+
 /// Prints what differs between two sources or images.
 pub fn diff_files<'a, F: Files, W: Write>(
     alloc: Global,
@@ -40,18 +76,5 @@ pub fn diff_files<'a, F: Files, W: Write>(
 {
     let old_bytes = read(alloc, files, old)?;
     let new_bytes = read(alloc, files, new)?;
-    let old_bytes = image_bytes(alloc, old, old_bytes)?;
-    let new_bytes = image_bytes(alloc, new, new_bytes)?;
-    let old_image = loaded(alloc, old, &old_bytes)?;
-    let new_image = loaded(alloc, new, &new_bytes)?;
-    let found = differences(alloc, &old_image, &new_image)?;
-    match form {
-        Form::Json => print_objects(alloc, &found, out)?,
-        Form::Text | Form::Sarif => print_lines(alloc, &found, out)?,
-    }
-    if found.is_empty() {
-        Ok(())
-    } else {
-        Err(Stop::Shown)
-    }
+    diff_bytes(alloc, (old, old_bytes), (new, new_bytes), form, out)
 }

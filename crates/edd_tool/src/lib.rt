@@ -19,6 +19,7 @@ mod requests;
 mod running;
 mod serving;
 mod system;
+mod taking;
 mod testing;
 
 pub use edd_compiler::{Fault, compile};

@@ -4,12 +4,10 @@ ghost use Rattle.std.specs.Prelude.{IsTrue, map, option_map, string_bytes};
 ghost use Rattle.edd_files.specs.Saves.{IsRecord, NameRecord, SavesEach, Saving};
 
 use crate::devices::compiled;
-use crate::running::read_device;
+use crate::taking::{Taken, take};
 use edd_command_line::{Opening, RawTerminal};
 use edd_device::Device;
-use edd_files::{
-    FileFault, Files, INPUT, Stop, compile_text, name_record, of_file, read, read_script,
-};
+use edd_files::{FileFault, Files, INPUT, Stop, compile_text, name_record, of_file};
 use edd_loader::{Image, load};
 use edd_machine::ValuesFault;
 use edd_panel::{Panel, start_values};
@@ -33,14 +31,6 @@ pub struct Manner<'l> {
 /// Whether a file holds an image or what was one, and no source.
 pub fn is_image(bytes: &[u8]) -> bool {
     bytes.starts_with(MAGIC)
-}
-
-// The image in the bytes of a file: of a source what it is compiled to.
-fn image_of<'a>(alloc: Global, bytes: Vec<u8>) -> Result<Vec<u8>, Stop<'a>> {
-    if is_image(&bytes) {
-        return Ok(bytes);
-    }
-    compile_text(alloc, &bytes)
 }
 
 // Talks about an image up to the end, and gives what was set and answered as a script.
@@ -100,21 +90,40 @@ fn talk_with_device<'a, R: Read + Drop, W: Write>(
 pub fn open_bytes<'a, R: Read + Drop, W: Write>(
     alloc: Global,
     bytes: &[u8],
-    device: Option<(&'a str, Vec<u8>)>,
-    script: &[u8],
+    taken: &Taken<'a>,
     manner: Manner<'_>,
     input: R,
     out: &mut W,
 ) -> Result<String, Stop<'a>> {
     let image = load(alloc, bytes)?;
-    match device {
+    let script = taken.script.as_slice();
+    match taken.device() {
         Some((name, text)) => {
-            let device_bytes = compiled(alloc, name, &text)?;
+            let device_bytes = compiled(alloc, name, text)?;
             let device = load(alloc, &device_bytes)?;
             talk_with_device(alloc, &image, &device, manner, script, input, out)
         }
         None => talk(alloc, &image, None, manner, script, input, out),
     }
+}
+
+// The same of a source or an image.
+fn open_taken<'a, R: Read + Drop, W: Write>(
+    alloc: Global,
+    taken: &Taken<'a>,
+    opening: Opening<'a>,
+    input: R,
+    out: &mut W,
+) -> Result<String, Stop<'a>> {
+    let manner = Manner {
+        language: opening.language,
+        keys: opening.keys,
+    };
+    if is_image(&taken.description) {
+        return open_bytes(alloc, &taken.description, taken, manner, input, out);
+    }
+    let bytes = compile_text(alloc, &taken.description)?;
+    open_bytes(alloc, &bytes, taken, manner, input, out)
 }
 
 // Saves what was set and answered, where that is to be kept.
@@ -147,16 +156,9 @@ fn open<'a, F: Files, W: Write>(
     ensures saves { SavesEach (IsRecord (option_map (λ name. name.now) opening.entry.record_file))
         (F.account files.old) (F.account files.new) }
 {
-    let bytes = read(alloc, files, opening.file)?;
-    let device = read_device(alloc, files, opening.device)?;
-    let script = read_script(alloc, files, opening.script)?;
+    let taken = take(alloc, opening.file, opening.device, opening.script, files)?;
     let input = files.open(INPUT).map_err(|fault| of_file(INPUT, fault))?;
-    let bytes = image_of(alloc, bytes)?;
-    let manner = Manner {
-        language: opening.language,
-        keys: opening.keys,
-    };
-    let noted = open_bytes(alloc, &bytes, device, &script, manner, input, out)?;
+    let noted = open_taken(alloc, &taken, opening, input, out)?;
     save_record(opening.record_file, &noted, files)
 }
 

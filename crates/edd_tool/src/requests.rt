@@ -13,15 +13,17 @@ use crate::opening::open_named;
 use crate::reasons::{reason_of, told};
 use crate::running::{play_file, try_source};
 use crate::serving::serve;
+use crate::taking::take;
 use crate::testing::test_named;
 use crate::{COMMAND_LINE, DONE, FILE, MEMORY, REFUSED};
 use edd_command_line::{Request, Showing};
 use edd_display::{ShowFault, print, print_text, show};
 use edd_dump::dump;
-use edd_files::{FileFault, Files, Stop, read, read_script};
+use edd_files::{FileFault, Files, Stop, read};
 use edd_loader::{Image, load};
 use edd_machine::Values;
 use std::alloc::Global;
+use std::fmt::Display;
 use std::io::Write;
 
 fn show_under<'a, W: Write>(
@@ -63,11 +65,11 @@ fn view<'a, F: Files, W: Write>(
         language,
         is_explained,
     } = showing;
-    let text = read(alloc, files, file)?;
-    let script = read_script(alloc, files, name)?;
-    let bytes = image_of_source(alloc, file, &text, is_explained, files, out)?;
-    let answer = show_bytes(alloc, &bytes, &script, language, out);
-    with_script_shown(alloc, answer, &bytes, (name, &script), is_explained, out)
+    let taken = take(alloc, file, None, name, files)?;
+    let (text, script) = (taken.description.as_slice(), taken.script.as_slice());
+    let bytes = image_of_source(alloc, file, text, is_explained, files, out)?;
+    let answer = show_bytes(alloc, &bytes, script, language, out);
+    with_script_shown(alloc, answer, &bytes, (name, script), is_explained, out)
 }
 
 fn show_file<'a, F: Files, W: Write>(
@@ -84,11 +86,11 @@ fn show_file<'a, F: Files, W: Write>(
         language,
         is_explained,
     } = showing;
-    let bytes = read(alloc, files, file)?;
-    let script = read_script(alloc, files, name)?;
-    let answer = show_bytes(alloc, &bytes, &script, language, out);
-    let answer = with_command_named(alloc, answer, file, &bytes, Instead::View, out);
-    with_script_shown(alloc, answer, &bytes, (name, &script), is_explained, out)
+    let taken = take(alloc, file, None, name, files)?;
+    let (bytes, script) = (taken.description.as_slice(), taken.script.as_slice());
+    let answer = show_bytes(alloc, bytes, script, language, out);
+    let answer = with_command_named(alloc, answer, file, bytes, Instead::View, out);
+    with_script_shown(alloc, answer, bytes, (name, script), is_explained, out)
 }
 
 fn dump_file<'a, F: Files, W: Write>(
@@ -155,46 +157,75 @@ pub fn answer<'a, F: Files, W: Write>(
     }
 }
 
+// Prints that something is refused.
+fn refused<W: Write, T: Display>(alloc: Global, fault: &T, out: &mut W) -> Result<(), ShowFault> {
+    print(alloc, out, format_args!("refused {fault}"))
+}
+
+// Prints that a source or an image is refused, one of several.
+fn refused_of<W: Write, T: Display>(
+    alloc: Global,
+    name: &str,
+    fault: &T,
+    out: &mut W,
+) -> Result<(), ShowFault> {
+    print(alloc, out, format_args!("refused {fault} of {name}"))
+}
+
+// Prints that a file could not be read or written.
+fn no_file<W: Write>(alloc: Global, name: &str, out: &mut W) -> Result<(), ShowFault> {
+    print(alloc, out, format_args!("file {name}"))
+}
+
+// The same with the reason.
+fn no_file_and_why<W: Write>(
+    alloc: Global,
+    name: &str,
+    fault: FileFault,
+    out: &mut W,
+) -> Result<(), ShowFault> {
+    no_file(alloc, name, out)?;
+    print(alloc, out, reason_of(fault))
+}
+
+// Prints that no refusal has a number or a name.
+fn no_refusal<W: Write>(alloc: Global, what: &str, out: &mut W) -> Result<(), ShowFault> {
+    let kind = match what.parse::<u32>() {
+        Ok(_) => "number",
+        Err(_) => "name",
+    };
+    print(
+        alloc,
+        out,
+        format_args!("error: nothing is refused with the {kind} {what}"),
+    )
+}
+
+// Prints that no lint has a name.
+fn no_lint<W: Write>(alloc: Global, name: &str, out: &mut W) -> Result<(), ShowFault> {
+    let mut line = format!(in alloc; "error: no lint has the name {name}: the lints are")?;
+    push_lints(&mut line)?;
+    print(alloc, out, line.as_str())
+}
+
 /// Prints why the program stops.
 pub fn report<W: Write>(alloc: Global, stop: &Stop<'_>, out: &mut W) -> Result<(), ShowFault> {
     match stop {
         Stop::Help(text) | Stop::CommandLine(text) => print_text(out, text),
         Stop::Shown => Ok(()),
-        Stop::File(name, _) => print(alloc, out, format_args!("file {name}")),
-        Stop::FileAndWhy(name, fault) => {
-            let why = reason_of(*fault);
-            print(alloc, out, format_args!("file {name}\n{why}"))
-        }
-        Stop::Named(name) => print(alloc, out, format_args!("file {name}")),
-        Stop::NotCompiled(fault) => print(alloc, out, format_args!("refused {fault}")),
-        Stop::NotLoaded(fault) => print(alloc, out, format_args!("refused {fault}")),
-        Stop::Script(fault) => print(alloc, out, format_args!("refused {fault}")),
-        Stop::Values(fault) => print(alloc, out, format_args!("refused {fault}")),
-        Stop::NoMethod(name) => print(alloc, out, format_args!("refused 301 NO_METHOD {name}")),
-        Stop::Play(fault) => print(alloc, out, format_args!("refused {fault}")),
-        Stop::NoSource(name, fault) => {
-            print(alloc, out, format_args!("refused {fault} of {name}"))
-        }
-        Stop::NoImage(name, fault) => {
-            print(alloc, out, format_args!("refused {fault} of {name}"))
-        }
-        Stop::Device(fault) => print(alloc, out, format_args!("refused {fault}")),
-        Stop::NoRefusal(what) => {
-            let kind = match what.parse::<u32>() {
-                Ok(_) => "number",
-                Err(_) => "name",
-            };
-            print(
-                alloc,
-                out,
-                format_args!("error: nothing is refused with the {kind} {what}"),
-            )
-        }
-        Stop::NoLint(name) => {
-            let mut line = format!(in alloc; "error: no lint has the name {name}: the lints are")?;
-            push_lints(&mut line)?;
-            print(alloc, out, line.as_str())
-        }
+        Stop::File(name, _) => no_file(alloc, *name, out),
+        Stop::FileAndWhy(name, fault) => no_file_and_why(alloc, *name, *fault, out),
+        Stop::Named(name) => no_file(alloc, name, out),
+        Stop::NotCompiled(fault) | Stop::Device(fault) => refused(alloc, fault, out),
+        Stop::NotLoaded(fault) => refused(alloc, fault, out),
+        Stop::Script(fault) => refused(alloc, fault, out),
+        Stop::Values(fault) => refused(alloc, fault, out),
+        Stop::Play(fault) => refused(alloc, fault, out),
+        Stop::NoMethod(name) => { print(alloc, out, format_args!("refused 301 NO_METHOD {name}")) }
+        Stop::NoSource(name, fault) => refused_of(alloc, *name, fault, out),
+        Stop::NoImage(name, fault) => refused_of(alloc, *name, fault, out),
+        Stop::NoRefusal(what) => no_refusal(alloc, *what, out),
+        Stop::NoLint(name) => no_lint(alloc, *name, out),
         Stop::Output => Err(ShowFault::Output),
         Stop::Memory => Err(ShowFault::Memory),
     }

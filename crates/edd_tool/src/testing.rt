@@ -7,7 +7,8 @@ ghost use Rattle.edd_files.specs.Saves.{Account, IsNamedUpdate, IsRead, IsUpdate
 
 use crate::opening::{Manner, open_bytes};
 use crate::requests::{report, show_bytes};
-use crate::running::{lent, run_method};
+use crate::running::run_method;
+use crate::taking::Taken;
 use edd_cases::{
     Case, Description, Ended, Form, Kind, Misread, Printed, Tally, TestFault, Tests, beside,
     compare, ending_of, push_as_it_is, push_case, read_tests, refusal_in,
@@ -63,19 +64,79 @@ fn device_of<'a, F: Files>(
     }
 }
 
-// The image in the bytes of a file: of a source what it is compiled to.
-fn image_of<'a>(
+// Reads what a test takes.
+fn take_case<'a, F: Files>(
     alloc: Global,
-    description: Description<'a>,
-    bytes: Vec<u8>,
-) -> Result<Vec<u8>, Stop<'a>> {
-    match description {
-        Description::Source(_) => compile_text(alloc, &bytes),
-        Description::Image(_) => Ok(bytes),
+    given: Given<'_>,
+    case: &Case<'a>,
+    files: &mut F,
+) -> Result<Taken<'a>, Stop<'a>>
+    ensures kept { F.account files.new ≡ F.account files.old }
+{
+    let description = read_beside(alloc, given, case.description.name(), files)?;
+    let device = device_of(alloc, given, case, files)?;
+    let script = case.script(alloc)?;
+    Ok(Taken {
+        description,
+        device,
+        script: script.into_bytes(),
+    })
+}
+
+// Runs a method of an image.
+fn run_method_of<'a>(
+    alloc: Global,
+    image: &[u8],
+    method: &'a str,
+    case: &Case<'a>,
+    taken: &Taken<'a>,
+    out: &mut Printed,
+) -> Result<(), Stop<'a>> {
+    let run = Run {
+        method,
+        device: None,
+        script: None,
+        language: case.language,
+        steps: case.steps,
+        is_explained: false,
+    };
+    run_method(alloc, image, taken, run, out)
+}
+
+// Opens an image.
+fn open_image<'a>(
+    alloc: Global,
+    image: &[u8],
+    case: &Case<'a>,
+    taken: &Taken<'a>,
+    out: &mut Printed,
+) -> Result<(), Stop<'a>> {
+    let typed = case.typed(alloc)?;
+    let input = typed.as_bytes();
+    let manner = Manner {
+        language: case.language,
+        keys: None,
+    };
+    open_bytes(alloc, image, taken, manner, input, out)?;
+    Ok(())
+}
+
+// Does with an image what a test says, as the commands `play`, `show` or `open` would.
+fn run_image<'a>(
+    alloc: Global,
+    image: &[u8],
+    case: &Case<'a>,
+    taken: &Taken<'a>,
+    out: &mut Printed,
+) -> Result<(), Stop<'a>> {
+    match case.kind {
+        Kind::Method(method) => run_method_of(alloc, image, method, case, taken, out),
+        Kind::Show => show_bytes(alloc, image, &taken.script, case.language, out),
+        Kind::Open => open_image(alloc, image, case, taken, out),
     }
 }
 
-// Runs a test as the commands `try` and `play`, `view` and `show`, or `open` would.
+// Runs a test. A source is compiled first.
 fn run_case<'a, F: Files>(
     alloc: Global,
     given: Given<'_>,
@@ -85,34 +146,12 @@ fn run_case<'a, F: Files>(
 ) -> Result<(), Stop<'a>>
     ensures kept { F.account files.new ≡ F.account files.old }
 {
-    let bytes = read_beside(alloc, given, case.description.name(), files)?;
-    let device = device_of(alloc, given, case, files)?;
-    let lines = case.script(alloc)?;
-    let script = lines.as_bytes();
-    let image = image_of(alloc, case.description, bytes)?;
-    match case.kind {
-        Kind::Method(method) => {
-            let run = Run {
-                method,
-                device: None,
-                script: None,
-                language: case.language,
-                steps: case.steps,
-                is_explained: false,
-            };
-            let given = lent(&device);
-            run_method(alloc, &image, given, script, run, out)
-        }
-        Kind::Show => show_bytes(alloc, &image, script, case.language, out),
-        Kind::Open => {
-            let typed = case.typed(alloc)?;
-            let input = typed.as_bytes();
-            let manner = Manner {
-                language: case.language,
-                keys: None,
-            };
-            open_bytes(alloc, &image, device, script, manner, input, out)?;
-            Ok(())
+    let taken = take_case(alloc, given, case, files)?;
+    match case.description {
+        Description::Image(_) => run_image(alloc, &taken.description, case, &taken, out),
+        Description::Source(_) => {
+            let image = compile_text(alloc, &taken.description)?;
+            run_image(alloc, &image, case, &taken, out)
         }
     }
 }
