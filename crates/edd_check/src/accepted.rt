@@ -1,10 +1,13 @@
-//! What is said of a text that is accepted.
+//! What is said of a text that is accepted: warnings alone.
+
+ghost use Rattle.std.specs.Prelude.{[], IfOk, OnOk};
+ghost use Rattle.edd_check.specs.Said.{IsWarning, WarnsAlone};
 
 use crate::choices::{Choices, Level};
 use crate::remarks::Remarks;
 use crate::reports::Reports;
 use edd_lexer::token::Token;
-use edd_reports::diagnostic::{Diagnostic, Finding};
+use edd_reports::diagnostic::{Diagnostic, Finding, Help};
 use edd_reports::words::{Span, span_of, tokens_before, word_of};
 use edd_syntax::checked::Checked;
 use edd_warnings::{Warning, warnings};
@@ -45,27 +48,45 @@ fn place_of(
     tokens.get(first).map(span_of)
 }
 
+// The other place of a warning as a help, if it has one.
+fn helps_of(
+    alloc: Global,
+    text: &[u8],
+    tokens: &[Token],
+    warning: &Warning,
+) -> Result<Vec<Help>, AllocError> {
+    let mut helps = Vec::new(alloc);
+    if let Some(other) = &warning.other {
+        let place = place_of(text, tokens, other.line, &other.word, other.start);
+        let text = String::from_str(alloc, "the other place is")?;
+        helps.push(Help { place, text })?;
+    }
+    Ok(helps)
+}
+
 fn diagnostic(
     alloc: Global,
     text: &[u8],
     tokens: &[Token],
     warning: &Warning,
     is_denied: bool,
-) -> Result<Diagnostic, AllocError> {
+) -> Result<Diagnostic, AllocError>
+    ensures { IfOk result (λ d. IsWarning d.finding) }
+{
+    let helps = helps_of(alloc, text, tokens, warning)?;
     let finding = Finding::Warned {
         lint: warning.lint.name(),
         message: warning.message.clone()?,
         is_denied,
     };
-    let mut found = Diagnostic::new(alloc, finding);
-    found.place = place_of(text, tokens, warning.line, &warning.word, warning.start);
-    if let Some(other) = &warning.other {
-        let place = place_of(text, tokens, other.line, &other.word, other.start);
-        found.help_at(place, String::from_str(alloc, "the other place is")?)?;
-    }
-    Ok(found)
+    Ok(Diagnostic {
+        place: place_of(text, tokens, warning.line, &warning.word, warning.start),
+        finding,
+        helps,
+    })
 }
 
+#[tactic(auto, using(crate::proofs::SaidLaws::warns_still))]
 fn show_warning(
     alloc: Global,
     text: &[u8],
@@ -73,7 +94,10 @@ fn show_warning(
     warning: &Warning,
     level: Level,
     reports: &mut Reports,
-) -> Result<(), AllocError> {
+) -> Result<(), AllocError>
+    requires { WarnsAlone reports.old.shown.items }
+    ensures { OnOk result (WarnsAlone reports.new.shown.items) }
+{
     let is_denied = level == Level::Deny;
     reports.is_denied = reports.is_denied || is_denied;
     if reports.has_room() {
@@ -91,7 +115,10 @@ fn show_warnings(
     found: &[Warning],
     choices: &Choices,
     reports: &mut Reports,
-) -> Result<(), AllocError> {
+) -> Result<(), AllocError>
+    requires { WarnsAlone reports.old.shown.items }
+    ensures { OnOk result (WarnsAlone reports.new.shown.items) }
+{
     let remarks = Remarks::of(alloc, text, tokens)?;
     for warning in found {
         let level = choices.level(warning.lint);
@@ -103,13 +130,16 @@ fn show_warnings(
 }
 
 /// What is said of a text that is accepted: these are its tokens and its description.
+#[tactic(auto, using(crate::proofs::SaidLaws::warns_none))]
 pub fn of_text(
     alloc: Global,
     text: &[u8],
     tokens: &[Token],
     checked: &Checked,
     choices: &Choices,
-) -> Result<Reports, AllocError> {
+) -> Result<Reports, AllocError>
+    ensures { IfOk result (λ said. WarnsAlone said.shown.items) }
+{
     let mut reports = Reports::new(alloc);
     let found = warnings(alloc, text, tokens, checked)?;
     if !found.is_empty() {

@@ -8,10 +8,11 @@ ghost use Rattle.edd_code.specs.Units.{description_of};
 ghost use Rattle.edd_compiler.specs.Faults.{HasFault};
 ghost use Rattle.edd_compiler.specs.Images.{HasImage};
 ghost use Rattle.edd_compiler.specs.Sources.{IsUnitOf, IsDescriptionOf};
+ghost use Rattle.edd_check.specs.Said.{Refuses, WarnsAlone};
 
 use crate::accepted::of_text;
 use crate::choices::Choices;
-use crate::refusals::{of_strings, of_unit, of_words};
+use crate::refusals::{of_excess, of_unit, of_words};
 use crate::reports::Reports;
 use edd_compiler::{Fault, checked_from, image_from, tokens_of, unit_from};
 use edd_lexer::token::Token;
@@ -20,7 +21,8 @@ use edd_syntax::unit::Unit;
 use std::alloc::{AllocError, Global};
 
 fn accepted(said: Reports) -> Reports
-    ensures { result.is_refused ≡ false }
+    ensures accepted { result.is_refused ≡ false }
+    ensures kept { result.shown.items ≡ said.shown.items }
 {
     let mut made = said;
     made.is_refused = false;
@@ -28,7 +30,8 @@ fn accepted(said: Reports) -> Reports
 }
 
 fn refused(said: Reports) -> Reports
-    ensures { result.is_refused ≡ true }
+    ensures refused { result.is_refused ≡ true }
+    ensures kept { result.shown.items ≡ said.shown.items }
 {
     let mut made = said;
     made.is_refused = true;
@@ -46,11 +49,16 @@ fn of_description(
     requires { IsDescriptionOf text.now (description_of checked.now) }
     ensures accepted { IfOk result (λ said. said.is_refused ≡ false → HasImage text.now) }
     ensures refused { IfOk result (λ said. said.is_refused ≡ true → HasFault text.now) }
+    ensures first { IfOk result (λ said. said.is_refused ≡ true → Refuses said.shown.items) }
+    ensures alone { IfOk result (λ said. said.is_refused ≡ false → WarnsAlone said.shown.items) }
 {
     match image_from(alloc, checked) {
         Ok(_image) => Ok(accepted(of_text(alloc, text, tokens, checked, choices)?)),
         Err(Fault::Memory) => Err(AllocError),
-        Err(fault) => Ok(refused(of_strings(alloc, text, tokens, fault)?)),
+        Err(fault) => {
+            let refusal = fault.refusal_among(alloc, text, tokens)?;
+            Ok(refused(of_excess(alloc, refusal)?))
+        }
     }
 }
 
@@ -65,11 +73,16 @@ fn of_whole(
     requires { IsUnitOf text.now (unit_view unit.now) }
     ensures accepted { IfOk result (λ said. said.is_refused ≡ false → HasImage text.now) }
     ensures refused { IfOk result (λ said. said.is_refused ≡ true → HasFault text.now) }
+    ensures first { IfOk result (λ said. said.is_refused ≡ true → Refuses said.shown.items) }
+    ensures alone { IfOk result (λ said. said.is_refused ≡ false → WarnsAlone said.shown.items) }
 {
     match checked_from(alloc, unit) {
         Ok(checked) => of_description(alloc, text, tokens, &checked, choices),
         Err(Fault::Memory) => Err(AllocError),
-        Err(fault) => Ok(refused(of_unit(alloc, text, tokens, unit, fault)?)),
+        Err(fault) => {
+            let refusal = fault.refusal_among(alloc, text, tokens)?;
+            Ok(refused(of_unit(alloc, text, tokens, unit, refusal)?))
+        }
     }
 }
 
@@ -83,6 +96,8 @@ fn of_tokens(
     requires { AreTokens text.now (map (lexeme_of text.now) tokens.now) }
     ensures accepted { IfOk result (λ said. said.is_refused ≡ false → HasImage text.now) }
     ensures refused { IfOk result (λ said. said.is_refused ≡ true → HasFault text.now) }
+    ensures first { IfOk result (λ said. said.is_refused ≡ true → Refuses said.shown.items) }
+    ensures alone { IfOk result (λ said. said.is_refused ≡ false → WarnsAlone said.shown.items) }
 {
     match unit_from(alloc, text, tokens) {
         Ok(unit) => of_whole(alloc, text, tokens, &unit, choices),
@@ -98,6 +113,8 @@ fn of_tokens(
 pub fn diagnose(alloc: Global, text: &[u8], choices: &Choices) -> Result<Reports, AllocError>
     ensures accepted { IfOk result (λ said. said.is_refused ≡ false → HasImage text.now) }
     ensures refused { IfOk result (λ said. said.is_refused ≡ true → HasFault text.now) }
+    ensures first { IfOk result (λ said. said.is_refused ≡ true → Refuses said.shown.items) }
+    ensures alone { IfOk result (λ said. said.is_refused ≡ false → WarnsAlone said.shown.items) }
 {
     match tokens_of(alloc, text) {
         Ok(tokens) => of_tokens(alloc, text, &tokens, choices),

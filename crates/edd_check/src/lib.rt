@@ -1,9 +1,10 @@
 //! Why a text is refused, at each place, with what helps, and what is surely not meant in one that
 //! is accepted.
 //!
-//! Whether a text is refused is what the compiler says, and its refusal is the first. Of places,
-//! helps, further faults and warnings nothing is proved but that they are found safely and in
-//! bounded time.
+//! Proved is that a text is refused exactly where the compiler refuses it, that the compiler's
+//! refusal is said first, and that of a text that is accepted nothing but warnings is said. Of
+//! places, helps, further faults and warnings nothing is proved but that they are found safely and
+//! in bounded time.
 #![tactic(auto)]
 
 ghost use Rattle.std.specs.Prelude.{◌≡◌, false, IfOk};

@@ -3,6 +3,7 @@
 ghost use Rattle.std.specs.Prelude.{◌≡◌, false, true, IfOk};
 ghost use Rattle.edd_compiler.specs.Faults.{HasFault};
 ghost use Rattle.edd_compiler.specs.Images.{HasImage};
+ghost use Rattle.edd_check.specs.Said.{Refuses, WarnsAlone};
 
 use crate::choices::Choices;
 use crate::diagnose;
@@ -42,6 +43,10 @@ impl<'a> Look<'a> {
             (λ look. look.reports.is_refused ≡ false → HasImage text.now) }
         ensures refused { IfOk result
             (λ look. look.reports.is_refused ≡ true → HasFault text.now) }
+        ensures first { IfOk result
+            (λ look. look.reports.is_refused ≡ true → Refuses look.reports.shown.items) }
+        ensures alone { IfOk result
+            (λ look. look.reports.is_refused ≡ false → WarnsAlone look.reports.shown.items) }
     {
         Look::of(alloc, name, text, diagnose(alloc, text, choices)?)
     }

@@ -1,4 +1,7 @@
-//! All that is said of a text that is refused.
+//! All that is said of a text that is refused. The compiler's refusal comes first.
+
+ghost use Rattle.std.specs.Prelude.{◌≡◌, [], IfOk, IsTrue, OnOk, string_bytes};
+ghost use Rattle.edd_check.specs.Said.{BeginsWith, IsRefusal, SaysMore};
 
 use crate::grammar::Compiler;
 use crate::kinds::OtherKinds;
@@ -9,84 +12,193 @@ use edd_breaches::{Breach, Rule, breaches};
 use edd_compiler::Fault;
 use edd_lexer::token::Token;
 use edd_repairs::{LaterFault, TextFault, explained, found_in, later_faults};
-use edd_reports::diagnostic::{Diagnostic, Finding};
+use edd_reports::diagnostic::{Diagnostic, Finding, Help};
+use edd_reports::words::Span;
 use edd_syntax::unit::Unit;
 use indexmap::IndexMap;
 use std::alloc::{AllocError, Global};
 
+fn is_refusal(found: &Diagnostic, refusal: &str) -> bool
+    ensures { IsTrue result → IsRefusal refusal.now found.now.finding }
+{
+    match &found.finding {
+        Finding::Refused(own) => own.as_str() == refusal,
+        Finding::Warned { .. } => false,
+    }
+}
+
+// A refusal with one help, at a place if there is one.
+fn with_help(
+    alloc: Global,
+    refusal: String,
+    place: Option<Span>,
+    help: &str,
+) -> Result<Diagnostic, AllocError>
+    ensures { IfOk result (λ d. IsRefusal (string_bytes refusal) d.finding) }
+{
+    let text = String::from_str(alloc, help)?;
+    let mut helps = Vec::new(alloc);
+    helps.push(Help { place: None, text })?;
+    Ok(Diagnostic {
+        place,
+        finding: Finding::Refused(refusal),
+        helps,
+    })
+}
+
+// A refusal that belongs to no token.
+fn of_limit(alloc: Global, refusal: String) -> Result<Diagnostic, AllocError>
+    ensures { IfOk result (λ d. IsRefusal (string_bytes refusal) d.finding) }
+{
+    with_help(alloc, refusal, None, "`edd explain 40` has the limits")
+}
+
+// Shows the compiler's refusal, which is what was found or is shown by itself before it.
+#[tactic(auto, using(crate::proofs::SaidLaws::begins_now, crate::proofs::SaidLaws::begins_still, crate::proofs::SaidLaws::says_one))]
+fn show_first(
+    alloc: Global,
+    made: Diagnostic,
+    refusal: String,
+    reports: &mut Reports,
+) -> Result<(), AllocError>
+    requires { reports.old.shown.items ≡ [] }
+    ensures { OnOk result (BeginsWith (string_bytes refusal) reports.new.shown.items) }
+{
+    if is_refusal(&made, refusal.as_str()) {
+        return reports.show(made);
+    }
+    reports.show(of_limit(alloc, refusal)?)?;
+    reports.show(made)
+}
+
+// Shows the fault of a later item.
+#[tactic(auto, using(crate::proofs::SaidLaws::says_nothing, crate::proofs::SaidLaws::says_one))]
+fn show_fault(
+    alloc: Global,
+    text: &[u8],
+    fault: &LaterFault,
+    reports: &mut Reports,
+) -> Result<(), AllocError>
+    ensures { OnOk result (SaysMore reports.old.shown.items reports.new.shown.items) }
+{
+    if !reports.has_room() {
+        reports.pass();
+        return Ok(());
+    }
+    reports.show(explained::<Compiler>(alloc, text, fault)?)
+}
+
 // Shows the faults of later items.
+#[tactic(auto, using(crate::proofs::SaidLaws::says_nothing, crate::proofs::SaidLaws::says_then))]
 fn show_later(
     alloc: Global,
     text: &[u8],
     faults: &[LaterFault],
     reports: &mut Reports,
-) -> Result<(), AllocError> {
+) -> Result<(), AllocError>
+    ensures { OnOk result (SaysMore reports.old.shown.items reports.new.shown.items) }
+{
     for fault in faults {
-        if reports.has_room() {
-            reports.show(explained::<Compiler>(alloc, text, fault)?)?;
-        } else {
-            reports.pass();
-        }
+        show_fault(alloc, text, fault, reports)?;
     }
     Ok(())
 }
 
 // What is said of a text that has no tokens, or whose tokens spell no unit.
+#[tactic(auto, using(crate::proofs::SaidLaws::begins_still))]
 fn of_text(
     alloc: Global,
     text: &[u8],
     fault: &TextFault,
     refusal: String,
     reports: &mut Reports,
-) -> Result<(), AllocError> {
-    let found = found_in::<Compiler>(alloc, text, fault, refusal)?;
+) -> Result<(), AllocError>
+    requires { reports.old.shown.items ≡ [] }
+    ensures { OnOk result (BeginsWith (string_bytes refusal) reports.new.shown.items) }
+{
+    let found = found_in::<Compiler>(alloc, text, fault, refusal.clone()?)?;
     let goes_on = found.goes_on;
-    reports.show(found.diagnostic)?;
-    match goes_on {
-        Some(from) => {
-            let faults = later_faults::<Compiler>(alloc, text, from, fault)?;
-            show_later(alloc, text, &faults, reports)
-        }
-        None => Ok(()),
-    }
+    show_first(alloc, found.diagnostic, refusal, reports)?;
+    let Some(from) = goes_on else {
+        return Ok(());
+    };
+    let faults = later_faults::<Compiler>(alloc, text, from, fault)?;
+    show_later(alloc, text, &faults, reports)
 }
 
-// Shows breaches. The first refusal is the compiler's: where no breach is it, it is shown by
-// itself.
+// What is said of a breach.
+fn told_of<'a>(
+    alloc: Global,
+    source: &Source<'_>,
+    breach: &Breach<'a>,
+    told: &mut Told<'a>,
+) -> Result<Diagnostic, AllocError> {
+    let mut made = diagnostic(alloc, source, breach)?;
+    told.add(source, breach, &made)?;
+    told.kinds.tell(alloc, source, breach, &mut made)?;
+    Ok(made)
+}
+
+// Shows one more breach, unless it was told.
+#[tactic(auto, using(crate::proofs::SaidLaws::says_nothing, crate::proofs::SaidLaws::says_one))]
+fn show_breach<'a>(
+    alloc: Global,
+    source: &Source<'_>,
+    breach: &Breach<'a>,
+    told: &mut Told<'a>,
+    reports: &mut Reports,
+) -> Result<(), AllocError>
+    ensures { OnOk result (SaysMore reports.old.shown.items reports.new.shown.items) }
+{
+    if told.has(source, breach) {
+        return Ok(());
+    }
+    if !reports.has_room() {
+        reports.pass();
+        return Ok(());
+    }
+    reports.show(told_of(alloc, source, breach, told)?)
+}
+
+// Shows breaches after the first.
+#[tactic(auto, using(crate::proofs::SaidLaws::says_nothing, crate::proofs::SaidLaws::says_then))]
+fn show_others<'a>(
+    alloc: Global,
+    source: &Source<'_>,
+    breaches: &[Breach<'a>],
+    told: &mut Told<'a>,
+    reports: &mut Reports,
+) -> Result<(), AllocError>
+    ensures { OnOk result (SaysMore reports.old.shown.items reports.new.shown.items) }
+{
+    for breach in breaches {
+        show_breach(alloc, source, breach, told, reports)?;
+    }
+    Ok(())
+}
+
+// Shows breaches. Where the first is not the compiler's refusal, that is shown by itself before it.
+#[tactic(auto, using(crate::proofs::SaidLaws::begins_now, crate::proofs::SaidLaws::begins_still))]
 fn show_breaches(
     alloc: Global,
     source: &Source<'_>,
     found: &[Breach<'_>],
     refusal: String,
     reports: &mut Reports,
-) -> Result<(), AllocError> {
-    let mut refusal = Some(refusal);
+) -> Result<(), AllocError>
+    requires { reports.old.shown.items ≡ [] }
+    ensures { OnOk result (BeginsWith (string_bytes refusal) reports.new.shown.items) }
+{
+    let [first, others @ ..] = found else {
+        return reports.show(of_limit(alloc, refusal)?);
+    };
     let mut told = Told {
         names: IndexMap::new(alloc),
         kinds: OtherKinds::of(alloc, source, found)?,
     };
-    for breach in found {
-        if told.has(source, breach) {
-            continue;
-        }
-        if !reports.has_room() {
-            reports.pass();
-            continue;
-        }
-        let mut made = diagnostic(alloc, source, breach)?;
-        told.add(source, breach, &made)?;
-        told.kinds.tell(alloc, source, breach, &mut made)?;
-        if let Some(first) = refusal.take() {
-            if !is_refusal(&made, first.as_str()) {
-                reports.show(of_limit(alloc, first)?)?;
-            }
-        }
-        reports.show(made)?;
-    }
-    match refusal.take() {
-        Some(first) => reports.show(of_limit(alloc, first)?),
-        None => Ok(()),
-    }
+    let made = told_of(alloc, source, first, &mut told)?;
+    show_first(alloc, made, refusal, reports)?;
+    show_others(alloc, source, others, &mut told, reports)
 }
 
 /// What was told and is not told again.
@@ -144,29 +256,16 @@ impl<'a> Told<'a> {
     }
 }
 
-fn is_refusal(found: &Diagnostic, refusal: &str) -> bool {
-    match &found.finding {
-        Finding::Refused(own) => own.as_str() == refusal,
-        Finding::Warned { .. } => false,
-    }
-}
-
-// A refusal that belongs to no token.
-fn of_limit(alloc: Global, refusal: String) -> Result<Diagnostic, AllocError> {
-    let mut found = Diagnostic::new(alloc, Finding::Refused(refusal));
-    found.help(String::from_str(alloc, "`edd explain 40` has the limits")?)?;
-    Ok(found)
-}
-
 /// What is said of a unit that breaks rules, and of which these are the tokens.
 pub fn of_unit(
     alloc: Global,
     text: &[u8],
     tokens: &[Token],
     unit: &Unit,
-    fault: Fault,
-) -> Result<Reports, AllocError> {
-    let refusal = fault.refusal_among(alloc, text, tokens)?;
+    refusal: String,
+) -> Result<Reports, AllocError>
+    ensures { IfOk result (λ said. BeginsWith (string_bytes refusal) said.shown.items) }
+{
     let mut reports = Reports::new(alloc);
     let source = Source::of(alloc, text, tokens)?;
     let found = breaches(alloc, &unit.items)?;
@@ -174,14 +273,11 @@ pub fn of_unit(
     Ok(reports)
 }
 
-/// What is said of a description that has too many strings.
-pub fn of_strings(
-    alloc: Global,
-    text: &[u8],
-    tokens: &[Token],
-    fault: Fault,
-) -> Result<Reports, AllocError> {
-    let refusal = fault.refusal_among(alloc, text, tokens)?;
+/// What is said where a limit is passed, as that of strings.
+#[tactic(auto, using(crate::proofs::SaidLaws::begins_now))]
+pub fn of_excess(alloc: Global, refusal: String) -> Result<Reports, AllocError>
+    ensures { IfOk result (λ said. BeginsWith (string_bytes refusal) said.shown.items) }
+{
     let mut reports = Reports::new(alloc);
     reports.show(of_limit(alloc, refusal)?)?;
     Ok(reports)
@@ -190,15 +286,21 @@ pub fn of_strings(
 /// What an image begins with, and no source does.
 const MAGIC: &[u8] = b"EDI1";
 
-// Says what is to be done with an image, in place of what helps in a source.
-fn name_commands(alloc: Global, reports: &mut Reports) -> Result<(), AllocError> {
+// What is said of an image: what is to be done with it, in place of what helps in a source.
+#[tactic(auto, using(crate::proofs::SaidLaws::begins_now))]
+fn of_image(
+    alloc: Global,
+    text: &[u8],
+    fault: &TextFault,
+    refusal: String,
+) -> Result<Reports, AllocError>
+    ensures { IfOk result (λ said. BeginsWith (string_bytes refusal) said.shown.items) }
+{
+    let found = found_in::<Compiler>(alloc, text, fault, refusal.clone()?)?;
     let help = "this is an image and no source: `edd show` shows it, `edd dump` lays it open";
-    reports.keep_first();
-    if let Some(first) = reports.shown.last_mut() {
-        first.helps.clear();
-        first.help(String::from_str(alloc, help)?)?;
-    }
-    Ok(())
+    let mut reports = Reports::new(alloc);
+    reports.show(with_help(alloc, refusal, found.diagnostic.place, help)?)?;
+    Ok(reports)
 }
 
 /// What is said of a text that has no tokens, or whose tokens spell no unit.
@@ -207,19 +309,18 @@ pub fn of_words(
     text: &[u8],
     fault: Fault,
     refusal: String,
-) -> Result<Reports, AllocError> {
-    let mut reports = Reports::new(alloc);
-    match fault {
-        Fault::Lex(why) => {
-            of_text(alloc, text, &TextFault::Lex(why), refusal, &mut reports)?;
-        }
-        Fault::Parse(why) => {
-            of_text(alloc, text, &TextFault::Parse(why), refusal, &mut reports)?;
-        }
-        _ => reports.show(of_limit(alloc, refusal)?)?,
-    }
+) -> Result<Reports, AllocError>
+    ensures { IfOk result (λ said. BeginsWith (string_bytes refusal) said.shown.items) }
+{
+    let fault = match fault {
+        Fault::Lex(why) => TextFault::Lex(why),
+        Fault::Parse(why) => TextFault::Parse(why),
+        _ => return of_excess(alloc, refusal),
+    };
     if text.starts_with(MAGIC) {
-        name_commands(alloc, &mut reports)?;
+        return of_image(alloc, text, &fault, refusal);
     }
+    let mut reports = Reports::new(alloc);
+    of_text(alloc, text, &fault, refusal, &mut reports)?;
     Ok(reports)
 }

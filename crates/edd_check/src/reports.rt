@@ -1,5 +1,7 @@
 //! What is shown of a source.
 
+ghost use Rattle.std.specs.Prelude.{◌≡◌, ◌++◌, ◌∷◌, [], OnOk};
+
 use edd_reports::diagnostic::Diagnostic;
 use std::alloc::{AllocError, Global};
 
@@ -17,7 +19,10 @@ pub struct Reports {
 }
 
 impl Reports {
-    pub fn new(alloc: Global) -> Reports {
+    /// Nothing so far.
+    pub fn new(alloc: Global) -> Reports
+        ensures { result.shown.items ≡ [] }
+    {
         Reports {
             shown: Vec::new(alloc),
             more: 0,
@@ -31,19 +36,18 @@ impl Reports {
         self.shown.len() < MOST
     }
 
-    pub fn show(&mut self, found: Diagnostic) -> Result<(), AllocError> {
+    /// Shows one more.
+    pub fn show(&mut self, found: Diagnostic) -> Result<(), AllocError>
+        ensures { OnOk result (self.new.shown.items ≡ self.old.shown.items ++ found ∷ []) }
+    {
         self.shown.push(found)?;
         Ok(())
     }
 
     /// Counts one that is not shown.
-    pub fn pass(&mut self) {
+    pub fn pass(&mut self)
+        ensures { self.new.shown.items ≡ self.old.shown.items }
+    {
         self.more = self.more.saturating_add(1);
-    }
-
-    /// Shows the first alone.
-    pub fn keep_first(&mut self) {
-        self.shown.truncate(1);
-        self.more = 0;
     }
 }
