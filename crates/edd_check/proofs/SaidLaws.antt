@@ -2,9 +2,8 @@
 use Rattle.std.proofs.Common.{◌≡◌, ℕ, List, [], ◌∷◌, ◌++◌, sym, subst, ap, ◌∙◌}
 use Rattle.std.proofs.lemmas.List.{append-nil, append_assoc}
 use Rattle.std.proofs.lemmas.List.Elements.{All-nil, All-push}
-use Rattle.std.specs.List.{All}
 use Rattle.edd_reports.specs.declared.diagnostic.Diagnostic.{Diagnostic}
-use Rattle.edd_check.specs.Said.{BeginsWith, IsRefusal, IsWarning, Refuses, SaysMore, WarnsAlone}
+use Rattle.edd_check.specs.Said.{BeginsWith, IsRefusal, IsWarning, SaysMore, WarnsAlone}
 
 pub says_nothing : (before : List Diagnostic) → SaysMore before before
 says_nothing before = ([], sym (append-nil before))
@@ -36,9 +35,6 @@ pub begins_now : (words : List ℕ) (before after : List Diagnostic) (d : Diagno
     → after ≡ before ++ d ∷ [] → IsRefusal words d.finding → BeginsWith words after
 begins_now words before after d none is refusal = subst (BeginsWith words)
     (sym (is ∙ ap (λ xs. xs ++ d ∷ []) none)) refusal
-
-pub refuses : (words : List ℕ) (said : List Diagnostic) → BeginsWith words said → Refuses said
-refuses words said first = (words, first)
 
 -- nothing
 pub warns_none : (said : List Diagnostic) → said ≡ [] → WarnsAlone said

@@ -1,6 +1,6 @@
 //! What is said of a text that is accepted: warnings alone.
 
-ghost use Rattle.std.specs.Prelude.{[], IfOk, OnOk};
+ghost use Rattle.std.specs.Prelude.{IfOk, OnOk};
 ghost use Rattle.edd_check.specs.Said.{IsWarning, WarnsAlone};
 
 use crate::choices::{Choices, Level};

@@ -1,4 +1,4 @@
-use Rattle.std.proofs.Common.{sym, ◌∙◌, rules}
+use Rattle.std.proofs.Common.{rules}
 use Rattle.edd_check.proofs.diagnosing.of_description.Goals as goal
 
 pub returns-in_ok-of_text-in-Ok-clause-accepted : goal.returns-in_ok-of_text-in-Ok-clause-accepted

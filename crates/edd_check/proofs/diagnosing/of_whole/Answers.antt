@@ -1,4 +1,4 @@
-use Rattle.std.proofs.Common.{sym, ◌∙◌, rules}
+use Rattle.std.proofs.Common.{rules}
 use Rattle.edd_check.proofs.diagnosing.of_whole.Goals as goal
 
 -- what is refused has the fault of this step, which is not out of memory
