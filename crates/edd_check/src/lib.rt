@@ -1,10 +1,11 @@
 //! Why a text is refused, at each place, with what helps, and what is surely not meant in one that
 //! is accepted.
 //!
-//! Proved is that a text is refused exactly where the compiler refuses it, that the compiler's
-//! refusal is said first, and that of a text that is accepted nothing but warnings is said. Of
-//! places, helps, further faults and warnings nothing is proved but that they are found safely and
-//! in bounded time.
+//! Proved is that a text is refused exactly where the compiler refuses it, that a refusal is said
+//! of it first, and that of a text that is accepted nothing but warnings is said. That the first
+//! refusal is the compiler's holds of each step that is handed that refusal, and is not in the
+//! contract of the whole. Of places, helps, further faults and warnings nothing is proved but that
+//! they are found safely and in bounded time.
 #![tactic(auto)]
 
 ghost use Rattle.std.specs.Prelude.{◌≡◌, false, IfOk};
