@@ -36,8 +36,10 @@ impl<K: Eq + Hash, V> IndexMap<K, V> {
     where
         K: Borrow<Q>,
     {
-        self.slots
-            .find(key, |place| self.entries[place].0.borrow() == key)
+        let hash = self.slots.hash(key);
+        self.slots.find(hash, self.entries.len(), |place| {
+            self.entries[place].0.borrow() == key
+        })
     }
 
     pub fn get<Q: ?Sized + Hash + Eq>(&self, key: &Q) -> Option<&V>
@@ -64,10 +66,15 @@ impl<K: Eq + Hash, V> IndexMap<K, V> {
 
     /// The value that the key had before, if any. A new key comes last.
     pub fn insert(&mut self, key: K, value: V) -> Result<Option<V>, AllocFailed<(K, V)>> {
-        if let Some(old) = self.get_mut(&key) {
+        let hash = self.slots.hash(&key);
+        let place = self.entries.len();
+        let found = self
+            .slots
+            .find(hash, place, |place| self.entries[place].0 == key);
+        if let Some(found) = found {
+            let old = &mut self.entries[found].1;
             return Ok(Some(core::mem::replace(old, value)));
         }
-        let place = self.entries.len();
         if self.entries.reserve(1).is_err()
             || self
                 .slots
@@ -78,7 +85,7 @@ impl<K: Eq + Hash, V> IndexMap<K, V> {
                 value: (key, value),
             });
         }
-        self.slots.note(&key, place);
+        self.slots.note(hash, &key, place);
         self.entries.push((key, value))?;
         Ok(None)
     }
@@ -135,8 +142,10 @@ impl<K: Eq + Hash> IndexSet<K> {
     }
 
     pub fn get_index_of(&self, element: &K) -> Option<usize> {
-        self.slots
-            .find(element, |place| self.elements[place] == *element)
+        let hash = self.slots.hash(element);
+        self.slots.find(hash, self.elements.len(), |place| {
+            self.elements[place] == *element
+        })
     }
 
     pub fn contains(&self, element: &K) -> bool {
@@ -145,15 +154,19 @@ impl<K: Eq + Hash> IndexSet<K> {
 
     /// The element's place, and whether it is new. A new one comes last.
     pub fn insert_full(&mut self, element: K) -> Result<(usize, bool), AllocFailed<K>> {
-        if let Some(place) = self.get_index_of(&element) {
-            return Ok((place, false));
-        }
+        let hash = self.slots.hash(&element);
         let place = self.elements.len();
+        let found = self
+            .slots
+            .find(hash, place, |place| self.elements[place] == element);
+        if let Some(found) = found {
+            return Ok((found, false));
+        }
         if self.elements.reserve(1).is_err() || self.slots.make_room(self.elements.iter()).is_err()
         {
             return Err(AllocFailed { value: element });
         }
-        self.slots.note(&element, place);
+        self.slots.note(hash, &element, place);
         self.elements.push(element)?;
         Ok((place, true))
     }

@@ -1,22 +1,58 @@
 //! Where elements are, by their hashes: a table with twice as many slots as elements at least, in
-//! which one looks on from the slot of the hash to the first free one.
+//! which one looks on from the slot of the hash to the first free one. A few elements have no table:
+//! to compare with each of them is cheaper.
 use core::hash::{Hash, Hasher};
 use std::alloc::{AllocError, Global};
 use std::vec::Vec;
 
 const FREE: u32 = u32::MAX;
 
-/// The fewest slots of a table that has any.
-const FEWEST: usize = 16;
+/// How many elements have no table.
+const FEW: usize = 4;
 
-/// FNV-1a, with a fixed seed: what a program does depends on its input alone.
+/// Takes eight bytes at a time, with a fixed seed: what a program does depends on its input alone.
 struct Fixed(u64);
+
+impl Fixed {
+    fn mix(&mut self, word: u64) {
+        self.0 = (self.0.rotate_left(5) ^ word).wrapping_mul(0x9e37_79b9_7f4a_7c15);
+    }
+}
+
+// The last bytes, fewer than eight of them, and how many they are.
+fn last_word(bytes: &[u8]) -> u64 {
+    let mut word = bytes.len() as u64;
+    for byte in bytes {
+        word = (word << 8) | u64::from(*byte);
+    }
+    word
+}
 
 impl Hasher for Fixed {
     fn write(&mut self, bytes: &[u8]) {
-        for byte in bytes {
-            self.0 = (self.0 ^ u64::from(*byte)).wrapping_mul(0x0100_0000_01b3);
+        let mut words = bytes.chunks_exact(8);
+        for word in &mut words {
+            if let Ok(word) = word.try_into() {
+                self.mix(u64::from_le_bytes(word));
+            }
         }
+        self.mix(last_word(words.remainder()));
+    }
+
+    fn write_u8(&mut self, number: u8) {
+        self.mix(u64::from(number));
+    }
+
+    fn write_u32(&mut self, number: u32) {
+        self.mix(u64::from(number));
+    }
+
+    fn write_u64(&mut self, number: u64) {
+        self.mix(number);
+    }
+
+    fn write_usize(&mut self, number: usize) {
+        self.mix(number as u64);
     }
 
     fn finish(&self) -> u64 {
@@ -30,7 +66,7 @@ fn hash_of<Q: Hash + ?Sized>(key: &Q) -> usize {
     hash.finish() as usize
 }
 
-/// The places of elements, a power of two of them or none.
+/// The places of elements, a power of two of them, or none where there are few elements.
 pub struct Slots(Vec<u32>);
 
 impl Slots {
@@ -38,12 +74,23 @@ impl Slots {
         Slots(Vec::new(alloc))
     }
 
-    /// The place of the element with this key, of which `is` says whether it is at a place.
-    pub fn find<Q: Hash + ?Sized>(&self, key: &Q, is: impl Fn(usize) -> bool) -> Option<usize> {
-        if self.0.is_empty() {
-            return None;
-        }
-        let found = self.0[self.slot(hash_of(key), is)];
+    /// The hash of a key, where there is a table.
+    pub fn hash<Q: Hash + ?Sized>(&self, key: &Q) -> Option<usize> {
+        (!self.0.is_empty()).then(|| hash_of(key))
+    }
+
+    /// The place of the element with the key of this hash among so many, of which `is` says whether it
+    /// is at a place.
+    pub fn find(
+        &self,
+        hash: Option<usize>,
+        count: usize,
+        is: impl Fn(usize) -> bool,
+    ) -> Option<usize> {
+        let Some(hash) = hash else {
+            return (0..count).find(|place| is(*place));
+        };
+        let found = self.0[self.slot(hash, is)];
         (found != FREE).then_some(found as usize)
     }
 
@@ -62,6 +109,9 @@ impl Slots {
         &mut self,
         keys: impl ExactSizeIterator<Item = K>,
     ) -> Result<(), AllocError> {
+        if keys.len() < FEW {
+            return Ok(());
+        }
         let wanted = keys
             .len()
             .checked_add(1)
@@ -70,10 +120,7 @@ impl Slots {
         if wanted <= self.0.len() {
             return Ok(());
         }
-        let size = wanted
-            .checked_next_power_of_two()
-            .ok_or(AllocError)?
-            .max(FEWEST);
+        let size = wanted.checked_next_power_of_two().ok_or(AllocError)?;
         if size >= FREE as usize {
             return Err(AllocError);
         }
@@ -86,13 +133,17 @@ impl Slots {
     pub fn lay_out<K: Hash>(&mut self, keys: impl Iterator<Item = K>) {
         self.0.as_mut_slice().fill(FREE);
         for (place, key) in keys.enumerate() {
-            self.note(&key, place);
+            self.note(None, &key, place);
         }
     }
 
     /// Notes an element that is not there yet, after room was made for it.
-    pub fn note<Q: Hash + ?Sized>(&mut self, key: &Q, place: usize) {
-        let slot = self.slot(hash_of(key), |_| false);
+    pub fn note<Q: Hash + ?Sized>(&mut self, hash: Option<usize>, key: &Q, place: usize) {
+        if self.0.is_empty() {
+            return;
+        }
+        let hash = hash.unwrap_or_else(|| hash_of(key));
+        let slot = self.slot(hash, |_| false);
         self.0[slot] = place as u32;
     }
 }

@@ -62,6 +62,18 @@ impl<T> Vec<T> {
         Ok(())
     }
 
+    /// Gives back room that no element has, where memory for the elements alone is granted.
+    pub fn shrink_to_fit(&mut self) {
+        if self.0.len() == self.0.capacity() {
+            return;
+        }
+        let mut exact = real::Vec::new();
+        if exact.try_reserve_exact(self.0.len()).is_ok() {
+            exact.append(&mut self.0);
+            self.0 = exact;
+        }
+    }
+
     pub fn append(&mut self, other: &mut Vec<T>) -> Result<(), AllocError> {
         self.reserve(other.0.len())?;
         self.0.append(&mut other.0);
