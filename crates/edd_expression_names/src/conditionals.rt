@@ -99,7 +99,7 @@ pub fn copy_conds<V: ResolveValue>(
     ensures refused { Refuses (description_of names.now)
         (conds_uses V.uses (conds_from (map (cond_of path_of V.before) all.now))) result }
 {
-    let mut copies = Vec::new(names.alloc);
+    let mut copies = Vec::with_capacity(names.alloc, all.len())?;
     add_conds(all, names, &mut copies)?;
     Ok(copies)
 }
@@ -142,7 +142,7 @@ fn copy_arms<V: ResolveValue>(
     ensures refused { Refuses (description_of names.now)
         (arms_uses V.uses (arms_from (map (arm_of path_of V.before) arms.now))) result }
 {
-    let mut copies = Vec::new(names.alloc);
+    let mut copies = Vec::with_capacity(names.alloc, arms.len())?;
     add_arms(arms, names, &mut copies)?;
     Ok(copies)
 }

@@ -246,6 +246,7 @@ fn copy_call(
 }
 
 #[cycle(exprs)]
+#[tactic(auto, using(crate::proofs::UseLaws::faults))]
 fn copy_arguments(
     arguments: &[Argument<Path>],
     kinds: &[Kind],
@@ -264,7 +265,7 @@ fn copy_arguments(
         (argument_uses (scope_of scope.now) kinds.now
         (arguments_from (map (argument_of path_of) arguments.now))) result }
 {
-    let mut all = Vec::new(names.alloc);
+    let mut all = Vec::with_capacity(names.alloc, arguments.len())?;
     add_arguments(arguments, kinds, names, scope, &mut all)?;
     Ok(all)
 }

@@ -184,7 +184,7 @@ pub fn copy_attributes(
         (flat_map (attribute_uses (item_of path_of item.now).sort)
         (map (attribute_of path_of) attributes.now)) result }
 {
-    let mut copies = Vec::new(names.alloc);
+    let mut copies = Vec::with_capacity(names.alloc, attributes.len())?;
     add_attributes(attributes, names, item, &mut copies)?;
     Ok(copies)
 }

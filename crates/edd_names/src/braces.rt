@@ -100,7 +100,7 @@ pub fn copy_type_parts(
     ensures refused { Refuses (description_of names.now)
         (flat_map type_part_uses (map (type_part_of path_of) type_parts.now)) result }
 {
-    let mut copies = Vec::new(names.alloc);
+    let mut copies = Vec::with_capacity(names.alloc, type_parts.len())?;
     add_type_parts(type_parts, names, &mut copies)?;
     Ok(copies)
 }
@@ -169,7 +169,7 @@ pub fn copy_transaction_parts(
         (flat_map transaction_part_uses (map (transaction_part_of path_of) transaction_parts.now))
         result }
 {
-    let mut copies = Vec::new(names.alloc);
+    let mut copies = Vec::with_capacity(names.alloc, transaction_parts.len())?;
     add_transaction_parts(transaction_parts, names, &mut copies)?;
     Ok(copies)
 }
@@ -237,7 +237,7 @@ pub fn copy_members(
     ensures refused { Refuses (description_of names.now)
         (flat_map (member_uses kinds.now) (map (member_of path_of) members.now)) result }
 {
-    let mut copies = Vec::new(names.alloc);
+    let mut copies = Vec::with_capacity(names.alloc, members.len())?;
     add_members(members, names, kinds, &mut copies)?;
     Ok(copies)
 }
@@ -303,7 +303,7 @@ pub fn copy_elements(
     ensures refused { Refuses (description_of names.now)
         (flat_map element_uses (map (array_element_of path_of) elements.now)) result }
 {
-    let mut copies = Vec::new(names.alloc);
+    let mut copies = Vec::with_capacity(names.alloc, elements.len())?;
     add_elements(elements, names, &mut copies)?;
     Ok(copies)
 }

@@ -25,7 +25,7 @@ pub fn copy_words(words: &[String], alloc: Global) -> Result<Vec<String>, NameFa
     ensures sound { IfOk result (λ all. map string_bytes all.items ≡ map string_bytes words.now) }
     ensures refused { IfErr result (λ f. f ≡ Memory) }
 {
-    let mut copies = Vec::new(alloc);
+    let mut copies = Vec::with_capacity(alloc, words.len())?;
     add_words(words, alloc, &mut copies)?;
     Ok(copies)
 }
@@ -66,7 +66,7 @@ pub fn copy_responses(
         ≡ map response_code_of responses.now) }
     ensures refused { IfErr result (λ f. f ≡ Memory) }
 {
-    let mut copies = Vec::new(alloc);
+    let mut copies = Vec::with_capacity(alloc, responses.len())?;
     add_responses(responses, alloc, &mut copies)?;
     Ok(copies)
 }

@@ -111,7 +111,7 @@ pub fn copy_items(items: &[Item<Path>], names: &Names) -> Result<Vec<Item<Target
     ensures refused { Refuses (description_of names.now)
         (flat_map item_uses (map (item_of path_of) items.now)) result }
 {
-    let mut copies = Vec::new(names.alloc);
+    let mut copies = Vec::with_capacity(names.alloc, items.len())?;
     add_items(items, names, &mut copies)?;
     Ok(copies)
 }

@@ -354,7 +354,7 @@ pub fn copy_body<'a>(
         result }
 {
     let mut inner = inner_scope(scope, names.alloc)?;
-    let mut copies = Vec::new(names.alloc);
+    let mut copies = Vec::with_capacity(names.alloc, parts.len())?;
     add_parts(parts, names, &mut inner, next, &mut copies)?;
     Ok(copies)
 }
@@ -412,7 +412,7 @@ fn copy_part<'a>(
 {
     match part {
         Part::Declare(declarators) => {
-            let mut copies = Vec::new(names.alloc);
+            let mut copies = Vec::with_capacity(names.alloc, declarators.len())?;
             add_declarators(declarators, names, scope, next, &mut copies)?;
             Ok(Part::Declare(copies))
         }
