@@ -1,6 +1,9 @@
 -- Reading one qualifier after the other.
-use Rattle.std.proofs.Common.{◌≡◌, ℕ, zero, suc, ◌+◌, ◌≤◌, ◌<◌, Bool, true, false, List, [], ◌∷◌, ◌++◌, drop, length, Some, None, refl, ap, ◌∙◌, arith, length-drop, Bor}
+use Rattle.std.proofs.Common.{◌≡◌, ℕ, zero, suc, ◌+◌, ◌≤◌, ◌<◌, Bool, true, false, List, [], ◌∷◌, ◌++◌, drop, length, Some, None, Result, Ok, Err, refl, sym, ap, ◌∙◌, ◌||◌, arith, length-drop, subst, Bor}
 use Rattle.std.specs.Prelude.{if◌then◌else◌}
+use Rattle.std.specs.Result.{IsErrAnd}
+use Rattle.std.specs.Str.{bytes_eq}
+use Rattle.std.proofs.lemmas.List.{map-id}
 use Rattle.edd_syntax.specs.declared.symbols.Symbol.TheVariants.{OpenParenthesis, CloseParenthesis, Comma}
 use Rattle.edd_syntax.specs.Refusal.{is_name_in}
 use Rattle.edd_syntax.specs.Text.{Name}
@@ -9,11 +12,27 @@ use Rattle.edd_grammar.specs.Reading.{◌>>=◌, Read, at, name_at}
 use Rattle.edd_grammar.specs.ConditionalReading.{skip_comma}
 use Rattle.edd_grammar.specs.ValueReading.{allowed_at, some_qualifiers}
 use Rattle.edd_grammar.proofs.Steps.{bind_some, guard_some, at_is, name_is}
-use Rattle.edd_token_reader.specs.Qualifiers.{texts_of}
+use Rattle.edd_token_reader.specs.declared.fault.ParseFault.{ParseFault}
+use Rattle.edd_token_reader.specs.declared.fault.ParseFault.TheVariants as fault
+use Rattle.edd_token_reader.specs.Qualifiers.{read_as}
+use Rattle.edd_token_reader.specs.Views.{Gives}
 use Rattle.edd_token_reader.proofs.Fronts.{bind_same, regroup, add_element, all_elements, with_elements}
 
-abbrev pub bytes_of : Bor (List ℕ) → Name
-bytes_of n = n.now
+-- a name more is there, or is the last one
+pub one_more_name : (names : List Name) (name word : Name)
+    → is_name_in (names ++ name ∷ []) word ≡ (is_name_in names word || bytes_eq name word)
+one_more_name [] name word = go (bytes_eq name word)
+  where
+    go : (t : Bool) → (t || false) ≡ (false || t)
+    go true = refl
+    go false = refl
+one_more_name (n ∷ names) name word =
+    ap (λ (t : Bool). bytes_eq n word || t) (one_more_name names name word)
+    ∙ sym (or_assoc (bytes_eq n word) (is_name_in names word) (bytes_eq name word))
+  where
+    or_assoc : (a b c : Bool) → ((a || b) || c) ≡ (a || (b || c))
+    or_assoc true b c = refl
+    or_assoc false b c = refl
 
 pub comma_no_longer : (here : List Token) → length (skip_comma here) ≤ length here
 comma_no_longer here = go (at Comma here)
@@ -62,35 +81,95 @@ module _ (allowed : List Name) where
       omega (arith, ap length (at_is OpenParenthesis here e)) in
       ap (λ (k : ℕ). some_qualifiers allowed k (drop 1 here)) n
 
-  pub names_fail : (front : List (Bor (List ℕ))) (here : List Token) → allowed_at allowed here
-      ≡ None → with_elements bytes_of front (names_here here) ≡ None
+  -- what is read goes on after the names so far
+  abbrev pub after_names : List Name → Read (List Name) → Read (List Name)
+  after_names front found = with_elements (λ (n : Name). n) front found
+
+  pub names_fail : (front : List Name) (here : List Token) → allowed_at allowed here
+      ≡ None → after_names front (names_here here) ≡ None
   unfolding some_qualifiers
   names_fail front here e = let more : length here + 1 ≡ suc (length here) =
       omega arith in rw (more, e) refl
 
-  pub names_end : (front : List (Bor (List ℕ))) (q : Bor (List ℕ)) (here rest : List Token)
-      → allowed_at allowed here ≡ Some (q.now, rest) → at CloseParenthesis rest ≡ true
-      → with_elements bytes_of front (names_here here)
-      ≡ Some (texts_of (front ++ q ∷ []), drop 1 rest)
+  pub names_end : (front : List Name) (q : Name) (here rest : List Token)
+      → allowed_at allowed here ≡ Some (q, rest) → at CloseParenthesis rest ≡ true
+      → after_names front (names_here here) ≡ Some (front ++ q ∷ [], drop 1 rest)
   unfolding some_qualifiers
   names_end front q here rest e last =
       let more : length here + 1 ≡ suc (length here) = omega arith in
-      rw (more, e, last) (regroup (add_element bytes_of) front q (Some ([], drop 1 rest))
-      ∙ ap (λ (x : List Name). Some (x, drop 1 rest)) (all_elements bytes_of (front ++ q ∷ [])))
+      rw (more, e, last) (regroup (add_element (λ (n : Name). n)) front q (Some ([], drop 1 rest))
+      ∙ ap (λ (x : List Name). Some (x, drop 1 rest)) (all_elements (λ (n : Name). n) (front ++ q ∷ [])
+      ∙ map-id (front ++ q ∷ [])))
 
-  pub names_go_on : (front : List (Bor (List ℕ))) (q : Bor (List ℕ)) (here rest : List Token)
-      → allowed_at allowed here ≡ Some (q.now, rest) → at CloseParenthesis rest ≡ false
-      → with_elements bytes_of front (names_here here) ≡ with_elements bytes_of (front ++ q ∷ [])
+  pub names_go_on : (front : List Name) (q : Name) (here rest : List Token)
+      → allowed_at allowed here ≡ Some (q, rest) → at CloseParenthesis rest ≡ false
+      → after_names front (names_here here) ≡ after_names (front ++ q ∷ [])
       (names_here (skip_comma rest))
   unfolding some_qualifiers
   names_go_on front q here rest e last =
       let more : length here + 1 ≡ suc (length here) = omega arith in
-      let s = allowed_shortens here q.now rest e in
+      let s = allowed_shortens here q rest e in
       let c = comma_no_longer rest in
       let same = same_names (length here) (length (skip_comma rest) + 1) (skip_comma rest)
       (omega arith) (omega arith) in
-      rw (more, e, last) (regroup (add_element bytes_of) front q
+      rw (more, e, last) (regroup (add_element (λ (n : Name). n)) front q
       (some_qualifiers allowed (length here) (skip_comma rest)))
-      ∙ ap (with_elements bytes_of (front ++ q ∷ [])) same
+      ∙ ap (after_names (front ++ q ∷ [])) same
 
-pub ruleset names_read = (allowed_shortens, comma_no_longer, names_fail, names_end, names_go_on)
+  -- ---- with what the names stand for
+
+  module _ {Q : Type 0} (among : List Name → Q) where
+    -- these stand for the names from `start` up to here
+    abbrev pub IsRead : Q → (here start : List Token) → Type 0
+    IsRead all here start = (front : List Name) × (all ≡ among front)
+        × (after_names front (names_here here) ≡ names_here start)
+
+    pub read_fails : (all : Q) (here start : List Token) → IsRead all here start
+        → allowed_at allowed here ≡ None → read_as among (names_here start) ≡ None
+    read_fails all here start (front, made, same) e =
+        ap (read_as among) (sym same ∙ names_fail front here e)
+
+    -- a name that is not allowed, or memory that ran out
+    pub read_refused : (all : Q) (here start : List Token) → IsRead all here start
+        → (answer : Result Q ParseFault) (f : ParseFault) (left : List Token)
+        → IsErrAnd answer (λ e. e ≡ f)
+        → Gives (λ (n : Bor (List ℕ)). n.now) (Err f) left (allowed_at allowed here)
+        → Gives (λ (q : Q). q) answer left (read_as among (names_here start))
+    read_refused all here start read (Ok q) f left passed gives = absurd passed
+    read_refused all here start read (Err e) f left passed gives =
+        subst (λ (x : ParseFault). Gives (λ (q : Q). q) (Err x) left
+        (read_as among (names_here start))) (sym passed) (go f gives)
+      where
+        go : (f : ParseFault) → Gives (λ (n : Bor (List ℕ)). n.now) (Err f) left
+            (allowed_at allowed here)
+            → Gives (λ (q : Q). q) (Err f) left (read_as among (names_here start))
+        go fault.Memory h = tt
+        go (fault.Syntax at) h = read_fails all here start read h
+        go (fault.TooDeep at) h = read_fails all here start read h
+        go (fault.Unsupported at word) h = read_fails all here start read h
+
+    pub read_ends : (all more : Q) (q : Name) (here start rest after : List Token)
+        → IsRead all here start → allowed_at allowed here ≡ Some (q, rest)
+        → at CloseParenthesis rest ≡ true → after ≡ drop 1 rest
+        → ((names : List Name) → all ≡ among names → more ≡ among (names ++ q ∷ []))
+        → read_as among (names_here start) ≡ Some (more, after)
+    read_ends all more q here start rest after (front, made, same) e last behind with_one =
+        ap (read_as among) (sym same ∙ names_end front q here rest e last)
+        ∙ (ap (λ (x : Q). Some (x, drop 1 rest)) (sym (with_one front made))
+        ∙ ap (λ (x : List Token). Some (more, x)) (sym behind))
+
+    pub read_goes_on : (all more : Q) (q : Name) (here start rest left after : List Token)
+        → IsRead all here start → allowed_at allowed here ≡ Some (q, rest)
+        → at CloseParenthesis rest ≡ false → left ≡ rest → after ≡ skip_comma left
+        → ((names : List Name) → all ≡ among names → more ≡ among (names ++ q ∷ []))
+        → IsRead more after start
+    read_goes_on all more q here start rest left after (front, made, same) e last stays behind
+        with_one = (
+          front ++ q ∷ [],
+          with_one front made,
+          ap (λ (x : List Token). after_names (front ++ q ∷ []) (names_here x))
+              (behind ∙ ap skip_comma stays)
+              ∙ (sym (names_go_on front q here rest e last) ∙ same),
+        )
+
+pub ruleset names_read = (allowed_shortens, comma_no_longer)

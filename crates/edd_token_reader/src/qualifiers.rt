@@ -1,11 +1,12 @@
 //! Qualifiers of data items and of entries of menus.
 
-ghost use Rattle.std.specs.Prelude.{◌≡◌, ◌≤◌, ◌+◌, List, length, map};
+ghost use Rattle.std.specs.Prelude.{◌≡◌, ◌∷◌, ◌++◌, ◌+◌, [], List, length};
 ghost use Rattle.edd_syntax.specs.Refusal.{is_name_in};
 ghost use Rattle.edd_syntax.specs.ItemGrammar as grammar;
+ghost use Rattle.edd_syntax.specs.Text.{Name};
 ghost use Rattle.edd_grammar.specs.ValueReading as reading;
 ghost use Rattle.edd_token_reader.specs.Views.{Gives};
-ghost use Rattle.edd_token_reader.specs.Qualifiers.{allowed_names, texts_of, menu_at, data_at};
+ghost use Rattle.edd_token_reader.specs.Qualifiers.{menu_at, data_at, read_as};
 
 use crate::cursor::Cursor;
 use crate::fault::ParseFault;
@@ -14,35 +15,88 @@ use crate::words::skip_comma;
 use edd_syntax::item::{DataQualifiers, MenuQualifiers};
 use edd_syntax::symbols::Symbol;
 
-/// What may have qualifiers.
-#[derive(Clone, Copy)]
-pub enum Qualified {
-    Menu,
-    Data,
+// Qualifiers of one sort of thing, of which one name after the other is read.
+trait QualifierSet {
+    ghost allowed: { List Name };
+
+    // Which of them are among the names.
+    ghost among: { List Name → Self };
+
+    fn is_allowed(name: &str) -> bool
+        ensures { result ≡ is_name_in allowed name.now };
+
+    fn none() -> Self
+        ensures { result ≡ among [] };
+
+    // These, and the one of this name.
+    fn with(self, name: &str) -> Self
+        ensures { (names : List Name) → self ≡ among names
+            → result ≡ among (names ++ name.now ∷ []) };
 }
 
-// Whether a name is a qualifier of such a thing.
-fn is_allowed(kind: Qualified, name: &str) -> bool
-    ensures { result ≡ is_name_in (allowed_names kind) name.now }
-{
-    match kind {
-        Qualified::Menu => {
-            "DISPLAY_VALUE" == name || "READ_ONLY" == name || "HIDDEN" == name || "REVIEW" == name
+impl QualifierSet for MenuQualifiers {
+    ghost allowed = { grammar.menu_qualifier_names };
+
+    ghost among = { grammar.menu_qualifiers };
+
+    fn is_allowed(name: &str) -> bool {
+        "DISPLAY_VALUE" == name || "READ_ONLY" == name || "HIDDEN" == name || "REVIEW" == name
+    }
+
+    fn none() -> MenuQualifiers {
+        MenuQualifiers {
+            display_value: false,
+            read_only: false,
+            hidden: false,
+            review: false,
         }
-        Qualified::Data => "INFO" == name || "INDEX" == name,
+    }
+
+    #[tactic(auto, using(crate::proofs::QualifierLoops::one_more_name))]
+    fn with(self, name: &str) -> MenuQualifiers {
+        MenuQualifiers {
+            display_value: self.display_value || name == "DISPLAY_VALUE",
+            read_only: self.read_only || name == "READ_ONLY",
+            hidden: self.hidden || name == "HIDDEN",
+            review: self.review || name == "REVIEW",
+        }
+    }
+}
+
+impl QualifierSet for DataQualifiers {
+    ghost allowed = { grammar.data_qualifier_names };
+
+    ghost among = { grammar.data_qualifiers };
+
+    fn is_allowed(name: &str) -> bool {
+        "INFO" == name || "INDEX" == name
+    }
+
+    fn none() -> DataQualifiers {
+        DataQualifiers {
+            info: false,
+            index: false,
+        }
+    }
+
+    #[tactic(auto, using(crate::proofs::QualifierLoops::one_more_name))]
+    fn with(self, name: &str) -> DataQualifiers {
+        DataQualifiers {
+            info: self.info || name == "INFO",
+            index: self.index || name == "INDEX",
+        }
     }
 }
 
 // A name that is allowed.
 #[tactic(auto, unfolding(edd_grammar::specs::ValueReading::allowed_at))]
-fn allowed<'a>(cursor: &mut Cursor<'a>, kind: Qualified) -> Result<&'a str, ParseFault>
-    ensures { Gives (λ n. n.now) result cursor.new
-        (reading.allowed_at (allowed_names kind) cursor.old) }
+fn allowed<'a, Q: QualifierSet>(cursor: &mut Cursor<'a>) -> Result<&'a str, ParseFault>
+    ensures { Gives (λ n. n.now) result cursor.new (reading.allowed_at Q.allowed cursor.old) }
 {
     let Some(name) = cursor.name() else {
         return Err(misfit(cursor));
     };
-    if !is_allowed(kind, name) {
+    if !Q::is_allowed(name) {
         return Err(misfit_name(cursor, name));
     }
     Ok(name)
@@ -50,13 +104,15 @@ fn allowed<'a>(cursor: &mut Cursor<'a>, kind: Qualified) -> Result<&'a str, Pars
 
 // One or more names, and the parenthesis after them.
 #[tactic(auto, using(crate::proofs::QualifierLoops::names_read))]
-fn some_qualifiers<'a>(cursor: &mut Cursor<'a>, kind: Qualified) -> Result<Vec<&'a str>, ParseFault>
-    ensures { Gives (λ v. texts_of v.items) result cursor.new
-        (reading.some_qualifiers (allowed_names kind) (length cursor.old + 1) cursor.old) }
+fn some_qualifiers<Q: QualifierSet + Copy>(cursor: &mut Cursor) -> Result<Q, ParseFault>
+    ensures { Gives (λ q. q) result cursor.new
+        (read_as Q.among
+        (reading.some_qualifiers Q.allowed (length cursor.old + 1) cursor.old)) }
 {
-    let mut all = Vec::new(cursor.alloc());
+    let mut all = Q::none();
     loop {
-        all.push(allowed(cursor, kind)?)?;
+        let name = allowed::<Q>(cursor)?;
+        all = all.with(name);
         if cursor.eat(Symbol::CloseParenthesis) {
             return Ok(all);
         }
@@ -64,27 +120,16 @@ fn some_qualifiers<'a>(cursor: &mut Cursor<'a>, kind: Qualified) -> Result<Vec<&
     }
 }
 
-/// Qualifiers in parentheses, or none.
+// Qualifiers in parentheses, or none.
 #[tactic(auto, unfolding(edd_grammar::specs::ValueReading::qualifiers_at), using(crate::proofs::QualifierLoops::names_opened))]
-fn qualifiers<'a>(cursor: &mut Cursor<'a>, kind: Qualified) -> Result<Vec<&'a str>, ParseFault>
-    ensures { Gives (λ v. texts_of v.items) result cursor.new
-        (reading.qualifiers_at (allowed_names kind) cursor.old) }
+fn qualifiers<Q: QualifierSet + Copy>(cursor: &mut Cursor) -> Result<Q, ParseFault>
+    ensures { Gives (λ q. q) result cursor.new
+        (read_as Q.among (reading.qualifiers_at Q.allowed cursor.old)) }
 {
     if !cursor.eat(Symbol::OpenParenthesis) {
-        return Ok(Vec::new(cursor.alloc()));
+        return Ok(Q::none());
     }
-    some_qualifiers(cursor, kind)
-}
-
-fn is_in(names: &[&str], word: &str) -> bool
-    ensures { result ≡ is_name_in (texts_of names.now) word.now }
-{
-    for name in names {
-        if *name == word {
-            return true;
-        }
-    }
-    false
+    some_qualifiers(cursor)
 }
 
 /// The qualifiers of an entry of a menu.
@@ -92,13 +137,7 @@ fn is_in(names: &[&str], word: &str) -> bool
 pub fn menu_qualifiers(cursor: &mut Cursor) -> Result<MenuQualifiers, ParseFault>
     ensures { Gives (λ q. q) result cursor.new (menu_at cursor.old) }
 {
-    let names = qualifiers(cursor, Qualified::Menu)?;
-    Ok(MenuQualifiers {
-        display_value: is_in(&names, "DISPLAY_VALUE"),
-        read_only: is_in(&names, "READ_ONLY"),
-        hidden: is_in(&names, "HIDDEN"),
-        review: is_in(&names, "REVIEW"),
-    })
+    qualifiers(cursor)
 }
 
 /// The qualifiers of a data item.
@@ -106,9 +145,5 @@ pub fn menu_qualifiers(cursor: &mut Cursor) -> Result<MenuQualifiers, ParseFault
 pub fn data_qualifiers(cursor: &mut Cursor) -> Result<DataQualifiers, ParseFault>
     ensures { Gives (λ q. q) result cursor.new (data_at cursor.old) }
 {
-    let names = qualifiers(cursor, Qualified::Data)?;
-    Ok(DataQualifiers {
-        info: is_in(&names, "INFO"),
-        index: is_in(&names, "INDEX"),
-    })
+    qualifiers(cursor)
 }
