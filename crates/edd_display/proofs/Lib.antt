@@ -6,3 +6,5 @@ pub mod OneText
 pub mod Positions
 pub mod Printing
 pub mod Quotes
+pub mod Masks
+pub mod Defaults

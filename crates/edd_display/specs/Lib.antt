@@ -4,3 +4,4 @@ pub mod Shown
 pub mod Found
 pub mod Gaps
 pub mod Played
+pub mod Written

@@ -1,29 +1,33 @@
 //! The lines of the items of an image.
 
-ghost use Rattle.std.specs.Prelude.{◌≡◌, ◌++◌, ◌∷◌, ◌↔◌, [], IfErr, IfOk, IsTrue, OnOk, false, if◌then◌else◌, option_map};
+ghost use Rattle.std.specs.Prelude.{◌≡◌, ◌++◌, ◌∷◌, ◌↔◌, [], IfErr, IfOk, IsTrue, OnOk, false, if◌then◌else◌, option_map, string_bytes};
+ghost use Rattle.std.specs.Fmt.{decimal};
 ghost use Rattle.std.specs.Io.KnownBytes.{Appends};
 ghost use Rattle.std.specs.List.{flat_map};
 ghost use Rattle.edd_syntax.specs.DeviceValues.{AreDeviceValues};
 ghost use Rattle.edd_syntax.specs.Numbers as numbers;
 ghost use Rattle.edd_image.specs.Contents.{contents_in};
+ghost use Rattle.edd_image.specs.Existing.{item_exists};
 ghost use Rattle.edd_instructions.specs.Agreement.{count_in};
 ghost use Rattle.edd_loader.specs.Lookups.{type_of_kind};
 ghost use Rattle.edd_machine.specs.Types.{types_in};
 ghost use Rattle.edd_display.specs.Gaps.{HasNoGap};
 ghost use Rattle.edd_display.specs.Shown as shown;
 ghost use Rattle.edd_display.specs.Shown.{Prints, after_name, attribute_entries, attributes, blames_values, entries_of, has_transaction, head_line, identification_line, item_entries, kind_entries, kinds, positions_of, transaction_entries, type_shown};
+ghost use Rattle.edd_display.specs.Written.{AreWritten};
 
 use crate::fault::ShowFault;
 use crate::gaps::has_gap;
-use crate::lines::print;
+use crate::lines::{print, print_text};
 use crate::page::Page;
-use crate::rows::{is_any_found, print_found, print_row, read};
+use crate::rows::{is_any_found, print_default, print_found, print_row, read};
 use crate::words::type_word;
+use crate::written::{is_written, written_of};
 use edd_image::{Counts, VarKind};
 use edd_loader::Image;
 use edd_machine::Values;
 use edd_syntax::numbers::{ATTRIBUTES, Attr, AttrRef, ItemNo, KINDS, Kind};
-use std::alloc::Global;
+use std::alloc::{AllocError, Global};
 use std::io::Write;
 
 fn row_at(item: ItemNo, attr: Attr, sub: u16) -> AttrRef
@@ -40,6 +44,7 @@ fn print_transaction<W: Write>(
     values: &Values,
     item: ItemNo,
     sub: u16,
+    line: &mut String,
     out: &mut W,
 ) -> Result<bool, ShowFault>
     requires { AreDeviceValues (types_in page.now.image.now) values.now.numbers.items }
@@ -60,9 +65,9 @@ fn print_transaction<W: Write>(
     if !exists {
         return Ok(false);
     }
-    print_found(alloc, page, at, &transaction, out)?;
-    print_found(alloc, page, request_at, &request, out)?;
-    print_found(alloc, page, reply_at, &reply, out)?;
+    print_found(page, at, &transaction, line, out)?;
+    print_found(page, request_at, &request, line, out)?;
+    print_found(page, reply_at, &reply, line, out)?;
     Ok(true)
 }
 
@@ -73,6 +78,7 @@ fn print_transactions<W: Write>(
     values: &Values,
     has_gap: bool,
     item: ItemNo,
+    line: &mut String,
     out: &mut W,
 ) -> Result<(), ShowFault>
     requires good { AreDeviceValues (types_in page.now.image.now) values.now.numbers.items }
@@ -84,7 +90,7 @@ fn print_transactions<W: Write>(
     ensures refused { IfErr result (λ fault. blames_values fault ≡ false) }
 {
     for sub in 0..65_536u32 {
-        let exists = print_transaction(alloc, page, values, item, sub as u16, out)?;
+        let exists = print_transaction(alloc, page, values, item, sub as u16, line, out)?;
         if !exists && !has_gap {
             return Ok(());
         }
@@ -93,18 +99,22 @@ fn print_transactions<W: Write>(
 }
 
 // The lines of an attribute. Those of transactions are together, at the place of TRANSACTION.
-#[tactic(auto, using(crate::proofs::Printing::prints_nothing), unfolding(crate::specs::Shown::attribute_entries),)]
+#[tactic(auto, using(crate::proofs::Printing::prints_nothing, crate::proofs::Defaults::prints_default), unfolding(crate::specs::Shown::attribute_entries),)]
 fn print_attribute<W: Write>(
     alloc: Global,
     page: &Page<'_, '_>,
     values: &Values,
     has_gap: bool,
+    written: u32,
     item: ItemNo,
     attr: Attr,
+    line: &mut String,
     out: &mut W,
 ) -> Result<(), ShowFault>
     requires good { AreDeviceValues (types_in page.now.image.now) values.now.numbers.items }
     requires gap { has_gap ≡ false → HasNoGap (contents_in page.now.image.now) }
+    requires exists { IsTrue (item_exists (contents_in page.now.image.now).counts item) }
+    requires rows { AreWritten (contents_in page.now.image.now) item written }
     ensures sound { OnOk result (Prints page.now.image.now values.now.numbers.items
         page.now.language.now (attribute_entries (contents_in page.now.image.now) item attr)
         (W.contents out.old) (W.contents out.new)) }
@@ -114,12 +124,15 @@ fn print_attribute<W: Write>(
         return Ok(());
     }
     if matches!(attr, Attr::Transaction) {
-        return print_transactions(alloc, page, values, has_gap, item, out);
+        return print_transactions(alloc, page, values, has_gap, item, line, out);
     }
     if attr.is_of_transaction() || matches!(attr, Attr::Definition) {
         return Ok(());
     }
-    print_row(alloc, page, values, row_at(item, attr, 0), out)
+    if !is_written(written, attr) {
+        return print_default(attr, out);
+    }
+    print_row(alloc, page, values, row_at(item, attr, 0), line, out)
 }
 
 // The attributes of an item, by their numbers.
@@ -129,18 +142,22 @@ fn print_attributes<W: Write>(
     page: &Page<'_, '_>,
     values: &Values,
     has_gap: bool,
+    written: u32,
     item: ItemNo,
+    line: &mut String,
     out: &mut W,
 ) -> Result<(), ShowFault>
     requires good { AreDeviceValues (types_in page.now.image.now) values.now.numbers.items }
     requires gap { has_gap ≡ false → HasNoGap (contents_in page.now.image.now) }
+    requires exists { IsTrue (item_exists (contents_in page.now.image.now).counts item) }
+    requires rows { AreWritten (contents_in page.now.image.now) item written }
     ensures sound { OnOk result (Prints page.now.image.now values.now.numbers.items
         page.now.language.now (flat_map (attribute_entries (contents_in page.now.image.now) item)
         attributes) (W.contents out.old) (W.contents out.new)) }
     ensures refused { IfErr result (λ fault. blames_values fault ≡ false) }
 {
     for attr in ATTRIBUTES {
-        print_attribute(alloc, page, values, has_gap, item, attr, out)?;
+        print_attribute(alloc, page, values, has_gap, written, item, attr, line, out)?;
     }
     Ok(())
 }
@@ -156,26 +173,52 @@ fn type_of_item(page: &Page<'_, '_>, item: ItemNo) -> Option<VarKind>
     }
 }
 
+// A blank and the size in octets. In a valid image it is 1 to 4, which need no division.
+#[tactic(auto, using(std::proofs::lemmas::Fmt::decimal_digit))]
+fn push_size(line: &mut String, size: u8) -> Result<(), AllocError>
+    ensures { OnOk result (string_bytes line.new ≡ string_bytes line.old ++ 32 ∷ decimal size) }
+{
+    match size {
+        1 => line.push_str(" 1"),
+        2 => line.push_str(" 2"),
+        3 => line.push_str(" 3"),
+        4 => line.push_str(" 4"),
+        _ => write!(line, " {size}"),
+    }
+}
+
+// The type and the size of a variable, each after a blank.
+fn push_type(line: &mut String, of: Option<VarKind>) -> Result<(), AllocError>
+    ensures { OnOk result (string_bytes line.new
+        ≡ string_bytes line.old ++ type_shown (option_map type_of_kind of)) }
+{
+    let Some(of) = of else {
+        return Ok(());
+    };
+    line.push(' ')?;
+    line.push_str(type_word(of.var_type))?;
+    push_size(line, of.size)
+}
+
 // The first line of an item: a variable has its type and its size after its name.
 #[tactic(auto, unfolding(crate::specs::Shown::head_line))]
 fn print_head<W: Write>(
-    alloc: Global,
     page: &Page<'_, '_>,
     item: ItemNo,
+    line: &mut String,
     out: &mut W,
 ) -> Result<(), ShowFault>
     ensures sound { OnOk result (Appends (W.contents out.old) (W.contents out.new)
         (head_line (contents_in page.now.image.now) item)) }
     ensures refused { IfErr result (λ fault. blames_values fault ≡ false) }
 {
-    let (word, name) = (item.kind().word(), page.name(item));
-    match type_of_item(page, item) {
-        Some(of) => {
-            let text = type_word(of.var_type);
-            print(alloc, out, format_args!("{word} {name} {text} {}", of.size))
-        }
-        None => print(alloc, out, format_args!("{word} {name}")),
-    }
+    line.clear();
+    line.push_str(item.kind().word())?;
+    line.push(' ')?;
+    line.push_str(page.name(item))?;
+    push_type(line, type_of_item(page, item))?;
+    line.push('\n')?;
+    print_text(out, line)
 }
 
 // `are_good` says whether the values are those of a device of this description. Each item has an
@@ -187,23 +230,27 @@ fn print_item<W: Write>(
     values: &Values,
     are_good: bool,
     has_gap: bool,
+    written: u32,
     item: ItemNo,
+    line: &mut String,
     out: &mut W,
 ) -> Result<(), ShowFault>
     requires good { IsTrue are_good ↔ AreDeviceValues (types_in page.now.image.now)
         values.now.numbers.items }
     requires gap { has_gap ≡ false → HasNoGap (contents_in page.now.image.now) }
+    requires exists { IsTrue (item_exists (contents_in page.now.image.now).counts item) }
+    requires rows { AreWritten (contents_in page.now.image.now) item written }
     ensures sound { OnOk result (Prints page.now.image.now values.now.numbers.items
         page.now.language.now (item_entries (contents_in page.now.image.now) item)
         (W.contents out.old) (W.contents out.new)) }
     ensures refused { IfErr result (λ fault. IsTrue (blames_values fault)
         → ¬ AreDeviceValues (types_in page.now.image.now) values.now.numbers.items) }
 {
-    print_head(alloc, page, item, out)?;
+    print_head(page, item, line, out)?;
     if !are_good {
         return Err(ShowFault::WrongValues);
     }
-    print_attributes(alloc, page, values, has_gap, item, out)?;
+    print_attributes(alloc, page, values, has_gap, written, item, line, out)?;
     Ok(())
 }
 
@@ -228,6 +275,7 @@ fn print_kind<W: Write>(
     are_good: bool,
     has_gap: bool,
     kind: Kind,
+    line: &mut String,
     out: &mut W,
 ) -> Result<(), ShowFault>
     requires good { IsTrue are_good ↔ AreDeviceValues (types_in page.now.image.now)
@@ -240,9 +288,13 @@ fn print_kind<W: Write>(
         → ¬ AreDeviceValues (types_in page.now.image.now) values.now.numbers.items) }
 {
     let count = count_of(&page.counts(), kind);
+    let all = written_of(alloc, page.image, kind, count)?;
     for number in 0..count {
         let item = kind.item(number);
-        print_item(alloc, page, values, are_good, has_gap, item, out)?;
+        let written = all[number as usize];
+        print_item(
+            alloc, page, values, are_good, has_gap, written, item, line, out,
+        )?;
     }
     Ok(())
 }
@@ -252,6 +304,7 @@ fn print_kinds<W: Write>(
     alloc: Global,
     page: &Page<'_, '_>,
     values: &Values,
+    line: &mut String,
     out: &mut W,
 ) -> Result<(), ShowFault>
     ensures sound { OnOk result (Prints page.now.image.now values.now.numbers.items
@@ -263,7 +316,7 @@ fn print_kinds<W: Write>(
     let are_good = values.are_of(page.image);
     let has_gap = has_gap(page.image);
     for kind in KINDS {
-        print_kind(alloc, page, values, are_good, has_gap, kind, out)?;
+        print_kind(alloc, page, values, are_good, has_gap, kind, line, out)?;
     }
     Ok(())
 }
@@ -306,6 +359,7 @@ pub fn show<W: Write>(
 {
     let page = Page { image, language };
     print_identification(alloc, &page.counts(), out)?;
-    print_kinds(alloc, &page, values, out)?;
+    let mut line = String::new(alloc);
+    print_kinds(alloc, &page, values, &mut line, out)?;
     Ok(())
 }

@@ -12,6 +12,7 @@ mod plays;
 mod records;
 mod rows;
 mod words;
+mod written;
 
 pub use fault::ShowFault;
 pub use items::show;

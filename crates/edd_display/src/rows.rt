@@ -8,16 +8,17 @@ ghost use Rattle.edd_instructions.specs.Reading.{IsReading};
 ghost use Rattle.edd_machine.specs.Types.{types_in};
 ghost use Rattle.edd_display.specs.Found.{reading_found};
 ghost use Rattle.edd_display.specs.Shown.{Prints, Row, blames_values, is_absent, is_nothing, reading_line, reading_shown, row_word};
+ghost use Rattle.edd_display.specs.Written.{default_line};
 
 use crate::fault::ShowFault;
-use crate::lines::print;
+use crate::lines::print_text;
 use crate::page::Page;
 use crate::records::push_records;
 use crate::words::trap_word;
 use edd_instructions::Record;
 use edd_machine::{ReadFault, Values, attribute_of_device};
 use edd_syntax::answer::Trap;
-use edd_syntax::numbers::AttrRef;
+use edd_syntax::numbers::{Attr, AttrRef};
 use std::alloc::{AllocError, Global};
 use std::io::Write;
 
@@ -82,14 +83,14 @@ fn is_nothing(found: &Found) -> bool
 
 // The word of an attribute, in a transaction with the position between brackets.
 #[tactic(auto, unfolding(crate::specs::Shown::row_word))]
-fn row_word(alloc: Global, row: AttrRef) -> Result<String, AllocError>
-    ensures { IfOk result (λ word. string_bytes word ≡ row_word row) }
+fn push_word(line: &mut String, row: AttrRef) -> Result<(), AllocError>
+    ensures { OnOk result (string_bytes line.new ≡ string_bytes line.old ++ row_word row) }
 {
-    let word = row.attr.word();
+    line.push_str(row.attr.word())?;
     if row.attr.is_of_transaction() {
-        return format!(in alloc; "{word}[{}]", row.sub);
+        return write!(line, "[{}]", row.sub);
     }
-    String::from_str(alloc, word)
+    Ok(())
 }
 
 // What is read: the records, or the word of the trap.
@@ -113,10 +114,10 @@ fn push_found(page: &Page<'_, '_>, line: &mut String, found: &Found) -> Result<(
 /// none.
 #[tactic(auto, unfolding(crate::specs::Shown::reading_line))]
 pub fn print_found<W: Write>(
-    alloc: Global,
     page: &Page<'_, '_>,
     row: AttrRef,
     found: &Found,
+    line: &mut String,
     out: &mut W,
 ) -> Result<(), ShowFault>
     ensures sound { OnOk result (Appends (W.contents out.old) (W.contents out.new)
@@ -127,9 +128,24 @@ pub fn print_found<W: Write>(
     if is_nothing(found) && !row.attr.is_of_transaction() {
         return Ok(());
     }
-    let mut line = row_word(alloc, row)?;
-    push_found(page, &mut line, found)?;
-    print(alloc, out, line.as_str())
+    line.clear();
+    push_word(line, row)?;
+    push_found(page, line, found)?;
+    line.push('\n')?;
+    print_text(out, line)
+}
+
+/// Prints the line of an attribute that has no row and is outside of transactions.
+pub fn print_default<W: Write>(attr: Attr, out: &mut W) -> Result<(), ShowFault>
+    ensures sound { OnOk result (Appends (W.contents out.old) (W.contents out.new)
+        (default_line attr)) }
+    ensures refused { IfErr result (λ fault. blames_values fault ≡ false) }
+{
+    match attr {
+        Attr::Handling => print_text(out, "HANDLING 3\n"),
+        Attr::Validity => print_text(out, "VALIDITY 1\n"),
+        _ => Ok(()),
+    }
 }
 
 /// Reads an attribute, and prints its line.
@@ -139,6 +155,7 @@ pub fn print_row<W: Write>(
     page: &Page<'_, '_>,
     values: &Values,
     row: AttrRef,
+    line: &mut String,
     out: &mut W,
 ) -> Result<(), ShowFault>
     requires { AreDeviceValues (types_in page.now.image.now) values.now.numbers.items }
@@ -147,6 +164,6 @@ pub fn print_row<W: Write>(
     ensures refused { IfErr result (λ fault. blames_values fault ≡ false) }
 {
     let found = read(alloc, page, row, values)?;
-    print_found(alloc, page, row, &found, out)?;
+    print_found(page, row, &found, line, out)?;
     Ok(())
 }
