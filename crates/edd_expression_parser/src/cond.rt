@@ -129,7 +129,7 @@ fn alone<V: ParseValue>(
 ) -> Result<Vec<Cond<Path, V>>, AllocError>
     ensures { IfOk result (λ v. v.items ≡ inner ∷ []) }
 {
-    let mut all = Vec::new(alloc);
+    let mut all = Vec::with_capacity(alloc, 1)?;
     all.push(inner)?;
     Ok(all)
 }
@@ -272,6 +272,7 @@ pub fn elements<V: ParseValue>(
         all.push(cond(cursor, Form::Many, height_left)?)?;
         skip_comma(cursor);
     }
+    all.shrink_to_fit();
     Ok(all)
 }
 
@@ -309,6 +310,7 @@ fn arms<V: ParseValue>(
     while !cursor.at(Symbol::CloseBrace) {
         all.push(arm(cursor, form, height_left)?)?;
     }
+    all.shrink_to_fit();
     Ok(all)
 }
 

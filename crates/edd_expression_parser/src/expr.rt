@@ -13,7 +13,7 @@ ghost use Rattle.edd_expression_parser.specs.Expressions.{expr_view, pure_argume
 
 use crate::trees::{
     Child, Measured, MeasuredArgument, MeasuredArguments, assigned, binary, boxed, call,
-    choice_between, indexed_by, into_path, leaf, no_arguments, parentheses, unary_over,
+    choice_between, fitted, indexed_by, into_path, leaf, no_arguments, parentheses, unary_over,
     with_argument,
 };
 use edd_lexer::token::TokenKind;
@@ -367,7 +367,7 @@ fn some_arguments(
         let next = argument(cursor, site, height_left)?;
         all = with_argument(all, next)?;
         if !cursor.eat(Symbol::Comma) {
-            return close(cursor, all);
+            return close(cursor, fitted(all));
         }
     }
 }

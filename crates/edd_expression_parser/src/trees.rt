@@ -197,6 +197,17 @@ pub fn no_arguments(alloc: Global) -> MeasuredArguments
     }
 }
 
+/// These arguments, in a list without room for more.
+pub fn fitted(all: MeasuredArguments) -> MeasuredArguments
+    ensures items { result.arguments.items ≡ all.arguments.items }
+    ensures levels { result.levels ≡ all.levels }
+{
+    let levels = all.levels;
+    let mut arguments = all.arguments;
+    arguments.shrink_to_fit();
+    MeasuredArguments { arguments, levels }
+}
+
 /// One more argument at the end.
 #[tactic(auto, using(crate::proofs::ArgumentHeights::listed_height))]
 pub fn with_argument(

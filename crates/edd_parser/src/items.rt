@@ -153,6 +153,7 @@ fn attribute_row(
     while !cursor.at(Symbol::CloseBrace) {
         all.push(own_attribute(cursor, kind, height_left)?)?;
     }
+    all.shrink_to_fit();
     Ok(all)
 }
 

@@ -39,6 +39,7 @@ fn row<T: RowElement>(cursor: &mut Cursor, height_left: u32) -> Result<Vec<T>, P
     while !cursor.at(Symbol::CloseBrace) {
         all.push(T::read_element(cursor, height_left)?)?;
     }
+    all.shrink_to_fit();
     Ok(all)
 }
 

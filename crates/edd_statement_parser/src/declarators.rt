@@ -56,7 +56,7 @@ pub fn declarators(
     ensures { Gives (λ v. map declarator_view v.items) result cursor.new
         (reading.declarators_at height_left cursor.old) }
 {
-    let mut all = Vec::new(cursor.alloc());
+    let mut all = Vec::with_capacity(cursor.alloc(), 1)?;
     loop {
         all.push(declarator(cursor, height_left)?)?;
         if !cursor.eat(Symbol::Comma) {

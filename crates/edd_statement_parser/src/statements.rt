@@ -236,6 +236,7 @@ fn parts(cursor: &mut Cursor, height_left: u32, labels: bool) -> Result<Vec<Part
     while !cursor.at(Symbol::CloseBrace) {
         all.push(part(cursor, height_left, labels)?)?;
     }
+    all.shrink_to_fit();
     Ok(all)
 }
 
