@@ -8,3 +8,4 @@ pub mod Printing
 pub mod Quotes
 pub mod Masks
 pub mod Defaults
+pub mod Digits

@@ -1,7 +1,6 @@
 //! The lines of the items of an image.
 
 ghost use Rattle.std.specs.Prelude.{◌≡◌, ◌++◌, ◌∷◌, ◌↔◌, [], IfErr, IfOk, IsTrue, OnOk, false, if◌then◌else◌, option_map, string_bytes};
-ghost use Rattle.std.specs.Fmt.{decimal};
 ghost use Rattle.std.specs.Io.KnownBytes.{Appends};
 ghost use Rattle.std.specs.List.{flat_map};
 ghost use Rattle.edd_syntax.specs.DeviceValues.{AreDeviceValues};
@@ -19,6 +18,7 @@ ghost use Rattle.edd_display.specs.Written.{AreWritten};
 use crate::fault::ShowFault;
 use crate::gaps::has_gap;
 use crate::lines::{print, print_text};
+use crate::numbers::push_decimal;
 use crate::page::Page;
 use crate::rows::{is_any_found, print_default, print_found, print_row, read};
 use crate::words::type_word;
@@ -173,20 +173,6 @@ fn type_of_item(page: &Page<'_, '_>, item: ItemNo) -> Option<VarKind>
     }
 }
 
-// A blank and the size in octets. In a valid image it is 1 to 4, which need no division.
-#[tactic(auto, using(std::proofs::lemmas::Fmt::decimal_digit))]
-fn push_size(line: &mut String, size: u8) -> Result<(), AllocError>
-    ensures { OnOk result (string_bytes line.new ≡ string_bytes line.old ++ 32 ∷ decimal size) }
-{
-    match size {
-        1 => line.push_str(" 1"),
-        2 => line.push_str(" 2"),
-        3 => line.push_str(" 3"),
-        4 => line.push_str(" 4"),
-        _ => write!(line, " {size}"),
-    }
-}
-
 // The type and the size of a variable, each after a blank.
 fn push_type(line: &mut String, of: Option<VarKind>) -> Result<(), AllocError>
     ensures { OnOk result (string_bytes line.new
@@ -197,7 +183,8 @@ fn push_type(line: &mut String, of: Option<VarKind>) -> Result<(), AllocError>
     };
     line.push(' ')?;
     line.push_str(type_word(of.var_type))?;
-    push_size(line, of.size)
+    line.push(' ')?;
+    push_decimal(line, u32::from(of.size))
 }
 
 // The first line of an item: a variable has its type and its size after its name.

@@ -7,6 +7,7 @@ mod gaps;
 mod items;
 mod laws;
 mod lines;
+mod numbers;
 mod page;
 mod plays;
 mod records;

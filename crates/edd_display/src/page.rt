@@ -1,6 +1,6 @@
 //! A line that is put together from the names and texts of an image.
 
-ghost use Rattle.std.specs.Prelude.{◌≡◌, ◌++◌, OnOk, string_bytes};
+ghost use Rattle.std.specs.Prelude.{◌≡◌, ◌++◌, ◌∷◌, [], IsTrue, OnOk, string_bytes};
 ghost use Rattle.std.specs.Char.{encode_utf8};
 ghost use Rattle.std.specs.List.{flat_map};
 ghost use Rattle.edd_image.specs.Contents.{contents_in};
@@ -35,10 +35,43 @@ fn push_escape(line: &mut String, character: char) -> Result<(), AllocError>
     }
 }
 
+// Whether a byte stands for itself between quotes.
+fn is_plain(byte: u8) -> bool
+    ensures { IsTrue result → escape byte ≡ byte ∷ [] }
+{
+    (byte != b'"') & (byte != b'\\') & (byte != b'\n') & (byte != b'\t')
+}
+
+// Whether no byte needs an escape. Each is looked at, which takes less time than to stop at one.
+fn are_plain(bytes: &[u8]) -> bool
+    ensures { IsTrue result → flat_map escape bytes.now ≡ bytes.now }
+{
+    let mut are_plain = true;
+    for byte in bytes {
+        are_plain = are_plain & is_plain(*byte);
+    }
+    are_plain
+}
+
+// A text without escapes between quotes.
+#[tactic(auto, unfolding(crate::specs::Words::quoted))]
+fn push_plain(line: &mut String, text: &str) -> Result<(), AllocError>
+    requires { flat_map escape text.now ≡ text.now }
+    ensures { OnOk result (string_bytes line.new ≡ string_bytes line.old ++ quoted text.now) }
+{
+    line.push('"')?;
+    line.push_str(text)?;
+    line.push('"')?;
+    Ok(())
+}
+
 /// The text between quotes, with an escape for each character that needs one.
 pub fn push_quoted(line: &mut String, text: &str) -> Result<(), AllocError>
     ensures { OnOk result (string_bytes line.new ≡ string_bytes line.old ++ quoted text.now) }
 {
+    if are_plain(text.as_bytes()) {
+        return push_plain(line, text);
+    }
     line.push('"')?;
     for character in text.chars() {
         push_escape(line, character)?;

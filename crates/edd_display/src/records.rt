@@ -8,6 +8,7 @@ ghost use Rattle.edd_instructions.specs.declared.records.Record.TheVariants as r
 ghost use Rattle.edd_display.specs.Words.{class_word, data_qualifiers, member_shown, menu_qualifiers, name_of, optional_shown, qualifiers_shown, string_shown};
 ghost use Rattle.edd_display.specs.Records.{mask_shown, record_shown, records_shown};
 
+use crate::numbers::{push_decimal, push_signed};
 use crate::page::Page;
 use crate::words::{class_word, push_data_qualifiers, push_menu_qualifiers};
 use edd_instructions::Record;
@@ -35,7 +36,10 @@ fn push_mask(line: &mut String, mask: u32) -> Result<(), AllocError>
     if mask == 0 {
         return Ok(());
     }
-    write!(line, "<{mask}>")
+    line.push('<')?;
+    push_decimal(line, mask)?;
+    line.push('>')?;
+    Ok(())
 }
 
 #[tactic(auto, unfolding(crate::specs::Records::record_shown))]
@@ -67,7 +71,9 @@ fn push_enumerator(
         ++ record_shown (contents_in page.now.image.now) page.now.language.now
         (records.Enumerator value text help)) }
 {
-    write!(line, "{{{value} ")?;
+    line.push('{')?;
+    push_signed(line, value)?;
+    line.push(' ')?;
     page.push_text(line, text)?;
     page.push_optional(line, help)?;
     line.push('}')?;
@@ -86,8 +92,11 @@ fn push_response(
         ++ record_shown (contents_in page.now.image.now) page.now.language.now
         (records.Response number class text)) }
 {
-    let word = class_word(class);
-    write!(line, "{{{number} {word} ")?;
+    line.push('{')?;
+    push_decimal(line, number)?;
+    line.push(' ')?;
+    line.push_str(class_word(class))?;
+    line.push(' ')?;
     page.push_text(line, text)?;
     line.push('}')?;
     Ok(())
@@ -145,7 +154,9 @@ fn push_element(
         ++ record_shown (contents_in page.now.image.now) page.now.language.now
         (records.Element number variable label help)) }
 {
-    write!(line, "{{{number} ")?;
+    line.push('{')?;
+    push_decimal(line, number)?;
+    line.push(' ')?;
     push_named(page, line, ItemNo::Variable(variable), label, help)
 }
 
@@ -156,9 +167,9 @@ fn push_record(page: &Page<'_, '_>, line: &mut String, given: Record) -> Result<
 {
     match given {
         Record::Words(string) => page.push_text(line, string),
-        Record::Number(number) => write!(line, "{number}"),
+        Record::Number(number) => push_signed(line, number),
         Record::Entry { item, quals } => push_entry(page, line, item, quals),
-        Record::DataConst(number) => write!(line, "{number}"),
+        Record::DataConst(number) => push_decimal(line, u32::from(number)),
         Record::DataVar { var, mask, quals } => push_data(page, line, var, mask, quals),
         Record::Enumerator { value, text, help } => push_enumerator(page, line, value, text, help),
         Record::Response {
