@@ -11,10 +11,12 @@ use Rattle.std.proofs.lemmas.Str.{is_utf8-from_IsUtf8}
 use Rattle.std.proofs.Math.Logic.{∥∥₁_elim}
 use Rattle.std.proofs.Math.Bool.{Bool-set}
 use Rattle.edd_syntax.specs.declared.words.Variant as code_variant
+use Rattle.edd_syntax.specs.declared.words.VariantText as code_text
+use Rattle.edd_syntax.specs.declared.words.VariantText.TheVariants as text_in_code
 use Rattle.edd_syntax.specs.declared.words.Words as code_words
 use Rattle.edd_syntax.specs.declared.words.Words.TheVariants as in_code
 use Rattle.edd_syntax.specs.Words.{Words, Variants, Key, Variant, is_code}
-use Rattle.edd_syntax.specs.WordsView.{variant_of, string_of}
+use Rattle.edd_syntax.specs.WordsView.{variant_of, string_of, text_bytes}
 use Rattle.edd_image.specs.Contents.{part, fields_of_string}
 use Rattle.edd_image.specs.Layout.{u32}
 use Rattle.edd_image.specs.Strings.{variant_bytes, string_bytes, VariantFits, WordsFit, string_in, is_variant, is_words, is_string}
@@ -24,9 +26,14 @@ use Rattle.edd_assembly.proofs.Cutting.{strings_cut}
 
 -- ---- codes are codes, and texts UTF-8
 
+text_valid : (t : code_text.VariantText) → is_utf8 (text_bytes t) ≡ true
+text_valid (text_in_code.Short short) = short.valid
+text_valid (text_in_code.Long text) = ∥∥₁_elim text.ok (Bool-set _ _)
+    (is_utf8-from_IsUtf8 (bytes_of_text text))
+
 variant_valid : (v : code_variant.Variant) → is_variant (variant_of v) ≡ true
-variant_valid v = and_from (is_code (bytes_of_text v.code)) (is_utf8 (bytes_of_text v.text)) v.coded
-    (∥∥₁_elim v.text.ok (Bool-set _ _) (is_utf8-from_IsUtf8 (bytes_of_text v.text)))
+variant_valid v = and_from (is_code v.code.bytes) (is_utf8 (text_bytes v.text)) v.coded
+    (text_valid v.text)
 
 variants_valid : (vs : List code_variant.Variant) → list_all is_variant (map variant_of vs) ≡ true
 variants_valid [] = refl

@@ -15,11 +15,13 @@ fn put_variant(out: &mut Vec<u8>, variant: &Variant) -> Result<(), AllocError>
     ensures { OnOk result (out.new.items ≡ out.old.items
         ++ pure.variant_bytes (variant_of variant.now)) }
 {
-    let length = narrow_length(variant.text.len())?;
-    out.push(variant.code.len() as u8)?;
-    out.extend_from_slice(variant.code.as_bytes())?;
+    let code = variant.code.as_str();
+    let text = variant.text.as_str();
+    let length = narrow_length(text.len())?;
+    out.push(code.len() as u8)?;
+    out.extend_from_slice(code.as_bytes())?;
     out.extend_from_slice(&length.to_be_bytes())?;
-    out.extend_from_slice(variant.text.as_bytes())
+    out.extend_from_slice(text.as_bytes())
 }
 
 fn put_variants(out: &mut Vec<u8>, variants: &[Variant]) -> Result<(), AllocError>

@@ -11,7 +11,7 @@ use crate::fault::LowerFault;
 use edd_strings::{Table, key, split};
 use edd_syntax::numbers::StrNo;
 use edd_syntax::text::Text;
-use edd_syntax::words::{Variant, Words};
+use edd_syntax::words::{Variant, VariantText, Words, code_of};
 use std::alloc::{AllocError, Global};
 
 // The string of a text.
@@ -32,8 +32,8 @@ fn name_words(alloc: Global, name: &str) -> Result<Words, AllocError>
     ensures { IfOk result (λ words. string_of words ≡ name_words name.now) }
 {
     let first = Variant {
-        code: String::from_str(alloc, "en")?,
-        text: String::from_str(alloc, name)?,
+        code: code_of("en"),
+        text: VariantText::new(alloc, name)?,
     };
     let rest = Vec::new(alloc);
     Ok(Words::Variants { first, rest })

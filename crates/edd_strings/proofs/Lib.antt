@@ -1,3 +1,4 @@
+pub mod Marks
 pub mod Numbering
 pub mod Pieces
 pub mod Sameness

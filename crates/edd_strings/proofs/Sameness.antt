@@ -1,6 +1,8 @@
 -- Strings that are the same by `==` stand for the same string, and only these.
-use Rattle.std.proofs.Common.{rules, ◌≡◌, Bool, true, List, [], ◌∷◌, map, refl, string_bytes}
+use Rattle.std.proofs.Common.{rules, ◌≡◌, Bool, true, List, [], ◌∷◌, map, refl, ap, ◌∙◌, string_bytes}
+use Rattle.std.proofs.lemmas.Bool.{and_parts}
 use Rattle.std.specs.Cmp.Lexicographic.{pointwise}
+use Rattle.edd_syntax.specs.Words as strings
 use Rattle.edd_syntax.specs.WordsView.{string_of, variant_of}
 use Rattle.edd_syntax.specs.declared.words.Key.{Key}
 use Rattle.edd_syntax.specs.declared.words.Variant.{Variant}
@@ -30,11 +32,19 @@ same_variants_are : (xs ys : List Variant) → pointwise same_variant xs ys ≡ 
 same_variants_are [] [] e = refl
 same_variants_are [] (y ∷ ys) e = absurd cc
 same_variants_are (x ∷ xs) [] e = absurd cc
-same_variants_are (x ∷ xs) (y ∷ ys) e = search (rules, same_variant_is, same_variants_are xs ys)
+same_variants_are (x ∷ xs) (y ∷ ys) e =
+    let parts = and_parts (same_variant x y) (pointwise same_variant xs ys) e in
+    ap (λ v. v ∷ map variant_of xs) (same_variant_is x y parts.0)
+    ∙ ap (λ vs. variant_of y ∷ vs) (same_variants_are xs ys parts.1)
 
 pub same_words_are : (a b : Words) → same_words a b ≡ true → string_of a ≡ string_of b
 same_words_are (words.Variants first rest) (words.Variants other others) e =
-    search (rules, same_variant_is, same_variants_are)
+    let parts = and_parts (same_variant first other)
+    (pointwise same_variant rest.items others.items) e in
+    ap (λ v. strings.Variants v (map variant_of rest.items))
+    (same_variant_is first other parts.0)
+    ∙ ap (λ vs. strings.Variants (variant_of other) vs)
+    (same_variants_are rest.items others.items parts.1)
 same_words_are (words.Variants first rest) (words.Key other) e = absurd cc
 same_words_are (words.Key key) (words.Variants other others) e = absurd cc
 same_words_are (words.Key key) (words.Key other) e = search (rules, same_key_is)

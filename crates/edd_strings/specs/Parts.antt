@@ -1,6 +1,6 @@
 -- What the parts that a raw text is read by say of its pieces.
-use Rattle.std.specs.Prelude.{ℕ, ◌+◌, List, [], Option, Some, None, length}
-use Rattle.edd_syntax.specs.Words.{Pieces, Variant, pieces, with_code, with_text, Words, variants_of}
+use Rattle.std.specs.Prelude.{ℕ, ◌≡◌, ◌+◌, ◌<◌, ◌≤◌, ◌==◌, ◌||◌, Bool, false, List, [], Option, Some, None, length, slice_index}
+use Rattle.edd_syntax.specs.Words.{Pieces, Variant, backslash, bar, pieces, with_code, with_text, Words, variants_of}
 use Rattle.edd_strings.specs.declared.parts.Opened.{Opened}
 use Rattle.edd_strings.specs.declared.parts.Part.{Part}
 
@@ -25,3 +25,12 @@ left_len (Some opened) = length opened.behind.now + 1
 -- the string of a raw text with this first part
 abbrev pub words_of_part : Part → Words
 words_of_part p = let all = pieces_of p in variants_of all.before all.variants
+
+-- a byte before which reading has to look on
+abbrev pub is_mark : ℕ → Bool
+is_mark c = c == bar || c == backslash
+
+-- the bytes from one place up to another are there, and no marks
+abbrev pub AreUnmarked : List ℕ → (from : ℕ) → (to : ℕ) → Type 0
+AreUnmarked bytes from to =
+    (i : ℕ) → from ≤ i → i < to → (i < length bytes) × (is_mark (slice_index bytes i) ≡ false)

@@ -2,7 +2,7 @@
 
 ghost use Rattle.std.specs.Prelude.{◌≡◌, ◌+◌, ◌<◌, ◌≤◌, IfNone, IfSome, IsTrue, OnSome, drop, length, option_map, slice_index, take};
 ghost use Rattle.edd_syntax.specs.Words.{bar, code_opened, is_code, pieces};
-ghost use Rattle.edd_strings.specs.Parts.{left_len, pieces_from, pieces_of};
+ghost use Rattle.edd_strings.specs.Parts.{AreUnmarked, is_mark, left_len, pieces_from, pieces_of};
 
 use crate::parts::{Opened, Part};
 
@@ -13,23 +13,48 @@ pub fn first_part(raw: &str) -> Part<'_>
     ensures shorter { left_len result.next ≤ length raw.now }
 {
     let bytes = raw.as_bytes();
-    let mut at = 0;
+    let mut is_plain = true;
+    let mut at = mark_from(bytes, 0);
     while at < bytes.len() {
-        let byte = bytes[at];
-        if byte == b'|' {
+        let mut behind = at + 2;
+        if bytes[at] == b'|' {
             if let Some(next) = opened_at(raw, at) {
                 return Part {
                     text: &raw[..at],
+                    is_plain,
                     next: Some(next),
                 };
             }
+            behind = at + 1;
+        } else {
+            is_plain = false;
         }
-        at += if byte == b'\\' { 2 } else { 1 };
+        at = mark_from(bytes, behind);
     }
     Part {
         text: raw,
+        is_plain,
         next: None,
     }
+}
+
+// The place of the next bar or backslash, or the end.
+fn mark_from(bytes: &[u8], from: usize) -> usize
+    ensures ahead { from ≤ result }
+    ensures unmarked { AreUnmarked bytes.now from result }
+    ensures mark { result < length bytes.now → IsTrue (is_mark (slice_index bytes.now result)) }
+{
+    let mut at = from;
+    while at < bytes.len() && !is_mark(bytes[at]) {
+        at += 1;
+    }
+    at
+}
+
+fn is_mark(byte: u8) -> bool
+    ensures { result ≡ is_mark byte }
+{
+    matches!(byte, b'|' | b'\\')
 }
 
 // The code that the bar at a place opens.

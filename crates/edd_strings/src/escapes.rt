@@ -9,6 +9,9 @@ use std::alloc::{AllocError, Global};
 pub fn has_escapes(raw: &str) -> bool
     ensures { result ≡ has_escapes raw.now }
 {
+    if !raw.as_bytes().contains(&b'\\') {
+        return true;
+    }
     let mut after_backslash = false;
     for byte in raw.as_bytes() {
         if after_backslash {

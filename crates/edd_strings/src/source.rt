@@ -3,9 +3,9 @@
 ghost use Rattle.std.specs.Prelude.{◌≡◌, ◌≢◌, ◌↔◌, ◌<◌, ◌∷◌, ◌++◌, IfOk, IfErr, IsTrue, Some, false, map};
 ghost use Rattle.edd_syntax.specs.Names.{is_name};
 ghost use Rattle.edd_syntax.specs.Text.{Quoted};
-ghost use Rattle.edd_syntax.specs.Words.{has_escapes, unescaped, words_of};
+ghost use Rattle.edd_syntax.specs.Words.{has_escapes, unescape, unescaped, words_of};
 ghost use Rattle.edd_syntax.specs.Words as strings;
-ghost use Rattle.edd_syntax.specs.WordsView.{string_of, variant_of};
+ghost use Rattle.edd_syntax.specs.WordsView.{string_of, text_bytes, variant_of};
 ghost use Rattle.edd_strings.specs.Parts.{left_len, variants_from, words_of_part};
 
 use crate::choice::ENGLISH;
@@ -13,7 +13,7 @@ use crate::codes::first_part;
 use crate::escapes::{has_escapes, unescape};
 use crate::fault::StringFault;
 use crate::parts::{Opened, Part};
-use edd_syntax::words::{Key, Variant, Words};
+use edd_syntax::words::{Key, Variant, VariantText, Words, code_of};
 use std::alloc::{AllocError, Global};
 
 /// The string of a text: the raw insides of adjacent strings, joined.
@@ -65,8 +65,8 @@ fn first_variant<'a>(
         return variant(alloc, opened);
     }
     let first = Variant {
-        code: String::from_str(alloc, ENGLISH)?,
-        text: unescape(alloc, part.text)?,
+        code: code_of(ENGLISH),
+        text: text_of(alloc, part)?,
     };
     Ok((first, part.next))
 }
@@ -110,10 +110,20 @@ fn variant<'a>(
         ∷ map unescaped (variants_from r.1)) }
     ensures shorter { IfOk result (λ r. left_len r.1 < left_len (Some opened.entry)) }
 {
-    let Part { text, next } = first_part(opened.behind);
+    let part = first_part(opened.behind);
     let variant = Variant {
-        code: String::from_str(alloc, opened.code)?,
-        text: unescape(alloc, text)?,
+        code: code_of(opened.code),
+        text: text_of(alloc, part)?,
     };
-    Ok((variant, next))
+    Ok((variant, part.next))
+}
+
+// The text of a part with its escapes replaced.
+fn text_of(alloc: Global, part: Part<'_>) -> Result<VariantText, AllocError>
+    ensures { IfOk result (λ text. text_bytes text ≡ unescape part.entry.text.now) }
+{
+    if part.is_plain {
+        return VariantText::new(alloc, part.text);
+    }
+    Ok(VariantText::Long(unescape(alloc, part.text)?))
 }

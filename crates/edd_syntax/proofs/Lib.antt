@@ -21,6 +21,7 @@ pub mod RowLaws
 pub mod TransactionRows
 pub mod TreeRows
 pub mod RunsStay
+pub mod ShortCodes
 pub mod StableOrder
 pub mod TurnLaws
 pub mod WorkedAborts

@@ -20,6 +20,7 @@ mod tables;
 pub mod text;
 pub mod types;
 pub mod unit;
+mod variant_text;
 mod version;
 pub mod words;
 pub mod wrap;

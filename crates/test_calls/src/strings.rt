@@ -12,9 +12,9 @@ fn written(alloc: Global, words: &Words) -> Result<String, AllocError> {
     match words {
         Words::Key(key) => format!(in alloc; "[{}]", key.name),
         Words::Variants { first, rest } => {
-            let mut text = format!(in alloc; "{}={}", first.code, first.text)?;
+            let mut text = format!(in alloc; "{}={}", first.code, first.text.as_str())?;
             for variant in rest {
-                let more = format!(in alloc; ";{}={}", variant.code, variant.text)?;
+                let more = format!(in alloc; ";{}={}", variant.code, variant.text.as_str())?;
                 text.push_str(more.as_str())?;
             }
             Ok(text)

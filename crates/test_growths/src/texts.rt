@@ -43,7 +43,7 @@ fn print_words(rt: HostRuntime, words: &Words) -> Result<(), Stop> {
 }
 
 fn print_variant(rt: HostRuntime, variant: &Variant) -> Result<(), Stop> {
-    println!(rt; "split: {} \"{}\"", variant.code, variant.text)?;
+    println!(rt; "split: {} \"{}\"", variant.code, variant.text.as_str())?;
     Ok(())
 }
 

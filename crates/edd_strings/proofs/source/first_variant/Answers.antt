@@ -15,6 +15,6 @@ returns-2 c =
     ] in
     rw (
       words-english_first c.args.part.text.now c.args.part.next h,
-      c.in_ok-from_str.ensures.ok,
-      c.in_ok-unescape.ensures,
+      c.code_of.ensures,
+      c.in_ok-text_of.ensures,
     ) refl
