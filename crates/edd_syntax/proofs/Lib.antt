@@ -12,6 +12,7 @@ pub mod ItemForms
 pub mod KeptItems
 pub mod KnownByNumber
 pub mod Made
+pub mod Marking
 pub mod VersionLaws
 pub mod WithinLimits
 pub mod Existing

@@ -1,7 +1,8 @@
 -- The rows of written attributes.
-use Rattle.std.proofs.Common.{◌≡◌, refl, sym, ap, ◌∙◌, ℕ, ◌+◌, ◌<◌, ◌≤◌, Bool, true, false, List, [], ◌∷◌, ◌++◌, length, get_or, drop, map}
+use Rattle.std.proofs.Common.{◌≡◌, refl, sym, ap, ◌∙◌, ℕ, ◌+◌, ◌<◌, ◌≤◌, Bool, List, [], ◌∷◌, ◌++◌, length, get_or, drop, map}
 use Rattle.std.proofs.lemmas.List.{append-nil, append_assoc, at_drop_more}
 use Rattle.std.proofs.Math.ListN.{drop_of_length-le}
+use Rattle.std.proofs.Math.Bool.{or_assoc, or-false}
 use Rattle.std.specs.Prelude.{◌||◌}
 use Rattle.std.specs.List.{list_any, flat_map}
 use Rattle.edd_syntax.specs.declared.numbers.Attr.{Attr}
@@ -17,7 +18,12 @@ unfolding part_stands_for
 any_part a [] = refl
 any_part a (p ∷ parts) = ap (λ b. same_attr a (part_attr p) || b) (any_part a parts)
 
--- ---- a loop that looks for an element
+pub marks_part : (a b : Attr) (p : TypePart Target) → b ≡ part_attr p → same_attr a b
+    ≡ part_stands_for a p
+unfolding part_stands_for
+marks_part a b p is = ap (same_attr a) is
+
+-- ---- a loop that notes whether an element has something
 
 module _ {X Y : Type 0} (f : Y → Bool) (view : X → Y) where
   -- whether an element from the i-th on has it
@@ -29,15 +35,22 @@ module _ {X Y : Type 0} (f : Y → Bool) (view : X → Y) where
   next_any i xs x h is = at_drop_more (λ ys. list_any f (map view ys)) xs i x h
       ∙ ap (λ y. f (view y) || any_from (i + 1) xs) (sym is)
 
-  pub any_goes_on : (i : ℕ) (xs : List X) (x : X) → i < length xs → x ≡ get_or xs i x
-      → f (view x) ≡ false → any_from i xs ≡ any_from 0 xs → any_from (i + 1) xs ≡ any_from 0 xs
-  any_goes_on i xs x h is other invariant = ap (λ b. b || any_from (i + 1) xs) (sym other)
-      ∙ sym (next_any i xs x h is) ∙ invariant
+  -- what was found and what the elements from the i-th on have
+  abbrev pub found_and_rest : Bool → ℕ → List X → Bool
+  found_and_rest b i xs = b || any_from i xs
 
-  pub any_stops : (i : ℕ) (xs : List X) (x : X) → i < length xs → x ≡ get_or xs i x
-      → f (view x) ≡ true → any_from i xs ≡ any_from 0 xs → true ≡ any_from 0 xs
-  any_stops i xs x h is found invariant = ap (λ b. b || any_from (i + 1) xs) (sym found)
-      ∙ sym (next_any i xs x h is) ∙ invariant
+  pub found_more : (old new total : Bool) (i : ℕ) (xs : List X) (x : X) → i < length xs
+      → x ≡ get_or xs i x → new ≡ (old || f (view x)) → found_and_rest old i xs ≡ total
+      → found_and_rest new (i + 1) xs ≡ total
+  found_more old new total i xs x h is grown invariant =
+      ap (λ b. b || any_from (i + 1) xs) grown
+      ∙ or_assoc old (f (view x)) (any_from (i + 1) xs)
+      ∙ ap (λ b. old || b) (sym (next_any i xs x h is)) ∙ invariant
+
+  pub found_all : (found total : Bool) (i : ℕ) (xs : List X) → length xs ≤ i
+      → found_and_rest found i xs ≡ total → found ≡ total
+  found_all found total i xs h invariant = sym (or-false found)
+      ∙ ap (λ ys. found || list_any f (map view ys)) (sym (drop_of_length-le xs h)) ∙ invariant
 
 -- ---- a loop that appends what each element gives
 

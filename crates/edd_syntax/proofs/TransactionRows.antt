@@ -1,5 +1,7 @@
 -- The rows of transactions, one attribute after another.
-use Rattle.std.proofs.Common.{◌≡◌, refl, ℕ, suc, Bool, true, false, arith, List, [], ◌∷◌, ◌++◌, if◌then◌else◌}
+use Rattle.std.proofs.Common.{◌≡◌, refl, ap, ℕ, suc, Bool, true, false, arith, List, [], ◌∷◌, ◌++◌, filter, if◌then◌else◌, IsTrue}
+use Rattle.std.specs.List.{list_all}
+use Rattle.std.proofs.lemmas.Bool.{and_parts, and_from}
 use Rattle.std.proofs.lemmas.Grind.{common_steps}
 use Rattle.edd_syntax.specs.declared.numbers.Kind.{Kind}
 use Rattle.edd_syntax.specs.declared.numbers.Attr.{Attr}
@@ -43,23 +45,44 @@ module _ (number : ItemNo) (a : Attr) where
 
 -- ---- the items of a kind
 
+module _ (k : Kind) where
+  -- an item that is of the kind
+  abbrev pub if_of_kind : ℕ → Item Target → List (Item Target)
+  if_of_kind s i = if same_kind (kind_of_item i.sort) k then i ∷ [] else []
+
+  abbrev pub all_of_kind : ℕ → List (Item Target) → List (Item Target)
+  all_of_kind s items = of_kind k items
+
+  pub kind_split : (s : ℕ) (x : Item Target) (xs : List (Item Target))
+      → all_of_kind s (x ∷ xs) ≡ if_of_kind s x ++ all_of_kind s xs
+  kind_split s x xs = by_kind (same_kind (kind_of_item x.sort) k) refl
+    where
+      by_kind : (b : Bool) → same_kind (kind_of_item x.sort) k ≡ b → all_of_kind s (x ∷ xs)
+          ≡ if_of_kind s x ++ all_of_kind s xs
+      by_kind true is = grind (arith, common_steps)
+      by_kind false is = grind (arith, common_steps)
+
+-- what holds of all items holds of those that are kept
+pub all_kept : {X : Type 0} (f test : X → Bool) (xs : List X) → IsTrue (list_all f xs)
+    → IsTrue (list_all f (filter test xs))
+all_kept f test [] all = all
+all_kept f test (x ∷ xs) all =
+    let both = and_parts (f x) (list_all f xs) all in
+    by_test (test x) both.0 (all_kept f test xs both.1)
+  where
+    by_test : (b : Bool) → f x ≡ true → IsTrue (list_all f (filter test xs))
+        → IsTrue (list_all f (if b then x ∷ filter test xs else filter test xs))
+    by_test true here rest = and_from (f x) (list_all f (filter test xs)) here rest
+    by_test false here rest = rest
+
 module _ (k : Kind) (a : Attr) where
-  abbrev pub is_kind : Item Target → Bool
-  is_kind i = same_kind (kind_of_item i.sort) k
-
-  abbrev pub rows_behind : ℕ → List (Item Target) → List AttrRef
-  rows_behind next items = rows_from k a next (of_kind k items)
-
   abbrev pub rows_of_item : ℕ → Item Target → List AttrRef
   rows_of_item next i = item_rows (item_number k next) a i.attributes
 
-  pub items_split : (next : ℕ) (x : Item Target) (xs : List (Item Target))
-      → rows_behind next (x ∷ xs) ≡ (if is_kind x then rows_of_item next x else [])
-      ++ rows_behind (if is_kind x then suc next else next) xs
-  items_split next x xs = by_kind (is_kind x) refl
-    where
-      by_kind : (b : Bool) → is_kind x ≡ b → rows_behind next (x ∷ xs)
-          ≡ (if is_kind x then rows_of_item next x else [])
-          ++ rows_behind (if is_kind x then suc next else next) xs
-      by_kind true is = grind (arith, common_steps)
-      by_kind false is = grind (arith, common_steps)
+  pub rows_split : (next : ℕ) (x : Item Target) (xs : List (Item Target))
+      → rows_from k a next (x ∷ xs) ≡ rows_of_item next x ++ rows_from k a (suc next) xs
+  rows_split next x xs = refl
+
+  pub same_rows : (zs : List AttrRef) (xs ys : List (Item Target)) → xs ≡ ys
+      → zs ++ rows_from k a 0 xs ≡ zs ++ rows_from k a 0 ys
+  same_rows zs xs ys is = ap (λ items. zs ++ rows_from k a 0 items) is

@@ -16,6 +16,7 @@ pub mod Item
 pub mod ItemGrammar
 pub mod ItemView
 pub mod LayoutVersion
+pub mod Marks
 pub mod MethodState
 pub mod MoreTurns
 pub mod NameRules

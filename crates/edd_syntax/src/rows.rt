@@ -1,11 +1,14 @@
 //! The written attributes, in the order in which an image has them.
 
-ghost use Rattle.std.specs.Prelude.{◌≡◌, ◌++◌, ◌≤◌, map, filter, length, nat_le, IsTrue, IfOk, OnOk};
+ghost use Rattle.std.specs.Prelude.{◌≡◌, ◌++◌, ◌||◌, ◌≤◌, map, filter, length, nat_le, IsTrue, IfOk, OnOk};
 ghost use Rattle.std.specs.List.{list_any, list_all, flat_map};
+ghost use Rattle.edd_syntax.specs.declared.numbers.Attr.{Attr};
 ghost use Rattle.edd_syntax.specs.declared.numbers.Kind.{Kind};
 ghost use Rattle.edd_syntax.specs.Item.{kind_of_item};
 ghost use Rattle.edd_syntax.specs.ItemView.{numbered_items, numbered_attribute, numbered_item, numbered_type_part};
+ghost use Rattle.edd_syntax.specs.Marks.{is_marked};
 ghost use Rattle.edd_syntax.specs.NameRules as rules;
+ghost use Rattle.edd_syntax.specs.Numbers.{same_attr};
 ghost use Rattle.edd_syntax.specs.Resolution.{count_of};
 ghost use Rattle.edd_syntax.specs.Rows as order;
 ghost use Rattle.edd_syntax.specs.WellFormed.{has_own_attributes};
@@ -29,56 +32,100 @@ fn part_attr(part: &TypePart<Target>) -> Attr
     }
 }
 
-#[tactic(auto, unfolding(crate::specs::Rows::part_stands_for))]
-fn is_part(part: &TypePart<Target>, attr: Attr) -> bool
-    ensures { result ≡ order.part_stands_for attr (numbered_type_part part.now) }
+// Whether the attribute has its bit among these.
+#[tactic(auto, using(crate::proofs::Marking::marks))]
+fn is_marked(marks: u32, attr: Attr) -> bool
+    ensures { result ≡ is_marked marks attr }
 {
-    attr == part_attr(part)
+    (marks >> attr.number()) & 1 == 1
 }
 
-fn has_part(parts: &[TypePart<Target>], attr: Attr) -> bool
-    ensures { result ≡ list_any (order.part_stands_for attr) (map numbered_type_part parts.now) }
+// These bits and that of the attribute.
+#[tactic(auto, using(crate::proofs::Marking::marks))]
+fn mark(marks: u32, attr: Attr) -> u32
+    ensures { (a : Attr) → is_marked result a
+        ≡ (is_marked marks a || same_attr a attr) }
 {
+    marks | (1 << attr.number())
+}
+
+// These bits and those of what a type's braces hold.
+fn mark_parts(marks: u32, parts: &[TypePart<Target>]) -> u32
+    ensures { (a : Attr) → is_marked result a
+        ≡ (is_marked marks a
+        || list_any (order.part_stands_for a) (map numbered_type_part parts.now)) }
+{
+    let mut all = marks;
     for part in parts {
-        if is_part(part, attr) {
-            return true;
-        }
+        all = mark(all, part_attr(part));
     }
-    false
+    all
 }
 
-// Whether a written attribute stands for this one.
+// These bits and those of the attributes for which a written one stands.
 #[tactic(auto, unfolding(crate::specs::Rows::stands_for), using(crate::proofs::RowLaws::any_part))]
-fn stands_for(attribute: &Attribute<Target>, attr: Attr) -> bool
-    ensures { result ≡ order.stands_for attr (numbered_attribute attribute.now) }
+fn mark_attribute(marks: u32, attribute: &Attribute<Target>) -> u32
+    ensures { (a : Attr) → is_marked result a
+        ≡ (is_marked marks a || order.stands_for a (numbered_attribute attribute.now)) }
 {
     let written = match attribute {
         Attribute::OneText(_, which, _) => which.attr(),
         Attribute::Class(_, _) => Attr::Class,
         Attribute::Handling(_, _) => Attr::Handling,
         Attribute::Validity(_, _) => Attr::Validity,
-        Attribute::TypeOf { parts, .. } => return has_part(parts, attr),
+        Attribute::TypeOf { parts, .. } => return mark_parts(marks, parts),
         Attribute::Number(_, _) => Attr::Number,
         Attribute::Operation(_, _) => Attr::Operation,
-        Attribute::Transaction { .. } => return false,
+        Attribute::Transaction { .. } => return marks,
         Attribute::ResponseCodes(_, _) => Attr::ResponseCodes,
         Attribute::Items(_, _) => Attr::Items,
         Attribute::Members(_, _) => Attr::Members,
         Attribute::Definition(_, _) => Attr::Definition,
         Attribute::Elements(_, _) => Attr::Elements,
     };
-    attr == written
+    mark(marks, written)
 }
 
-fn is_written(attributes: &[Attribute<Target>], attr: Attr) -> bool
-    ensures { result ≡ order.is_written attr (map numbered_attribute attributes.now) }
+// The bits of the attributes that are written.
+fn marks_of(attributes: &[Attribute<Target>]) -> u32
+    ensures { (a : Attr) → is_marked result a
+        ≡ order.is_written a (map numbered_attribute attributes.now) }
 {
+    let mut all = 0;
     for attribute in attributes {
-        if stands_for(attribute, attr) {
-            return true;
+        all = mark_attribute(all, attribute);
+    }
+    all
+}
+
+// An item, and which of its attributes are written, so that each is looked at once.
+#[derive(Drop)]
+struct Marked<'a> {
+    item: &'a Item<Target>,
+    marks: u32,
+    ghost written: { (a : Attr)
+        → is_marked marks a ≡ order.is_written a (numbered_item item.now).attributes },
+}
+
+// The items of a kind.
+fn mark_items<'a>(
+    items: &'a [Item<Target>],
+    kind: Kind,
+    alloc: Global,
+) -> Result<Vec<Marked<'a>>, AllocError>
+    ensures { IfOk result (λ marked. map (λ m. numbered_item m.item.now) marked.items
+        ≡ order.of_kind kind (map numbered_item items.now)) }
+{
+    let mut marked = Vec::with_capacity(alloc, items.len())?;
+    for item in items {
+        if item.kind() == kind {
+            marked.push(Marked {
+                item,
+                marks: marks_of(item.attributes()),
+            })?;
         }
     }
-    false
+    Ok(marked)
 }
 
 fn is_transaction(attribute: &Attribute<Target>) -> bool
@@ -113,18 +160,19 @@ fn push_transactions(
 #[tactic(auto, unfolding(crate::specs::Rows::rows_at))]
 fn push_item(
     rows: &mut Vec<AttrRef>,
-    attributes: &[Attribute<Target>],
+    marked: &Marked,
     item: ItemNo,
     attr: Attr,
 ) -> Result<(), AllocError>
-    requires { length (filter rules.is_transaction (map numbered_attribute attributes.now)) ≤ 4096 }
+    requires { length
+        (filter rules.is_transaction (numbered_item marked.now.item.now).attributes) ≤ 4096 }
     ensures { OnOk result (rows.new.items ≡ rows.old.items
-        ++ order.item_rows item attr (map numbered_attribute attributes.now)) }
+        ++ order.item_rows item attr (numbered_item marked.now.item.now).attributes) }
 {
     if attr.is_of_transaction() {
-        return push_transactions(rows, attributes, item, attr);
+        return push_transactions(rows, marked.item.attributes(), item, attr);
     }
-    if is_written(attributes, attr) {
+    if is_marked(marked.marks, attr) {
         rows.push(AttrRef { item, attr, sub: 0 })?;
     }
     Ok(())
@@ -133,22 +181,20 @@ fn push_item(
 // The rows of an attribute of the items of a kind.
 fn push_items(
     rows: &mut Vec<AttrRef>,
-    items: &[Item<Target>],
+    marked: &[Marked],
     kind: Kind,
     attr: Attr,
 ) -> Result<(), AllocError>
-    requires few { count_of kind (map numbered_item items.now) ≤ 4096 }
+    requires few { length marked.now ≤ 4096 }
     requires transactions { IsTrue (list_all (λ i. nat_le (rules.transaction_count i) 4096)
-        (map numbered_item items.now)) }
-    ensures { OnOk result (rows.new.items ≡ rows.old.items ++ order.rows_from kind attr 0
-        (order.of_kind kind (map numbered_item items.now))) }
+        (map (λ m. numbered_item m.item.now) marked.now)) }
+    ensures { OnOk result (rows.new.items ≡ rows.old.items
+        ++ order.rows_from kind attr 0 (map (λ m. numbered_item m.item.now) marked.now)) }
 {
     let mut number = 0;
-    for item in items {
-        if item.kind() == kind {
-            push_item(rows, item.attributes(), kind.item(number), attr)?;
-            number += 1;
-        }
+    for one in marked {
+        push_item(rows, one, kind.item(number), attr)?;
+        number += 1;
     }
     Ok(())
 }
@@ -159,6 +205,7 @@ fn push_attributes(
     items: &[Item<Target>],
     kind: Kind,
     attrs: &[Attr],
+    alloc: Global,
 ) -> Result<(), AllocError>
     requires few { count_of kind (map numbered_item items.now) ≤ 4096 }
     requires transactions { IsTrue (list_all (λ i. nat_le (rules.transaction_count i) 4096)
@@ -168,9 +215,10 @@ fn push_attributes(
         ≡ rows.old.items ++ flat_map (order.rows_of_attr (map numbered_item items.now) kind)
         attrs.now) }
 {
+    let marked = mark_items(items, kind, alloc)?;
     for attr in attrs {
         if attr.may_belong_to(kind) {
-            push_items(rows, items, kind, *attr)?;
+            push_items(rows, &marked, kind, *attr)?;
         }
     }
     Ok(())
@@ -181,6 +229,7 @@ fn push_kinds(
     rows: &mut Vec<AttrRef>,
     items: &[Item<Target>],
     kinds: &[Kind],
+    alloc: Global,
 ) -> Result<(), AllocError>
     requires few { (k : Kind) → count_of k (map numbered_item items.now) ≤ 4096 }
     requires transactions { IsTrue (list_all (λ i. nat_le (rules.transaction_count i) 4096)
@@ -190,7 +239,7 @@ fn push_kinds(
         ≡ rows.old.items ++ flat_map (order.rows_of_kind (map numbered_item items.now)) kinds.now) }
 {
     for kind in kinds {
-        push_attributes(rows, items, *kind, &ATTRIBUTES)?;
+        push_attributes(rows, items, *kind, &ATTRIBUTES, alloc)?;
     }
     Ok(())
 }
@@ -204,7 +253,7 @@ impl Checked {
             ≡ order.rows (numbered_items self.now.items.value.items)) }
     {
         let mut rows = Vec::new(alloc);
-        push_kinds(&mut rows, &self.items, &KINDS)?;
+        push_kinds(&mut rows, &self.items, &KINDS, alloc)?;
         Ok(rows)
     }
 }
