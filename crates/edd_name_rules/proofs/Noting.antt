@@ -1,9 +1,8 @@
 -- Names of a scope, one after another.
 use Rattle.std.proofs.Common.{◌≡◌, refl, sym, ap, ◌∙◌, ℕ, zero, suc, ◌+◌, ◌<◌, ◌≤◌, List, [], ◌∷◌, ◌++◌, length, get_or, take, drop, map, Option, Some, None, add-one, subst, arith}
 use Rattle.std.specs.Prelude.{Bool, true, false, cond, ◌||◌, if◌then◌else◌, is_some, option_map}
-use Rattle.std.specs.HashMap.{HashMap, get_by, UpdatesBy}
+use Rattle.std.specs.HashMap.{UpdatesBy}
 use Rattle.std.specs.Str.{bytes_eq}
-use denote.Ref.{Bor}
 use Rattle.std.proofs.Math.Seq.{take-suc}
 use Rattle.std.proofs.lemmas.List.{at_drop_more}
 use Rattle.std.proofs.lemmas.Map.Text.{hash_map_updates_str}
@@ -13,9 +12,11 @@ use Rattle.edd_name_rules.specs.declared.fault.RuleFault.{RuleFault}
 use Rattle.edd_name_rules.specs.declared.fault.RuleFault.TheVariants.{Memory}
 use Rattle.std.proofs.lemmas.Grind.{common_steps}
 use Rattle.edd_name_rules.specs.Faults.{refusal_of, Agrees, IsFound, IsDuplicate}
-use Rattle.edd_name_rules.specs.Seen.{HasSeen}
+use Rattle.edd_name_rules.specs.declared.seen.Seen.{Seen}
+use Rattle.edd_name_rules.specs.Seen.{in_few, in_many, HasSeen}
 use Rattle.edd_syntax.proofs.FirstLaws.{first_of-append_none}
 use Rattle.edd_name_rules.proofs.Repeating.{map_append}
+use Rattle.std.proofs.lemmas.Bool.{or_from}
 use Rattle.edd_name_rules.proofs.SeenBefore.{SameNames, append_same, append_left, append_comm}
 
 -- ---- one name
@@ -25,31 +26,33 @@ put_some : {X : Type 0} (x : X) (b : Bool) (old : Option X) → is_some (cond b 
 put_some x true old = refl
 put_some x false old = refl
 
-pub seen_more : {X S : Type 0} (before : List Name) (name : Name) (x : X)
-    (m n : HashMap (Bor (List ℕ)) X S)
-    → UpdatesBy (λ x y. bytes_eq x.now y.now) (λ k. bytes_eq name k.now) m n (Some x)
-    → HasSeen before m → HasSeen (name ∷ before) n
-seen_more before name x m n updates h q =
-    ap is_some (hash_map_updates_str name m n (Some x) updates q) ∙ put_some x (bytes_eq name q) _
-    ∙ ap (λ b. bytes_eq name q || b) (h q)
+or_in_map : (a b c : Bool) → (a || (b || c)) ≡ (b || (a || c))
+or_in_map true true c = refl
+or_in_map true false c = refl
+or_in_map false true c = refl
+or_in_map false false c = refl
 
-pub seen_same : {X S : Type 0} (xs ys : List Name) (m : HashMap (Bor (List ℕ)) X S)
-    → SameNames xs ys → HasSeen xs m → HasSeen ys m
-seen_same xs ys m same h q = h q ∙ same q
+-- one more in the map
+pub seen_in_map : (before : List Name) (name : Name) (m n : Seen)
+    → n.few ≡ m.few
+    → UpdatesBy (λ x y. bytes_eq x.now y.now) (λ k. bytes_eq name k.now) m.many n.many (Some tt)
+    → HasSeen before m → HasSeen (name ∷ before) n
+seen_in_map before name m n same updates h q =
+    ap (λ v. is_name_in (map (λ k. k.now) v.items) q || in_many n q) same
+    ∙ ap (λ b. in_few m q || b)
+    (ap is_some (hash_map_updates_str name m.many n.many (Some tt) updates q)
+    ∙ put_some tt (bytes_eq name q) _)
+    ∙ or_in_map (in_few m q) (bytes_eq name q) (in_many m q)
+    ∙ ap (λ b. bytes_eq name q || b) (h q)
 
 if_name : (n : Name) (b : Bool) → b ≡ false → None ≡ first_of (if b then n ∷ [] else [])
 if_name n b is = ap (λ t. first_of (if t then n ∷ [] else [])) (sym is)
 
-pub is_new : {X S : Type 0} (before : List Name) (name : Name) (m : HashMap (Bor (List ℕ)) X S)
-    → None ≡ get_by (λ k. bytes_eq name k.now) m → HasSeen before m
+pub is_new : (before : List Name) (name : Name) (m : Seen) → in_few m name ≡ false
+    → in_many m name ≡ false → HasSeen before m
     → None ≡ first_of (repeated before (name ∷ []))
-is_new before name m is h = if_name name (is_name_in before name)
-    (sym (h name) ∙ ap is_some (sym is))
-
-pub is_old : {X S : Type 0} (before : List Name) (name : Name) (x : X)
-    (m : HashMap (Bor (List ℕ)) X S) → Some x ≡ get_by (λ k. bytes_eq name k.now) m
-    → HasSeen before m → name ∷ [] ≡ repeated before (name ∷ [])
-is_old before name x m is h = ap (λ t. if t then name ∷ [] else []) (ap is_some is ∙ h name)
+is_new before name m few many h = if_name name (is_name_in before name)
+    (sym (h name) ∙ or_from (in_few m name) (in_many m name) few many)
 
 -- ---- lists that are one after the other
 
@@ -115,19 +118,19 @@ module _ {X : Type 0} (name : X → Name) where
       ∙ map_append name (take i xs) (get_or xs i x ∷ [])
       ∙ ap (λ y. map name (take i xs) ++ name y ∷ []) (sym is)
 
-module _ {X A S : Type 0} (name : X → Name) (before : List Name) where
+module _ {X : Type 0} (name : X → Name) (before : List Name) where
   -- the names of the first i elements are new; those that were seen are b
-  abbrev pub Noted : HashMap (Bor (List ℕ)) A S → ℕ → List X → Type 0
+  abbrev pub Noted : Seen → ℕ → List X → Type 0
   Noted seen i xs =
       (b : List Name) × HasSeen b seen × SameNames b (map name (take i xs) ++ before)
       × (first_of (repeated b (map name (drop i xs)))
       ≡ first_of (repeated before (map name xs)))
 
-  pub noted_at_start : (seen : HashMap (Bor (List ℕ)) A S) (xs : List X) → HasSeen before seen
+  pub noted_at_start : (seen : Seen) (xs : List X) → HasSeen before seen
       → Noted seen 0 xs
   noted_at_start seen xs h = (before, h, λ q. refl, refl)
 
-  pub noted_more : (seen seen' : HashMap (Bor (List ℕ)) A S) (i : ℕ) (xs : List X) (x : X)
+  pub noted_more : (seen seen' : Seen) (i : ℕ) (xs : List X) (x : X)
       → i < length xs → x ≡ get_or xs i x
       → ((b : List Name) → HasSeen b seen → (None ≡ first_of (repeated b (name x ∷ [])))
       × HasSeen (name x ∷ b) seen') → Noted seen i xs → Noted seen' (i + 1) xs
@@ -145,7 +148,7 @@ module _ {X A S : Type 0} (name : X → Name) (before : List Name) where
       rotated q = append_left (name x ∷ map name (take i xs)) (map name (take i xs) ++ name x ∷ [])
           before (append_comm (name x ∷ []) (map name (take i xs))) q
 
-  pub noted_stops : (f : RuleFault) (seen : HashMap (Bor (List ℕ)) A S) (i : ℕ) (xs : List X)
+  pub noted_stops : (f : RuleFault) (seen : Seen) (i : ℕ) (xs : List X)
       (x : X) → i < length xs → x ≡ get_or xs i x
       → ((b : List Name) → HasSeen b seen → IsDuplicate f (repeated b (name x ∷ [])))
       → Noted seen i xs → IsDuplicate f (repeated before (map name xs))
@@ -153,7 +156,7 @@ module _ {X A S : Type 0} (name : X → Name) (before : List Name) where
       subst (λ o. IsFound f (option_map DuplicateName o)) (sym (next name i xs x b h is) ∙ eq)
       (duplicate_left f (repeated b (name x ∷ [])) _ (found b known))
 
-  pub noted_at_end : (seen : HashMap (Bor (List ℕ)) A S) (i : ℕ) (xs : List X) → drop i xs ≡ []
+  pub noted_at_end : (seen : Seen) (i : ℕ) (xs : List X) → drop i xs ≡ []
       → take i xs ≡ xs → Noted seen i xs → (None ≡ first_of (repeated before (map name xs)))
       × HasSeen (map name xs ++ before) seen
   noted_at_end seen i xs over all (b, known, same, eq) = (
@@ -188,17 +191,17 @@ module _ {X Y : Type 0} (view : X → Y) (names : Y → List Name) (here : List 
       ∙ ap (λ y. first_of (here b (view y)
       ++ walk (names (view y) ++ b) (map view (drop (i + 1) xs)))) (sym is)
 
-  module _ {A S : Type 0} (before : List Name) where
+  module _ (before : List Name) where
     -- the first that is found from the i-th element on is the first of all
-    abbrev pub Walked : HashMap (Bor (List ℕ)) A S → ℕ → List X → Type 0
+    abbrev pub Walked : Seen → ℕ → List X → Type 0
     Walked seen i xs = (b : List Name) × HasSeen b seen
         × (first_of (walk b (map view (drop i xs))) ≡ first_of (walk before (map view xs)))
 
-    pub walked_at_start : (seen : HashMap (Bor (List ℕ)) A S) (xs : List X) → HasSeen before seen
+    pub walked_at_start : (seen : Seen) (xs : List X) → HasSeen before seen
         → Walked seen 0 xs
     walked_at_start seen xs h = (before, h, refl)
 
-    pub walked_more : (seen seen' : HashMap (Bor (List ℕ)) A S) (i : ℕ) (xs : List X) (x : X)
+    pub walked_more : (seen seen' : Seen) (i : ℕ) (xs : List X) (x : X)
         → i < length xs → x ≡ get_or xs i x
         → ((b : List Name) → HasSeen b seen → (None ≡ first_of (here b (view x)))
         × HasSeen (names (view x) ++ b) seen') → Walked seen i xs → Walked seen' (i + 1) xs
@@ -209,7 +212,7 @@ module _ {X Y : Type 0} (view : X → Y) (names : Y → List Name) (here : List 
           ∙ sym (walk_next i xs x b h is) ∙ eq,
     )
 
-    pub walked_stops : (f : RuleFault) (seen : HashMap (Bor (List ℕ)) A S) (i : ℕ) (xs : List X)
+    pub walked_stops : (f : RuleFault) (seen : Seen) (i : ℕ) (xs : List X)
         (x : X) → i < length xs → x ≡ get_or xs i x
         → ((b : List Name) → HasSeen b seen → IsDuplicate f (here b (view x))) → Walked seen i xs
         → IsDuplicate f (walk before (map view xs))
@@ -218,7 +221,7 @@ module _ {X Y : Type 0} (view : X → Y) (names : Y → List Name) (here : List 
         (duplicate_left f (here b (view x)) _ (found b known))
 
     pub walked_at_end : ((b : List Name) → walk b [] ≡ [])
-        → (seen : HashMap (Bor (List ℕ)) A S) (i : ℕ) (xs : List X) → drop i xs ≡ []
+        → (seen : Seen) (i : ℕ) (xs : List X) → drop i xs ≡ []
         → Walked seen i xs → None ≡ first_of (walk before (map view xs))
     walked_at_end none seen i xs over (b, known, eq) = sym (ap first_of (none b))
         ∙ ap (λ ys. first_of (walk b (map view ys))) (sym over) ∙ eq

@@ -16,7 +16,6 @@ use crate::seen::{Seen, note, note_declarators, note_members};
 use edd_syntax::item::{Attribute, Item};
 use edd_syntax::reference::Path;
 use edd_syntax::stmt::{Part, Stmt};
-use indexmap::IndexMap;
 use std::alloc::Global;
 
 /// No block inside a statement has two locals of one name.
@@ -51,7 +50,7 @@ pub fn check_block(parts: &[Part<Path>], alloc: Global) -> Result<(), RuleFault>
     ensures refused { IfErr result
         (λ f. IsDuplicate f (repeated_locals [] (body_from (map (part_of path_of) parts.now)))) }
 {
-    let mut block = IndexMap::new(alloc);
+    let mut block = Seen::of_few(alloc);
     check_parts(parts, &mut block, alloc)
 }
 
@@ -134,7 +133,7 @@ pub fn check_attributes(attributes: &[Attribute<Path>], alloc: Global) -> Result
         (λ f. IsDuplicate f (repeated_in_attributes []
         (map (attribute_of path_of) attributes.now))) }
 {
-    let mut members = IndexMap::new(alloc);
+    let mut members = Seen::of_few(alloc);
     check_attributes_in(attributes, &mut members, alloc)
 }
 
@@ -173,6 +172,6 @@ pub fn check_names(items: &[Item<Path>], alloc: Global) -> Result<(), RuleFault>
     ensures refused { IfErr result
         (λ f. IsDuplicate f (repeated_in_items [] (map (item_of path_of) items.now))) }
 {
-    let mut seen = IndexMap::new(alloc);
+    let mut seen = Seen::of_many(alloc);
     check_items_in(items, &mut seen, alloc)
 }
