@@ -1,10 +1,10 @@
 -- Members by their names, one list of them after another.
-use Rattle.std.proofs.Common.{◌≡◌, refl, sym, ap, ◌∙◌, ℕ, zero, suc, ◌+◌, ◌<◌, List, [], ◌∷◌, ◌++◌, length, get_or, take, map, Option, Some, None, add-one, append_assoc, arith}
+use Rattle.std.proofs.Common.{◌≡◌, refl, sym, ap, ◌∙◌, ℕ, zero, suc, ◌+◌, ◌<◌, List, [], ◌∷◌, ◌++◌, length, get_or, drop, take, map, Option, Some, None, add-one, append_assoc, arith}
 use Rattle.std.specs.Prelude.{Bool, true, false, if◌then◌else◌, option_map, option_and_then, find, filter, slice_get}
 use Rattle.std.specs.List.{flat_map}
 use Rattle.std.specs.Option.{option_or}
 use Rattle.std.proofs.Math.Seq.{take-suc}
-use Rattle.std.proofs.lemmas.List.{append-nil}
+use Rattle.std.proofs.lemmas.List.{append-nil, at_drop_more}
 use Rattle.std.proofs.lemmas.List.Folds.{find-append}
 use Rattle.edd_name_meanings.specs.declared.members.Collection.{Collection}
 use Rattle.edd_name_meanings.specs.Members.{found_in, AreCollections}
@@ -57,6 +57,32 @@ module _ {X Y M : Type 0} (view : X → Y) (gives : Y → List M) (test : M → 
       (find test (gives (view x)))
       ∙ ap (option_or a) (sym (find-append test (flat_map gives (map view (take i xs)))
       (gives (view x))) ∙ ap (find test) (sym (more i xs x h is)))
+
+-- ---- a loop that looks for a member
+
+module _ {X Y M : Type 0} (view : X → Y) (gives : Y → List M) (test : M → Bool) where
+  -- the first that is found from the i-th element on
+  abbrev pub found_from : ℕ → List X → Option M
+  found_from i xs = find test (flat_map gives (map view (drop i xs)))
+
+  next_found : (i : ℕ) (xs : List X) (x : X) → i < length xs → x ≡ get_or xs i x
+      → found_from i xs ≡ option_or (find test (gives (view x))) (found_from (i + 1) xs)
+  next_found i xs x h is =
+      at_drop_more (λ ys. find test (flat_map gives (map view ys))) xs i x h
+      ∙ find-append test (gives (view (get_or xs i x))) (flat_map gives (map view (drop (i + 1) xs)))
+      ∙ ap (λ y. option_or (find test (gives (view y))) (found_from (i + 1) xs)) (sym is)
+
+  pub looks_on : (i : ℕ) (xs : List X) (x : X) → i < length xs → x ≡ get_or xs i x
+      → None ≡ find test (gives (view x)) → found_from i xs ≡ found_from 0 xs
+      → found_from (i + 1) xs ≡ found_from 0 xs
+  looks_on i xs x h is none invariant =
+      ap (λ o. option_or o (found_from (i + 1) xs)) none ∙ sym (next_found i xs x h is) ∙ invariant
+
+  pub finds : (i : ℕ) (xs : List X) (x : X) (m : M) → i < length xs → x ≡ get_or xs i x
+      → Some m ≡ find test (gives (view x)) → found_from i xs ≡ found_from 0 xs
+      → Some m ≡ found_from 0 xs
+  finds i xs x m h is some invariant =
+      ap (λ o. option_or o (found_from (i + 1) xs)) some ∙ sym (next_found i xs x h is) ∙ invariant
 
 -- ---- collections
 

@@ -1,7 +1,7 @@
 -- Maps of names, and the numbers of items.
 use Rattle.std.proofs.Common.{◌≡◌, refl, sym, ap, ◌∙◌, ℕ, zero, suc, ◌+◌, ◌<◌, ◌≤◌, List, [], ◌∷◌, ◌++◌, length, get_or, take, map, Option, Some, None, add-one, append_assoc, subst, arith}
 use Rattle.std.specs.Prelude.{Bool, true, false, cond, if◌then◌else◌, is_some, option_map, find, nat_lt}
-use Rattle.std.specs.Option.{option_or, option_copied}
+use Rattle.std.specs.Option.{option_or}
 use Rattle.std.specs.List.{list_any}
 use Rattle.std.specs.HashMap.{HashMap, UpdatesBy}
 use Rattle.std.specs.Str.{bytes_eq}
@@ -27,17 +27,6 @@ use Rattle.edd_name_rules.proofs.Repeating.{map_append}
 
 -- ---- a value that is put at a name unless there is one
 
-kept : {X : Type 0} (o : Option X) (b : Bool) (v : X) → (b ≡ true → is_some o ≡ true)
-    → o ≡ option_or o (if b then Some v else None)
-kept (Some x) b v h = refl
-kept None true v h = absurd (false≢true (h refl))
-kept None false v h = refl
-
-pub present : {X S : Type 0} (m : HashMap (Bor (List ℕ)) X S) (name : Name) (v : X) (q : Name)
-    → is_some (at name m) ≡ true → at q m ≡ option_or (at q m) (if_named name q v)
-present m name v q h = kept (at q m) (bytes_eq name q) v
-    (λ e. subst (λ n. is_some (at n m) ≡ true) ((bytes_eq-Decides name q).0 e) h)
-
 new_one : {X : Type 0} (o : Option X) (b : Bool) (v : X) → (b ≡ true → is_some o ≡ false)
     → cond b (Some v) o ≡ option_or o (if b then Some v else None)
 new_one (Some x) true v h = absurd (false≢true (sym (h refl)))
@@ -52,6 +41,24 @@ pub absent : {X S : Type 0} (m n : HashMap (Bor (List ℕ)) X S) (name : Name) (
 absent m n name v q h updates =
     hash_map_updates_str name m n (Some v) updates q ∙ new_one (at q m) (bytes_eq name q) v
     (λ e. subst (λ n. is_some (at n m) ≡ false) ((bytes_eq-Decides name q).0 e) h)
+
+-- a value that is put back
+back : {X : Type 0} (o : Option X) (b : Bool) (v w : X) → (b ≡ true → o ≡ Some w)
+    → cond b (Some w) (cond b (Some v) o) ≡ option_or o (if b then Some v else None)
+back o true v w h = ap (λ p. option_or p (Some v)) (sym (h refl))
+back (Some x) false v w h = refl
+back None false v w h = refl
+
+pub put_back : {X S : Type 0} (m n o : HashMap (Bor (List ℕ)) X S) (name : Name) (v w : X) (q : Name)
+    → at name m ≡ Some w
+    → UpdatesBy (λ x y. bytes_eq x.now y.now) (λ k. bytes_eq name k.now) m n (Some v)
+    → UpdatesBy (λ x y. bytes_eq x.now y.now) (λ k. bytes_eq name k.now) n o (Some w)
+    → at q o ≡ option_or (at q m) (if_named name q v)
+put_back m n o name v w q h first second =
+    hash_map_updates_str name n o (Some w) second q
+    ∙ ap (cond (bytes_eq name q) (Some w)) (hash_map_updates_str name m n (Some v) first q)
+    ∙ back (at q m) (bytes_eq name q) v w
+    (λ e. subst (λ n. at n m ≡ Some w) ((bytes_eq-Decides name q).0 e) h)
 
 -- ---- the names and numbers of items, one after another
 
@@ -143,7 +150,3 @@ few_of n h kind.Menu = grind (arith, common_steps, nat_tests)
 few_of n h kind.Collection = grind (arith, common_steps, nat_tests)
 few_of n h kind.Method = grind (arith, common_steps, nat_tests)
 few_of n h kind.Array = grind (arith, common_steps, nat_tests)
-
-pub is_some_copied : {X : Type 0} (r : Option (Bor X)) → is_some (option_copied r) ≡ is_some r
-is_some_copied (Some x) = refl
-is_some_copied None = refl

@@ -15,7 +15,7 @@ ghost use Rattle.edd_syntax.specs.Resolution.{members_in, member_in};
 ghost use Rattle.edd_syntax.specs.Text.{Name};
 ghost use Rattle.edd_syntax.specs.TreeView.{path_of};
 ghost use Rattle.edd_name_meanings.specs.declared.fault.NameFault.TheVariants.{Memory};
-ghost use Rattle.edd_name_meanings.specs.Members.{member_named, found_in, AreCollections};
+ghost use Rattle.edd_name_meanings.specs.Members.{member_named, member_listed, member_of_name, found_in, AreCollections};
 
 use crate::fault::NameFault;
 use crate::numbering::put_first;
@@ -25,12 +25,17 @@ use edd_syntax::reference::Path;
 use indexmap::IndexMap;
 use std::alloc::Global;
 
-/// The members of a collection by their names, with the kind after OF.
+/// The members of a collection, with the kind after OF. To look through a short list takes less
+/// than a map does, so that only a long one has its members by their names as well.
 #[derive(Drop)]
 pub struct Collection<'a> {
     pub of: Kind,
-    pub members: IndexMap<&'a str, &'a Member<Path>>,
+    pub attributes: &'a [Attribute<Path>],
+    pub by_name: Option<IndexMap<&'a str, &'a Member<Path>>>,
 }
+
+// How many members make a list a long one.
+const MANY: usize = 17;
 
 // Of members of one name the first counts.
 fn add_members<'a>(
@@ -79,6 +84,17 @@ fn add_attributes<'a>(
     Ok(())
 }
 
+fn has_many(attributes: &[Attribute<Path>]) -> bool {
+    for attribute in attributes {
+        if let Attribute::Members(_, list) = attribute {
+            if list.len() >= MANY {
+                return true;
+            }
+        }
+    }
+    false
+}
+
 fn one_collection<'a>(
     def: &'a CollectionDef<Path>,
     alloc: Global,
@@ -87,11 +103,19 @@ fn one_collection<'a>(
         → found_in c q ≡ member_in (item_of path_of (item_kind.Collection def.now)) q) }
     ensures refused { IfErr result (λ f. f ≡ Memory) }
 {
+    if !has_many(&def.attributes) {
+        return Ok(Collection {
+            of: def.of,
+            attributes: &def.attributes,
+            by_name: None,
+        });
+    }
     let mut members = IndexMap::new(alloc);
     add_attributes(&mut members, &def.attributes)?;
     Ok(Collection {
         of: def.of,
-        members,
+        attributes: &def.attributes,
+        by_name: Some(members),
     })
 }
 
@@ -152,14 +176,57 @@ pub fn collections<'a>(
     Ok(all)
 }
 
+fn find_member<'a>(members: &'a [Member<Path>], name: &str) -> Option<&'a Member<Path>>
+    ensures { option_map (λ m. member_of path_of m.now) result
+        ≡ find (λ m. bytes_eq m.name name.now) (map (member_of path_of) members.now) }
+{
+    for member in members {
+        if member.name.as_str() == name {
+            return Some(member);
+        }
+    }
+    None
+}
+
+fn find_in_attribute<'a>(attribute: &'a Attribute<Path>, name: &str) -> Option<&'a Member<Path>>
+    ensures { option_map (λ m. member_of path_of m.now) result
+        ≡ find (λ m. bytes_eq m.name name.now) (members_in (attribute_of path_of attribute.now)) }
+{
+    match attribute {
+        Attribute::Members(_, list) => find_member(list, name),
+        _ => None,
+    }
+}
+
+fn find_in_list<'a>(attributes: &'a [Attribute<Path>], name: &str) -> Option<&'a Member<Path>>
+    ensures { option_map (λ m. member_of path_of m.now) result
+        ≡ member_listed name.now attributes.now }
+{
+    for attribute in attributes {
+        if let Some(member) = find_in_attribute(attribute, name) {
+            return Some(member);
+        }
+    }
+    None
+}
+
 impl<'a> Collection<'a> {
+    fn find(&self, name: &str) -> Option<&'a Member<Path>>
+        ensures { option_map (λ m. member_of path_of m.now) result ≡ member_of_name self.now name.now }
+    {
+        match &self.by_name {
+            Some(members) => members.get(name).copied(),
+            None => find_in_list(self.attributes, name),
+        }
+    }
+
     /// The member of a name, and the kind after OF.
     pub fn member(&self, name: &str) -> Option<(&'a Member<Path>, Kind)>
         ensures { option_map (λ m. (member_of path_of m.0.now, m.1)) result
             ≡ found_in self.now name.now }
     {
-        match self.members.get(name) {
-            Some(member) => Some((*member, self.of)),
+        match self.find(name) {
+            Some(member) => Some((member, self.of)),
             None => None,
         }
     }

@@ -87,11 +87,13 @@ pub fn put_first<'a, V: Copy>(
         → at q map.new ≡ option_or (at q map.old) (if_named name.now q value)) }
     ensures refused { IfErr result (λ f. f ≡ Memory) }
 {
-    if map.get(name).is_some() {
-        return Ok(());
+    match map.insert(name, value)? {
+        None => Ok(()),
+        Some(first) => {
+            map.insert(name, first)?;
+            Ok(())
+        }
     }
-    map.insert(name, value)?;
-    Ok(())
 }
 
 // The number of one more item, and the counts after it.
