@@ -5,6 +5,9 @@ use crate::string::String;
 use core::fmt;
 use core::ops::{Deref, DerefMut};
 
+/// How many octets the elements of a long list take at least.
+const LONG: usize = 4096;
+
 /// A list.
 #[derive(PartialEq, Eq, PartialOrd, Ord, Hash)]
 pub struct Vec<T>(real::Vec<T>);
@@ -62,9 +65,11 @@ impl<T> Vec<T> {
         Ok(())
     }
 
-    /// Gives back room that no element has, where memory for the elements alone is granted.
+    /// Gives back room that no element has, where memory for the elements alone is granted. A long
+    /// list keeps its room, since the elements would stand twice while they are moved.
     pub fn shrink_to_fit(&mut self) {
-        if self.0.len() == self.0.capacity() {
+        let is_long = core::mem::size_of_val(self.0.as_slice()) > LONG;
+        if is_long || self.0.len() == self.0.capacity() {
             return;
         }
         let mut exact = real::Vec::new();
