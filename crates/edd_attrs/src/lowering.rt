@@ -29,6 +29,9 @@ use edd_syntax::reference::Target;
 use edd_syntax::types::Operation;
 use std::alloc::{AllocError, Global};
 
+/// How many bytes most units take at most.
+const USUAL_LENGTH: usize = 32;
+
 fn operation_number(operation: Operation) -> u32
     ensures { result ≡ source.operation_number operation }
 {
@@ -145,7 +148,7 @@ pub fn lower_tree(
     ensures refused { IsErrOf result LowerFault.TooMany
         → OverflowsTree table.old (option_map views.tree_of tree.entry) }
 {
-    let mut code = Emitter::new(alloc);
+    let mut code = Emitter::with_capacity(alloc, USUAL_LENGTH)?;
     if let Some(tree) = tree {
         write_tree(alloc, &mut code, table, tree)?;
     }

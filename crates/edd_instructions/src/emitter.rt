@@ -45,6 +45,15 @@ impl Emitter {
         }
     }
 
+    /// No code yet, with room for so many bytes.
+    pub fn with_capacity(alloc: Global, count: usize) -> Result<Emitter, AllocError>
+        ensures { IfOk result (λ emitter. emitter ≡ []) }
+    {
+        Ok(Emitter {
+            bytes: Vec::with_capacity(alloc, count)?,
+        })
+    }
+
     /// How many bytes there are, modulo 2^32. No unit of an image has as many.
     pub fn place(&self) -> u32
         ensures { result ≡ length self.now % 2 ^ 32 }

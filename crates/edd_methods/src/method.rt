@@ -32,6 +32,9 @@ use edd_syntax::reference::Target;
 use edd_syntax::stmt::Part;
 use std::alloc::Global;
 
+/// How many bytes most methods take at most.
+const USUAL_LENGTH: usize = 256;
+
 /// The unit of a method, and how many slots its locals take.
 #[derive(Drop)]
 pub struct MethodCode {
@@ -79,7 +82,7 @@ fn lower_body(
         → Overflows table.old (strings_of_texts
         (body_texts (body_from (map numbered_part body.now)))) }
 {
-    let mut code = Emitter::new(alloc);
+    let mut code = Emitter::with_capacity(alloc, USUAL_LENGTH)?;
     // No `break` of a checked description leads outside its loop, so these places are met nowhere.
     write_body(alloc, &mut code, table, Leads { out: 0, back: 0 }, body)?;
     put(&mut code, Instruction::End)?;
