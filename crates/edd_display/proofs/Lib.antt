@@ -8,4 +8,3 @@ pub mod Printing
 pub mod Quotes
 pub mod Masks
 pub mod Defaults
-pub mod Digits

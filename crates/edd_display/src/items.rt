@@ -18,7 +18,6 @@ ghost use Rattle.edd_display.specs.Written.{AreWritten};
 use crate::fault::ShowFault;
 use crate::gaps::has_gap;
 use crate::lines::{print, print_text};
-use crate::numbers::push_decimal;
 use crate::page::Page;
 use crate::rows::{is_any_found, print_default, print_found, print_row, read};
 use crate::words::type_word;
@@ -181,10 +180,8 @@ fn push_type(line: &mut String, of: Option<VarKind>) -> Result<(), AllocError>
     let Some(of) = of else {
         return Ok(());
     };
-    line.push(' ')?;
-    line.push_str(type_word(of.var_type))?;
-    line.push(' ')?;
-    push_decimal(line, u32::from(of.size))
+    let word = type_word(of.var_type);
+    write!(line, " {word} {}", of.size)
 }
 
 // The first line of an item: a variable has its type and its size after its name.

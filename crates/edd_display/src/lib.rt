@@ -7,7 +7,6 @@ mod gaps;
 mod items;
 mod laws;
 mod lines;
-mod numbers;
 mod page;
 mod plays;
 mod records;

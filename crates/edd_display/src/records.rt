@@ -8,7 +8,6 @@ ghost use Rattle.edd_instructions.specs.declared.records.Record.TheVariants as r
 ghost use Rattle.edd_display.specs.Words.{class_word, data_qualifiers, member_shown, menu_qualifiers, name_of, optional_shown, qualifiers_shown, string_shown};
 ghost use Rattle.edd_display.specs.Records.{mask_shown, record_shown, records_shown};
 
-use crate::numbers::{push_decimal, push_signed};
 use crate::page::Page;
 use crate::words::{class_word, push_data_qualifiers, push_menu_qualifiers};
 use edd_instructions::Record;
@@ -36,10 +35,7 @@ fn push_mask(line: &mut String, mask: u32) -> Result<(), AllocError>
     if mask == 0 {
         return Ok(());
     }
-    line.push('<')?;
-    push_decimal(line, mask)?;
-    line.push('>')?;
-    Ok(())
+    write!(line, "<{mask}>")
 }
 
 #[tactic(auto, unfolding(crate::specs::Records::record_shown))]
@@ -71,9 +67,7 @@ fn push_enumerator(
         ++ record_shown (contents_in page.now.image.now) page.now.language.now
         (records.Enumerator value text help)) }
 {
-    line.push('{')?;
-    push_signed(line, value)?;
-    line.push(' ')?;
+    write!(line, "{{{value} ")?;
     page.push_text(line, text)?;
     page.push_optional(line, help)?;
     line.push('}')?;
@@ -92,11 +86,8 @@ fn push_response(
         ++ record_shown (contents_in page.now.image.now) page.now.language.now
         (records.Response number class text)) }
 {
-    line.push('{')?;
-    push_decimal(line, number)?;
-    line.push(' ')?;
-    line.push_str(class_word(class))?;
-    line.push(' ')?;
+    let word = class_word(class);
+    write!(line, "{{{number} {word} ")?;
     page.push_text(line, text)?;
     line.push('}')?;
     Ok(())
@@ -154,9 +145,7 @@ fn push_element(
         ++ record_shown (contents_in page.now.image.now) page.now.language.now
         (records.Element number variable label help)) }
 {
-    line.push('{')?;
-    push_decimal(line, number)?;
-    line.push(' ')?;
+    write!(line, "{{{number} ")?;
     push_named(page, line, ItemNo::Variable(variable), label, help)
 }
 
@@ -167,9 +156,9 @@ fn push_record(page: &Page<'_, '_>, line: &mut String, given: Record) -> Result<
 {
     match given {
         Record::Words(string) => page.push_text(line, string),
-        Record::Number(number) => push_signed(line, number),
+        Record::Number(number) => write!(line, "{number}"),
         Record::Entry { item, quals } => push_entry(page, line, item, quals),
-        Record::DataConst(number) => push_decimal(line, u32::from(number)),
+        Record::DataConst(number) => write!(line, "{number}"),
         Record::DataVar { var, mask, quals } => push_data(page, line, var, mask, quals),
         Record::Enumerator { value, text, help } => push_enumerator(page, line, value, text, help),
         Record::Response {

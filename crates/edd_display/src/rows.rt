@@ -12,7 +12,6 @@ ghost use Rattle.edd_display.specs.Written.{default_line};
 
 use crate::fault::ShowFault;
 use crate::lines::print_text;
-use crate::numbers::push_decimal;
 use crate::page::Page;
 use crate::records::push_records;
 use crate::words::trap_word;
@@ -89,9 +88,7 @@ fn push_word(line: &mut String, row: AttrRef) -> Result<(), AllocError>
 {
     line.push_str(row.attr.word())?;
     if row.attr.is_of_transaction() {
-        line.push('[')?;
-        push_decimal(line, u32::from(row.sub))?;
-        line.push(']')?;
+        return write!(line, "[{}]", row.sub);
     }
     Ok(())
 }
