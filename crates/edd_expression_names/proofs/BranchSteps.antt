@@ -4,10 +4,11 @@ use Rattle.std.specs.Prelude.{Vec}
 use Rattle.std.specs.declared.alloc.Global as alloc
 use Rattle.std.proofs.lemmas.List.{append-nil}
 use Rattle.edd_name_meanings.specs.declared.fault.NameFault.{NameFault}
-use Rattle.edd_name_meanings.specs.Meanings.{Means, NoFault, FirstFault}
+use Rattle.edd_name_meanings.specs.Meanings.{Means, NoFault}
+use Rattle.edd_expression_names.specs.Copies.{Meant, Tells}
 use Rattle.edd_expression_names.specs.ResolvedParts.{resolved_arm}
 use Rattle.edd_expression_names.proofs.ExprSteps.{bound, regroup}
-use Rattle.edd_expression_names.proofs.UseLaws.{none_append, fault_left, fault_right}
+use Rattle.edd_expression_names.proofs.UseLaws.{tells_none, tells_append, none_left, none_right}
 use Rattle.edd_syntax.specs.declared.numbers.TokenNo.{TokenNo}
 use Rattle.edd_syntax.specs.declared.cond.Cond as code
 use Rattle.edd_syntax.specs.declared.cond.Cond.TheVariants as c
@@ -123,20 +124,18 @@ module _ {V W X Y : Type 0} (unit : Description Path) (before : V → W) (after 
     value : cond_of path_of before x ≡ Value (before v)
     value = ap (cond_of path_of before) is ∙ of_value path_of before v
 
-    pub value_none : NoFault unit (uses (before v))
-        → NoFault unit (cond_uses uses (cond_of path_of before x))
-    value_none h = subst (λ t. NoFault unit (cond_uses uses t)) (sym value) h
+    pub value_told : (old new : List NameFault) → Tells unit (uses (before v)) old new
+        → Tells unit (cond_uses uses (cond_of path_of before x)) old new
+    value_told old new h = subst (λ t. Tells unit (cond_uses uses t) old new) (sym value) h
 
-    pub value_fault : (f : NameFault) → FirstFault f unit (uses (before v))
-        → FirstFault f unit (cond_uses uses (cond_of path_of before x))
-    value_fault f h = subst (λ t. FirstFault f unit (cond_uses uses t)) (sym value) h
-
-    pub value_means : (w : X) → Means unit (meant unit (before v)) (after w)
-        → Means unit (resolved_cond (at_attribute unit) (meant unit) (cond_of path_of before x))
+    pub value_means : (w : X) → Meant unit (uses (before v)) (meant unit (before v)) (after w)
+        → Meant unit (cond_uses uses (cond_of path_of before x))
+        (resolved_cond (at_attribute unit) (meant unit) (cond_of path_of before x))
         (numbered_cond after (c.Value w))
-    unfolding Means
-    value_means w h = λ known. ap (resolved_cond (at_attribute unit) (meant unit)) value
-        ∙ value_meant (at_attribute unit) (meant unit) (before v) (after w) (h known)
+    unfolding Means Meant
+    value_means w h = λ none known. ap (resolved_cond (at_attribute unit) (meant unit)) value
+        ∙ value_meant (at_attribute unit) (meant unit) (before v) (after w)
+        (h (subst (λ t. NoFault unit (cond_uses uses t)) value none) known)
         ∙ ap (λ y. Some y) (sym (of_value (λ r. r) after w))
 
   module _ (x : code.Cond code_path.Path V) (test : code_expr.Expr code_path.Path)
@@ -148,58 +147,39 @@ module _ {V W X Y : Type 0} (unit : Description Path) (before : V → W) (after 
         ∙ ap (λ zs. If (expr_of path_of test) (listed zs) (listed w.items)) (sym same)
         ∙ ap (λ zs. If (expr_of path_of test) (listed xs) (listed zs)) (sym same')
 
-    pub if_none : NoFault unit (attribute_expr_uses (expr_of path_of test))
-        → NoFault unit (conds_uses uses (listed xs)) → NoFault unit (conds_uses uses (listed ys))
-        → NoFault unit (cond_uses uses (cond_of path_of before x))
-    if_none h k m = subst (λ t. NoFault unit (cond_uses uses t)) (sym if_is)
-        (none_append unit (attribute_expr_uses (expr_of path_of test)) _ h
-        (none_append unit (conds_uses uses (listed xs)) _ k m))
+    pub if_told : (old first otherwise new : List NameFault)
+        → Tells unit (attribute_expr_uses (expr_of path_of test)) old first
+        → Tells unit (conds_uses uses (listed xs)) first otherwise
+        → Tells unit (conds_uses uses (listed ys)) otherwise new
+        → Tells unit (cond_uses uses (cond_of path_of before x)) old new
+    if_told old first otherwise new h k m =
+        subst (λ t. Tells unit (cond_uses uses t) old new) (sym if_is)
+        (tells_append unit (attribute_expr_uses (expr_of path_of test)) _ old first new h
+        (tells_append unit (conds_uses uses (listed xs)) _ first otherwise new k m))
 
     pub if_means : (test' : code_expr.Expr Target) (v' w' : Vec (code.Cond Target X) alloc.Global)
-        → Means unit (resolved_expr (at_attribute unit) (expr_of path_of test))
-        (numbered_expr test') → Means unit
+        → Meant unit (attribute_expr_uses (expr_of path_of test))
+        (resolved_expr (at_attribute unit) (expr_of path_of test)) (numbered_expr test')
+        → Meant unit (conds_uses uses (listed xs))
         (resolved_conds (at_attribute unit) (meant unit) (listed xs))
         (conds_from (map (numbered_cond after) v'.items))
-        → Means unit (resolved_conds (at_attribute unit) (meant unit) (listed ys))
+        → Meant unit (conds_uses uses (listed ys))
+        (resolved_conds (at_attribute unit) (meant unit) (listed ys))
         (conds_from (map (numbered_cond after) w'.items))
-        → Means unit (resolved_cond (at_attribute unit) (meant unit) (cond_of path_of before x))
+        → Meant unit (cond_uses uses (cond_of path_of before x))
+        (resolved_cond (at_attribute unit) (meant unit) (cond_of path_of before x))
         (numbered_cond after (c.If test' v' w'))
-    unfolding Means
-    if_means test' v' w' h k m = λ known.
+    unfolding Means Meant
+    if_means test' v' w' h k m = λ none known.
+        let fine = subst (λ t. NoFault unit (cond_uses uses t)) if_is none in
+        let inner = none_right unit (attribute_expr_uses (expr_of path_of test)) _ fine in
         ap (resolved_cond (at_attribute unit) (meant unit)) if_is
         ∙ if_meant (at_attribute unit) (meant unit) (expr_of path_of test) (listed xs) (listed ys)
-        (numbered_expr test') _ _ (h known) (k known) (m known)
+        (numbered_expr test') _ _
+        (h (none_left unit (attribute_expr_uses (expr_of path_of test)) _ fine) known)
+        (k (none_left unit (conds_uses uses (listed xs)) _ inner) known)
+        (m (none_right unit (conds_uses uses (listed xs)) _ inner) known)
         ∙ ap (λ y. Some y) (sym (of_if (λ r. r) after test' v' w'))
-
-  -- the faults of the parts of IF, of which the lists that were not looked at yet are the variant's
-  -- own
-  module _ (x : code.Cond code_path.Path V) (test : code_expr.Expr code_path.Path)
-      (v w : Vec (code.Cond code_path.Path V) alloc.Global) (is : x ≡ c.If test v w) (f : NameFault)
-    where
-      pub if_fault : FirstFault f unit (attribute_expr_uses (expr_of path_of test))
-          → FirstFault f unit (cond_uses uses (cond_of path_of before x))
-      if_fault h = subst (λ t. FirstFault f unit (cond_uses uses t))
-          (sym (if_is x test v w v.items w.items is refl refl))
-          (fault_left unit f (attribute_expr_uses (expr_of path_of test)) _ h)
-
-      pub if_fault_first : (xs : List (code.Cond code_path.Path V)) → xs ≡ v.items
-          → NoFault unit (attribute_expr_uses (expr_of path_of test))
-          → FirstFault f unit (conds_uses uses (listed xs))
-          → FirstFault f unit (cond_uses uses (cond_of path_of before x))
-      if_fault_first xs same h k = subst (λ t. FirstFault f unit (cond_uses uses t))
-          (sym (if_is x test v w xs w.items is same refl))
-          (fault_right unit f (attribute_expr_uses (expr_of path_of test)) _ h
-          (fault_left unit f (conds_uses uses (listed xs)) _ k))
-
-      pub if_fault_otherwise : (xs ys : List (code.Cond code_path.Path V)) → xs ≡ v.items
-          → ys ≡ w.items → NoFault unit (attribute_expr_uses (expr_of path_of test))
-          → NoFault unit (conds_uses uses (listed xs))
-          → FirstFault f unit (conds_uses uses (listed ys))
-          → FirstFault f unit (cond_uses uses (cond_of path_of before x))
-      if_fault_otherwise xs ys same same' h k m = subst (λ t. FirstFault f unit (cond_uses uses t))
-          (sym (if_is x test v w xs ys is same same'))
-          (fault_right unit f (attribute_expr_uses (expr_of path_of test)) _ h
-          (fault_right unit f (conds_uses uses (listed xs)) _ k m))
 
   module _ (x : code.Cond code_path.Path V) (on : code_expr.Expr code_path.Path)
       (v : Vec (code_arm.Arm code_path.Path V) alloc.Global)
@@ -209,54 +189,41 @@ module _ {V W X Y : Type 0} (unit : Description Path) (before : V → W) (after 
       select_is = ap (cond_of path_of before) is ∙ of_select path_of before on v
           ∙ ap (λ zs. Select (expr_of path_of on) (armed zs)) (sym same)
 
-      pub select_none : NoFault unit (attribute_expr_uses (expr_of path_of on))
-          → NoFault unit (arms_uses uses (armed xs))
-          → NoFault unit (cond_uses uses (cond_of path_of before x))
-      select_none h k = subst (λ t. NoFault unit (cond_uses uses t)) (sym select_is)
-          (none_append unit (attribute_expr_uses (expr_of path_of on)) _ h k)
-
-      pub select_fault : (f : NameFault)
-          → FirstFault f unit (attribute_expr_uses (expr_of path_of on))
-          → FirstFault f unit (cond_uses uses (cond_of path_of before x))
-      select_fault f h = subst (λ t. FirstFault f unit (cond_uses uses t)) (sym select_is)
-          (fault_left unit f (attribute_expr_uses (expr_of path_of on)) _ h)
-
-      pub select_fault_arms : (f : NameFault)
-          → NoFault unit (attribute_expr_uses (expr_of path_of on))
-          → FirstFault f unit (arms_uses uses (armed xs))
-          → FirstFault f unit (cond_uses uses (cond_of path_of before x))
-      select_fault_arms f h k = subst (λ t. FirstFault f unit (cond_uses uses t)) (sym select_is)
-          (fault_right unit f (attribute_expr_uses (expr_of path_of on)) _ h k)
+      pub select_told : (old mid new : List NameFault)
+          → Tells unit (attribute_expr_uses (expr_of path_of on)) old mid
+          → Tells unit (arms_uses uses (armed xs)) mid new
+          → Tells unit (cond_uses uses (cond_of path_of before x)) old new
+      select_told old mid new h k =
+          subst (λ t. Tells unit (cond_uses uses t) old new) (sym select_is)
+          (tells_append unit (attribute_expr_uses (expr_of path_of on)) _ old mid new h k)
 
       pub select_means : (on' : code_expr.Expr Target)
           (v' : Vec (code_arm.Arm Target X) alloc.Global)
-          → Means unit (resolved_expr (at_attribute unit) (expr_of path_of on)) (numbered_expr on')
-          → Means unit (resolved_arms (at_attribute unit) (meant unit) (armed xs))
+          → Meant unit (attribute_expr_uses (expr_of path_of on))
+          (resolved_expr (at_attribute unit) (expr_of path_of on)) (numbered_expr on')
+          → Meant unit (arms_uses uses (armed xs))
+          (resolved_arms (at_attribute unit) (meant unit) (armed xs))
           (arms_from (map (numbered_arm after) v'.items))
-          → Means unit (resolved_cond (at_attribute unit) (meant unit) (cond_of path_of before x))
+          → Meant unit (cond_uses uses (cond_of path_of before x))
+          (resolved_cond (at_attribute unit) (meant unit) (cond_of path_of before x))
           (numbered_cond after (c.Select on' v'))
-      unfolding Means
-      select_means on' v' h k = λ known.
+      unfolding Means Meant
+      select_means on' v' h k = λ none known.
+          let fine = subst (λ t. NoFault unit (cond_uses uses t)) select_is none in
           ap (resolved_cond (at_attribute unit) (meant unit)) select_is
           ∙ select_meant (at_attribute unit) (meant unit) (expr_of path_of on) (armed xs)
-          (numbered_expr on') _ (h known) (k known)
+          (numbered_expr on') _
+          (h (none_left unit (attribute_expr_uses (expr_of path_of on)) _ fine) known)
+          (k (none_right unit (attribute_expr_uses (expr_of path_of on)) _ fine) known)
           ∙ ap (λ y. Some y) (sym (of_select (λ r. r) after on' v'))
 
   -- an arm is its label and its body
   module _ (x : code_arm.Arm code_path.Path V) (xs : List (code.Cond code_path.Path V)) where
-    arm_none_of : (y : Arm Path W) → arm_of path_of before x ≡ y → conds_uses uses (listed xs) ++ []
-        ≡ arms_uses uses (arms_from (y ∷ [])) → NoFault unit (conds_uses uses (listed xs))
-        → NoFault unit (arms_uses uses (arms_from (arm_of path_of before x ∷ [])))
-    arm_none_of y e same h = subst (NoFault unit) (sym (append-nil (conds_uses uses (listed xs)))
-        ∙ same ∙ ap (λ z. arms_uses uses (arms_from (z ∷ []))) (sym e)) h
-
-    arm_fault_of : (y : Arm Path W) (f : NameFault) → arm_of path_of before x ≡ y
-        → conds_uses uses (listed xs) ++ [] ≡ arms_uses uses (arms_from (y ∷ []))
-        → FirstFault f unit (conds_uses uses (listed xs))
-        → FirstFault f unit (arms_uses uses (arms_from (arm_of path_of before x ∷ [])))
-    arm_fault_of y f e same h =
-        subst (FirstFault f unit) (sym (append-nil (conds_uses uses (listed xs))) ∙ same
-        ∙ ap (λ z. arms_uses uses (arms_from (z ∷ []))) (sym e)) h
+    same_uses : (y : Arm Path W) → arm_of path_of before x ≡ y → conds_uses uses (listed xs) ++ []
+        ≡ arms_uses uses (arms_from (y ∷ [])) → conds_uses uses (listed xs)
+        ≡ arms_uses uses (arms_from (arm_of path_of before x ∷ []))
+    same_uses y e same = sym (append-nil (conds_uses uses (listed xs))) ∙ same
+        ∙ ap (λ z. arms_uses uses (arms_from (z ∷ []))) (sym e)
 
     module _ (label : ℤ) (v : Vec (code.Cond code_path.Path V) alloc.Global)
         (is : x ≡ a.Case label v) (same : xs ≡ v.items) where
@@ -264,23 +231,25 @@ module _ {V W X Y : Type 0} (unit : Description Path) (before : V → W) (after 
       case_is = ap (arm_of path_of before) is ∙ of_case path_of before label v
           ∙ ap (λ zs. Case label (listed zs)) (sym same)
 
-      pub case_none : NoFault unit (conds_uses uses (listed xs))
-          → NoFault unit (arms_uses uses (arms_from (arm_of path_of before x ∷ [])))
-      case_none h = arm_none_of (Case label (listed xs)) case_is refl h
-
-      pub case_fault : (f : NameFault) → FirstFault f unit (conds_uses uses (listed xs))
-          → FirstFault f unit (arms_uses uses (arms_from (arm_of path_of before x ∷ [])))
-      case_fault f h = arm_fault_of (Case label (listed xs)) f case_is refl h
+      pub case_told : (old new : List NameFault)
+          → Tells unit (conds_uses uses (listed xs)) old new
+          → Tells unit (arms_uses uses (arms_from (arm_of path_of before x ∷ []))) old new
+      case_told old new h = subst (λ us. Tells unit us old new)
+          (same_uses (Case label (listed xs)) case_is refl) h
 
       pub case_means : (w : Vec (code.Cond Target X) alloc.Global)
-          → Means unit (resolved_conds (at_attribute unit) (meant unit) (listed xs))
+          → Meant unit (conds_uses uses (listed xs))
+          (resolved_conds (at_attribute unit) (meant unit) (listed xs))
           (conds_from (map (numbered_cond after) w.items))
-          → Means unit (resolved_arm (at_attribute unit) (meant unit) (arm_of path_of before x))
+          → Meant unit (arms_uses uses (arms_from (arm_of path_of before x ∷ [])))
+          (resolved_arm (at_attribute unit) (meant unit) (arm_of path_of before x))
           (numbered_arm after (a.Case label w))
-      unfolding Means
-      case_means w h = λ known.
+      unfolding Means Meant
+      case_means w h = λ none known.
           ap (resolved_arm (at_attribute unit) (meant unit)) case_is
-          ∙ case_meant (at_attribute unit) (meant unit) label (listed xs) _ (h known)
+          ∙ case_meant (at_attribute unit) (meant unit) label (listed xs) _
+          (h (subst (NoFault unit) (sym (same_uses (Case label (listed xs)) case_is refl)) none)
+          known)
           ∙ ap (λ y. Some y) (sym (of_case (λ r. r) after label w))
 
     module _ (token : TokenNo) (v : Vec (code.Cond code_path.Path V) alloc.Global)
@@ -289,21 +258,23 @@ module _ {V W X Y : Type 0} (unit : Description Path) (before : V → W) (after 
       default_is = ap (arm_of path_of before) is ∙ of_default path_of before token v
           ∙ ap (λ zs. Default (listed zs)) (sym same)
 
-      pub default_none : NoFault unit (conds_uses uses (listed xs))
-          → NoFault unit (arms_uses uses (arms_from (arm_of path_of before x ∷ [])))
-      default_none h = arm_none_of (Default (listed xs)) default_is refl h
-
-      pub default_fault : (f : NameFault) → FirstFault f unit (conds_uses uses (listed xs))
-          → FirstFault f unit (arms_uses uses (arms_from (arm_of path_of before x ∷ [])))
-      default_fault f h = arm_fault_of (Default (listed xs)) f default_is refl h
+      pub default_told : (old new : List NameFault)
+          → Tells unit (conds_uses uses (listed xs)) old new
+          → Tells unit (arms_uses uses (arms_from (arm_of path_of before x ∷ []))) old new
+      default_told old new h = subst (λ us. Tells unit us old new)
+          (same_uses (Default (listed xs)) default_is refl) h
 
       pub default_means : (w : Vec (code.Cond Target X) alloc.Global)
-          → Means unit (resolved_conds (at_attribute unit) (meant unit) (listed xs))
+          → Meant unit (conds_uses uses (listed xs))
+          (resolved_conds (at_attribute unit) (meant unit) (listed xs))
           (conds_from (map (numbered_cond after) w.items))
-          → Means unit (resolved_arm (at_attribute unit) (meant unit) (arm_of path_of before x))
+          → Meant unit (arms_uses uses (arms_from (arm_of path_of before x ∷ [])))
+          (resolved_arm (at_attribute unit) (meant unit) (arm_of path_of before x))
           (numbered_arm after (a.Default token w))
-      unfolding Means
-      default_means w h = λ known.
+      unfolding Means Meant
+      default_means w h = λ none known.
           ap (resolved_arm (at_attribute unit) (meant unit)) default_is
-          ∙ default_meant (at_attribute unit) (meant unit) (listed xs) _ (h known)
+          ∙ default_meant (at_attribute unit) (meant unit) (listed xs) _
+          (h (subst (NoFault unit) (sym (same_uses (Default (listed xs)) default_is refl)) none)
+          known)
           ∙ ap (λ y. Some y) (sym (of_default (λ r. r) after token w))

@@ -4,7 +4,8 @@ use Rattle.std.specs.Prelude.{Vec}
 use Rattle.std.specs.declared.alloc.Global as alloc
 use Rattle.std.proofs.lemmas.List.{append-nil}
 use Rattle.edd_name_meanings.specs.declared.fault.NameFault.{NameFault}
-use Rattle.edd_name_meanings.specs.Meanings.{Means, NoFault, FirstFault}
+use Rattle.edd_name_meanings.specs.Meanings.{Means, NoFault}
+use Rattle.edd_expression_names.specs.Copies.{Meant, Tells}
 use Rattle.edd_expression_names.specs.ResolvedParts.{resolved_argument}
 use Rattle.edd_syntax.specs.declared.numbers.TokenNo.{TokenNo}
 use Rattle.edd_syntax.specs.declared.expr.Expr as code
@@ -77,35 +78,37 @@ module _ (unit : Description Path) (x : code.Expr code_path.Path) (token : Token
   call = call_is path_of x token p v is
       ∙ ap (λ xs. Call (path_of p) (arguments_from (map (argument_of path_of) xs))) (sym same)
 
-  pub call_none : (scope : Scope) (kinds : List Kind)
-      → NoFault unit (OfFunction (path_of p)
+  pub call_told : (scope : Scope) (kinds : List Kind) (old new : List NameFault)
+      → Tells unit (OfFunction (path_of p)
       ∷ argument_uses scope (argument_kinds (path_of p))
-      (arguments_from (map (argument_of path_of) items)))
-      → NoFault unit (uses_among scope kinds (expr_of path_of x))
-  call_none scope kinds h = subst (λ t. NoFault unit (uses_among scope kinds t)) (sym call) h
+      (arguments_from (map (argument_of path_of) items))) old new
+      → Tells unit (uses_among scope kinds (expr_of path_of x)) old new
+  call_told scope kinds old new h =
+      subst (λ t. Tells unit (uses_among scope kinds t) old new) (sym call) h
 
-  pub call_fault : (scope : Scope) (kinds : List Kind) (f : NameFault)
-      → FirstFault f unit (OfFunction (path_of p)
-      ∷ argument_uses scope (argument_kinds (path_of p))
-      (arguments_from (map (argument_of path_of) items)))
-      → FirstFault f unit (uses_among scope kinds (expr_of path_of x))
-  call_fault scope kinds f h =
-      subst (λ t. FirstFault f unit (uses_among scope kinds t)) (sym call) h
-
-  pub call_means : (at : Meanings) (plain : Path → Option Target) (t : Target)
+  pub call_means : (scope : Scope) (kinds : List Kind) (at : Meanings)
+      (plain : Path → Option Target) (t : Target)
       (w : Vec (code_argument.Argument Target) alloc.Global)
-      → Means unit (function_meant (path_of p)) t
-      → Means unit (resolved_arguments at (at.argument (path_of p))
+      → Meant unit (OfFunction (path_of p)
+      ∷ argument_uses scope (argument_kinds (path_of p))
+      (arguments_from (map (argument_of path_of) items))) (function_meant (path_of p)) t
+      → Meant unit (OfFunction (path_of p)
+      ∷ argument_uses scope (argument_kinds (path_of p))
+      (arguments_from (map (argument_of path_of) items)))
+      (resolved_arguments at (at.argument (path_of p))
       (arguments_from (map (argument_of path_of) items)))
       (arguments_from (map numbered_argument w.items))
-      → Means unit (resolved_by at plain (expr_of path_of x)) (numbered_expr (e.Call token t w))
-  unfolding Means resolved_by
-  call_means at plain t w h k = λ known.
+      → Meant unit (uses_among scope kinds (expr_of path_of x))
+      (resolved_by at plain (expr_of path_of x)) (numbered_expr (e.Call token t w))
+  unfolding Means Meant resolved_by
+  call_means scope kinds at plain t w h k = λ none known.
+      let fine = subst (λ t. NoFault unit (uses_among scope kinds t)) call none in
       ap (resolved_by at plain) call
       ∙ bound (function_meant (path_of p))
       (resolved_arguments at (at.argument (path_of p))
       (arguments_from (map (argument_of path_of) items)))
-      (λ f r. Call f r) t (arguments_from (map numbered_argument w.items)) (h known) (k known)
+      (λ f r. Call f r) t (arguments_from (map numbered_argument w.items)) (h fine known)
+      (k fine known)
       ∙ ap (λ y. Some y) (sym (call_is (λ r. r) (e.Call token t w) token t w refl))
 
 -- ---- what is inside an expression has fewer nodes than it
@@ -131,7 +134,7 @@ call_falls t x token p v xs is same m =
 
 pub argument_falls : (t i : ℕ) (xs : List (code_argument.Argument code_path.Path))
     (x : code_argument.Argument code_path.Path) → i < length xs → x ≡ get_or xs i x
-    → t ≡ arguments_depth xs + 3 → argument_depth x + 2 < t
+    → t ≡ arguments_depth xs + 4 → argument_depth x + 1 < t
 argument_falls t i xs x h is m = let e = within i xs x h is in omega (arith, e, m)
   where
     within : (i : ℕ) (xs : List (code_argument.Argument code_path.Path))

@@ -1,4 +1,5 @@
 pub mod BranchSteps
 pub mod Copying
 pub mod ExprSteps
+pub mod OneFault
 pub mod UseLaws

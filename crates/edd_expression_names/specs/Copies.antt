@@ -1,20 +1,27 @@
 -- What is answered of a copy: a tree with the meaning of each name in its place.
-use Rattle.std.specs.Prelude.{List, Option, Result, IfErr, IfOk}
+use Rattle.std.specs.Prelude.{◌≡◌, ◌++◌, List, Option, Some, Result, IfOk, OnOk, map}
 use Rattle.edd_syntax.specs.Item.{Description}
 use Rattle.edd_syntax.specs.NameUses.{Use}
 use Rattle.edd_syntax.specs.Reference.{Path}
 use Rattle.edd_name_meanings.specs.declared.fault.NameFault.{NameFault}
-use Rattle.edd_name_meanings.specs.Meanings.{Means, NoFault, FirstFault}
+use Rattle.edd_name_meanings.specs.Faults.{refusal_of}
+use Rattle.edd_name_meanings.specs.Meanings.{Means, NoFault, faults_in}
 
--- where there is a copy, these uses of names break no rule
-abbrev pub Accepts : {T : Type 0} → Description Path → List Use → Result T NameFault → Type 0
-Accepts unit uses answer = IfOk answer (λ t. NoFault unit uses)
+-- the faults of these uses come after those that were there
+unfoldable pub Tells : Description Path → List Use → (old new : List NameFault) → Type 0
+Tells unit uses old new =
+    map refusal_of new ≡ map refusal_of old ++ map (λ r. Some r) (faults_in unit uses)
 
--- the copy, seen as a tree of the syntax, is what is meant
-abbrev pub Copies : {T S : Type 0} → Description Path → (meant : Option S) → (seen : T → S)
-    → Result T NameFault → Type 0
-Copies unit meant seen answer = IfOk answer (λ t. Means unit meant (seen t))
+-- where there is a copy, all faults of these uses are told
+abbrev pub Told : {T E : Type 0} → Description Path → List Use → (old new : List NameFault)
+    → Result T E → Type 0
+Told unit uses old new answer = OnOk answer (Tells unit uses old new)
 
--- the fault is that of the first of these uses that breaks a rule, or memory is out
-abbrev pub Refuses : {T : Type 0} → Description Path → List Use → Result T NameFault → Type 0
-Refuses unit uses answer = IfErr answer (λ f. FirstFault f unit uses)
+-- this is meant, where no use has a fault
+unfoldable pub Meant : {A : Type 0} → Description Path → List Use → (meant : Option A) → A → Type 0
+Meant unit uses meant x = NoFault unit uses → Means unit meant x
+
+-- the copy, seen as a tree of the syntax, is what is meant where no use has a fault
+abbrev pub Copies : {T E S : Type 0} → Description Path → List Use → (meant : Option S)
+    → (seen : T → S) → Result T E → Type 0
+Copies unit uses meant seen answer = IfOk answer (λ t. Meant unit uses meant (seen t))

@@ -10,14 +10,14 @@ ghost use Rattle.edd_syntax.specs.ResolvedTrees.{at_attribute, resolved_cond, re
 ghost use Rattle.edd_syntax.specs.TreeView.{path_of};
 ghost use Rattle.edd_name_meanings.specs.Directory.{description_of};
 ghost use Rattle.edd_expression_names.specs.ResolvedParts.{resolved_arm};
-ghost use Rattle.edd_expression_names.specs.Copies.{Accepts, Copies, Refuses};
+ghost use Rattle.edd_expression_names.specs.Copies.{Copies, Told};
 
 use crate::exprs::copy_expr;
-use crate::made_of;
 use edd_name_meanings::directory::Names;
 use edd_name_meanings::fault::NameFault;
 use edd_syntax::cond::{Arm, Cond};
 use edd_syntax::reference::{Path, Target};
+use std::alloc::AllocError;
 
 /// A value under conditions, which is copied with the meaning of its names.
 pub trait ResolveValue {
@@ -38,161 +38,127 @@ pub trait ResolveValue {
     ghost meant: { Description pure.Path → Before → Option After };
 
     /// The value with the meaning of its names.
-    fn copy(&self, names: &Names) -> Result<Self::Out, NameFault>
-        ensures accepted { Accepts (description_of names.now) (uses (before self.now)) result }
-        ensures sound { Copies (description_of names.now)
-            (meant (description_of names.now) (before self.now)) after result }
-        ensures refused { Refuses (description_of names.now) (uses (before self.now)) result };
+    fn copy(
+        &self,
+        names: &Names,
+        faults: &mut Vec<NameFault>,
+    ) -> Result<Self::Out, AllocError>
+        ensures told { Told (description_of names.now) (uses (before self.now)) faults.old.items
+            faults.new.items result }
+        ensures sound { Copies (description_of names.now) (uses (before self.now))
+            (meant (description_of names.now) (before self.now)) after result };
 }
 
 /// A conditional with the meaning of its names.
 #[cycle(branches)]
-#[tactic(auto, using(crate::proofs::UseLaws::faults))]
 pub fn copy_cond<V: ResolveValue>(
     c: &Cond<Path, V>,
     names: &Names,
-) -> Result<Cond<Target, V::Out>, NameFault>
-    ensures accepted { Accepts (description_of names.now)
-        (cond_uses V.uses (cond_of path_of V.before c.now)) result }
+    faults: &mut Vec<NameFault>,
+) -> Result<Cond<Target, V::Out>, AllocError>
+    ensures told { Told (description_of names.now)
+        (cond_uses V.uses (cond_of path_of V.before c.now))
+        faults.old.items faults.new.items result }
     ensures sound { Copies (description_of names.now)
+        (cond_uses V.uses (cond_of path_of V.before c.now))
         (resolved_cond (at_attribute (description_of names.now))
         (V.meant (description_of names.now)) (cond_of path_of V.before c.now))
         (numbered_cond V.after) result }
-    ensures refused { Refuses (description_of names.now)
-        (cond_uses V.uses (cond_of path_of V.before c.now)) result }
 {
     match c {
-        Cond::Value(v) => made_of!(v.copy(names), v => Cond::Value(v)),
+        Cond::Value(v) => Ok(Cond::Value(v.copy(names, faults)?)),
         Cond::If {
             condition,
             first,
             otherwise,
         } => {
-            let condition = copy_expr(condition, names, &[])?;
-            let first = copy_conds(first, names)?;
-            made_of!(copy_conds(otherwise, names), otherwise => Cond::If {
+            let condition = copy_expr(condition, names, &[], faults)?;
+            let first = copy_conds(first, names, faults)?;
+            let otherwise = copy_conds(otherwise, names, faults)?;
+            Ok(Cond::If {
                 condition,
                 first,
                 otherwise,
             })
         }
         Cond::Select { on, arms } => {
-            let on = copy_expr(on, names, &[])?;
-            made_of!(copy_arms(arms, names), arms => Cond::Select { on, arms })
+            let on = copy_expr(on, names, &[], faults)?;
+            let arms = copy_arms(arms, names, faults)?;
+            Ok(Cond::Select { on, arms })
         }
     }
 }
 
 /// Conditionals with the meaning of their names.
 #[cycle(branches)]
-#[tactic(auto, using(crate::proofs::UseLaws::faults))]
 pub fn copy_conds<V: ResolveValue>(
     all: &[Cond<Path, V>],
     names: &Names,
-) -> Result<Vec<Cond<Target, V::Out>>, NameFault>
-    ensures accepted { Accepts (description_of names.now)
-        (conds_uses V.uses (conds_from (map (cond_of path_of V.before) all.now))) result }
+    faults: &mut Vec<NameFault>,
+) -> Result<Vec<Cond<Target, V::Out>>, AllocError>
+    ensures told { Told (description_of names.now)
+        (conds_uses V.uses (conds_from (map (cond_of path_of V.before) all.now)))
+        faults.old.items faults.new.items result }
     ensures sound { Copies (description_of names.now)
+        (conds_uses V.uses (conds_from (map (cond_of path_of V.before) all.now)))
         (resolved_conds (at_attribute (description_of names.now))
         (V.meant (description_of names.now)) (conds_from (map (cond_of path_of V.before) all.now)))
         (λ t. conds_from (map (numbered_cond V.after) t.items)) result }
-    ensures refused { Refuses (description_of names.now)
-        (conds_uses V.uses (conds_from (map (cond_of path_of V.before) all.now))) result }
 {
     let mut copies = Vec::with_capacity(names.alloc, all.len())?;
-    add_conds(all, names, &mut copies)?;
+    for c in all {
+        copies.push(copy_cond(c, names, faults)?)?;
+    }
     Ok(copies)
 }
 
 #[cycle(branches)]
-#[tactic(auto, using(crate::proofs::UseLaws::faults))]
-fn add_conds<V: ResolveValue>(
-    all: &[Cond<Path, V>],
-    names: &Names,
-    copies: &mut Vec<Cond<Target, V::Out>>,
-) -> Result<(), NameFault>
-    requires { copies.old.items ≡ [] }
-    ensures accepted { Accepts (description_of names.now)
-        (conds_uses V.uses (conds_from (map (cond_of path_of V.before) all.now))) result }
-    ensures sound { Copies (description_of names.now)
-        (resolved_conds (at_attribute (description_of names.now))
-        (V.meant (description_of names.now)) (conds_from (map (cond_of path_of V.before) all.now)))
-        (λ _. conds_from (map (numbered_cond V.after) copies.new.items)) result }
-    ensures refused { Refuses (description_of names.now)
-        (conds_uses V.uses (conds_from (map (cond_of path_of V.before) all.now))) result }
-{
-    for c in all {
-        copies.push(copy_cond(c, names)?)?;
-    }
-    Ok(())
-}
-
-#[cycle(branches)]
-#[tactic(auto, using(crate::proofs::UseLaws::faults))]
 fn copy_arms<V: ResolveValue>(
     arms: &[Arm<Path, V>],
     names: &Names,
-) -> Result<Vec<Arm<Target, V::Out>>, NameFault>
-    ensures accepted { Accepts (description_of names.now)
-        (arms_uses V.uses (arms_from (map (arm_of path_of V.before) arms.now))) result }
+    faults: &mut Vec<NameFault>,
+) -> Result<Vec<Arm<Target, V::Out>>, AllocError>
+    ensures told { Told (description_of names.now)
+        (arms_uses V.uses (arms_from (map (arm_of path_of V.before) arms.now)))
+        faults.old.items faults.new.items result }
     ensures sound { Copies (description_of names.now)
+        (arms_uses V.uses (arms_from (map (arm_of path_of V.before) arms.now)))
         (resolved_arms (at_attribute (description_of names.now))
         (V.meant (description_of names.now)) (arms_from (map (arm_of path_of V.before) arms.now)))
         (λ t. arms_from (map (numbered_arm V.after) t.items)) result }
-    ensures refused { Refuses (description_of names.now)
-        (arms_uses V.uses (arms_from (map (arm_of path_of V.before) arms.now))) result }
 {
     let mut copies = Vec::with_capacity(names.alloc, arms.len())?;
-    add_arms(arms, names, &mut copies)?;
+    for arm in arms {
+        copies.push(copy_arm(arm, names, faults)?)?;
+    }
     Ok(copies)
 }
 
 #[cycle(branches)]
-#[tactic(auto, using(crate::proofs::UseLaws::faults))]
-fn add_arms<V: ResolveValue>(
-    arms: &[Arm<Path, V>],
-    names: &Names,
-    copies: &mut Vec<Arm<Target, V::Out>>,
-) -> Result<(), NameFault>
-    requires { copies.old.items ≡ [] }
-    ensures accepted { Accepts (description_of names.now)
-        (arms_uses V.uses (arms_from (map (arm_of path_of V.before) arms.now))) result }
-    ensures sound { Copies (description_of names.now)
-        (resolved_arms (at_attribute (description_of names.now))
-        (V.meant (description_of names.now)) (arms_from (map (arm_of path_of V.before) arms.now)))
-        (λ _. arms_from (map (numbered_arm V.after) copies.new.items)) result }
-    ensures refused { Refuses (description_of names.now)
-        (arms_uses V.uses (arms_from (map (arm_of path_of V.before) arms.now))) result }
-{
-    for arm in arms {
-        copies.push(copy_arm(arm, names)?)?;
-    }
-    Ok(())
-}
-
-#[cycle(branches)]
-#[tactic(auto, using(crate::proofs::UseLaws::faults))]
 fn copy_arm<V: ResolveValue>(
     arm: &Arm<Path, V>,
     names: &Names,
-) -> Result<Arm<Target, V::Out>, NameFault>
-    ensures accepted { Accepts (description_of names.now)
-        (arms_uses V.uses (arms_from (arm_of path_of V.before arm.now ∷ []))) result }
+    faults: &mut Vec<NameFault>,
+) -> Result<Arm<Target, V::Out>, AllocError>
+    ensures told { Told (description_of names.now)
+        (arms_uses V.uses (arms_from (arm_of path_of V.before arm.now ∷ [])))
+        faults.old.items faults.new.items result }
     ensures sound { Copies (description_of names.now)
+        (arms_uses V.uses (arms_from (arm_of path_of V.before arm.now ∷ [])))
         (resolved_arm (at_attribute (description_of names.now)) (V.meant (description_of names.now))
         (arm_of path_of V.before arm.now)) (numbered_arm V.after) result }
-    ensures refused { Refuses (description_of names.now)
-        (arms_uses V.uses (arms_from (arm_of path_of V.before arm.now ∷ []))) result }
 {
     match arm {
         Arm::Case { label, body } => {
-            made_of!(copy_conds(body, names), body => Arm::Case {
+            let body = copy_conds(body, names, faults)?;
+            Ok(Arm::Case {
                 label: *label,
                 body,
             })
         }
         Arm::Default { at, body } => {
-            made_of!(copy_conds(body, names), body => Arm::Default { at: *at, body })
+            let body = copy_conds(body, names, faults)?;
+            Ok(Arm::Default { at: *at, body })
         }
     }
 }

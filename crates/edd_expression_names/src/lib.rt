@@ -3,6 +3,6 @@
 
 pub mod conditionals;
 pub mod exprs;
-mod made;
+pub mod telling;
 pub mod texts;
 mod values;

@@ -1,17 +1,14 @@
 //! Copies of texts.
 
-ghost use Rattle.std.specs.Prelude.{◌≡◌, IfErr, IfOk, option_map};
+ghost use Rattle.std.specs.Prelude.{◌≡◌, IfOk, option_map};
 ghost use Rattle.edd_syntax.specs.WordsView.{text_of};
-ghost use Rattle.edd_name_meanings.specs.declared.fault.NameFault.TheVariants.{Memory};
 
-use edd_name_meanings::fault::NameFault;
 use edd_syntax::text::Text;
-use std::alloc::Global;
+use std::alloc::{AllocError, Global};
 
 /// A copy of a text.
-pub fn copy_text(text: &Text, alloc: Global) -> Result<Text, NameFault>
+pub fn copy_text(text: &Text, alloc: Global) -> Result<Text, AllocError>
     ensures sound { IfOk result (λ t. text_of t ≡ text_of text.now) }
-    ensures refused { IfErr result (λ f. f ≡ Memory) }
 {
     match text {
         Text::Quoted(raw) => Ok(Text::Quoted(String::from_str(alloc, raw)?)),
@@ -20,9 +17,8 @@ pub fn copy_text(text: &Text, alloc: Global) -> Result<Text, NameFault>
 }
 
 /// A copy of a text that may be missing.
-pub fn copy_optional_text(text: &Option<Text>, alloc: Global) -> Result<Option<Text>, NameFault>
+pub fn copy_optional_text(text: &Option<Text>, alloc: Global) -> Result<Option<Text>, AllocError>
     ensures sound { IfOk result (λ t. option_map text_of t ≡ option_map text_of text.now) }
-    ensures refused { IfErr result (λ f. f ≡ Memory) }
 {
     match text {
         Some(text) => Ok(Some(copy_text(text, alloc)?)),

@@ -15,17 +15,17 @@ ghost use Rattle.edd_syntax.specs.WordsView.{text_of};
 
 use crate::conditionals::ResolveValue;
 use crate::exprs::{copy_expr, refer_variable};
-use crate::made_of;
+use crate::telling::refer;
 use crate::texts::{copy_optional_text, copy_text};
 use edd_name_meanings::directory::Names;
 use edd_name_meanings::fault::NameFault;
-use edd_name_meanings::references::refer;
 use edd_syntax::expr::Expr;
 use edd_syntax::item::{DataItem, Enumerator, MenuEntry};
 use edd_syntax::numbers::Kind;
 use edd_syntax::reference::{Path, Target};
 use edd_syntax::text::Text;
 use edd_syntax::types::Handling;
+use std::alloc::AllocError;
 
 impl ResolveValue for Text {
     type Out = Text;
@@ -42,8 +42,8 @@ impl ResolveValue for Text {
 
     ghost meant = { λ unit. unchanged };
 
-    #[tactic(auto, using(crate::proofs::UseLaws::faults), unfolding(edd_name_meanings::specs::Meanings::Means))]
-    fn copy(&self, names: &Names) -> Result<Text, NameFault> {
+    #[tactic(auto, using(crate::proofs::UseLaws::uses), unfolding(edd_name_meanings::specs::Meanings::Means, crate::specs::Copies::Meant))]
+    fn copy(&self, names: &Names, faults: &mut Vec<NameFault>) -> Result<Text, AllocError> {
         copy_text(self, names.alloc)
     }
 }
@@ -63,8 +63,8 @@ impl ResolveValue for Handling {
 
     ghost meant = { λ unit. unchanged };
 
-    #[tactic(auto, using(crate::proofs::UseLaws::faults), unfolding(edd_name_meanings::specs::Meanings::Means))]
-    fn copy(&self, names: &Names) -> Result<Handling, NameFault> {
+    #[tactic(auto, using(crate::proofs::UseLaws::uses), unfolding(edd_name_meanings::specs::Meanings::Means, crate::specs::Copies::Meant))]
+    fn copy(&self, names: &Names, faults: &mut Vec<NameFault>) -> Result<Handling, AllocError> {
         Ok(*self)
     }
 }
@@ -84,8 +84,8 @@ impl ResolveValue for bool {
 
     ghost meant = { λ unit. unchanged };
 
-    #[tactic(auto, using(crate::proofs::UseLaws::faults), unfolding(edd_name_meanings::specs::Meanings::Means))]
-    fn copy(&self, names: &Names) -> Result<bool, NameFault> {
+    #[tactic(auto, using(crate::proofs::UseLaws::uses), unfolding(edd_name_meanings::specs::Meanings::Means, crate::specs::Copies::Meant))]
+    fn copy(&self, names: &Names, faults: &mut Vec<NameFault>) -> Result<bool, AllocError> {
         Ok(*self)
     }
 }
@@ -105,10 +105,11 @@ impl ResolveValue for Enumerator {
 
     ghost meant = { λ unit. unchanged };
 
-    #[tactic(auto, using(crate::proofs::UseLaws::faults), unfolding(edd_name_meanings::specs::Meanings::Means))]
-    fn copy(&self, names: &Names) -> Result<Enumerator, NameFault> {
+    #[tactic(auto, using(crate::proofs::UseLaws::uses), unfolding(edd_name_meanings::specs::Meanings::Means, crate::specs::Copies::Meant))]
+    fn copy(&self, names: &Names, faults: &mut Vec<NameFault>) -> Result<Enumerator, AllocError> {
         let text = copy_text(&self.text, names.alloc)?;
-        made_of!(copy_optional_text(&self.help, names.alloc), help => Enumerator {
+        let help = copy_optional_text(&self.help, names.alloc)?;
+        Ok(Enumerator {
             at: self.at,
             value: self.value,
             text,
@@ -132,9 +133,9 @@ impl ResolveValue for Expr<Path> {
 
     ghost meant = { λ unit. resolved_expr (at_attribute unit) };
 
-    #[tactic(auto, using(crate::proofs::UseLaws::faults), unfolding(edd_name_meanings::specs::Meanings::Means))]
-    fn copy(&self, names: &Names) -> Result<Expr<Target>, NameFault> {
-        copy_expr(self, names, &[])
+    #[tactic(auto, using(crate::proofs::UseLaws::uses), unfolding(edd_name_meanings::specs::Meanings::Means, crate::specs::Copies::Meant))]
+    fn copy(&self, names: &Names, faults: &mut Vec<NameFault>) -> Result<Expr<Target>, AllocError> {
+        copy_expr(self, names, &[], faults)
     }
 }
 
@@ -153,15 +154,14 @@ impl ResolveValue for MenuEntry<Path> {
 
     ghost meant = { resolved_entry };
 
-    #[tactic(auto, using(crate::proofs::UseLaws::faults), unfolding(edd_name_meanings::specs::Meanings::Means))]
-    fn copy(&self, names: &Names) -> Result<MenuEntry<Target>, NameFault> {
+    #[tactic(auto, using(crate::proofs::UseLaws::uses), unfolding(edd_name_meanings::specs::Meanings::Means, crate::specs::Copies::Meant))]
+    fn copy(&self, names: &Names, faults: &mut Vec<NameFault>) -> Result<MenuEntry<Target>, AllocError> {
         match self {
-            MenuEntry::Text(text) => {
-                made_of!(copy_text(text, names.alloc), text => MenuEntry::Text(text))
-            }
+            MenuEntry::Text(text) => Ok(MenuEntry::Text(copy_text(text, names.alloc)?)),
             MenuEntry::Reference { to, qualifiers } => {
                 let kinds = [Kind::Variable, Kind::Menu, Kind::Collection, Kind::Method];
-                made_of!(refer(names, &[], &kinds, to), to => MenuEntry::Reference {
+                let to = refer(names, &[], &kinds, to, faults)?;
+                Ok(MenuEntry::Reference {
                     to,
                     qualifiers: *qualifiers,
                 })
@@ -185,8 +185,8 @@ impl ResolveValue for DataItem<Path> {
 
     ghost meant = { resolved_data };
 
-    #[tactic(auto, using(crate::proofs::UseLaws::faults), unfolding(edd_name_meanings::specs::Meanings::Means))]
-    fn copy(&self, names: &Names) -> Result<DataItem<Target>, NameFault> {
+    #[tactic(auto, using(crate::proofs::UseLaws::uses), unfolding(edd_name_meanings::specs::Meanings::Means, crate::specs::Copies::Meant))]
+    fn copy(&self, names: &Names, faults: &mut Vec<NameFault>) -> Result<DataItem<Target>, AllocError> {
         match self {
             DataItem::Constant { at, value } => Ok(DataItem::Constant {
                 at: *at,
@@ -199,7 +199,7 @@ impl ResolveValue for DataItem<Path> {
                 qualifiers,
             } => Ok(DataItem::Variable {
                 at: *at,
-                variable: refer_variable(names, &[], variable)?,
+                variable: refer_variable(names, &[], variable, faults)?,
                 mask: *mask,
                 qualifiers: *qualifiers,
             }),

@@ -18,10 +18,6 @@ abbrev pub decreases-copy_conds : goal.decreases-copy_conds
 decreases-copy_conds g l =
     3 * conds_nodes leaf (conds_from (map (cond_of path_of (λ v. v)) l.all.now)) + 2
 
-abbrev pub decreases-add_conds : goal.decreases-add_conds
-decreases-add_conds g l =
-    3 * conds_nodes leaf (conds_from (map (cond_of path_of (λ v. v)) l.all.now)) + 1
-
 abbrev pub decreases-copy_arm : goal.decreases-copy_arm
 decreases-copy_arm g l = 3 * arms_nodes leaf (arms_from (arm_of path_of (λ v. v) l.arm.now ∷ []))
 
@@ -29,13 +25,9 @@ abbrev pub decreases-copy_arms : goal.decreases-copy_arms
 decreases-copy_arms g l = 3 * arms_nodes leaf (arms_from (map (arm_of path_of (λ v. v)) l.arms.now))
     + 2
 
-abbrev pub decreases-add_arms : goal.decreases-add_arms
-decreases-add_arms g l = 3 * arms_nodes leaf (arms_from (map (arm_of path_of (λ v. v)) l.arms.now))
-    + 1
-
 -- the conditionals so far are copied
-abbrev pub invariant-add_conds-loop-c : goal.invariant-add_conds-loop-c
-invariant-add_conds-loop-c g l = Copied (description_of l.fn.names)
+abbrev pub invariant-copy_conds-loop-c : goal.invariant-copy_conds-loop-c
+invariant-copy_conds-loop-c g l = Copied (description_of l.fn.names)
     (cond_of path_of g.V.ResolveValue.before)
     (numbered_cond g.V.ResolveValue.after) (λ xs. conds_uses g.V.ResolveValue.uses (conds_from xs))
     (conds_split g.V.ResolveValue.uses) (resolved_cond (at_attribute (description_of l.fn.names))
@@ -45,10 +37,10 @@ invariant-add_conds-loop-c g l = Copied (description_of l.fn.names)
     (conds_from xs)) conds_from
     (conds_joined (at_attribute (description_of l.fn.names))
     (g.V.ResolveValue.meant (description_of l.fn.names)))
-    l.c-index l.all l.copies.items
+    l.fn.faults.items l.c-index l.all l.copies.items l.faults.items
 
-abbrev pub invariant-add_arms-loop-arm : goal.invariant-add_arms-loop-arm
-invariant-add_arms-loop-arm g l = Copied (description_of l.fn.names)
+abbrev pub invariant-copy_arms-loop-arm : goal.invariant-copy_arms-loop-arm
+invariant-copy_arms-loop-arm g l = Copied (description_of l.fn.names)
     (arm_of path_of g.V.ResolveValue.before)
     (numbered_arm g.V.ResolveValue.after) (λ xs. arms_uses g.V.ResolveValue.uses (arms_from xs))
     (arms_split g.V.ResolveValue.uses)
@@ -59,4 +51,4 @@ invariant-add_arms-loop-arm g l = Copied (description_of l.fn.names)
     (arms_from xs)) arms_from
     (arms_joined (at_attribute (description_of l.fn.names))
     (g.V.ResolveValue.meant (description_of l.fn.names)))
-    l.arm-index l.arms l.copies.items
+    l.fn.faults.items l.arm-index l.arms l.copies.items l.faults.items

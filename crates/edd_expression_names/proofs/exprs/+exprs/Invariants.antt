@@ -32,18 +32,12 @@ decreases-copy_call l = arguments_depth l.arguments.now + 5
 abbrev pub decreases-copy_arguments : goal.decreases-copy_arguments
 decreases-copy_arguments l = arguments_depth l.arguments.now + 4
 
-abbrev pub decreases-add_arguments : goal.decreases-add_arguments
-decreases-add_arguments l = arguments_depth l.arguments.now + 3
-
-abbrev pub decreases-add_argument : goal.decreases-add_argument
-decreases-add_argument l = argument_depth l.argument.now + 2
-
 abbrev pub decreases-copy_argument : goal.decreases-copy_argument
 decreases-copy_argument l = argument_depth l.argument.now + 1
 
 -- the arguments so far are copied
-abbrev pub invariant-add_arguments-loop-argument : goal.invariant-add_arguments-loop-argument
-invariant-add_arguments-loop-argument l = Copied (description_of l.fn.names) (argument_of path_of)
+abbrev pub invariant-copy_arguments-loop-argument : goal.invariant-copy_arguments-loop-argument
+invariant-copy_arguments-loop-argument l = Copied (description_of l.fn.names) (argument_of path_of)
     numbered_argument (λ xs. argument_uses (scope_of l.fn.scope) l.fn.kinds (arguments_from xs))
     (argument_uses_split (scope_of l.fn.scope) l.fn.kinds)
     (resolved_argument (at_scope (description_of l.fn.names) (scope_of l.fn.scope))
@@ -53,4 +47,4 @@ invariant-add_arguments-loop-argument l = Copied (description_of l.fn.names) (ar
     (arguments_from xs)) arguments_from
     (arguments_joined (at_scope (description_of l.fn.names) (scope_of l.fn.scope))
     (meaning (description_of l.fn.names) (scope_of l.fn.scope) l.fn.kinds))
-    l.argument-index l.arguments l.all.items
+    l.fn.faults.items l.argument-index l.arguments l.all.items l.faults.items

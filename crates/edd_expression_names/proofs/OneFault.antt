@@ -1,0 +1,125 @@
+-- A use has one fault at most.
+use Rattle.std.proofs.Common.{◌≡◌, refl, sym, ap, ◌∙◌, Bool, true, false, not, List, [], ◌∷◌, ◌++◌, map, Option, Some, None, subst}
+use Rattle.std.specs.Prelude.{is_none, if◌then◌else◌}
+use Rattle.std.proofs.lemmas.List.{append-nil}
+use Rattle.edd_name_meanings.specs.declared.fault.NameFault.{NameFault}
+use Rattle.edd_name_meanings.specs.Faults.{refusal_of, IsFound}
+use Rattle.edd_name_meanings.specs.Meanings.{Means, faults_in, FirstFault, NoFault}
+use Rattle.edd_name_rules.specs.Faults.{Agrees}
+use Rattle.edd_name_rules.proofs.Repeating.{map_append}
+use Rattle.edd_expression_names.specs.Copies.{Meant, Tells}
+use Rattle.edd_syntax.specs.declared.numbers.Kind.{Kind}
+use Rattle.edd_syntax.specs.declared.numbers.Kind.TheVariants as kind
+use Rattle.edd_syntax.specs.declared.numbers.ItemNo.{ItemNo}
+use Rattle.edd_syntax.specs.declared.reference.Target.{Target}
+use Rattle.edd_syntax.specs.Item.{Description}
+use Rattle.edd_syntax.specs.NameRules.{faults_along, faults_of_item, faults_of_local, faults_of_use, is_kind_among}
+use Rattle.edd_syntax.specs.NameUses.{Use, OfItem, OfArray, OfFunction}
+use Rattle.edd_syntax.specs.Numbers.{kind_of, same_kind}
+use Rattle.edd_syntax.specs.Reference.{Path}
+use Rattle.edd_syntax.specs.Refusal.{Refusal, UnknownName, WrongKind, first_of, refused_if}
+use Rattle.edd_syntax.specs.Resolution.{FoundMember, Scope, array_kinds, builtins, item_named, item_of_member, look_up, member_at}
+use Rattle.edd_syntax.specs.Text.{Name}
+
+-- the first of a list is all of it
+abbrev AreFew : List Refusal → Type 0
+AreFew rs = (r : Refusal) → first_of rs ≡ Some r → rs ≡ r ∷ []
+
+few_of_one : (x : Refusal) → AreFew (x ∷ [])
+few_of_one x r is = let same : Some x ≡ Some r = is in cc
+
+few_of_none : AreFew []
+few_of_none r is = let clash : None ≡ Some r = is in absurd cc
+
+few_if : (b : Bool) (x : Refusal) → AreFew (refused_if b x)
+few_if true x = few_of_one x
+few_if false x = few_of_none
+
+few_either : {A : Type 0} (o : Option A) (found : A → List Refusal) (missing : List Refusal)
+    → ((x : A) → AreFew (found x)) → AreFew missing
+    → AreFew (elim o [ | Some x ↦ found x | None ↦ missing ])
+few_either (Some x) found missing few none = few x
+few_either None found missing few none = none
+
+few_step : {A : Type 0} (b : Bool) (found : Option A) (next : A → List Refusal)
+    (wrong unknown : Refusal) → ((x : A) → AreFew (next x))
+    → AreFew (if b then wrong ∷ [] else elim found [ | Some x ↦ next x | None ↦ unknown ∷ [] ])
+few_step true found next wrong unknown few = few_of_one wrong
+few_step false (Some x) next wrong unknown few = few x
+few_step false None next wrong unknown few = few_of_one unknown
+
+module _ (unit : Description Path) where
+  few_along : (allowed : List Kind) (name : Name) (k : Kind) (i : Option ItemNo)
+      (members : List Name) → AreFew (faults_along unit allowed name k i members)
+  few_along allowed name k i [] = few_if (not (is_kind_among allowed k)) (WrongKind name)
+  few_along allowed name k None (m ∷ rest) = few_if (not (same_kind k kind.Collection))
+      (WrongKind name)
+  few_along allowed name k (Some i) (m ∷ rest) =
+      few_step (not (same_kind k kind.Collection)) (member_at unit i m)
+      (λ found. faults_along unit allowed m found.1 (item_of_member unit found) rest)
+      (WrongKind name) (UnknownName m)
+      (λ found. few_along allowed m found.1 (item_of_member unit found) rest)
+
+  few_of_local : (path : Path) (members : List Name) → AreFew (faults_of_local path members)
+  few_of_local path [] = few_of_none
+  few_of_local path (m ∷ rest) = few_of_one (WrongKind path.base)
+
+  few_of_item : (allowed : List Kind) (path : Path) → AreFew (faults_of_item unit allowed path)
+  few_of_item allowed path =
+      few_either (item_named unit path.base)
+      (λ i. faults_along unit allowed path.base (kind_of i) (Some i) path.members)
+      (UnknownName path.base ∷ [])
+      (λ i. few_along allowed path.base (kind_of i) (Some i) path.members)
+      (few_of_one (UnknownName path.base))
+
+  few_of_use : (u : Use) → AreFew (faults_of_use unit u)
+  few_of_use (OfItem scope allowed path) =
+      few_either (look_up path.base scope) (λ slot. faults_of_local path path.members)
+      (faults_of_item unit allowed path) (λ slot. few_of_local path path.members)
+      (few_of_item allowed path)
+  few_of_use (OfArray scope path) =
+      few_either (look_up path.base scope) (λ slot. WrongKind path.base ∷ [])
+      (faults_of_item unit array_kinds path) (λ slot. few_of_one (WrongKind path.base))
+      (few_of_item array_kinds path)
+  few_of_use (OfFunction path) =
+      few_either (look_up path.base builtins) (λ f. []) (UnknownName path.base ∷ [])
+      (λ f. few_of_none) (few_of_one (UnknownName path.base))
+
+  -- the fault of a use that is known is all that is told of it
+  is_all : (f : NameFault) (u : Use) (r : Refusal) → refusal_of f ≡ Some r
+      → FirstFault f unit (u ∷ []) → faults_in unit (u ∷ []) ≡ r ∷ []
+  unfolding FirstFault IsFound faults_in
+  is_all f u r is first =
+      append-nil (faults_of_use unit u) ∙ few_of_use u r
+      (ap first_of (sym (append-nil (faults_of_use unit u)))
+      ∙ subst (λ o. Agrees o (first_of (faults_in unit (u ∷ [])))) is first)
+
+  told_of : (f : NameFault) (u : Use) (o : Option Refusal) (old new : List NameFault)
+      → refusal_of f ≡ o → false ≡ is_none o → FirstFault f unit (u ∷ []) → new ≡ old ++ f ∷ []
+      → Tells unit (u ∷ []) old new
+  unfolding Tells
+  told_of f u None old new is known first grown = absurd cc
+  told_of f u (Some r) old new is known first grown =
+      ap (map refusal_of) grown ∙ map_append refusal_of old (f ∷ [])
+      ∙ ap (λ o. map refusal_of old ++ o ∷ []) is
+      ∙ ap (λ rs. map refusal_of old ++ map (λ r. Some r) rs) (sym (is_all f u r is first))
+
+  pub tells_fault : (f : NameFault) (u : Use) (old new : List NameFault)
+      → false ≡ is_none (refusal_of f) → FirstFault f unit (u ∷ []) → new ≡ old ++ f ∷ []
+      → Tells unit (u ∷ []) old new
+  tells_fault f u old new known first grown =
+      told_of f u (refusal_of f) old new refl known first grown
+
+  clash_of : (f : NameFault) (u : Use) (o : Option Refusal) → refusal_of f ≡ o
+      → false ≡ is_none o → FirstFault f unit (u ∷ []) → NoFault unit (u ∷ []) → ⊥
+  unfolding NoFault
+  clash_of f u None is known first none = absurd cc
+  clash_of f u (Some r) is known first none =
+      let some = ap first_of (is_all f u r is first) in
+      let clash : None ≡ Some r = none ∙ some in absurd cc
+
+  pub meant_at_fault : (f : NameFault) (u : Use) (meant : Option Target) (t : Target)
+      → false ≡ is_none (refusal_of f) → FirstFault f unit (u ∷ []) → Meant unit (u ∷ []) meant t
+  unfolding Meant
+  meant_at_fault f u meant t known first = λ none.
+      absurd (clash_of f u (refusal_of f) refl known first none)
