@@ -37,13 +37,13 @@ few_if false x = few_of_none
 
 few_either : {A : Type 0} (o : Option A) (found : A → List Refusal) (missing : List Refusal)
     → ((x : A) → AreFew (found x)) → AreFew missing
-    → AreFew (elim o [ | Some x ↦ found x | None ↦ missing ])
+    → AreFew (elim o [ Some x ↦ found x | None ↦ missing ])
 few_either (Some x) found missing few none = few x
 few_either None found missing few none = none
 
 few_step : {A : Type 0} (b : Bool) (found : Option A) (next : A → List Refusal)
     (wrong unknown : Refusal) → ((x : A) → AreFew (next x))
-    → AreFew (if b then wrong ∷ [] else elim found [ | Some x ↦ next x | None ↦ unknown ∷ [] ])
+    → AreFew (if b then wrong ∷ [] else elim found [ Some x ↦ next x | None ↦ unknown ∷ [] ])
 few_step true found next wrong unknown few = few_of_one wrong
 few_step false (Some x) next wrong unknown few = few x
 few_step false None next wrong unknown few = few_of_one unknown

@@ -38,11 +38,7 @@ pub trait ResolveValue {
     ghost meant: { Description pure.Path → Before → Option After };
 
     /// The value with the meaning of its names.
-    fn copy(
-        &self,
-        names: &Names,
-        faults: &mut Vec<NameFault>,
-    ) -> Result<Self::Out, AllocError>
+    fn copy(&self, names: &Names, faults: &mut Vec<NameFault>) -> Result<Self::Out, AllocError>
         ensures told { Told (description_of names.now) (uses (before self.now)) faults.old.items
             faults.new.items result }
         ensures sound { Copies (description_of names.now) (uses (before self.now))

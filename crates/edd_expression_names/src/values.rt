@@ -155,7 +155,11 @@ impl ResolveValue for MenuEntry<Path> {
     ghost meant = { resolved_entry };
 
     #[tactic(auto, using(crate::proofs::UseLaws::uses), unfolding(edd_name_meanings::specs::Meanings::Means, crate::specs::Copies::Meant))]
-    fn copy(&self, names: &Names, faults: &mut Vec<NameFault>) -> Result<MenuEntry<Target>, AllocError> {
+    fn copy(
+        &self,
+        names: &Names,
+        faults: &mut Vec<NameFault>,
+    ) -> Result<MenuEntry<Target>, AllocError> {
         match self {
             MenuEntry::Text(text) => Ok(MenuEntry::Text(copy_text(text, names.alloc)?)),
             MenuEntry::Reference { to, qualifiers } => {
@@ -186,7 +190,11 @@ impl ResolveValue for DataItem<Path> {
     ghost meant = { resolved_data };
 
     #[tactic(auto, using(crate::proofs::UseLaws::uses), unfolding(edd_name_meanings::specs::Meanings::Means, crate::specs::Copies::Meant))]
-    fn copy(&self, names: &Names, faults: &mut Vec<NameFault>) -> Result<DataItem<Target>, AllocError> {
+    fn copy(
+        &self,
+        names: &Names,
+        faults: &mut Vec<NameFault>,
+    ) -> Result<DataItem<Target>, AllocError> {
         match self {
             DataItem::Constant { at, value } => Ok(DataItem::Constant {
                 at: *at,

@@ -1,8 +1,12 @@
 -- An item with the meaning of its names, from its attributes.
-use Rattle.std.proofs.Common.{◌≡◌, sym, ap, ◌∙◌, List, Some}
-use Rattle.edd_name_meanings.specs.Meanings.{Means}
+use Rattle.std.proofs.Common.{◌≡◌, sym, ap, ◌∙◌, List, Some, subst}
+use Rattle.std.specs.List.{flat_map}
+use Rattle.edd_expression_names.specs.Copies.{Meant, Tells}
+use Rattle.edd_name_meanings.specs.declared.fault.NameFault.{NameFault}
+use Rattle.edd_name_meanings.specs.Meanings.{Means, NoFault}
 use Rattle.edd_syntax.specs.declared.reference.Target.{Target}
 use Rattle.edd_syntax.specs.Item.{Attribute, Description, Item, ItemKind}
+use Rattle.edd_syntax.specs.NameUses.{attribute_uses, item_uses}
 use Rattle.edd_syntax.specs.Reference.{Path}
 use Rattle.edd_syntax.specs.ResolvedTrees.{◌>>=◌, each, resolved_attribute, resolved_item}
 use Rattle.edd_syntax.specs.Text.{Name}
@@ -10,15 +14,23 @@ use Rattle.edd_syntax.specs.Text.{Name}
 abbrev made : ItemKind → Name → List (Attribute Target) → Item Target
 made sort name attributes = record { sort = sort; name = name; attributes = attributes }
 
+pub item_told : (unit : Description Path) (i : Item Path) (xs : List (Attribute Path))
+    (old new : List NameFault) → xs ≡ i.attributes
+    → Tells unit (flat_map (attribute_uses i.sort) xs) old new → Tells unit (item_uses i) old new
+item_told unit i xs old new same h =
+    subst (λ ys. Tells unit (flat_map (attribute_uses i.sort) ys) old new) same h
+
 pub item_means : (unit : Description Path) (i : Item Path) (j : Item Target)
     (xs : List (Attribute Path)) (bs : List (Attribute Target)) → xs ≡ i.attributes
-    → Means unit (each (resolved_attribute unit i.sort) xs) bs → j.sort ≡ i.sort → j.name ≡ i.name
-    → j.attributes ≡ bs → Means unit (resolved_item unit i) j
-unfolding Means
-item_means unit i j xs bs same h sort name attributes = λ known.
+    → Meant unit (flat_map (attribute_uses i.sort) xs)
+    (each (resolved_attribute unit i.sort) xs) bs → j.sort ≡ i.sort → j.name ≡ i.name
+    → j.attributes ≡ bs → Meant unit (item_uses i) (resolved_item unit i) j
+unfolding Means Meant
+item_means unit i j xs bs same h sort name attributes = λ none known.
     ap (λ ys. each (resolved_attribute unit i.sort) ys >>= (λ zs. Some (made i.sort i.name zs)))
     (sym same)
-    ∙ ap (λ o. o >>= (λ zs. Some (made i.sort i.name zs))) (h known)
+    ∙ ap (λ o. o >>= (λ zs. Some (made i.sort i.name zs)))
+    (h (subst (λ ys. NoFault unit (flat_map (attribute_uses i.sort) ys)) (sym same) none) known)
     ∙ ap (λ s. Some (made s i.name bs)) (sym sort)
     ∙ ap (λ n. Some (made j.sort n bs)) (sym name)
     ∙ ap (λ zs. Some (made j.sort j.name zs)) (sym attributes)

@@ -1,21 +1,24 @@
 -- A unit that breaks no rule on names is resolved; else the first fault is the first of its
 -- breaches.
-use Rattle.std.proofs.Common.{◌≡◌, refl, sym, ap, ◌∙◌, Bool, true, false, List, [], ◌∷◌, ◌++◌, Some, None, append_assoc, subst}
-use Rattle.std.specs.Prelude.{IsTrue, nat_lt}
+use Rattle.std.proofs.Common.{◌≡◌, refl, sym, ap, ◌∙◌, Bool, true, false, ℕ, ◌<◌, List, [], ◌∷◌, ◌++◌, length, map, Option, Some, None, append_assoc, arith, subst}
+use Rattle.std.specs.Prelude.{IsTrue, nat_lt, slice_index_or}
 use Rattle.std.specs.List.{list_any}
 use Rattle.edd_name_meanings.specs.declared.directory.Names.{Names}
 use Rattle.edd_name_meanings.specs.declared.fault.NameFault.{NameFault}
+use Rattle.edd_name_meanings.specs.declared.fault.NameFault.TheVariants.{Memory}
 use Rattle.edd_name_meanings.specs.Directory.{description_of}
 use Rattle.edd_name_rules.specs.declared.fault.RuleFault.{RuleFault}
 use Rattle.edd_name_rules.specs.declared.fault.RuleFault.TheVariants as rule
 use Rattle.edd_name_rules.specs.Faults as rules
-use Rattle.edd_name_meanings.specs.Faults.{IsFound, IsFirst, of_rule}
+use Rattle.edd_name_rules.specs.Faults.{Agrees}
+use Rattle.edd_name_meanings.specs.Faults.{IsFound, IsFirst, of_rule, refusal_of}
 use Rattle.edd_name_meanings.specs.Meanings.{Means, NoFault, FirstFault, faults_in}
 use Rattle.edd_names.specs.Units.{unit_view}
 use Rattle.edd_name_rules.specs.Walks.{described}
 use Rattle.edd_syntax.proofs.FirstLaws.{first_of-append_none}
 use Rattle.edd_names.proofs.MemberLaws.{all_named}
-use Rattle.edd_expression_names.proofs.UseLaws.{first_left_of, first_right_of}
+use Rattle.edd_expression_names.specs.Copies.{Meant, Tells}
+use Rattle.edd_name_rules.proofs.Noting.{told_left, told_right}
 use Rattle.edd_syntax.specs.declared.limits.Limit.TheVariants as limit
 use Rattle.edd_syntax.specs.declared.item.Item as code_item
 use Rattle.edd_syntax.specs.declared.reference.Path as code_path
@@ -25,7 +28,7 @@ use Rattle.edd_syntax.specs.Accepted.{name_breaches}
 use Rattle.edd_syntax.specs.Item.{Description, Item}
 use Rattle.edd_syntax.specs.ItemView.{identification_of, named_items}
 use Rattle.edd_syntax.specs.NameRules.{item_limit, local_limit, kinds, locals_of, too_many, duplicate_names, duplicate_attributes, missing_attributes, wrong_uses}
-use Rattle.edd_syntax.specs.NameUses.{unit_uses}
+use Rattle.edd_syntax.specs.NameUses.{Use, unit_uses}
 use Rattle.edd_syntax.specs.Reference.{Path}
 use Rattle.edd_syntax.specs.Refusal.{Refusal, TooMany, first_of, refused_if}
 use Rattle.edd_syntax.specs.Resolution.{count_of}
@@ -55,6 +58,49 @@ few_locals items h =
     (not_refused _ (TooMany limit.Transactions) _
     (not_refused (list_any (λ k. nat_lt item_limit (count_of k items)) kinds)
     (TooMany limit.Items) _ h).1).1).0
+
+-- ---- the first fault
+
+pub first_left_of : (f : NameFault) (xs ys : List Refusal) → IsFirst f xs → IsFirst f (xs ++ ys)
+unfolding IsFound
+first_left_of f xs ys h = told_left (refusal_of f) xs ys h
+
+pub first_right_of : (f : NameFault) (xs ys : List Refusal) → None ≡ first_of xs → IsFirst f ys
+    → IsFirst f (xs ++ ys)
+unfolding IsFound
+first_right_of f xs ys none h = told_right (refusal_of f) xs ys none h
+
+-- memory that was refused is no breach
+pub memory_refused : (o : Option Refusal) → IsFound Memory o
+unfolding IsFound
+memory_refused o = tt
+
+-- the first of the faults that were told
+is_first : (f : NameFault) (fs : List NameFault) (rs : List Refusal)
+    → map refusal_of (f ∷ fs) ≡ map (λ r. Some r) rs → IsFirst f rs
+unfolding IsFound
+is_first f fs [] h = let clash : refusal_of f ∷ map refusal_of fs ≡ [] = h in absurd cc
+is_first f fs (r ∷ rs) h =
+    let same : refusal_of f ≡ Some r = cc in
+    subst (λ o. Agrees o (Some r)) (sym same) refl
+
+pub told_first : (unit : Description Path) (us : List Use) (f : NameFault) (all : List NameFault)
+    → Tells unit us [] all → 0 < length all → f ≡ slice_index_or all 0 f → FirstFault f unit us
+unfolding Tells FirstFault
+told_first unit us f [] h many is = absurd (omega (arith, many))
+told_first unit us f (g ∷ gs) h many is =
+    subst (λ x. IsFirst x (faults_in unit us)) (sym is) (is_first g gs (faults_in unit us) h)
+
+-- where nothing was told no use has a fault
+nothing : (rs : List Refusal) → [] ≡ map (λ r. Some r) rs → None ≡ first_of rs
+nothing [] h = refl
+nothing (r ∷ rs) h = let clash : [] ≡ Some r ∷ map (λ r. Some r) rs = h in absurd cc
+
+pub told_none : (unit : Description Path) (us : List Use) (all : List NameFault)
+    → Tells unit us [] all → length all ≡ 0 → NoFault unit us
+unfolding Tells NoFault
+told_none unit us [] h few = nothing (faults_in unit us) h
+told_none unit us (g ∷ gs) h few = absurd (omega (arith, few))
 
 -- ---- the rules one after the other
 
@@ -104,15 +150,15 @@ module _ (unit : Description Path) where
       ∙ sym (ap first_of in_order))
 
   pub meanings : (items : List (Item Target)) → IsTrue (are_items unit.items)
-      → NoFault unit (unit_uses unit) → Means unit (each (resolved_item unit) unit.items) items
+      → NoFault unit (unit_uses unit) → Meant unit (unit_uses unit) (each (resolved_item unit) unit.items) items
       → resolved_unit unit ≡ Some (description unit.identification items)
-  unfolding Means resolved_unit
+  unfolding Means Meant resolved_unit
   meanings items good none h = ap (λ o. o >>= (λ xs. Some (description unit.identification xs)))
-      (h (all_named unit good none))
+      (h none (all_named unit good none))
 
   pub is_resolved : (items : List (Item Target)) → IsTrue (are_items unit.items)
       → None ≡ first_of rules_before → NoFault unit (unit_uses unit)
-      → Means unit (each (resolved_item unit) unit.items) items
+      → Meant unit (unit_uses unit) (each (resolved_item unit) unit.items) items
       → IsResolved (description unit.identification items)
   is_resolved items good none fine h = record {
     unit = unit;

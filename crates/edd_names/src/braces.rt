@@ -1,309 +1,253 @@
 //! What is in the braces of types, transactions, collections and arrays, with the meaning of
 //! its names.
 
-ghost use Rattle.std.specs.Prelude.{◌≡◌, [], ◌∷◌, map};
+ghost use Rattle.std.specs.Prelude.{◌≡◌, [], ◌∷◌, List, Option, map};
 ghost use Rattle.std.specs.List.{flat_map};
-ghost use Rattle.edd_syntax.specs.ItemView.{type_part_of, transaction_part_of, array_element_of, member_of, numbered_array_element, numbered_member, numbered_transaction_part, numbered_type_part};
-ghost use Rattle.edd_syntax.specs.NameUses.{type_part_uses, transaction_part_uses};
+ghost use Rattle.edd_syntax.specs.declared.reference.Target as target;
+ghost use Rattle.edd_syntax.specs.Item as pure;
+ghost use Rattle.edd_syntax.specs.Item.{Description, ItemKind};
+ghost use Rattle.edd_syntax.specs.ItemView.{item_of, type_part_of, transaction_part_of, array_element_of, member_of, numbered_array_element, numbered_member, numbered_transaction_part, numbered_type_part};
+ghost use Rattle.edd_syntax.specs.NameUses.{Use, OfItem, type_part_uses, transaction_part_uses};
+ghost use Rattle.edd_syntax.specs.Reference as reference;
+ghost use Rattle.edd_syntax.specs.Resolution.{meaning, member_kinds};
 ghost use Rattle.edd_syntax.specs.ResolvedTrees.{each, resolved_type_part, resolved_transaction_part, resolved_member, resolved_element};
 ghost use Rattle.edd_syntax.specs.TreeView.{path_of};
 ghost use Rattle.edd_name_meanings.specs.Directory.{description_of};
 ghost use Rattle.edd_names.specs.MemberUses.{element_uses, member_uses};
-ghost use Rattle.edd_name_meanings.specs.Meanings.{Means};
-ghost use Rattle.edd_expression_names.specs.Copies.{Accepts, Copies, Refuses};
+ghost use Rattle.edd_expression_names.specs.Copies.{Copies, Told};
 
 use edd_expression_names::conditionals::{copy_cond, copy_conds};
 use edd_expression_names::exprs::refer_variable;
-use edd_expression_names::made_of;
+use edd_expression_names::telling::refer;
 use edd_expression_names::texts::copy_optional_text;
 use edd_name_meanings::directory::Names;
 use edd_name_meanings::fault::NameFault;
-use edd_name_meanings::references::refer;
-use edd_syntax::item::{ArrayElement, Member, TransactionPart, TypePart};
+use edd_syntax::item::{ArrayElement, Item, Member, TransactionPart, TypePart};
 use edd_syntax::numbers::Kind;
 use edd_syntax::reference::{Path, Target};
+use std::alloc::AllocError;
 
-#[tactic(auto, using(edd_expression_names::proofs::UseLaws::faults), unfolding(edd_name_meanings::specs::Meanings::Means))]
-fn copy_type_part(type_part: &TypePart<Path>, names: &Names) -> Result<TypePart<Target>, NameFault>
-    ensures accepted { Accepts (description_of names.now)
-        (type_part_uses (type_part_of path_of type_part.now)) result }
-    ensures sound { Copies (description_of names.now)
-        (resolved_type_part (description_of names.now) (type_part_of path_of type_part.now))
-        numbered_type_part result }
-    ensures refused { Refuses (description_of names.now)
-        (type_part_uses (type_part_of path_of type_part.now)) result }
-{
-    match type_part {
-        TypePart::DefaultValue { at, value } => {
-            made_of!(
-                copy_cond(value, names),
-                value => TypePart::DefaultValue { at: *at, value }
-            )
-        }
-        TypePart::MinValue { at, value } => {
-            made_of!(copy_cond(value, names), value => TypePart::MinValue { at: *at, value })
-        }
-        TypePart::MaxValue { at, value } => {
-            made_of!(copy_cond(value, names), value => TypePart::MaxValue { at: *at, value })
-        }
-        TypePart::DisplayFormat { at, format } => {
-            made_of!(
-                copy_cond(format, names),
-                format => TypePart::DisplayFormat { at: *at, format }
-            )
-        }
-        TypePart::EditFormat { at, format } => {
-            made_of!(
-                copy_cond(format, names),
-                format => TypePart::EditFormat { at: *at, format }
-            )
-        }
-        TypePart::Element(element) => {
-            made_of!(copy_cond(element, names), element => TypePart::Element(element))
-        }
-    }
+/// A part of an attribute of an item, which is copied with the meaning of its names.
+pub trait ResolvePart {
+    type Out: Drop;
+
+    /// What the part stands for, before and after.
+    ghost Before: { Type 0 };
+
+    ghost After: { Type 0 };
+
+    ghost before: { Self → Before };
+
+    ghost after: { Self.Out → After };
+
+    /// The uses of names in a part of an item of this kind, and what it means.
+    ghost uses: { ItemKind → Before → List Use };
+
+    ghost meant: { Description reference.Path → ItemKind → Before → Option After };
+
+    /// The part with the meaning of its names.
+    fn copy(
+        &self,
+        item: &Item<Path>,
+        names: &Names,
+        faults: &mut Vec<NameFault>,
+    ) -> Result<Self::Out, AllocError>
+        ensures told { Told (description_of names.now)
+            (uses (item_of path_of item.now).sort (before self.now)) faults.old.items
+            faults.new.items result }
+        ensures sound { Copies (description_of names.now)
+            (uses (item_of path_of item.now).sort (before self.now))
+            (meant (description_of names.now) (item_of path_of item.now).sort (before self.now))
+            after result };
 }
 
-#[tactic(auto, using(edd_expression_names::proofs::UseLaws::faults))]
-fn add_type_parts(
-    type_parts: &[TypePart<Path>],
+/// The parts of an attribute of an item with the meaning of their names.
+pub fn copy_parts<P: ResolvePart>(
+    parts: &[P],
+    item: &Item<Path>,
     names: &Names,
-    copies: &mut Vec<TypePart<Target>>,
-) -> Result<(), NameFault>
-    requires { copies.old.items ≡ [] }
-    ensures accepted { Accepts (description_of names.now)
-        (flat_map type_part_uses (map (type_part_of path_of) type_parts.now)) result }
+    faults: &mut Vec<NameFault>,
+) -> Result<Vec<P::Out>, AllocError>
+    ensures told { Told (description_of names.now)
+        (flat_map (P.uses (item_of path_of item.now).sort) (map P.before parts.now))
+        faults.old.items faults.new.items result }
     ensures sound { Copies (description_of names.now)
-        (each (resolved_type_part (description_of names.now))
-        (map (type_part_of path_of) type_parts.now)) (λ _. map numbered_type_part copies.new.items)
-        result }
-    ensures refused { Refuses (description_of names.now)
-        (flat_map type_part_uses (map (type_part_of path_of) type_parts.now)) result }
+        (flat_map (P.uses (item_of path_of item.now).sort) (map P.before parts.now))
+        (each (P.meant (description_of names.now) (item_of path_of item.now).sort)
+        (map P.before parts.now)) (λ t. map P.after t.items) result }
 {
-    for type_part in type_parts {
-        copies.push(copy_type_part(type_part, names)?)?;
+    let mut copies = Vec::with_capacity(names.alloc, parts.len())?;
+    for part in parts {
+        copies.push(part.copy(item, names, faults)?)?;
     }
-    Ok(())
-}
-
-/// The options and elements of a type with the meaning of the names in them.
-#[tactic(auto, using(edd_expression_names::proofs::UseLaws::faults))]
-pub fn copy_type_parts(
-    type_parts: &[TypePart<Path>],
-    names: &Names,
-) -> Result<Vec<TypePart<Target>>, NameFault>
-    ensures accepted { Accepts (description_of names.now)
-        (flat_map type_part_uses (map (type_part_of path_of) type_parts.now)) result }
-    ensures sound { Copies (description_of names.now)
-        (each (resolved_type_part (description_of names.now))
-        (map (type_part_of path_of) type_parts.now)) (λ t. map numbered_type_part t.items) result }
-    ensures refused { Refuses (description_of names.now)
-        (flat_map type_part_uses (map (type_part_of path_of) type_parts.now)) result }
-{
-    let mut copies = Vec::with_capacity(names.alloc, type_parts.len())?;
-    add_type_parts(type_parts, names, &mut copies)?;
     Ok(copies)
 }
 
-#[tactic(auto, using(edd_expression_names::proofs::UseLaws::faults), unfolding(edd_name_meanings::specs::Meanings::Means))]
-fn copy_transaction_part(
-    transaction_part: &TransactionPart<Path>,
-    names: &Names,
-) -> Result<TransactionPart<Target>, NameFault>
-    ensures accepted { Accepts (description_of names.now)
-        (transaction_part_uses (transaction_part_of path_of transaction_part.now)) result }
-    ensures sound { Copies (description_of names.now)
-        (resolved_transaction_part (description_of names.now)
-        (transaction_part_of path_of transaction_part.now)) numbered_transaction_part result }
-    ensures refused { Refuses (description_of names.now)
-        (transaction_part_uses (transaction_part_of path_of transaction_part.now)) result }
-{
-    match transaction_part {
-        TransactionPart::Request(at, all) => {
-            made_of!(copy_conds(all, names), all => TransactionPart::Request(*at, all))
+impl ResolvePart for TypePart<Path> {
+    type Out = TypePart<Target>;
+
+    ghost Before = { pure.TypePart reference.Path };
+
+    ghost After = { pure.TypePart target.Target };
+
+    ghost before = { type_part_of path_of };
+
+    ghost after = { numbered_type_part };
+
+    ghost uses = { λ sort. type_part_uses };
+
+    ghost meant = { λ unit sort. resolved_type_part unit };
+
+    #[tactic(auto, using(edd_expression_names::proofs::UseLaws::uses), unfolding(edd_name_meanings::specs::Meanings::Means, edd_expression_names::specs::Copies::Meant))]
+    fn copy(
+        &self,
+        _item: &Item<Path>,
+        names: &Names,
+        faults: &mut Vec<NameFault>,
+    ) -> Result<TypePart<Target>, AllocError> {
+        match self {
+            TypePart::DefaultValue { at, value } => Ok(TypePart::DefaultValue {
+                at: *at,
+                value: copy_cond(value, names, faults)?,
+            }),
+            TypePart::MinValue { at, value } => Ok(TypePart::MinValue {
+                at: *at,
+                value: copy_cond(value, names, faults)?,
+            }),
+            TypePart::MaxValue { at, value } => Ok(TypePart::MaxValue {
+                at: *at,
+                value: copy_cond(value, names, faults)?,
+            }),
+            TypePart::DisplayFormat { at, format } => Ok(TypePart::DisplayFormat {
+                at: *at,
+                format: copy_cond(format, names, faults)?,
+            }),
+            TypePart::EditFormat { at, format } => Ok(TypePart::EditFormat {
+                at: *at,
+                format: copy_cond(format, names, faults)?,
+            }),
+            TypePart::Element(element) => {
+                Ok(TypePart::Element(copy_cond(element, names, faults)?))
+            }
         }
-        TransactionPart::Reply(at, all) => {
-            made_of!(copy_conds(all, names), all => TransactionPart::Reply(*at, all))
+    }
+}
+
+impl ResolvePart for TransactionPart<Path> {
+    type Out = TransactionPart<Target>;
+
+    ghost Before = { pure.TransactionPart reference.Path };
+
+    ghost After = { pure.TransactionPart target.Target };
+
+    ghost before = { transaction_part_of path_of };
+
+    ghost after = { numbered_transaction_part };
+
+    ghost uses = { λ sort. transaction_part_uses };
+
+    ghost meant = { λ unit sort. resolved_transaction_part unit };
+
+    #[tactic(auto, using(edd_expression_names::proofs::UseLaws::uses), unfolding(edd_name_meanings::specs::Meanings::Means, edd_expression_names::specs::Copies::Meant))]
+    fn copy(
+        &self,
+        _item: &Item<Path>,
+        names: &Names,
+        faults: &mut Vec<NameFault>,
+    ) -> Result<TransactionPart<Target>, AllocError> {
+        match self {
+            TransactionPart::Request(at, all) => {
+                Ok(TransactionPart::Request(*at, copy_conds(all, names, faults)?))
+            }
+            TransactionPart::Reply(at, all) => {
+                Ok(TransactionPart::Reply(*at, copy_conds(all, names, faults)?))
+            }
         }
     }
 }
 
-#[tactic(auto, using(edd_expression_names::proofs::UseLaws::faults))]
-fn add_transaction_parts(
-    transaction_parts: &[TransactionPart<Path>],
+// What a member of an item means: one of a collection is of the kind after OF.
+fn refer_member(
+    item: &Item<Path>,
     names: &Names,
-    copies: &mut Vec<TransactionPart<Target>>,
-) -> Result<(), NameFault>
-    requires { copies.old.items ≡ [] }
-    ensures accepted { Accepts (description_of names.now)
-        (flat_map transaction_part_uses (map (transaction_part_of path_of) transaction_parts.now))
-        result }
+    path: &Path,
+    faults: &mut Vec<NameFault>,
+) -> Result<Target, AllocError>
+    ensures told { Told (description_of names.now)
+        (OfItem [] (member_kinds (item_of path_of item.now).sort) (path_of path.now) ∷ [])
+        faults.old.items faults.new.items result }
     ensures sound { Copies (description_of names.now)
-        (each (resolved_transaction_part (description_of names.now))
-        (map (transaction_part_of path_of) transaction_parts.now))
-        (λ _. map numbered_transaction_part copies.new.items) result }
-    ensures refused { Refuses (description_of names.now)
-        (flat_map transaction_part_uses (map (transaction_part_of path_of) transaction_parts.now))
-        result }
+        (OfItem [] (member_kinds (item_of path_of item.now).sort) (path_of path.now) ∷ [])
+        (meaning (description_of names.now) [] (member_kinds (item_of path_of item.now).sort)
+        (path_of path.now)) (λ t. t) result }
 {
-    for transaction_part in transaction_parts {
-        copies.push(copy_transaction_part(transaction_part, names)?)?;
+    match item {
+        Item::Collection(d) => refer(names, &[], &[d.of], path, faults),
+        Item::Variable(_) | Item::Command(_) | Item::Menu(_) | Item::Method(_) | Item::Array(_) =>
+            refer(names, &[], &[], path, faults),
     }
-    Ok(())
 }
 
-/// The parts of a transaction with the meaning of the names in them.
-#[tactic(auto, using(edd_expression_names::proofs::UseLaws::faults))]
-pub fn copy_transaction_parts(
-    transaction_parts: &[TransactionPart<Path>],
-    names: &Names,
-) -> Result<Vec<TransactionPart<Target>>, NameFault>
-    ensures accepted { Accepts (description_of names.now)
-        (flat_map transaction_part_uses (map (transaction_part_of path_of) transaction_parts.now))
-        result }
-    ensures sound { Copies (description_of names.now)
-        (each (resolved_transaction_part (description_of names.now))
-        (map (transaction_part_of path_of) transaction_parts.now))
-        (λ t. map numbered_transaction_part t.items) result }
-    ensures refused { Refuses (description_of names.now)
-        (flat_map transaction_part_uses (map (transaction_part_of path_of) transaction_parts.now))
-        result }
-{
-    let mut copies = Vec::with_capacity(names.alloc, transaction_parts.len())?;
-    add_transaction_parts(transaction_parts, names, &mut copies)?;
-    Ok(copies)
-}
+impl ResolvePart for Member<Path> {
+    type Out = Member<Target>;
 
-#[tactic(auto, using(edd_expression_names::proofs::UseLaws::faults), unfolding(edd_name_meanings::specs::Meanings::Means))]
-fn copy_member(
-    member: &Member<Path>,
-    names: &Names,
-    kinds: &[Kind],
-) -> Result<Member<Target>, NameFault>
-    ensures accepted { Accepts (description_of names.now)
-        ((member_uses kinds.now) (member_of path_of member.now)) result }
-    ensures sound { Copies (description_of names.now)
-        (resolved_member (description_of names.now) kinds.now (member_of path_of member.now))
-        numbered_member result }
-    ensures refused { Refuses (description_of names.now)
-        ((member_uses kinds.now) (member_of path_of member.now)) result }
-{
-    let item = refer(names, &[], kinds, &member.item)?;
-    let name = String::from_str(names.alloc, &member.name)?;
-    let label = copy_optional_text(&member.label, names.alloc)?;
-    made_of!(copy_optional_text(&member.help, names.alloc), help => Member {
-        at: member.at,
-        name,
-        item,
-        label,
-        help,
-    })
-}
+    ghost Before = { pure.Member reference.Path };
 
-#[tactic(auto, using(edd_expression_names::proofs::UseLaws::faults))]
-fn add_members(
-    members: &[Member<Path>],
-    names: &Names,
-    kinds: &[Kind],
-    copies: &mut Vec<Member<Target>>,
-) -> Result<(), NameFault>
-    requires { copies.old.items ≡ [] }
-    ensures accepted { Accepts (description_of names.now)
-        (flat_map (member_uses kinds.now) (map (member_of path_of) members.now)) result }
-    ensures sound { Copies (description_of names.now)
-        (each (resolved_member (description_of names.now) kinds.now)
-        (map (member_of path_of) members.now)) (λ _. map numbered_member copies.new.items) result }
-    ensures refused { Refuses (description_of names.now)
-        (flat_map (member_uses kinds.now) (map (member_of path_of) members.now)) result }
-{
-    for member in members {
-        copies.push(copy_member(member, names, kinds)?)?;
+    ghost After = { pure.Member target.Target };
+
+    ghost before = { member_of path_of };
+
+    ghost after = { numbered_member };
+
+    ghost uses = { λ sort. member_uses (member_kinds sort) };
+
+    ghost meant = { λ unit sort. resolved_member unit (member_kinds sort) };
+
+    #[tactic(auto, using(edd_expression_names::proofs::UseLaws::uses), unfolding(edd_name_meanings::specs::Meanings::Means, edd_expression_names::specs::Copies::Meant))]
+    fn copy(
+        &self,
+        item: &Item<Path>,
+        names: &Names,
+        faults: &mut Vec<NameFault>,
+    ) -> Result<Member<Target>, AllocError> {
+        Ok(Member {
+            at: self.at,
+            item: refer_member(item, names, &self.item, faults)?,
+            name: String::from_str(names.alloc, &self.name)?,
+            label: copy_optional_text(&self.label, names.alloc)?,
+            help: copy_optional_text(&self.help, names.alloc)?,
+        })
     }
-    Ok(())
 }
 
-/// Members with the meaning of the names in what they name.
-#[tactic(auto, using(edd_expression_names::proofs::UseLaws::faults))]
-pub fn copy_members(
-    members: &[Member<Path>],
-    names: &Names,
-    kinds: &[Kind],
-) -> Result<Vec<Member<Target>>, NameFault>
-    ensures accepted { Accepts (description_of names.now)
-        (flat_map (member_uses kinds.now) (map (member_of path_of) members.now)) result }
-    ensures sound { Copies (description_of names.now)
-        (each (resolved_member (description_of names.now) kinds.now)
-        (map (member_of path_of) members.now)) (λ t. map numbered_member t.items) result }
-    ensures refused { Refuses (description_of names.now)
-        (flat_map (member_uses kinds.now) (map (member_of path_of) members.now)) result }
-{
-    let mut copies = Vec::with_capacity(names.alloc, members.len())?;
-    add_members(members, names, kinds, &mut copies)?;
-    Ok(copies)
-}
+impl ResolvePart for ArrayElement<Path> {
+    type Out = ArrayElement<Target>;
 
-#[tactic(auto, using(edd_expression_names::proofs::UseLaws::faults), unfolding(edd_name_meanings::specs::Meanings::Means))]
-fn copy_element(
-    element: &ArrayElement<Path>,
-    names: &Names,
-) -> Result<ArrayElement<Target>, NameFault>
-    ensures accepted { Accepts (description_of names.now)
-        (element_uses (array_element_of path_of element.now)) result }
-    ensures sound { Copies (description_of names.now)
-        (resolved_element (description_of names.now) (array_element_of path_of element.now))
-        numbered_array_element result }
-    ensures refused { Refuses (description_of names.now)
-        (element_uses (array_element_of path_of element.now)) result }
-{
-    let variable = refer_variable(names, &[], &element.variable)?;
-    let label = copy_optional_text(&element.label, names.alloc)?;
-    made_of!(copy_optional_text(&element.help, names.alloc), help => ArrayElement {
-        at: element.at,
-        number: element.number,
-        variable,
-        label,
-        help,
-    })
-}
+    ghost Before = { pure.ArrayElement reference.Path };
 
-#[tactic(auto, using(edd_expression_names::proofs::UseLaws::faults))]
-fn add_elements(
-    elements: &[ArrayElement<Path>],
-    names: &Names,
-    copies: &mut Vec<ArrayElement<Target>>,
-) -> Result<(), NameFault>
-    requires { copies.old.items ≡ [] }
-    ensures accepted { Accepts (description_of names.now)
-        (flat_map element_uses (map (array_element_of path_of) elements.now)) result }
-    ensures sound { Copies (description_of names.now)
-        (each (resolved_element (description_of names.now))
-        (map (array_element_of path_of) elements.now))
-        (λ _. map numbered_array_element copies.new.items) result }
-    ensures refused { Refuses (description_of names.now)
-        (flat_map element_uses (map (array_element_of path_of) elements.now)) result }
-{
-    for element in elements {
-        copies.push(copy_element(element, names)?)?;
+    ghost After = { pure.ArrayElement target.Target };
+
+    ghost before = { array_element_of path_of };
+
+    ghost after = { numbered_array_element };
+
+    ghost uses = { λ sort. element_uses };
+
+    ghost meant = { λ unit sort. resolved_element unit };
+
+    #[tactic(auto, using(edd_expression_names::proofs::UseLaws::uses), unfolding(edd_name_meanings::specs::Meanings::Means, edd_expression_names::specs::Copies::Meant))]
+    fn copy(
+        &self,
+        _item: &Item<Path>,
+        names: &Names,
+        faults: &mut Vec<NameFault>,
+    ) -> Result<ArrayElement<Target>, AllocError> {
+        Ok(ArrayElement {
+            at: self.at,
+            number: self.number,
+            variable: refer_variable(names, &[], &self.variable, faults)?,
+            label: copy_optional_text(&self.label, names.alloc)?,
+            help: copy_optional_text(&self.help, names.alloc)?,
+        })
     }
-    Ok(())
-}
-
-/// The elements of an array with the meaning of the names of their variables.
-#[tactic(auto, using(edd_expression_names::proofs::UseLaws::faults))]
-pub fn copy_elements(
-    elements: &[ArrayElement<Path>],
-    names: &Names,
-) -> Result<Vec<ArrayElement<Target>>, NameFault>
-    ensures accepted { Accepts (description_of names.now)
-        (flat_map element_uses (map (array_element_of path_of) elements.now)) result }
-    ensures sound { Copies (description_of names.now)
-        (each (resolved_element (description_of names.now))
-        (map (array_element_of path_of) elements.now))
-        (λ t. map numbered_array_element t.items) result }
-    ensures refused { Refuses (description_of names.now)
-        (flat_map element_uses (map (array_element_of path_of) elements.now)) result }
-{
-    let mut copies = Vec::with_capacity(names.alloc, elements.len())?;
-    add_elements(elements, names, &mut copies)?;
-    Ok(copies)
 }

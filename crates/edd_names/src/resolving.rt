@@ -22,7 +22,6 @@ use std::alloc::Global;
 
 // The unit of these names with their meaning, where the rules before those on uses of names are
 // kept.
-#[tactic(auto, using(edd_expression_names::proofs::UseLaws::memory_refused))]
 fn resolve_uses(alloc: Global, names: &Names) -> Result<Resolved, NameFault>
     requires counted { None ≡ first_of (too_many (description_of names.now)) }
     requires kept { None ≡ first_of (too_many (description_of names.now)
@@ -36,7 +35,11 @@ fn resolve_uses(alloc: Global, names: &Names) -> Result<Resolved, NameFault>
     ensures accepted { IfOk result (λ r. name_breaches (description_of names.now) ≡ []) }
     ensures refused { IfErr result (λ f. IsFirst f (name_breaches (description_of names.now))) }
 {
-    let items = copy_items(names.items, names)?;
+    let mut faults = Vec::new(alloc);
+    let items = copy_items(names.items, names, &mut faults)?;
+    if !faults.is_empty() {
+        return Err(faults.swap_remove(0));
+    }
     Ok(Resolved::new(alloc, names.identification, items)?)
 }
 

@@ -1,6 +1,6 @@
 //! The items of a unit with the meaning of their names.
 
-ghost use Rattle.std.specs.Prelude.{◌≡◌, ◌≤◌, [], false, map, nat_lt, string_bytes};
+ghost use Rattle.std.specs.Prelude.{◌≡◌, false, map, nat_lt, string_bytes};
 ghost use Rattle.std.specs.List.{flat_map, list_any};
 ghost use Rattle.edd_syntax.specs.ItemView.{item_of, numbered_attribute, numbered_item};
 ghost use Rattle.edd_syntax.specs.NameRules.{local_limit, locals_of};
@@ -8,7 +8,7 @@ ghost use Rattle.edd_syntax.specs.NameUses.{item_uses};
 ghost use Rattle.edd_syntax.specs.ResolvedTrees.{each, resolved_item};
 ghost use Rattle.edd_syntax.specs.TreeView.{path_of};
 ghost use Rattle.edd_name_meanings.specs.Directory.{description_of};
-ghost use Rattle.edd_expression_names.specs.Copies.{Accepts, Copies, Refuses};
+ghost use Rattle.edd_expression_names.specs.Copies.{Copies, Told};
 
 use crate::attributes::copy_attributes;
 use edd_name_meanings::directory::Names;
@@ -17,6 +17,7 @@ use edd_syntax::item::{
     ArrayDef, Attribute, CollectionDef, CommandDef, Item, MenuDef, MethodDef, VariableDef,
 };
 use edd_syntax::reference::{Path, Target};
+use std::alloc::AllocError;
 
 // An item of the same kind with these attributes.
 fn like(item: &Item<Path>, name: String, attributes: Vec<Attribute<Target>>) -> Item<Target>
@@ -60,58 +61,42 @@ fn like(item: &Item<Path>, name: String, attributes: Vec<Attribute<Target>>) -> 
     }
 }
 
-#[tactic(auto, using(edd_expression_names::proofs::UseLaws::faults))]
-fn copy_item(item: &Item<Path>, names: &Names) -> Result<Item<Target>, NameFault>
+#[tactic(auto, using(edd_expression_names::proofs::UseLaws::uses))]
+fn copy_item(
+    item: &Item<Path>,
+    names: &Names,
+    faults: &mut Vec<NameFault>,
+) -> Result<Item<Target>, AllocError>
     requires { nat_lt local_limit (locals_of (item_of path_of item.now)) ≡ false }
-    ensures accepted { Accepts (description_of names.now) (item_uses (item_of path_of item.now))
-        result }
-    ensures sound { Copies (description_of names.now)
+    ensures told { Told (description_of names.now) (item_uses (item_of path_of item.now))
+        faults.old.items faults.new.items result }
+    ensures sound { Copies (description_of names.now) (item_uses (item_of path_of item.now))
         (resolved_item (description_of names.now) (item_of path_of item.now)) numbered_item result }
-    ensures refused { Refuses (description_of names.now) (item_uses (item_of path_of item.now))
-        result }
 {
-    let attributes = copy_attributes(item.attributes(), names, item)?;
+    let attributes = copy_attributes(item.attributes(), item, names, faults)?;
     let name = String::from_str(names.alloc, item.name())?;
     Ok(like(item, name, attributes))
 }
 
-#[tactic(auto, using(edd_expression_names::proofs::UseLaws::faults))]
-fn add_items(
+/// The items of a unit with the meaning of their names, where no method has too many locals.
+pub fn copy_items(
     items: &[Item<Path>],
     names: &Names,
-    copies: &mut Vec<Item<Target>>,
-) -> Result<(), NameFault>
-    requires room { list_any (λ i. nat_lt local_limit (locals_of i))
-        (map (item_of path_of) items.now) ≡ false }
-    requires empty { copies.old.items ≡ [] }
-    ensures accepted { Accepts (description_of names.now)
-        (flat_map item_uses (map (item_of path_of) items.now)) result }
-    ensures sound { Copies (description_of names.now)
-        (each (resolved_item (description_of names.now)) (map (item_of path_of) items.now))
-        (λ _. map numbered_item copies.new.items) result }
-    ensures refused { Refuses (description_of names.now)
-        (flat_map item_uses (map (item_of path_of) items.now)) result }
-{
-    for item in items {
-        copies.push(copy_item(item, names)?)?;
-    }
-    Ok(())
-}
-
-/// The items of a unit with the meaning of their names, where no method has too many locals.
-#[tactic(auto, using(edd_expression_names::proofs::UseLaws::faults))]
-pub fn copy_items(items: &[Item<Path>], names: &Names) -> Result<Vec<Item<Target>>, NameFault>
+    faults: &mut Vec<NameFault>,
+) -> Result<Vec<Item<Target>>, AllocError>
     requires { list_any (λ i. nat_lt local_limit (locals_of i)) (map (item_of path_of) items.now)
         ≡ false }
-    ensures accepted { Accepts (description_of names.now)
-        (flat_map item_uses (map (item_of path_of) items.now)) result }
+    ensures told { Told (description_of names.now)
+        (flat_map item_uses (map (item_of path_of) items.now))
+        faults.old.items faults.new.items result }
     ensures sound { Copies (description_of names.now)
+        (flat_map item_uses (map (item_of path_of) items.now))
         (each (resolved_item (description_of names.now)) (map (item_of path_of) items.now))
         (λ t. map numbered_item t.items) result }
-    ensures refused { Refuses (description_of names.now)
-        (flat_map item_uses (map (item_of path_of) items.now)) result }
 {
     let mut copies = Vec::with_capacity(names.alloc, items.len())?;
-    add_items(items, names, &mut copies)?;
+    for item in items {
+        copies.push(copy_item(item, names, faults)?)?;
+    }
     Ok(copies)
 }

@@ -3,9 +3,10 @@
 use Rattle.std.proofs.Common.{◌≡◌, sym, ap, ◌∙◌, ℕ, ◌+◌, ◌<◌, List, [], ◌∷◌, ◌++◌, length, get_or, drop, map, Option, Some, append_assoc, subst}
 use Rattle.std.proofs.lemmas.List.{at_drop_more, append-nil}
 use Rattle.edd_name_meanings.specs.declared.fault.NameFault.{NameFault}
-use Rattle.edd_name_meanings.specs.Meanings.{Means, NoFault, FirstFault}
+use Rattle.edd_name_meanings.specs.Meanings.{Means, NoFault}
+use Rattle.edd_expression_names.specs.Copies.{Meant, Tells}
 use Rattle.edd_name_rules.proofs.Repeating.{map_append}
-use Rattle.edd_expression_names.proofs.UseLaws.{none_append, fault_left, fault_right}
+use Rattle.edd_expression_names.proofs.UseLaws.{tells_none, tells_append, none_left, none_right}
 use Rattle.edd_syntax.specs.Reference.{Path}
 use Rattle.edd_syntax.specs.Item.{Description}
 use Rattle.edd_syntax.specs.NameUses.{Use}
@@ -16,22 +17,26 @@ module _ {S X Y Z W C : Type 0} (unit : Description Path) (view : X → Y) (show
     (one : S → Y → Option W) (resolved : S → List Y → Option C) (join : List W → C)
     (joined : (s : S) (y : Y) (ys : List Y) (w : W) (ws : List W) → one s y ≡ Some w
     → resolved (next s y) ys ≡ Some (join ws) → resolved s (y ∷ ys) ≡ Some (join (w ∷ ws)))
-    (start : S) where
-  -- the copies zs are those of the first i elements, after which the state is s, and no fault was
-  -- found
-  pub record Copied (s : S) (i : ℕ) (xs : List X) (zs : List Z) : Type 0 where
-    pub none : NoFault unit (uses s (map view (drop i xs)))
-        → NoFault unit (uses start (map view xs))
-    pub first : (f : NameFault) → FirstFault f unit (uses s (map view (drop i xs)))
-        → FirstFault f unit (uses start (map view xs))
-    pub meant : (ws : List W) → Means unit (resolved s (map view (drop i xs))) (join ws)
+    (start : S) (old : List NameFault) where
+  -- the copies zs are those of the first i elements, after which the state is s, and whose faults
+  -- were told
+  pub record Copied (s : S) (i : ℕ) (xs : List X) (zs : List Z) (mid : List NameFault)
+      : Type 0 where
+    pub told : (new : List NameFault) → Tells unit (uses s (map view (drop i xs))) mid new
+        → Tells unit (uses start (map view xs)) old new
+    pub fine : NoFault unit (uses start (map view xs))
+        → NoFault unit (uses s (map view (drop i xs)))
+    pub meant : NoFault unit (uses start (map view xs)) → (ws : List W)
+        → Means unit (resolved s (map view (drop i xs))) (join ws)
         → Means unit (resolved start (map view xs)) (join (map shown zs ++ ws))
 
-  pub at_start : (s : S) (xs : List X) (zs : List Z) → s ≡ start → zs ≡ [] → Copied s 0 xs zs
-  at_start s xs zs same is = record {
-    none = λ h. subst (λ t. NoFault unit (uses t (map view xs))) same h;
-    first = λ f h. subst (λ t. FirstFault f unit (uses t (map view xs))) same h;
-    meant = λ ws h.
+  pub at_start : (s : S) (xs : List X) (zs : List Z) (mid : List NameFault) → s ≡ start → zs ≡ []
+      → mid ≡ old → Copied s 0 xs zs mid
+  at_start s xs zs mid same is before = record {
+    told = λ new h. subst (λ m. Tells unit (uses start (map view xs)) m new) before
+        (subst (λ t. Tells unit (uses t (map view xs)) mid new) same h);
+    fine = λ h. subst (λ t. NoFault unit (uses t (map view xs))) (sym same) h;
+    meant = λ none ws h.
         subst (λ ys. Means unit (resolved start (map view xs)) (join (map shown ys ++ ws))) (sym is)
         (subst (λ t. Means unit (resolved t (map view xs)) (join ws)) same h);
   }
@@ -54,46 +59,46 @@ module _ {S X Y Z W C : Type 0} (unit : Description Path) (view : X → Y) (show
       ∙ ap (λ y. resolved s (view y ∷ map view (drop (i + 1) xs))) (sym is)
       ∙ joined s (view x) (map view (drop (i + 1) xs)) w ws (m known) (ms known)
 
-  pub one_more : (s t : S) (i : ℕ) (xs : List X) (x : X) (zs ys : List Z) (z : Z) → i < length xs
-      → x ≡ get_or xs i x → t ≡ next s (view x) → NoFault unit (here s (view x))
-      → Means unit (one s (view x)) (shown z) → ys ≡ zs ++ z ∷ [] → Copied s i xs zs
-      → Copied t (i + 1) xs ys
-  one_more s t i xs x zs ys z h is follows fine m grown c = record {
-    none = λ k. c.none (subst (NoFault unit) (sym (next_uses s i xs x h is))
-        (none_append unit (here s (view x)) _ fine
-        (subst (λ u. NoFault unit (uses u (map view (drop (i + 1) xs)))) follows k)));
-    first = λ f k. c.first f (subst (FirstFault f unit) (sym (next_uses s i xs x h is))
-        (fault_right unit f (here s (view x)) _ fine
-        (subst (λ u. FirstFault f unit (uses u (map view (drop (i + 1) xs)))) follows k)));
-    meant = λ ws k.
+  pub one_more : (s t : S) (i : ℕ) (xs : List X) (x : X) (zs ys : List Z) (z : Z)
+      (mid after : List NameFault) → i < length xs → x ≡ get_or xs i x → t ≡ next s (view x)
+      → Tells unit (here s (view x)) mid after
+      → Meant unit (here s (view x)) (one s (view x)) (shown z) → ys ≡ zs ++ z ∷ []
+      → Copied s i xs zs mid → Copied t (i + 1) xs ys after
+  unfolding Meant
+  one_more s t i xs x zs ys z mid after h is follows tells m grown c = record {
+    told = λ new k. c.told new (subst (λ us. Tells unit us mid new) (sym (next_uses s i xs x h is))
+        (tells_append unit (here s (view x)) _ mid after new tells
+        (subst (λ u. Tells unit (uses u (map view (drop (i + 1) xs))) after new) follows k)));
+    fine = λ none. subst (λ u. NoFault unit (uses u (map view (drop (i + 1) xs)))) (sym follows)
+        (none_right unit (here s (view x)) _
+        (subst (NoFault unit) (next_uses s i xs x h is) (c.fine none)));
+    meant = λ none ws k.
+        let fine = none_left unit (here s (view x)) _
+        (subst (NoFault unit) (next_uses s i xs x h is) (c.fine none)) in
         subst (λ vs. Means unit (resolved start (map view xs)) (join vs))
         (sym (ap (λ vs. vs ++ ws) (ap (map shown) grown ∙ map_append shown zs (z ∷ []))
         ∙ append_assoc (map shown zs) (shown z ∷ []) ws))
-        (c.meant (shown z ∷ ws) (next_meant s i xs x (shown z) ws h is m
+        (c.meant none (shown z ∷ ws) (next_meant s i xs x (shown z) ws h is (m fine)
         (subst (λ u. Means unit (resolved u (map view (drop (i + 1) xs))) (join ws)) follows
         k)));
   }
 
-  pub stops : (s : S) (i : ℕ) (xs : List X) (x : X) (zs : List Z) (f : NameFault) → i < length xs
-      → x ≡ get_or xs i x → FirstFault f unit (here s (view x)) → Copied s i xs zs
-      → FirstFault f unit (uses start (map view xs))
-  stops s i xs x zs f h is found c =
-      c.first f (subst (FirstFault f unit) (sym (next_uses s i xs x h is))
-      (fault_left unit f (here s (view x)) _ found))
-
-  pub none_at_end : ((s : S) → NoFault unit (uses s []))
-      → (s : S) (i : ℕ) (xs : List X) (zs : List Z) → drop i xs ≡ [] → Copied s i xs zs
-      → NoFault unit (uses start (map view xs))
-  none_at_end none s i xs zs over c =
-      c.none (subst (λ ys. NoFault unit (uses s (map view ys))) (sym over) (none s))
+  pub told_at_end : ((s : S) → uses s [] ≡ []) → (s : S) (i : ℕ) (xs : List X) (zs : List Z)
+      (mid : List NameFault) → drop i xs ≡ [] → Copied s i xs zs mid
+      → Tells unit (uses start (map view xs)) old mid
+  told_at_end empty s i xs zs mid over c = c.told mid
+      (subst (λ us. Tells unit us mid mid) (sym (ap (λ ys. uses s (map view ys)) over ∙ empty s))
+      (tells_none unit mid))
 
   means_empty : {A : Type 0} (o : Option A) (x : A) → o ≡ Some x → Means unit o x
   unfolding Means
   means_empty o x e = λ known. e
 
   pub meant_at_end : ((s : S) → resolved s [] ≡ Some (join []))
-      → (s : S) (i : ℕ) (xs : List X) (zs : List Z) → drop i xs ≡ [] → Copied s i xs zs
-      → Means unit (resolved start (map view xs)) (join (map shown zs))
-  meant_at_end empty s i xs zs over c =
+      → (s : S) (i : ℕ) (xs : List X) (zs : List Z) (mid : List NameFault) → drop i xs ≡ []
+      → Copied s i xs zs mid
+      → Meant unit (uses start (map view xs)) (resolved start (map view xs)) (join (map shown zs))
+  unfolding Meant
+  meant_at_end empty s i xs zs mid over c = λ none.
       subst (λ ws. Means unit (resolved start (map view xs)) (join ws)) (append-nil (map shown zs))
-      (c.meant [] (means_empty _ _ (ap (λ ys. resolved s (map view ys)) over ∙ empty s)))
+      (c.meant none [] (means_empty _ _ (ap (λ ys. resolved s (map view ys)) over ∙ empty s)))

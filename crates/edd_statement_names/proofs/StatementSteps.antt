@@ -4,7 +4,8 @@ use Rattle.std.specs.Prelude.{Vec}
 use Rattle.std.specs.declared.alloc.Global as alloc
 use Rattle.std.proofs.lemmas.List.{at_drop_more}
 use Rattle.edd_name_meanings.specs.declared.fault.NameFault.{NameFault}
-use Rattle.edd_name_meanings.specs.Meanings.{Means, NoFault, FirstFault}
+use Rattle.edd_name_meanings.specs.Meanings.{Means, NoFault}
+use Rattle.edd_expression_names.specs.Copies.{Meant, Tells}
 use Rattle.edd_statement_names.specs.ResolvedParts.{part_uses, resolved_part, scope_behind, next_behind}
 use Rattle.edd_statement_names.proofs.DeclaratorSteps.{State}
 use Rattle.edd_expression_names.proofs.ExprSteps.{bound, regroup}
@@ -117,22 +118,22 @@ module _ (unit : Description Path) (x : code.Stmt code_path.Path)
     unfolding slots_of
     block_slots = ap slots_of block
 
-    pub block_none : (scope : Scope) (n : ℕ) → NoFault unit (body_uses listed scope n)
-        → NoFault unit (stmt_uses (stmt_of path_of x) scope n)
-    block_none scope n h = subst (λ t. NoFault unit (stmt_uses t scope n)) (sym block) h
-
-    pub block_fault : (scope : Scope) (n : ℕ) (f : NameFault)
-        → FirstFault f unit (body_uses listed scope n)
-        → FirstFault f unit (stmt_uses (stmt_of path_of x) scope n)
-    block_fault scope n f h = subst (λ t. FirstFault f unit (stmt_uses t scope n)) (sym block) h
+    pub block_told : (scope : Scope) (n : ℕ) (old new : List NameFault)
+        → Tells unit (body_uses listed scope n) old new
+        → Tells unit (stmt_uses (stmt_of path_of x) scope n) old new
+    block_told scope n old new h =
+        subst (λ t. Tells unit (stmt_uses t scope n) old new) (sym block) h
 
     pub block_means : (scope : Scope) (n : ℕ) (w : Vec (code_part.Part Target) alloc.Global)
-        → Means unit (resolved_body unit listed scope n) (body_from (map numbered_part w.items))
-        → Means unit (resolved_stmt unit (stmt_of path_of x) scope n) (numbered_stmt (s.Block w))
-    unfolding Means resolved_stmt
-    block_means scope n w h = λ known.
+        → Meant unit (body_uses listed scope n) (resolved_body unit listed scope n)
+        (body_from (map numbered_part w.items))
+        → Meant unit (stmt_uses (stmt_of path_of x) scope n)
+        (resolved_stmt unit (stmt_of path_of x) scope n) (numbered_stmt (s.Block w))
+    unfolding Means Meant resolved_stmt
+    block_means scope n w h = λ none known.
         ap (λ t. resolved_stmt unit t scope n) block ∙ ap (λ o. o >>= (λ b. Some (Block b)))
-        (h known) ∙ ap (λ t. Some t) (sym (block_is (λ r. r) (s.Block w) w refl))
+        (h (subst (λ t. NoFault unit (stmt_uses t scope n)) block none) known)
+        ∙ ap (λ t. Some t) (sym (block_is (λ r. r) (s.Block w) w refl))
 
   module _ (on : code_expr.Expr code_path.Path) (is : x ≡ s.Switch on v) where
     switch : stmt_of path_of x ≡ Switch (expr_of path_of on) listed
@@ -143,28 +144,27 @@ module _ (unit : Description Path) (x : code.Stmt code_path.Path)
     unfolding slots_of
     switch_slots = ap slots_of switch
 
-    pub switch_none : (scope : Scope) (n : ℕ)
-        → NoFault unit (expr_uses scope (expr_of path_of on) ++ body_uses listed scope n)
-        → NoFault unit (stmt_uses (stmt_of path_of x) scope n)
-    switch_none scope n h = subst (λ t. NoFault unit (stmt_uses t scope n)) (sym switch) h
-
-    pub switch_fault : (scope : Scope) (n : ℕ) (f : NameFault)
-        → FirstFault f unit (expr_uses scope (expr_of path_of on) ++ body_uses listed scope n)
-        → FirstFault f unit (stmt_uses (stmt_of path_of x) scope n)
-    switch_fault scope n f h = subst (λ t. FirstFault f unit (stmt_uses t scope n)) (sym switch) h
+    pub switch_told : (scope : Scope) (n : ℕ) (old new : List NameFault)
+        → Tells unit (expr_uses scope (expr_of path_of on) ++ body_uses listed scope n) old new
+        → Tells unit (stmt_uses (stmt_of path_of x) scope n) old new
+    switch_told scope n old new h =
+        subst (λ t. Tells unit (stmt_uses t scope n) old new) (sym switch) h
 
     pub switch_means : (scope : Scope) (n : ℕ) (on' : code_expr.Expr Target)
         (w : Vec (code_part.Part Target) alloc.Global)
-        → Means unit (resolved_expr (at_scope unit scope) (expr_of path_of on)) (numbered_expr on')
-        → Means unit (resolved_body unit listed scope n) (body_from (map numbered_part w.items))
-        → Means unit (resolved_stmt unit (stmt_of path_of x) scope n)
-        (numbered_stmt (s.Switch on' w))
-    unfolding Means resolved_stmt
-    switch_means scope n on' w h k = λ known.
+        → Meant unit (expr_uses scope (expr_of path_of on) ++ body_uses listed scope n)
+        (resolved_expr (at_scope unit scope) (expr_of path_of on)) (numbered_expr on')
+        → Meant unit (expr_uses scope (expr_of path_of on) ++ body_uses listed scope n)
+        (resolved_body unit listed scope n) (body_from (map numbered_part w.items))
+        → Meant unit (stmt_uses (stmt_of path_of x) scope n)
+        (resolved_stmt unit (stmt_of path_of x) scope n) (numbered_stmt (s.Switch on' w))
+    unfolding Means Meant resolved_stmt
+    switch_means scope n on' w h k = λ none known.
+        let fine = subst (λ t. NoFault unit (stmt_uses t scope n)) switch none in
         ap (λ t. resolved_stmt unit t scope n) switch
         ∙ bound (resolved_expr (at_scope unit scope) (expr_of path_of on))
-        (resolved_body unit listed scope n) (λ o b. Switch o b) (numbered_expr on') _ (h known)
-        (k known)
+        (resolved_body unit listed scope n) (λ o b. Switch o b) (numbered_expr on') _
+        (h fine known) (k fine known)
         ∙ ap (λ t. Some t) (sym (switch_is (λ r. r) (s.Switch on' w) on' w refl))
 
 -- ---- what is inside a statement has fewer nodes than it
@@ -198,7 +198,7 @@ switch_falls t x on v xs is same m =
     omega (arith, e, f, m)
 
 pub part_falls : (t i : ℕ) (xs : List (code_part.Part code_path.Path))
-    (x : code_part.Part code_path.Path) → i < length xs → x ≡ get_or xs i x → t ≡ parts_depth xs + 2
+    (x : code_part.Part code_path.Path) → i < length xs → x ≡ get_or xs i x → t ≡ parts_depth xs + 3
     → part_depth x + 1 < t
 part_falls t i xs x h is m = let e = within i xs x h is in omega (arith, e, m)
   where

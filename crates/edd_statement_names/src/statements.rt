@@ -1,92 +1,92 @@
 //! Statements with the meaning of their names.
 
-ghost use Rattle.std.specs.Prelude.{◌≡◌, ◌+◌, ◌≤◌, ◌++◌, List, [], ◌∷◌, IfErr, IfOk, OnOk, map, option_map};
-ghost use Rattle.edd_syntax.specs.declared.reference.Target.{Target};
-ghost use Rattle.edd_syntax.specs.declared.stmt.Part.{Part};
-ghost use Rattle.edd_syntax.specs.NameUses.{Use, expr_uses, optional_uses, stmt_uses, body_uses};
+ghost use Rattle.std.specs.Prelude.{◌≡◌, ◌+◌, ◌≤◌, ◌++◌, [], ◌∷◌, IfOk, OnOk, map, option_map};
+ghost use Rattle.edd_syntax.specs.NameUses.{expr_uses, optional_uses, stmt_uses, body_uses};
 ghost use Rattle.edd_syntax.specs.ResolvedTrees.{at_scope, resolved_expr, resolved_optional, resolved_stmt, resolved_body};
 ghost use Rattle.edd_syntax.specs.Statement.{body_from, slots_of, slots_in};
 ghost use Rattle.edd_syntax.specs.TreeView.{path_of, expr_of, stmt_of, part_of, numbered_expr, numbered_part, numbered_stmt};
-ghost use Rattle.edd_name_meanings.specs.declared.fault.NameFault.TheVariants.{Memory};
 ghost use Rattle.edd_name_meanings.specs.Directory.{description_of};
-ghost use Rattle.edd_name_meanings.specs.Meanings.{Means, FirstFault, scope_of};
+ghost use Rattle.edd_name_meanings.specs.Meanings.{scope_of};
 ghost use Rattle.edd_statement_names.specs.ResolvedParts.{part_uses, resolved_part, scope_behind, next_behind};
-ghost use Rattle.edd_expression_names.specs.Copies.{Accepts, Copies, Refuses};
+ghost use Rattle.edd_expression_names.specs.Copies.{Copies, Told};
 
-use crate::declarators::{add_declarators, copy_optional};
+use crate::declarators::{copy_declarators, copy_optional};
 use edd_expression_names::exprs::copy_expr;
-use edd_expression_names::{both_of, made_of};
 use edd_name_meanings::directory::Names;
 use edd_name_meanings::fault::NameFault;
 use edd_name_meanings::references::Local;
 use edd_syntax::expr::Expr;
 use edd_syntax::reference::{Path, Target};
 use edd_syntax::stmt::{Part, Stmt};
-use std::alloc::Global;
+use std::alloc::{AllocError, Global};
 
 // The locals that can be used in a block as it begins: those around it.
-fn inner_scope<'a>(scope: &[Local<'a>], alloc: Global) -> Result<Vec<Local<'a>>, NameFault>
+fn inner_scope<'a>(scope: &[Local<'a>], alloc: Global) -> Result<Vec<Local<'a>>, AllocError>
     ensures sound { IfOk result (λ v. v.items ≡ scope.now) }
-    ensures refused { IfErr result (λ f. f ≡ Memory) }
 {
     Ok(Vec::from_slice(alloc, scope)?)
 }
 
 /// A statement with the meaning of its names. Each of its locals takes the next slot.
 #[cycle(statements)]
-#[tactic(auto, using(edd_expression_names::proofs::UseLaws::faults), unfolding(edd_name_meanings::specs::Meanings::Means, edd_syntax::specs::ResolvedTrees::resolved_stmt, edd_syntax::specs::Statement::slots_of))]
+#[tactic(auto, using(edd_expression_names::proofs::UseLaws::uses), unfolding(edd_expression_names::specs::Copies::Meant, edd_name_meanings::specs::Meanings::Means, edd_syntax::specs::ResolvedTrees::resolved_stmt, edd_syntax::specs::Statement::slots_of))]
 fn copy_stmt<'a>(
     s: &'a Stmt<Path>,
     names: &Names,
     scope: &[Local<'a>],
     next: &mut u8,
-) -> Result<Stmt<Target>, NameFault>
+    faults: &mut Vec<NameFault>,
+) -> Result<Stmt<Target>, AllocError>
     requires { next.old + slots_of (stmt_of path_of s.now) ≤ 64 }
-    ensures accepted { Accepts (description_of names.now)
-        (stmt_uses (stmt_of path_of s.now) (scope_of scope.now) next.old) result }
+    ensures told { Told (description_of names.now)
+        (stmt_uses (stmt_of path_of s.now) (scope_of scope.now) next.old)
+        faults.old.items faults.new.items result }
     ensures sound { Copies (description_of names.now)
+        (stmt_uses (stmt_of path_of s.now) (scope_of scope.now) next.old)
         (resolved_stmt (description_of names.now) (stmt_of path_of s.now) (scope_of scope.now)
         next.old) numbered_stmt result }
-    ensures next { IfOk result (λ t. next.new ≡ next.old + slots_of (stmt_of path_of s.now)) }
-    ensures refused { Refuses (description_of names.now)
-        (stmt_uses (stmt_of path_of s.now) (scope_of scope.now) next.old) result }
+    ensures next { OnOk result (next.new ≡ next.old + slots_of (stmt_of path_of s.now)) }
 {
     match s {
         Stmt::Empty => Ok(Stmt::Empty),
-        Stmt::Evaluate(e) => made_of!(copy_expr(e, names, scope), e => Stmt::Evaluate(e)),
-        Stmt::Block(parts) => Ok(Stmt::Block(copy_body(parts, names, scope, next)?)),
-        Stmt::If(test, body) => both_of!(copy_guarded(test, body, names, scope, next), Stmt::If),
+        Stmt::Evaluate(e) => Ok(Stmt::Evaluate(copy_expr(e, names, scope, faults)?)),
+        Stmt::Block(parts) => Ok(Stmt::Block(copy_body(parts, names, scope, next, faults)?)),
+        Stmt::If(condition, body) => {
+            let (condition, body) = copy_guarded(condition, body, names, scope, next, faults)?;
+            Ok(Stmt::If(condition, body))
+        }
         Stmt::IfElse(condition, first, otherwise) => {
-            made_of!(
-                copy_choice(condition, first, otherwise, names, scope, next),
-                (condition, first, otherwise) => Stmt::IfElse(condition, first, otherwise)
-            )
+            let (condition, first, otherwise) = copy_choice(
+                condition, first, otherwise, names, scope, next, faults,
+            )?;
+            Ok(Stmt::IfElse(condition, first, otherwise))
         }
-        Stmt::While(test, body) => {
-            both_of!(copy_guarded(test, body, names, scope, next), Stmt::While)
+        Stmt::While(condition, body) => {
+            let (condition, body) = copy_guarded(condition, body, names, scope, next, faults)?;
+            Ok(Stmt::While(condition, body))
         }
-        Stmt::Do(body, test) => both_of!(copy_repeated(body, test, names, scope, next), Stmt::Do),
+        Stmt::Do(body, condition) => {
+            let (body, condition) = copy_repeated(body, condition, names, scope, next, faults)?;
+            Ok(Stmt::Do(body, condition))
+        }
         Stmt::For {
             initial,
             condition,
             update,
             body,
         } => {
-            made_of!(
-                copy_looped(initial, condition, update, body, names, scope, next),
-                (head, body) => {
-                    let (initial, condition, update) = head;
-                    Stmt::For {
-                        initial,
-                        condition,
-                        update,
-                        body,
-                    }
-                }
-            )
+            let (initial, condition, update, body) = copy_looped(
+                initial, condition, update, body, names, scope, next, faults,
+            )?;
+            Ok(Stmt::For {
+                initial,
+                condition,
+                update,
+                body,
+            })
         }
         Stmt::Switch(on, parts) => {
-            let (on, parts) = copy_switched(parts, on, names, scope, next)?;
+            let (on, parts) = copy_switched(parts, on, names, scope, next, faults)?;
             Ok(Stmt::Switch(on, parts))
         }
         Stmt::Break { at } => Ok(Stmt::Break { at: *at }),
@@ -97,58 +97,64 @@ fn copy_stmt<'a>(
 
 // A part of a statement, in its box.
 #[cycle(statements)]
-#[tactic(auto, using(edd_expression_names::proofs::UseLaws::faults))]
+#[tactic(auto, using(edd_expression_names::proofs::UseLaws::uses), unfolding(edd_expression_names::specs::Copies::Meant))]
 fn copy_boxed<'a>(
     s: &'a Stmt<Path>,
     names: &Names,
     scope: &[Local<'a>],
     next: &mut u8,
-) -> Result<Box<Stmt<Target>>, NameFault>
+    faults: &mut Vec<NameFault>,
+) -> Result<Box<Stmt<Target>>, AllocError>
     requires { next.old + slots_of (stmt_of path_of s.now) ≤ 64 }
-    ensures accepted { Accepts (description_of names.now)
-        (stmt_uses (stmt_of path_of s.now) (scope_of scope.now) next.old) result }
+    ensures told { Told (description_of names.now)
+        (stmt_uses (stmt_of path_of s.now) (scope_of scope.now) next.old)
+        faults.old.items faults.new.items result }
     ensures sound { Copies (description_of names.now)
+        (stmt_uses (stmt_of path_of s.now) (scope_of scope.now) next.old)
         (resolved_stmt (description_of names.now) (stmt_of path_of s.now) (scope_of scope.now)
         next.old) (λ t. numbered_stmt t.value) result }
-    ensures next { IfOk result (λ t. next.new ≡ next.old + slots_of (stmt_of path_of s.now)) }
-    ensures refused { Refuses (description_of names.now)
-        (stmt_uses (stmt_of path_of s.now) (scope_of scope.now) next.old) result }
+    ensures next { OnOk result (next.new ≡ next.old + slots_of (stmt_of path_of s.now)) }
 {
-    made_of!(copy_stmt(s, names, scope, next), copy => Box::new(names.alloc, copy)?)
+    let copy = copy_stmt(s, names, scope, next, faults)?;
+    Ok(Box::new(names.alloc, copy)?)
 }
 
 // A condition, and the statement under it.
 #[cycle(statements)]
-#[tactic(auto, using(edd_expression_names::proofs::UseLaws::faults))]
+#[tactic(auto, using(edd_expression_names::proofs::UseLaws::uses), unfolding(edd_expression_names::specs::Copies::Meant))]
 fn copy_guarded<'a>(
     condition: &'a Expr<Path>,
     body: &'a Stmt<Path>,
     names: &Names,
     scope: &[Local<'a>],
     next: &mut u8,
-) -> Result<(Expr<Target>, Box<Stmt<Target>>), NameFault>
+    faults: &mut Vec<NameFault>,
+) -> Result<(Expr<Target>, Box<Stmt<Target>>), AllocError>
     requires { next.old + slots_of (stmt_of path_of body.now) ≤ 64 }
-    ensures accepted { Accepts (description_of names.now)
+    ensures told { Told (description_of names.now)
         (expr_uses (scope_of scope.now) (expr_of path_of condition.now)
-        ++ stmt_uses (stmt_of path_of body.now) (scope_of scope.now) next.old) result }
+        ++ stmt_uses (stmt_of path_of body.now) (scope_of scope.now) next.old)
+        faults.old.items faults.new.items result }
     ensures condition { Copies (description_of names.now)
+        (expr_uses (scope_of scope.now) (expr_of path_of condition.now)
+        ++ stmt_uses (stmt_of path_of body.now) (scope_of scope.now) next.old)
         (resolved_expr (at_scope (description_of names.now) (scope_of scope.now))
         (expr_of path_of condition.now)) (λ t. numbered_expr t.0) result }
     ensures body { Copies (description_of names.now)
+        (expr_uses (scope_of scope.now) (expr_of path_of condition.now)
+        ++ stmt_uses (stmt_of path_of body.now) (scope_of scope.now) next.old)
         (resolved_stmt (description_of names.now) (stmt_of path_of body.now) (scope_of scope.now)
         next.old) (λ t. numbered_stmt t.1.value) result }
-    ensures next { IfOk result (λ t. next.new ≡ next.old + slots_of (stmt_of path_of body.now)) }
-    ensures refused { Refuses (description_of names.now)
-        (expr_uses (scope_of scope.now) (expr_of path_of condition.now)
-        ++ stmt_uses (stmt_of path_of body.now) (scope_of scope.now) next.old) result }
+    ensures next { OnOk result (next.new ≡ next.old + slots_of (stmt_of path_of body.now)) }
 {
-    let condition = copy_expr(condition, names, scope)?;
-    made_of!(copy_boxed(body, names, scope, next), body => (condition, body))
+    let condition = copy_expr(condition, names, scope, faults)?;
+    let body = copy_boxed(body, names, scope, next, faults)?;
+    Ok((condition, body))
 }
 
 // A condition, and the two statements of which one is chosen.
 #[cycle(statements)]
-#[tactic(auto, using(edd_expression_names::proofs::UseLaws::faults, edd_expression_names::proofs::UseLaws::faults_behind_two))]
+#[tactic(auto, using(edd_expression_names::proofs::UseLaws::uses), unfolding(edd_expression_names::specs::Copies::Meant))]
 fn copy_choice<'a>(
     condition: &'a Expr<Path>,
     first: &'a Stmt<Path>,
@@ -156,110 +162,89 @@ fn copy_choice<'a>(
     names: &Names,
     scope: &[Local<'a>],
     next: &mut u8,
-) -> Result<(Expr<Target>, Box<Stmt<Target>>, Box<Stmt<Target>>), NameFault>
+    faults: &mut Vec<NameFault>,
+) -> Result<(Expr<Target>, Box<Stmt<Target>>, Box<Stmt<Target>>), AllocError>
     requires { next.old + (slots_of (stmt_of path_of first.now)
         + slots_of (stmt_of path_of otherwise.now)) ≤ 64 }
-    ensures accepted { Accepts (description_of names.now)
+    ensures told { Told (description_of names.now)
         (expr_uses (scope_of scope.now) (expr_of path_of condition.now)
         ++ (stmt_uses (stmt_of path_of first.now) (scope_of scope.now) next.old
         ++ stmt_uses (stmt_of path_of otherwise.now) (scope_of scope.now)
-        (next.old + slots_of (stmt_of path_of first.now)))) result }
+        (next.old + slots_of (stmt_of path_of first.now))))
+        faults.old.items faults.new.items result }
     ensures condition { Copies (description_of names.now)
+        (expr_uses (scope_of scope.now) (expr_of path_of condition.now)
+        ++ (stmt_uses (stmt_of path_of first.now) (scope_of scope.now) next.old
+        ++ stmt_uses (stmt_of path_of otherwise.now) (scope_of scope.now)
+        (next.old + slots_of (stmt_of path_of first.now))))
         (resolved_expr (at_scope (description_of names.now) (scope_of scope.now))
         (expr_of path_of condition.now)) (λ t. numbered_expr t.0) result }
     ensures first { Copies (description_of names.now)
-        (resolved_stmt (description_of names.now) (stmt_of path_of first.now) (scope_of scope.now)
-        next.old) (λ t. numbered_stmt t.1.value) result }
-    ensures otherwise { Copies (description_of names.now)
-        (resolved_stmt (description_of names.now) (stmt_of path_of otherwise.now)
-        (scope_of scope.now) (next.old + slots_of (stmt_of path_of first.now)))
-        (λ t. numbered_stmt t.2.value) result }
-    ensures next { IfOk result (λ t. next.new ≡ next.old
-        + (slots_of (stmt_of path_of first.now) + slots_of (stmt_of path_of otherwise.now))) }
-    ensures refused { Refuses (description_of names.now)
         (expr_uses (scope_of scope.now) (expr_of path_of condition.now)
         ++ (stmt_uses (stmt_of path_of first.now) (scope_of scope.now) next.old
         ++ stmt_uses (stmt_of path_of otherwise.now) (scope_of scope.now)
-        (next.old + slots_of (stmt_of path_of first.now)))) result }
+        (next.old + slots_of (stmt_of path_of first.now))))
+        (resolved_stmt (description_of names.now) (stmt_of path_of first.now) (scope_of scope.now)
+        next.old) (λ t. numbered_stmt t.1.value) result }
+    ensures otherwise { Copies (description_of names.now)
+        (expr_uses (scope_of scope.now) (expr_of path_of condition.now)
+        ++ (stmt_uses (stmt_of path_of first.now) (scope_of scope.now) next.old
+        ++ stmt_uses (stmt_of path_of otherwise.now) (scope_of scope.now)
+        (next.old + slots_of (stmt_of path_of first.now))))
+        (resolved_stmt (description_of names.now) (stmt_of path_of otherwise.now) (scope_of scope.now)
+        (next.old + slots_of (stmt_of path_of first.now))) (λ t. numbered_stmt t.2.value) result }
+    ensures next { OnOk result (next.new ≡ next.old
+        + (slots_of (stmt_of path_of first.now) + slots_of (stmt_of path_of otherwise.now))) }
 {
-    let (condition, first) = copy_guarded(condition, first, names, scope, next)?;
-    made_of!(copy_boxed(otherwise, names, scope, next), otherwise => (condition, first, otherwise))
+    let condition = copy_expr(condition, names, scope, faults)?;
+    let first = copy_boxed(first, names, scope, next, faults)?;
+    let otherwise = copy_boxed(otherwise, names, scope, next, faults)?;
+    Ok((condition, first, otherwise))
 }
 
 // A statement, and the condition after it.
 #[cycle(statements)]
-#[tactic(auto, using(edd_expression_names::proofs::UseLaws::faults))]
+#[tactic(auto, using(edd_expression_names::proofs::UseLaws::uses), unfolding(edd_expression_names::specs::Copies::Meant))]
 fn copy_repeated<'a>(
     body: &'a Stmt<Path>,
     condition: &'a Expr<Path>,
     names: &Names,
     scope: &[Local<'a>],
     next: &mut u8,
-) -> Result<(Box<Stmt<Target>>, Expr<Target>), NameFault>
+    faults: &mut Vec<NameFault>,
+) -> Result<(Box<Stmt<Target>>, Expr<Target>), AllocError>
     requires { next.old + slots_of (stmt_of path_of body.now) ≤ 64 }
-    ensures accepted { Accepts (description_of names.now)
+    ensures told { Told (description_of names.now)
         (stmt_uses (stmt_of path_of body.now) (scope_of scope.now) next.old
-        ++ expr_uses (scope_of scope.now) (expr_of path_of condition.now)) result }
+        ++ expr_uses (scope_of scope.now) (expr_of path_of condition.now))
+        faults.old.items faults.new.items result }
     ensures body { Copies (description_of names.now)
+        (stmt_uses (stmt_of path_of body.now) (scope_of scope.now) next.old
+        ++ expr_uses (scope_of scope.now) (expr_of path_of condition.now))
         (resolved_stmt (description_of names.now) (stmt_of path_of body.now) (scope_of scope.now)
         next.old) (λ t. numbered_stmt t.0.value) result }
     ensures condition { Copies (description_of names.now)
+        (stmt_uses (stmt_of path_of body.now) (scope_of scope.now) next.old
+        ++ expr_uses (scope_of scope.now) (expr_of path_of condition.now))
         (resolved_expr (at_scope (description_of names.now) (scope_of scope.now))
         (expr_of path_of condition.now)) (λ t. numbered_expr t.1) result }
-    ensures next { IfOk result (λ t. next.new ≡ next.old + slots_of (stmt_of path_of body.now)) }
-    ensures refused { Refuses (description_of names.now)
-        (stmt_uses (stmt_of path_of body.now) (scope_of scope.now) next.old
-        ++ expr_uses (scope_of scope.now) (expr_of path_of condition.now)) result }
+    ensures next { OnOk result (next.new ≡ next.old + slots_of (stmt_of path_of body.now)) }
 {
-    let body = copy_boxed(body, names, scope, next)?;
-    made_of!(copy_expr(condition, names, scope), condition => (body, condition))
+    let body = copy_boxed(body, names, scope, next, faults)?;
+    let condition = copy_expr(condition, names, scope, faults)?;
+    Ok((body, condition))
 }
 
-// The three expressions of FOR, each of which may be missing.
-type Head = (
+// The parts of FOR: three expressions, each of which may be missing, and the body.
+type Looped = (
     Option<Expr<Target>>,
     Option<Expr<Target>>,
     Option<Expr<Target>>,
+    Box<Stmt<Target>>,
 );
 
-// They are before the body, so that its faults come after theirs.
-#[tactic(auto, using(edd_expression_names::proofs::UseLaws::faults))]
-fn copy_head(
-    initial: &Option<Expr<Path>>,
-    condition: &Option<Expr<Path>>,
-    update: &Option<Expr<Path>>,
-    names: &Names,
-    scope: &[Local],
-) -> Result<Head, NameFault>
-    ensures none_initial { Accepts (description_of names.now)
-        (optional_uses (scope_of scope.now) (option_map (expr_of path_of) initial.now)) result }
-    ensures none_condition { Accepts (description_of names.now)
-        (optional_uses (scope_of scope.now) (option_map (expr_of path_of) condition.now)) result }
-    ensures none_update { Accepts (description_of names.now)
-        (optional_uses (scope_of scope.now) (option_map (expr_of path_of) update.now)) result }
-    ensures initial { Copies (description_of names.now)
-        (resolved_optional (at_scope (description_of names.now) (scope_of scope.now))
-        (option_map (expr_of path_of) initial.now)) (λ t. option_map numbered_expr t.0) result }
-    ensures condition { Copies (description_of names.now)
-        (resolved_optional (at_scope (description_of names.now) (scope_of scope.now))
-        (option_map (expr_of path_of) condition.now)) (λ t. option_map numbered_expr t.1) result }
-    ensures update { Copies (description_of names.now)
-        (resolved_optional (at_scope (description_of names.now) (scope_of scope.now))
-        (option_map (expr_of path_of) update.now)) (λ t. option_map numbered_expr t.2) result }
-    ensures refused { IfErr result (λ f. (rest : List Use) → FirstFault f (description_of names.now)
-        (optional_uses (scope_of scope.now) (option_map (expr_of path_of) initial.now)
-        ++ (optional_uses (scope_of scope.now) (option_map (expr_of path_of) condition.now)
-        ++ (optional_uses (scope_of scope.now) (option_map (expr_of path_of) update.now)
-        ++ rest)))) }
-{
-    let initial = copy_optional(initial, names, scope)?;
-    let condition = copy_optional(condition, names, scope)?;
-    made_of!(copy_optional(update, names, scope), update => (initial, condition, update))
-}
-
-// The head and the body of FOR.
 #[cycle(statements)]
-#[tactic(auto, using(edd_expression_names::proofs::UseLaws::faults))]
+#[tactic(auto, using(edd_expression_names::proofs::UseLaws::uses), unfolding(edd_expression_names::specs::Copies::Meant))]
 fn copy_looped<'a>(
     initial: &'a Option<Expr<Path>>,
     condition: &'a Option<Expr<Path>>,
@@ -268,155 +253,144 @@ fn copy_looped<'a>(
     names: &Names,
     scope: &[Local<'a>],
     next: &mut u8,
-) -> Result<(Head, Box<Stmt<Target>>), NameFault>
+    faults: &mut Vec<NameFault>,
+) -> Result<Looped, AllocError>
     requires { next.old + slots_of (stmt_of path_of body.now) ≤ 64 }
-    ensures accepted { Accepts (description_of names.now)
+    ensures told { Told (description_of names.now)
         (optional_uses (scope_of scope.now) (option_map (expr_of path_of) initial.now)
         ++ (optional_uses (scope_of scope.now) (option_map (expr_of path_of) condition.now)
         ++ (optional_uses (scope_of scope.now) (option_map (expr_of path_of) update.now)
-        ++ stmt_uses (stmt_of path_of body.now) (scope_of scope.now) next.old))) result }
+        ++ stmt_uses (stmt_of path_of body.now) (scope_of scope.now) next.old)))
+        faults.old.items faults.new.items result }
     ensures initial { Copies (description_of names.now)
-        (resolved_optional (at_scope (description_of names.now) (scope_of scope.now))
-        (option_map (expr_of path_of) initial.now)) (λ t. option_map numbered_expr t.0.0) result }
-    ensures condition { Copies (description_of names.now)
-        (resolved_optional (at_scope (description_of names.now) (scope_of scope.now))
-        (option_map (expr_of path_of) condition.now)) (λ t. option_map numbered_expr t.0.1) result }
-    ensures update { Copies (description_of names.now)
-        (resolved_optional (at_scope (description_of names.now) (scope_of scope.now))
-        (option_map (expr_of path_of) update.now)) (λ t. option_map numbered_expr t.0.2) result }
-    ensures body { Copies (description_of names.now)
-        (resolved_stmt (description_of names.now) (stmt_of path_of body.now) (scope_of scope.now)
-        next.old) (λ t. numbered_stmt t.1.value) result }
-    ensures next { IfOk result (λ t. next.new ≡ next.old + slots_of (stmt_of path_of body.now)) }
-    ensures refused { Refuses (description_of names.now)
         (optional_uses (scope_of scope.now) (option_map (expr_of path_of) initial.now)
         ++ (optional_uses (scope_of scope.now) (option_map (expr_of path_of) condition.now)
         ++ (optional_uses (scope_of scope.now) (option_map (expr_of path_of) update.now)
-        ++ stmt_uses (stmt_of path_of body.now) (scope_of scope.now) next.old))) result }
+        ++ stmt_uses (stmt_of path_of body.now) (scope_of scope.now) next.old)))
+        (resolved_optional (at_scope (description_of names.now) (scope_of scope.now))
+        (option_map (expr_of path_of) initial.now)) (λ t. option_map numbered_expr t.0) result }
+    ensures condition { Copies (description_of names.now)
+        (optional_uses (scope_of scope.now) (option_map (expr_of path_of) initial.now)
+        ++ (optional_uses (scope_of scope.now) (option_map (expr_of path_of) condition.now)
+        ++ (optional_uses (scope_of scope.now) (option_map (expr_of path_of) update.now)
+        ++ stmt_uses (stmt_of path_of body.now) (scope_of scope.now) next.old)))
+        (resolved_optional (at_scope (description_of names.now) (scope_of scope.now))
+        (option_map (expr_of path_of) condition.now)) (λ t. option_map numbered_expr t.1) result }
+    ensures update { Copies (description_of names.now)
+        (optional_uses (scope_of scope.now) (option_map (expr_of path_of) initial.now)
+        ++ (optional_uses (scope_of scope.now) (option_map (expr_of path_of) condition.now)
+        ++ (optional_uses (scope_of scope.now) (option_map (expr_of path_of) update.now)
+        ++ stmt_uses (stmt_of path_of body.now) (scope_of scope.now) next.old)))
+        (resolved_optional (at_scope (description_of names.now) (scope_of scope.now))
+        (option_map (expr_of path_of) update.now)) (λ t. option_map numbered_expr t.2) result }
+    ensures body { Copies (description_of names.now)
+        (optional_uses (scope_of scope.now) (option_map (expr_of path_of) initial.now)
+        ++ (optional_uses (scope_of scope.now) (option_map (expr_of path_of) condition.now)
+        ++ (optional_uses (scope_of scope.now) (option_map (expr_of path_of) update.now)
+        ++ stmt_uses (stmt_of path_of body.now) (scope_of scope.now) next.old)))
+        (resolved_stmt (description_of names.now) (stmt_of path_of body.now) (scope_of scope.now)
+        next.old) (λ t. numbered_stmt t.3.value) result }
+    ensures next { OnOk result (next.new ≡ next.old + slots_of (stmt_of path_of body.now)) }
 {
-    let head = copy_head(initial, condition, update, names, scope)?;
-    made_of!(copy_boxed(body, names, scope, next), body => (head, body))
+    let initial = copy_optional(initial, names, scope, faults)?;
+    let condition = copy_optional(condition, names, scope, faults)?;
+    let update = copy_optional(update, names, scope, faults)?;
+    let body = copy_boxed(body, names, scope, next, faults)?;
+    Ok((initial, condition, update, body))
 }
 
 // What SWITCH is on, and its parts.
 #[cycle(statements)]
-#[tactic(auto, using(edd_expression_names::proofs::UseLaws::faults))]
+#[tactic(auto, using(edd_expression_names::proofs::UseLaws::uses), unfolding(edd_expression_names::specs::Copies::Meant))]
 fn copy_switched<'a>(
     parts: &'a [Part<Path>],
     on: &'a Expr<Path>,
     names: &Names,
     scope: &[Local<'a>],
     next: &mut u8,
-) -> Result<(Expr<Target>, Vec<Part<Target>>), NameFault>
+    faults: &mut Vec<NameFault>,
+) -> Result<(Expr<Target>, Vec<Part<Target>>), AllocError>
     requires { next.old + slots_in (body_from (map (part_of path_of) parts.now)) ≤ 64 }
-    ensures accepted { Accepts (description_of names.now)
+    ensures told { Told (description_of names.now)
         (expr_uses (scope_of scope.now) (expr_of path_of on.now)
         ++ body_uses (body_from (map (part_of path_of) parts.now)) (scope_of scope.now) next.old)
-        result }
+        faults.old.items faults.new.items result }
     ensures on { Copies (description_of names.now)
+        (expr_uses (scope_of scope.now) (expr_of path_of on.now)
+        ++ body_uses (body_from (map (part_of path_of) parts.now)) (scope_of scope.now) next.old)
         (resolved_expr (at_scope (description_of names.now) (scope_of scope.now))
         (expr_of path_of on.now)) (λ t. numbered_expr t.0) result }
     ensures parts { Copies (description_of names.now)
-        (resolved_body (description_of names.now) (body_from (map (part_of path_of) parts.now))
-        (scope_of scope.now) next.old) (λ t. body_from (map numbered_part t.1.items)) result }
-    ensures next { IfOk result (λ t. next.new ≡ next.old
-        + slots_in (body_from (map (part_of path_of) parts.now))) }
-    ensures refused { Refuses (description_of names.now)
         (expr_uses (scope_of scope.now) (expr_of path_of on.now)
         ++ body_uses (body_from (map (part_of path_of) parts.now)) (scope_of scope.now) next.old)
-        result }
+        (resolved_body (description_of names.now) (body_from (map (part_of path_of) parts.now))
+        (scope_of scope.now) next.old) (λ t. body_from (map numbered_part t.1.items)) result }
+    ensures next { OnOk result (next.new ≡ next.old
+        + slots_in (body_from (map (part_of path_of) parts.now))) }
 {
-    let on = copy_expr(on, names, scope)?;
-    made_of!(copy_body(parts, names, scope, next), parts => (on, parts))
+    let on = copy_expr(on, names, scope, faults)?;
+    let parts = copy_body(parts, names, scope, next, faults)?;
+    Ok((on, parts))
 }
 
 /// What is between braces, with the meaning of its names. Its locals can be used up to the
 /// closing brace.
 #[cycle(statements)]
-#[tactic(auto, using(edd_expression_names::proofs::UseLaws::faults))]
+#[tactic(auto, using(edd_expression_names::proofs::UseLaws::uses), unfolding(edd_expression_names::specs::Copies::Meant))]
 pub fn copy_body<'a>(
     parts: &'a [Part<Path>],
     names: &Names,
     scope: &[Local<'a>],
     next: &mut u8,
-) -> Result<Vec<Part<Target>>, NameFault>
+    faults: &mut Vec<NameFault>,
+) -> Result<Vec<Part<Target>>, AllocError>
     requires { next.old + slots_in (body_from (map (part_of path_of) parts.now)) ≤ 64 }
-    ensures accepted { Accepts (description_of names.now)
+    ensures told { Told (description_of names.now)
         (body_uses (body_from (map (part_of path_of) parts.now)) (scope_of scope.now) next.old)
-        result }
+        faults.old.items faults.new.items result }
     ensures sound { Copies (description_of names.now)
+        (body_uses (body_from (map (part_of path_of) parts.now)) (scope_of scope.now) next.old)
         (resolved_body (description_of names.now) (body_from (map (part_of path_of) parts.now))
         (scope_of scope.now) next.old) (λ t. body_from (map numbered_part t.items)) result }
-    ensures next { IfOk result (λ t. next.new ≡ next.old
+    ensures next { OnOk result (next.new ≡ next.old
         + slots_in (body_from (map (part_of path_of) parts.now))) }
-    ensures refused { Refuses (description_of names.now)
-        (body_uses (body_from (map (part_of path_of) parts.now)) (scope_of scope.now) next.old)
-        result }
 {
     let mut inner = inner_scope(scope, names.alloc)?;
     let mut copies = Vec::with_capacity(names.alloc, parts.len())?;
-    add_parts(parts, names, &mut inner, next, &mut copies)?;
-    Ok(copies)
-}
-
-#[cycle(statements)]
-#[tactic(auto, using(edd_expression_names::proofs::UseLaws::faults))]
-fn add_parts<'a>(
-    parts: &'a [Part<Path>],
-    names: &Names,
-    scope: &mut Vec<Local<'a>>,
-    next: &mut u8,
-    copies: &mut Vec<Part<Target>>,
-) -> Result<(), NameFault>
-    requires room { next.old + slots_in (body_from (map (part_of path_of) parts.now)) ≤ 64 }
-    requires empty { copies.old.items ≡ [] }
-    ensures accepted { Accepts (description_of names.now)
-        (body_uses (body_from (map (part_of path_of) parts.now)) (scope_of scope.old.items)
-        next.old) result }
-    ensures sound { Copies (description_of names.now)
-        (resolved_body (description_of names.now) (body_from (map (part_of path_of) parts.now))
-        (scope_of scope.old.items) next.old) (λ _. body_from (map numbered_part copies.new.items))
-        result }
-    ensures next { OnOk result (next.new ≡ next.old
-        + slots_in (body_from (map (part_of path_of) parts.now))) }
-    ensures refused { Refuses (description_of names.now)
-        (body_uses (body_from (map (part_of path_of) parts.now)) (scope_of scope.old.items)
-        next.old) result }
-{
     for part in parts {
-        copies.push(copy_part(part, names, scope, next)?)?;
+        copies.push(copy_part(part, names, &mut inner, next, faults)?)?;
     }
-    Ok(())
+    Ok(copies)
 }
 
 // A part of a block, with the scope and the next slot after it.
 #[cycle(statements)]
-#[tactic(auto, using(edd_expression_names::proofs::UseLaws::faults), unfolding(edd_name_meanings::specs::Meanings::Means, edd_syntax::specs::Statement::slots_of))]
+#[tactic(auto, using(edd_expression_names::proofs::UseLaws::uses), unfolding(edd_name_meanings::specs::Meanings::Means, edd_expression_names::specs::Copies::Meant, edd_syntax::specs::Statement::slots_of))]
 fn copy_part<'a>(
     part: &'a Part<Path>,
     names: &Names,
     scope: &mut Vec<Local<'a>>,
     next: &mut u8,
-) -> Result<Part<Target>, NameFault>
+    faults: &mut Vec<NameFault>,
+) -> Result<Part<Target>, AllocError>
     requires { next.old + slots_in (body_from (part_of path_of part.now ∷ [])) ≤ 64 }
-    ensures accepted { Accepts (description_of names.now)
-        (part_uses (scope_of scope.old.items) next.old (part_of path_of part.now)) result }
+    ensures told { Told (description_of names.now)
+        (part_uses (scope_of scope.old.items) next.old (part_of path_of part.now))
+        faults.old.items faults.new.items result }
     ensures sound { Copies (description_of names.now)
+        (part_uses (scope_of scope.old.items) next.old (part_of path_of part.now))
         (resolved_part (description_of names.now) (scope_of scope.old.items) next.old
         (part_of path_of part.now)) numbered_part result }
-    ensures scope { IfOk result (λ t. scope_of scope.new.items
+    ensures scope { OnOk result (scope_of scope.new.items
         ≡ scope_behind (scope_of scope.old.items) next.old (part_of path_of part.now)) }
-    ensures next { IfOk result (λ t. next.new ≡ next_behind next.old (part_of path_of part.now)) }
-    ensures refused { Refuses (description_of names.now)
-        (part_uses (scope_of scope.old.items) next.old (part_of path_of part.now)) result }
+    ensures next { OnOk result (next.new ≡ next_behind next.old (part_of path_of part.now)) }
 {
     match part {
         Part::Declare(declarators) => {
-            let mut copies = Vec::with_capacity(names.alloc, declarators.len())?;
-            add_declarators(declarators, names, scope, next, &mut copies)?;
+            let copies = copy_declarators(declarators, names, scope, next, faults)?;
             Ok(Part::Declare(copies))
         }
-        Part::Statement(s) => made_of!(copy_stmt(s, names, scope, next), s => Part::Statement(s)),
+        Part::Statement(s) => Ok(Part::Statement(copy_stmt(s, names, scope, next, faults)?)),
         Part::CaseLabel { at, label } => Ok(Part::CaseLabel {
             at: *at,
             label: *label,

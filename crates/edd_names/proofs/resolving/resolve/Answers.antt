@@ -8,9 +8,8 @@ use Rattle.edd_syntax.specs.ResolvedTrees.{resolved_unit}
 use Rattle.edd_name_meanings.specs.Faults.{IsFirst, of_rule}
 use Rattle.edd_names.specs.Units.{unit_view}
 use Rattle.edd_name_rules.specs.Walks.{described}
-use Rattle.edd_expression_names.proofs.UseLaws.{memory_refused}
 use Rattle.edd_name_rules.proofs.Passing.{passed}
-use Rattle.edd_names.proofs.ResolvingLaws.{fault_before, rule_first, rules_before, same_unit}
+use Rattle.edd_names.proofs.ResolvingLaws.{fault_before, memory_refused, rule_first, rules_before, same_unit}
 use Rattle.edd_names.proofs.resolving.resolve.Goals as goal
 
 pub returns-in_err-check_rules-clause-refused : goal.returns-in_err-check_rules-clause-refused

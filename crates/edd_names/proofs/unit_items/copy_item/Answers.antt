@@ -2,8 +2,15 @@ use Rattle.std.proofs.Common.{◌∙◌, ap, map}
 use Rattle.edd_syntax.specs.ItemView.{attribute_of, item_of, numbered_attribute, numbered_item}
 use Rattle.edd_syntax.specs.TreeView.{path_of}
 use Rattle.edd_name_meanings.specs.Directory.{description_of}
-use Rattle.edd_names.proofs.ItemSteps.{item_means}
+use Rattle.edd_names.proofs.ItemSteps.{item_told, item_means}
 use Rattle.edd_names.proofs.unit_items.copy_item.Goals as goal
+
+pub returns-clause-told : goal.returns-clause-told
+returns-clause-told c =
+    item_told (description_of c.args.names.now) (item_of path_of c.args.item.now)
+    (map (attribute_of path_of) c.attributes.result.now) c.args.faults.now.items
+    c.copy_attributes.new.faults.items
+    (ap (map (attribute_of path_of)) c.attributes.ensures) c.in_ok-attributes.ensures.told
 
 pub returns-clause-sound : goal.returns-clause-sound
 returns-clause-sound c =

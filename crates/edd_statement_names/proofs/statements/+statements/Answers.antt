@@ -1,113 +1,100 @@
-use Rattle.std.proofs.Common.{arith, ap, sym, ◌∙◌, ◌+◌, map}
+use Rattle.std.proofs.Common.{arith, ap, refl, sym, ◌∙◌, ◌+◌, map}
 use Rattle.std.proofs.Math.ListN.{drop_of_length-le}
 use Rattle.edd_syntax.specs.Statement.{body_from, slots_in}
 use Rattle.edd_syntax.specs.TreeView.{path_of, part_of, numbered_part}
 use Rattle.edd_name_meanings.specs.Directory.{description_of}
 use Rattle.edd_name_meanings.specs.Meanings.{scope_of}
 use Rattle.edd_statement_names.specs.ResolvedParts.{scope_behind}
-use Rattle.edd_statement_names.proofs.CopyingIn.{one_more, stops, none_at_end, meant_at_end}
-use Rattle.edd_name_rules.proofs.Passing.{passed}
-use Rattle.edd_statement_names.proofs.StatementSteps.{behind, uses_here, uses_from, uses_split, meant_here, meant_from, parts_joined, no_parts, no_slots, slots_next, slots_more, block_slots, block_none, block_fault, block_means, switch_slots, switch_none, switch_fault, switch_means, block_falls, switch_falls, part_falls}
-use Rattle.edd_expression_names.proofs.UseLaws.{no_use}
+use Rattle.edd_statement_names.proofs.CopyingIn.{at_start, one_more, told_at_end, meant_at_end}
+use Rattle.edd_statement_names.proofs.StatementSteps.{behind, uses_here, uses_from, uses_split, meant_here, meant_from, parts_joined, no_parts, no_slots, slots_next, slots_more, block_slots, block_told, block_means, switch_slots, switch_told, switch_means, block_falls, switch_falls, part_falls}
 use Rattle.edd_statement_names.proofs.statements.+statements.Goals as goal
 
-pub add_parts-returns-in_err-copy_part-clause-refused :
-    goal.add_parts-returns-in_err-copy_part-clause-refused
-add_parts-returns-in_err-copy_part-clause-refused t c =
-    passed c.from_residual.result c.in_err-copy_part.field-0.0 _ c.from_residual.ensures.1
-    (stops (description_of c.args.names.now) (part_of path_of) numbered_part behind uses_here
-    uses_from
-    uses_split (meant_here (description_of c.args.names.now))
-    (meant_from (description_of c.args.names.now))
-    body_from (parts_joined (description_of c.args.names.now)) (
-      scope_of c.args.scope.now.items,
-      c.args.next.now,
-    ) (scope_of c.loop-part.scope.items, c.loop-part.next) c.loop-part.part-index
-    c.args.parts.now c.part-item.result c.loop-part.copies.items c.in_err-copy_part.field-0.0
-    (omega arith) c.part-item.is c.in_err-copy_part.ensures.refused c.loop-part.invariant.0)
+pub copy_body-loop-part-init : goal.copy_body-loop-part-init
+copy_body-loop-part-init t c = (
+  at_start (description_of c.args.names.now) (part_of path_of) numbered_part behind uses_here
+      uses_from
+      uses_split (meant_here (description_of c.args.names.now))
+      (meant_from (description_of c.args.names.now))
+      body_from (parts_joined (description_of c.args.names.now)) (
+        scope_of c.args.scope.now,
+        c.args.next.now,
+      ) c.args.faults.now.items
+      (scope_of c.in_ok-inner.inner.items, c.args.next.now) c.args.parts.now
+      _ c.args.faults.now.items
+      (ap (λ ls. (scope_of ls, c.args.next.now)) c.in_ok-inner.ensures.sound) c.in_ok-copies.ensures.items
+      refl,
+  refl,
+)
 
-pub add_parts-loop-part-preserved : goal.add_parts-loop-part-preserved
-add_parts-loop-part-preserved t c = (
+pub copy_body-loop-part-preserved : goal.copy_body-loop-part-preserved
+copy_body-loop-part-preserved t c = (
   one_more (description_of c.args.names.now) (part_of path_of) numbered_part behind uses_here
       uses_from
       uses_split (meant_here (description_of c.args.names.now))
       (meant_from (description_of c.args.names.now))
       body_from (parts_joined (description_of c.args.names.now)) (
-        scope_of c.args.scope.now.items,
+        scope_of c.args.scope.now,
         c.args.next.now,
-      ) (scope_of c.loop-part.scope.items, c.loop-part.next)
+      ) c.args.faults.now.items
+      (scope_of c.loop-part.inner.items, c.loop-part.next)
       (scope_of c.copy_part.new.scope.items, c.copy_part.new.next) c.loop-part.part-index
       c.args.parts.now c.part-item.result c.loop-part.copies.items c.push.new.self.items
-      c.in_ok-copy_part.field-0 (omega arith) c.part-item.is
+      c.in_ok-copy_part.field-0 c.loop-part.faults.items c.copy_part.new.faults.items
+      (omega arith) c.part-item.is
       (ap (λ p. (p, c.copy_part.new.next)) c.in_ok-copy_part.ensures.scope
       ∙ ap (λ n. (
-        scope_behind (scope_of c.loop-part.scope.items) c.loop-part.next
+        scope_behind (scope_of c.loop-part.inner.items) c.loop-part.next
             (part_of path_of c.part-item.result),
         n,
       )) c.in_ok-copy_part.ensures.next)
-      c.in_ok-copy_part.ensures.accepted c.in_ok-copy_part.ensures.sound c.in_ok-push.ensures.items
+      c.in_ok-copy_part.ensures.told c.in_ok-copy_part.ensures.sound c.in_ok-push.ensures.items
       c.loop-part.invariant.0,
   slots_more (part_of path_of) c.loop-part.part-index c.args.parts.now c.part-item.result
       (omega arith) c.part-item.is c.loop-part.next c.copy_part.new.next _
       c.in_ok-copy_part.ensures.next c.loop-part.invariant.1,
 )
 
-pub add_parts-returns-clause-accepted : goal.add_parts-returns-clause-accepted
-add_parts-returns-clause-accepted t c = none_at_end (description_of c.args.names.now)
-    (part_of path_of)
-    numbered_part behind uses_here uses_from uses_split
-    (meant_here (description_of c.args.names.now))
-    (meant_from (description_of c.args.names.now)) body_from
-    (parts_joined (description_of c.args.names.now))
-    (scope_of c.args.scope.now.items, c.args.next.now)
-    (λ s. no_use (description_of c.args.names.now))
-    (scope_of c.loop-part.scope.items, c.loop-part.next) c.loop-part.part-index c.args.parts.now
-    c.loop-part.copies.items (drop_of_length-le c.args.parts.now (omega arith))
+pub copy_body-returns-clause-told : goal.copy_body-returns-clause-told
+copy_body-returns-clause-told t c = told_at_end (description_of c.args.names.now) (part_of path_of) numbered_part behind uses_here
+    uses_from
+    uses_split (meant_here (description_of c.args.names.now))
+    (meant_from (description_of c.args.names.now))
+    body_from (parts_joined (description_of c.args.names.now)) (
+      scope_of c.args.scope.now,
+      c.args.next.now,
+    ) c.args.faults.now.items (λ s. refl)
+    (scope_of c.loop-part.inner.items, c.loop-part.next) c.loop-part.part-index c.args.parts.now
+    c.loop-part.copies.items c.loop-part.faults.items (drop_of_length-le c.args.parts.now (omega arith))
     c.loop-part.invariant.0
 
-pub add_parts-returns-clause-sound : goal.add_parts-returns-clause-sound
-add_parts-returns-clause-sound t c = meant_at_end (description_of c.args.names.now)
-    (part_of path_of)
-    numbered_part behind uses_here uses_from uses_split
-    (meant_here (description_of c.args.names.now))
-    (meant_from (description_of c.args.names.now)) body_from
-    (parts_joined (description_of c.args.names.now))
-    (scope_of c.args.scope.now.items, c.args.next.now) (no_parts (description_of c.args.names.now))
-    (scope_of c.loop-part.scope.items, c.loop-part.next) c.loop-part.part-index c.args.parts.now
-    c.loop-part.copies.items (drop_of_length-le c.args.parts.now (omega arith))
+pub copy_body-returns-clause-sound : goal.copy_body-returns-clause-sound
+copy_body-returns-clause-sound t c = meant_at_end (description_of c.args.names.now) (part_of path_of) numbered_part behind uses_here
+    uses_from
+    uses_split (meant_here (description_of c.args.names.now))
+    (meant_from (description_of c.args.names.now))
+    body_from (parts_joined (description_of c.args.names.now)) (
+      scope_of c.args.scope.now,
+      c.args.next.now,
+    ) c.args.faults.now.items
+    (no_parts (description_of c.args.names.now))
+    (scope_of c.loop-part.inner.items, c.loop-part.next) c.loop-part.part-index c.args.parts.now
+    c.loop-part.copies.items c.loop-part.faults.items (drop_of_length-le c.args.parts.now (omega arith))
     c.loop-part.invariant.0
 
-pub add_parts-returns-clause-next : goal.add_parts-returns-clause-next
-add_parts-returns-clause-next t c =
+pub copy_body-returns-clause-next : goal.copy_body-returns-clause-next
+copy_body-returns-clause-next t c =
     no_slots c.loop-part.next
     ∙ ap (λ ps. c.loop-part.next + slots_in (body_from (map (part_of path_of) ps)))
     (sym (drop_of_length-le c.args.parts.now (omega arith))) ∙ c.loop-part.invariant.1
 
-pub copy_stmt-returns-in_err-copy_body-in-Block-clause-refused :
-    goal.copy_stmt-returns-in_err-copy_body-in-Block-clause-refused
-copy_stmt-returns-in_err-copy_body-in-Block-clause-refused t c =
-    passed c.from_residual.result c.in_err-copy_body-in-Block.field-0.0 _ c.from_residual.ensures.1
-    (block_fault (description_of c.args.names.now) c.args.s.now _ c.deref.result.now
+pub copy_stmt-returns-in_ok-copy_body-in-Block-clause-told :
+    goal.copy_stmt-returns-in_ok-copy_body-in-Block-clause-told
+copy_stmt-returns-in_ok-copy_body-in-Block-clause-told t c =
+    block_told (description_of c.args.names.now) c.args.s.now _ c.deref.result.now
     c.deref.ensures.value
     c.in-Block.is (scope_of c.args.scope.now) c.args.next.now
-    c.in_err-copy_body-in-Block.field-0.0 c.in_err-copy_body-in-Block.ensures.refused)
-
-pub copy_stmt-returns-in_err-on-in-Switch-clause-refused :
-    goal.copy_stmt-returns-in_err-on-in-Switch-clause-refused
-copy_stmt-returns-in_err-on-in-Switch-clause-refused t c =
-    passed c.from_residual-in_err-on-in-Switch.result c.in_err-on-in-Switch.field-0.0 _
-    c.from_residual-in_err-on-in-Switch.ensures.1
-    (switch_fault (description_of c.args.names.now) c.args.s.now _ c.deref-in-Switch.result.now
-    c.deref-in-Switch.ensures.value _ c.in-Switch.is (scope_of c.args.scope.now) c.args.next.now
-    c.in_err-on-in-Switch.field-0.0 c.in_err-on-in-Switch.ensures.refused)
-
-pub copy_stmt-returns-in_ok-copy_body-in-Block-clause-accepted :
-    goal.copy_stmt-returns-in_ok-copy_body-in-Block-clause-accepted
-copy_stmt-returns-in_ok-copy_body-in-Block-clause-accepted t c =
-    block_none (description_of c.args.names.now) c.args.s.now _ c.deref.result.now
-    c.deref.ensures.value
-    c.in-Block.is (scope_of c.args.scope.now) c.args.next.now
-    c.in_ok-copy_body-in-Block.ensures.accepted
+    c.args.faults.now.items c.copy_body.new.faults.items
+    c.in_ok-copy_body-in-Block.ensures.told
 
 pub copy_stmt-returns-in_ok-copy_body-in-Block-clause-sound :
     goal.copy_stmt-returns-in_ok-copy_body-in-Block-clause-sound
@@ -124,12 +111,13 @@ copy_stmt-returns-in_ok-copy_body-in-Block-clause-next t c =
     (sym (block_slots (description_of c.args.names.now) c.args.s.now _ c.deref.result.now
     c.deref.ensures.value c.in-Block.is))
 
-pub copy_stmt-returns-in_ok-on-in-Switch-clause-accepted :
-    goal.copy_stmt-returns-in_ok-on-in-Switch-clause-accepted
-copy_stmt-returns-in_ok-on-in-Switch-clause-accepted t c =
-    switch_none (description_of c.args.names.now)
+pub copy_stmt-returns-in_ok-on-in-Switch-clause-told :
+    goal.copy_stmt-returns-in_ok-on-in-Switch-clause-told
+copy_stmt-returns-in_ok-on-in-Switch-clause-told t c =
+    switch_told (description_of c.args.names.now)
     c.args.s.now _ c.deref-in-Switch.result.now c.deref-in-Switch.ensures.value _ c.in-Switch.is
-    (scope_of c.args.scope.now) c.args.next.now c.in_ok-on-in-Switch.ensures.accepted
+    (scope_of c.args.scope.now) c.args.next.now c.args.faults.now.items
+    c.copy_switched.new.faults.items c.in_ok-on-in-Switch.ensures.told
 
 pub copy_stmt-returns-in_ok-on-in-Switch-clause-sound :
     goal.copy_stmt-returns-in_ok-on-in-Switch-clause-sound
@@ -146,12 +134,12 @@ copy_stmt-returns-in_ok-on-in-Switch-clause-next t c =
     (sym (switch_slots (description_of c.args.names.now) c.args.s.now _ c.deref-in-Switch.result.now
     c.deref-in-Switch.ensures.value _ c.in-Switch.is))
 
-pub add_parts-copy_part-requires : goal.add_parts-copy_part-requires
-add_parts-copy_part-requires t c =
+pub copy_body-copy_part-requires : goal.copy_body-copy_part-requires
+copy_body-copy_part-requires t c =
     let e = slots_next (part_of path_of) c.loop-part.part-index c.args.parts.now c.part-item.result
     (omega arith) c.part-item.is in
     let n = c.loop-part.invariant.1 in
-    let r = c.requires.room in (
+    let r = c.requires in (
       part_falls t c.loop-part.part-index c.args.parts.now c.part-item.result (omega arith)
           c.part-item.is (sym c.decreases),
       omega (arith, e, n, r),

@@ -8,13 +8,13 @@ use Rattle.edd_statement_names.proofs.StatementSteps.{behind, uses_here, uses_fr
 use Rattle.edd_statement_names.proofs.statements.+statements.Given as goal
 
 -- the parts so far are copied, and their locals took as many slots as they have
-abbrev pub invariant-add_parts-loop-part : goal.invariant-add_parts-loop-part
-invariant-add_parts-loop-part l =
+abbrev pub invariant-copy_body-loop-part : goal.invariant-copy_body-loop-part
+invariant-copy_body-loop-part l =
     Copied (description_of l.fn.names) (part_of path_of) numbered_part behind uses_here uses_from
     uses_split (meant_here (description_of l.fn.names)) (meant_from (description_of l.fn.names))
     body_from
-    (parts_joined (description_of l.fn.names)) (scope_of l.fn.scope.items, l.fn.next)
-    (scope_of l.scope.items, l.next) l.part-index l.parts l.copies.items
+    (parts_joined (description_of l.fn.names)) (scope_of l.fn.scope, l.fn.next) l.fn.faults.items
+    (scope_of l.inner.items, l.next) l.part-index l.parts l.copies.items l.faults.items
     × (l.next + slots_in (body_from (map (part_of path_of) (drop l.part-index l.parts))) ≡ l.fn.next
     + slots_in (body_from (map (part_of path_of) l.parts)))
 
@@ -23,9 +23,6 @@ decreases-copy_stmt l = stmt_depth l.s.now
 
 abbrev pub decreases-copy_body : goal.decreases-copy_body
 decreases-copy_body l = parts_depth l.parts.now + 3
-
-abbrev pub decreases-add_parts : goal.decreases-add_parts
-decreases-add_parts l = parts_depth l.parts.now + 2
 
 abbrev pub decreases-copy_part : goal.decreases-copy_part
 decreases-copy_part l = part_depth l.part.now + 1

@@ -1,6 +1,6 @@
 use Rattle.std.proofs.Common.{◌≡◌, map, take}
 use Rattle.std.specs.Prelude.{string_bytes}
-use Rattle.edd_names.proofs.texts.add_words.Given as goal
+use Rattle.edd_names.proofs.texts.copy_words.Given as goal
 
 -- those so far are copied
 abbrev pub invariant-loop-word : goal.invariant-loop-word

@@ -7,11 +7,14 @@ use Rattle.edd_name_meanings.specs.Directory.{description_of}
 use Rattle.edd_expression_names.proofs.Copying.{Copied}
 use Rattle.edd_expression_names.proofs.ExprSteps.{each_joined}
 use Rattle.edd_syntax.proofs.FirstLaws.{flat_split}
-use Rattle.edd_names.proofs.unit_items.add_items.Given as goal
+use Rattle.edd_names.proofs.unit_items.copy_items.Given as goal
 
 -- those so far are copied
 abbrev pub invariant-loop-item : goal.invariant-loop-item
 invariant-loop-item l = Copied (description_of l.fn.names) (item_of path_of) numbered_item
-    (flat_map item_uses) (flat_split item_uses) (resolved_item (description_of l.fn.names))
+    (flat_map item_uses) (flat_split item_uses)
+    (resolved_item (description_of l.fn.names))
     (each (resolved_item (description_of l.fn.names))) (λ ws. ws)
-    (each_joined (resolved_item (description_of l.fn.names))) l.item-index l.items l.copies.items
+    (each_joined (resolved_item (description_of l.fn.names)))
+    l.fn.faults.items
+    l.item-index l.items l.copies.items l.faults.items

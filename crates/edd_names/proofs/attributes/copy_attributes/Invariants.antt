@@ -7,16 +7,14 @@ use Rattle.edd_name_meanings.specs.Directory.{description_of}
 use Rattle.edd_expression_names.proofs.Copying.{Copied}
 use Rattle.edd_expression_names.proofs.ExprSteps.{each_joined}
 use Rattle.edd_syntax.proofs.FirstLaws.{flat_split}
-use Rattle.edd_names.proofs.attributes.add_attributes.Given as goal
+use Rattle.edd_names.proofs.attributes.copy_attributes.Given as goal
 
 -- those so far are copied
 abbrev pub invariant-loop-attribute : goal.invariant-loop-attribute
-invariant-loop-attribute l = Copied (description_of l.fn.names) (attribute_of path_of)
-    numbered_attribute
-    (flat_map (attribute_uses (item_of path_of l.fn.item).sort))
-    (flat_split (attribute_uses (item_of path_of l.fn.item).sort))
+invariant-loop-attribute l = Copied (description_of l.fn.names) (attribute_of path_of) numbered_attribute
+    (flat_map (attribute_uses (item_of path_of l.fn.item).sort)) (flat_split (attribute_uses (item_of path_of l.fn.item).sort))
     (resolved_attribute (description_of l.fn.names) (item_of path_of l.fn.item).sort)
-    (each (resolved_attribute (description_of l.fn.names) (item_of path_of l.fn.item).sort))
-    (λ ws. ws)
+    (each (resolved_attribute (description_of l.fn.names) (item_of path_of l.fn.item).sort)) (λ ws. ws)
     (each_joined (resolved_attribute (description_of l.fn.names) (item_of path_of l.fn.item).sort))
-    l.attribute-index l.attributes l.copies.items
+    l.fn.faults.items
+    l.attribute-index l.attributes l.copies.items l.faults.items

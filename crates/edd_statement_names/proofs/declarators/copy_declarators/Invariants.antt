@@ -5,7 +5,7 @@ use Rattle.edd_name_meanings.specs.Directory.{description_of}
 use Rattle.edd_name_meanings.specs.Meanings.{scope_of}
 use Rattle.edd_statement_names.proofs.CopyingIn.{Copied}
 use Rattle.edd_statement_names.proofs.DeclaratorSteps.{behind, uses_here, uses_from, uses_split, meant_here, meant_from, declarators_joined}
-use Rattle.edd_statement_names.proofs.declarators.add_declarators.Given as goal
+use Rattle.edd_statement_names.proofs.declarators.copy_declarators.Given as goal
 
 -- the declarators so far are copied, and their locals are in the scope
 abbrev pub invariant-loop-declarator : goal.invariant-loop-declarator
@@ -16,8 +16,8 @@ invariant-loop-declarator l =
     (λ ws. ws) (declarators_joined (description_of l.fn.names)) (
       scope_of l.fn.scope.items,
       l.fn.next,
-    )
-    (scope_of l.scope.items, l.next) l.declarator-index l.declarators l.copies.items
+    ) l.fn.faults.items
+    (scope_of l.scope.items, l.next) l.declarator-index l.declarators l.copies.items l.faults.items
     × (all_declared (scope_of l.scope.items) l.next
     (map (declarator_of path_of) (drop l.declarator-index l.declarators))
     ≡ all_declared (scope_of l.fn.scope.items) l.fn.next

@@ -1,0 +1,62 @@
+use Rattle.std.proofs.Common.{refl, sym, subst, arith}
+use Rattle.std.proofs.Math.ListN.{drop_of_length-le}
+use Rattle.std.specs.List.{flat_map}
+use Rattle.edd_syntax.specs.ItemView.{item_of, numbered_item}
+use Rattle.edd_syntax.specs.NameUses.{item_uses}
+use Rattle.edd_syntax.specs.ResolvedTrees.{each, resolved_item}
+use Rattle.edd_syntax.specs.TreeView.{path_of}
+use Rattle.edd_name_meanings.specs.Directory.{description_of}
+use Rattle.edd_expression_names.specs.Copies.{Meant, Tells}
+use Rattle.edd_expression_names.proofs.Copying.{at_start, one_more, told_at_end, meant_at_end}
+use Rattle.edd_expression_names.proofs.ExprSteps.{each_joined}
+use Rattle.edd_syntax.proofs.FirstLaws.{flat_split, flat_one}
+use Rattle.std.specs.Prelude.{nat_lt}
+use Rattle.edd_syntax.specs.NameRules.{local_limit, locals_of}
+use Rattle.edd_name_rules.proofs.SlotLaws.{none_of_any}
+use Rattle.edd_names.proofs.unit_items.copy_items.Goals as goal
+
+pub loop-item-preserved : goal.loop-item-preserved
+loop-item-preserved c =
+    one_more (description_of c.args.names.now) (item_of path_of) numbered_item
+    (flat_map item_uses) (flat_split item_uses)
+    (resolved_item (description_of c.args.names.now))
+    (each (resolved_item (description_of c.args.names.now))) (λ ws. ws)
+    (each_joined (resolved_item (description_of c.args.names.now)))
+    c.args.faults.now.items c.loop-item.item-index
+    c.args.items.now c.item-item.result c.loop-item.copies.items
+    c.push.new.self.items c.in_ok-copy_item.field-0 c.loop-item.faults.items c.copy_item.new.faults.items
+    (omega arith) c.item-item.is
+    (subst (λ us. Tells (description_of c.args.names.now) us c.loop-item.faults.items c.copy_item.new.faults.items)
+    (sym (flat_one item_uses (item_of path_of c.item-item.result))) c.in_ok-copy_item.ensures.told)
+    (subst (λ us. Meant (description_of c.args.names.now) us
+    (resolved_item (description_of c.args.names.now) (item_of path_of c.item-item.result))
+    (numbered_item c.in_ok-copy_item.field-0))
+    (sym (flat_one item_uses (item_of path_of c.item-item.result))) c.in_ok-copy_item.ensures.sound)
+    c.in_ok-push.ensures.items c.loop-item.invariant
+
+pub returns-clause-told : goal.returns-clause-told
+returns-clause-told c =
+    told_at_end (description_of c.args.names.now) (item_of path_of) numbered_item
+    (flat_map item_uses) (flat_split item_uses)
+    (resolved_item (description_of c.args.names.now))
+    (each (resolved_item (description_of c.args.names.now))) (λ ws. ws)
+    (each_joined (resolved_item (description_of c.args.names.now)))
+    c.args.faults.now.items refl c.loop-item.item-index
+    c.args.items.now c.loop-item.copies.items c.loop-item.faults.items
+    (drop_of_length-le c.args.items.now (omega arith)) c.loop-item.invariant
+
+pub returns-clause-sound : goal.returns-clause-sound
+returns-clause-sound c =
+    meant_at_end (description_of c.args.names.now) (item_of path_of) numbered_item
+    (flat_map item_uses) (flat_split item_uses)
+    (resolved_item (description_of c.args.names.now))
+    (each (resolved_item (description_of c.args.names.now))) (λ ws. ws)
+    (each_joined (resolved_item (description_of c.args.names.now)))
+    c.args.faults.now.items refl c.loop-item.item-index
+    c.args.items.now c.loop-item.copies.items c.loop-item.faults.items
+    (drop_of_length-le c.args.items.now (omega arith)) c.loop-item.invariant
+
+pub copy_item-requires : goal.copy_item-requires
+copy_item-requires c = none_of_any (λ i. nat_lt local_limit (locals_of i)) (item_of path_of)
+    c.loop-item.item-index c.args.items.now c.item-item.result (omega arith) c.item-item.is
+    c.requires
