@@ -8,7 +8,7 @@ use Rattle.edd_name_meanings.specs.Meanings.{Means, NoFault}
 use Rattle.edd_expression_names.specs.Copies.{Meant, Tells}
 use Rattle.edd_expression_names.specs.ResolvedParts.{resolved_arm}
 use Rattle.edd_expression_names.proofs.ExprSteps.{bound, regroup}
-use Rattle.edd_expression_names.proofs.UseLaws.{tells_none, tells_append, none_left, none_right}
+use Rattle.edd_expression_names.proofs.UseLaws.{tells_append, none_left, none_right}
 use Rattle.edd_syntax.specs.declared.numbers.TokenNo.{TokenNo}
 use Rattle.edd_syntax.specs.declared.cond.Cond as code
 use Rattle.edd_syntax.specs.declared.cond.Cond.TheVariants as c

@@ -4,7 +4,7 @@ use Rattle.std.specs.Prelude.{is_none, if◌then◌else◌}
 use Rattle.std.proofs.lemmas.List.{append-nil}
 use Rattle.edd_name_meanings.specs.declared.fault.NameFault.{NameFault}
 use Rattle.edd_name_meanings.specs.Faults.{refusal_of, IsFound}
-use Rattle.edd_name_meanings.specs.Meanings.{Means, faults_in, FirstFault, NoFault}
+use Rattle.edd_name_meanings.specs.Meanings.{faults_in, FirstFault, NoFault}
 use Rattle.edd_name_rules.specs.Faults.{Agrees}
 use Rattle.edd_name_rules.proofs.Repeating.{map_append}
 use Rattle.edd_expression_names.specs.Copies.{Meant, Tells}
@@ -18,7 +18,7 @@ use Rattle.edd_syntax.specs.NameUses.{Use, OfItem, OfArray, OfFunction}
 use Rattle.edd_syntax.specs.Numbers.{kind_of, same_kind}
 use Rattle.edd_syntax.specs.Reference.{Path}
 use Rattle.edd_syntax.specs.Refusal.{Refusal, UnknownName, WrongKind, first_of, refused_if}
-use Rattle.edd_syntax.specs.Resolution.{FoundMember, Scope, array_kinds, builtins, item_named, item_of_member, look_up, member_at}
+use Rattle.edd_syntax.specs.Resolution.{array_kinds, builtins, item_named, item_of_member, look_up, member_at}
 use Rattle.edd_syntax.specs.Text.{Name}
 
 -- the first of a list is all of it

@@ -1,5 +1,5 @@
 -- Faults in uses that are one after the other.
-use Rattle.std.proofs.Common.{◌≡◌, refl, sym, ap, ◌∙◌, List, [], ◌∷◌, ◌++◌, map, Some, None, append_assoc, subst}
+use Rattle.std.proofs.Common.{◌≡◌, refl, sym, ap, ◌∙◌, List, [], ◌∷◌, ◌++◌, map, Some, None, append_assoc}
 use Rattle.std.proofs.lemmas.Grind.{flat_map-append}
 use Rattle.std.proofs.lemmas.List.{append-nil}
 use Rattle.edd_name_meanings.specs.declared.fault.NameFault.{NameFault}
@@ -59,10 +59,6 @@ module _ (unit : Description Path) where
   tells_cons u vs old mid new h k = tells_append (u ∷ []) vs old mid new h k
 
   -- ---- uses without a fault
-
-  pub no_use : NoFault unit []
-  unfolding NoFault faults_in
-  no_use = refl
 
   pub none_left : (us vs : List Use) → NoFault unit (us ++ vs) → NoFault unit us
   unfolding NoFault

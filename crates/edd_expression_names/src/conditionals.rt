@@ -1,6 +1,6 @@
 //! Conditionals with the meaning of their names.
 
-ghost use Rattle.std.specs.Prelude.{◌≡◌, [], ◌∷◌, ◌++◌, List, Option, map};
+ghost use Rattle.std.specs.Prelude.{[], ◌∷◌, List, Option, map};
 ghost use Rattle.edd_syntax.specs.Conditional.{conds_from, arms_from};
 ghost use Rattle.edd_syntax.specs.Item.{Description};
 ghost use Rattle.edd_syntax.specs.ItemView.{cond_of, arm_of, numbered_arm, numbered_cond};

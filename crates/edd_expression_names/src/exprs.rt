@@ -1,6 +1,6 @@
 //! Expressions with the meaning of their names.
 
-ghost use Rattle.std.specs.Prelude.{◌≡◌, [], ◌∷◌, ◌++◌, OnOk, map};
+ghost use Rattle.std.specs.Prelude.{[], ◌∷◌, ◌++◌, map};
 ghost use Rattle.edd_syntax.specs.declared.expr.Argument.{Argument};
 ghost use Rattle.edd_syntax.specs.declared.reference.Target.{Target};
 ghost use Rattle.edd_syntax.specs.Expression.{arguments_from};
@@ -12,7 +12,7 @@ ghost use Rattle.edd_syntax.specs.TreeView.{path_of, expr_of, argument_of, numbe
 ghost use Rattle.edd_name_meanings.specs.Directory.{description_of};
 ghost use Rattle.edd_expression_names.specs.ResolvedParts.{resolved_argument};
 ghost use Rattle.edd_name_meanings.specs.Meanings.{scope_of};
-ghost use Rattle.edd_expression_names.specs.Copies.{Copies, Meant, Told};
+ghost use Rattle.edd_expression_names.specs.Copies.{Copies, Told};
 
 use crate::telling::{refer, refer_array, refer_function};
 use crate::texts::copy_text;

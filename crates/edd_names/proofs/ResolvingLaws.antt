@@ -1,6 +1,6 @@
 -- A unit that breaks no rule on names is resolved; else the first fault is the first of its
 -- breaches.
-use Rattle.std.proofs.Common.{◌≡◌, refl, sym, ap, ◌∙◌, Bool, true, false, ℕ, ◌<◌, List, [], ◌∷◌, ◌++◌, length, map, Option, Some, None, append_assoc, arith, subst}
+use Rattle.std.proofs.Common.{◌≡◌, refl, sym, ap, ◌∙◌, Bool, true, false, ◌<◌, List, [], ◌∷◌, ◌++◌, length, map, Option, Some, None, append_assoc, arith, subst}
 use Rattle.std.specs.Prelude.{IsTrue, nat_lt, slice_index_or}
 use Rattle.std.specs.List.{list_any}
 use Rattle.edd_name_meanings.specs.declared.directory.Names.{Names}

@@ -1,7 +1,7 @@
 //! What is in the braces of types, transactions, collections and arrays, with the meaning of
 //! its names.
 
-ghost use Rattle.std.specs.Prelude.{◌≡◌, [], ◌∷◌, List, Option, map};
+ghost use Rattle.std.specs.Prelude.{[], ◌∷◌, List, Option, map};
 ghost use Rattle.std.specs.List.{flat_map};
 ghost use Rattle.edd_syntax.specs.declared.reference.Target as target;
 ghost use Rattle.edd_syntax.specs.Item as pure;
@@ -23,7 +23,6 @@ use edd_expression_names::texts::copy_optional_text;
 use edd_name_meanings::directory::Names;
 use edd_name_meanings::fault::NameFault;
 use edd_syntax::item::{ArrayElement, Item, Member, TransactionPart, TypePart};
-use edd_syntax::numbers::Kind;
 use edd_syntax::reference::{Path, Target};
 use std::alloc::AllocError;
 

@@ -1,6 +1,6 @@
 //! Declared locals with the meaning of the names in their values.
 
-ghost use Rattle.std.specs.Prelude.{◌≡◌, ◌+◌, ◌<◌, ◌≤◌, IfOk, OnOk, length, map, option_map};
+ghost use Rattle.std.specs.Prelude.{◌≡◌, ◌+◌, ◌<◌, ◌≤◌, OnOk, length, map, option_map};
 ghost use Rattle.edd_syntax.specs.NameUses.{optional_uses, declarator_uses};
 ghost use Rattle.edd_syntax.specs.Resolution.{all_declared, declared};
 ghost use Rattle.edd_syntax.specs.ResolvedTrees.{at_scope, resolved_optional, resolved_declarators};

@@ -6,7 +6,7 @@ use mir.Syntax.{w64}
 use Rattle.edd_syntax.specs.declared.cond.Arm.TheVariants.{Case}
 use Rattle.edd_syntax.specs.Conditional.{conds_from, arms_from}
 use Rattle.edd_syntax.specs.ItemView.{cond_of, arm_of, numbered_arm, numbered_cond}
-use Rattle.edd_syntax.specs.NameUses.{cond_uses, conds_uses, arms_uses}
+use Rattle.edd_syntax.specs.NameUses.{conds_uses, arms_uses}
 use Rattle.edd_syntax.specs.ResolvedTrees.{at_attribute, resolved_cond, resolved_conds, resolved_arms}
 use Rattle.edd_syntax.specs.TreeView.{path_of}
 use Rattle.edd_name_meanings.specs.Directory.{description_of}
