@@ -5,7 +5,7 @@ use Rattle.std.specs.declared.alloc.Global as alloc
 use Rattle.std.proofs.lemmas.List.{append-nil}
 use Rattle.edd_name_meanings.specs.declared.fault.NameFault.{NameFault}
 use Rattle.edd_name_meanings.specs.Meanings.{Means, NoFault}
-use Rattle.edd_expression_names.specs.Copies.{Meant, Tells}
+use Rattle.edd_name_meanings.specs.Copies.{Meant, Tells}
 use Rattle.edd_expression_names.specs.ResolvedParts.{resolved_argument}
 use Rattle.edd_syntax.specs.declared.numbers.TokenNo.{TokenNo}
 use Rattle.edd_syntax.specs.declared.expr.Expr as code

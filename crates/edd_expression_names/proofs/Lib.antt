@@ -1,5 +1,4 @@
 pub mod BranchSteps
 pub mod Copying
+pub mod CopyingIn
 pub mod ExprSteps
-pub mod OneFault
-pub mod UseLaws

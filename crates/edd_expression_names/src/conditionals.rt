@@ -10,7 +10,7 @@ ghost use Rattle.edd_syntax.specs.ResolvedTrees.{at_attribute, resolved_cond, re
 ghost use Rattle.edd_syntax.specs.TreeView.{path_of};
 ghost use Rattle.edd_name_meanings.specs.Directory.{description_of};
 ghost use Rattle.edd_expression_names.specs.ResolvedParts.{resolved_arm};
-ghost use Rattle.edd_expression_names.specs.Copies.{Copies, Told};
+ghost use Rattle.edd_name_meanings.specs.Copies.{Copies, Told};
 
 use crate::exprs::copy_expr;
 use edd_name_meanings::directory::Names;

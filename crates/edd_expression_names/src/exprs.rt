@@ -12,13 +12,12 @@ ghost use Rattle.edd_syntax.specs.TreeView.{path_of, expr_of, argument_of, numbe
 ghost use Rattle.edd_name_meanings.specs.Directory.{description_of};
 ghost use Rattle.edd_expression_names.specs.ResolvedParts.{resolved_argument};
 ghost use Rattle.edd_name_meanings.specs.Meanings.{scope_of};
-ghost use Rattle.edd_expression_names.specs.Copies.{Copies, Told};
+ghost use Rattle.edd_name_meanings.specs.Copies.{Copies, Told};
 
-use crate::telling::{refer, refer_array, refer_function};
 use crate::texts::copy_text;
 use edd_name_meanings::directory::Names;
 use edd_name_meanings::fault::NameFault;
-use edd_name_meanings::references::{Local, argument_kinds};
+use edd_name_meanings::references::{Local, argument_kinds, refer, refer_array, refer_function};
 use edd_syntax::expr::{Argument, Expr};
 use edd_syntax::numbers::Kind;
 use edd_syntax::reference::{Path, Target};
@@ -62,7 +61,7 @@ pub fn copy_expr(
 
 // An expression in whose place a plain reference names an item of these kinds.
 #[cycle(exprs)]
-#[tactic(auto, using(crate::proofs::UseLaws::uses), unfolding(edd_name_meanings::specs::Meanings::Means, crate::specs::Copies::Meant, edd_syntax::specs::ResolvedTrees::resolved_by))]
+#[tactic(auto, using(edd_name_meanings::proofs::UseLaws::uses), unfolding(edd_name_meanings::specs::Meanings::Means, edd_name_meanings::specs::Copies::Meant, edd_syntax::specs::ResolvedTrees::resolved_by))]
 fn copy_among(
     e: &Expr<Path>,
     kinds: &[Kind],
@@ -142,7 +141,7 @@ fn copy_among(
 
 // A part of an expression, in its box.
 #[cycle(exprs)]
-#[tactic(auto, using(crate::proofs::UseLaws::uses))]
+#[tactic(auto, using(edd_name_meanings::proofs::UseLaws::uses))]
 fn copy_boxed(
     e: &Expr<Path>,
     names: &Names,
@@ -163,7 +162,7 @@ fn copy_boxed(
 
 // Two parts of an expression, one after the other.
 #[cycle(exprs)]
-#[tactic(auto, using(crate::proofs::UseLaws::uses), unfolding(crate::specs::Copies::Meant))]
+#[tactic(auto, using(edd_name_meanings::proofs::UseLaws::uses), unfolding(edd_name_meanings::specs::Copies::Meant))]
 fn copy_pair(
     left: &Expr<Path>,
     right: &Expr<Path>,
@@ -192,7 +191,7 @@ fn copy_pair(
 
 // What is assigned to, and the value.
 #[cycle(exprs)]
-#[tactic(auto, using(crate::proofs::UseLaws::uses), unfolding(crate::specs::Copies::Meant))]
+#[tactic(auto, using(edd_name_meanings::proofs::UseLaws::uses), unfolding(edd_name_meanings::specs::Copies::Meant))]
 fn copy_assigned(
     value: &Expr<Path>,
     to: &Path,
@@ -222,7 +221,7 @@ fn copy_assigned(
 
 // An array, and the number of its element.
 #[cycle(exprs)]
-#[tactic(auto, using(crate::proofs::UseLaws::uses), unfolding(crate::specs::Copies::Meant))]
+#[tactic(auto, using(edd_name_meanings::proofs::UseLaws::uses), unfolding(edd_name_meanings::specs::Copies::Meant))]
 fn copy_indexed(
     index: &Expr<Path>,
     array: &Path,
@@ -252,7 +251,7 @@ fn copy_indexed(
 
 // The function that is called, and its arguments.
 #[cycle(exprs)]
-#[tactic(auto, using(crate::proofs::UseLaws::uses), unfolding(crate::specs::Copies::Meant))]
+#[tactic(auto, using(edd_name_meanings::proofs::UseLaws::uses), unfolding(edd_name_meanings::specs::Copies::Meant))]
 fn copy_call(
     arguments: &[Argument<Path>],
     function: &Path,
@@ -311,7 +310,7 @@ fn copy_arguments(
 }
 
 #[cycle(exprs)]
-#[tactic(auto, using(crate::proofs::UseLaws::uses), unfolding(edd_name_meanings::specs::Meanings::Means, crate::specs::Copies::Meant))]
+#[tactic(auto, using(edd_name_meanings::proofs::UseLaws::uses), unfolding(edd_name_meanings::specs::Meanings::Means, edd_name_meanings::specs::Copies::Meant))]
 fn copy_argument(
     argument: &Argument<Path>,
     kinds: &[Kind],

@@ -3,6 +3,5 @@
 
 pub mod conditionals;
 pub mod exprs;
-pub mod telling;
 pub mod texts;
 mod values;

@@ -15,10 +15,10 @@ ghost use Rattle.edd_syntax.specs.WordsView.{text_of};
 
 use crate::conditionals::ResolveValue;
 use crate::exprs::{copy_expr, refer_variable};
-use crate::telling::refer;
 use crate::texts::{copy_optional_text, copy_text};
 use edd_name_meanings::directory::Names;
 use edd_name_meanings::fault::NameFault;
+use edd_name_meanings::references::refer;
 use edd_syntax::expr::Expr;
 use edd_syntax::item::{DataItem, Enumerator, MenuEntry};
 use edd_syntax::numbers::Kind;
@@ -42,7 +42,7 @@ impl ResolveValue for Text {
 
     ghost meant = { λ unit. unchanged };
 
-    #[tactic(auto, using(crate::proofs::UseLaws::uses), unfolding(edd_name_meanings::specs::Meanings::Means, crate::specs::Copies::Meant))]
+    #[tactic(auto, using(edd_name_meanings::proofs::UseLaws::uses), unfolding(edd_name_meanings::specs::Meanings::Means, edd_name_meanings::specs::Copies::Meant))]
     fn copy(&self, names: &Names, faults: &mut Vec<NameFault>) -> Result<Text, AllocError> {
         copy_text(self, names.alloc)
     }
@@ -63,7 +63,7 @@ impl ResolveValue for Handling {
 
     ghost meant = { λ unit. unchanged };
 
-    #[tactic(auto, using(crate::proofs::UseLaws::uses), unfolding(edd_name_meanings::specs::Meanings::Means, crate::specs::Copies::Meant))]
+    #[tactic(auto, using(edd_name_meanings::proofs::UseLaws::uses), unfolding(edd_name_meanings::specs::Meanings::Means, edd_name_meanings::specs::Copies::Meant))]
     fn copy(&self, names: &Names, faults: &mut Vec<NameFault>) -> Result<Handling, AllocError> {
         Ok(*self)
     }
@@ -84,7 +84,7 @@ impl ResolveValue for bool {
 
     ghost meant = { λ unit. unchanged };
 
-    #[tactic(auto, using(crate::proofs::UseLaws::uses), unfolding(edd_name_meanings::specs::Meanings::Means, crate::specs::Copies::Meant))]
+    #[tactic(auto, using(edd_name_meanings::proofs::UseLaws::uses), unfolding(edd_name_meanings::specs::Meanings::Means, edd_name_meanings::specs::Copies::Meant))]
     fn copy(&self, names: &Names, faults: &mut Vec<NameFault>) -> Result<bool, AllocError> {
         Ok(*self)
     }
@@ -105,7 +105,7 @@ impl ResolveValue for Enumerator {
 
     ghost meant = { λ unit. unchanged };
 
-    #[tactic(auto, using(crate::proofs::UseLaws::uses), unfolding(edd_name_meanings::specs::Meanings::Means, crate::specs::Copies::Meant))]
+    #[tactic(auto, using(edd_name_meanings::proofs::UseLaws::uses), unfolding(edd_name_meanings::specs::Meanings::Means, edd_name_meanings::specs::Copies::Meant))]
     fn copy(&self, names: &Names, faults: &mut Vec<NameFault>) -> Result<Enumerator, AllocError> {
         let text = copy_text(&self.text, names.alloc)?;
         let help = copy_optional_text(&self.help, names.alloc)?;
@@ -133,7 +133,7 @@ impl ResolveValue for Expr<Path> {
 
     ghost meant = { λ unit. resolved_expr (at_attribute unit) };
 
-    #[tactic(auto, using(crate::proofs::UseLaws::uses), unfolding(edd_name_meanings::specs::Meanings::Means, crate::specs::Copies::Meant))]
+    #[tactic(auto, using(edd_name_meanings::proofs::UseLaws::uses), unfolding(edd_name_meanings::specs::Meanings::Means, edd_name_meanings::specs::Copies::Meant))]
     fn copy(&self, names: &Names, faults: &mut Vec<NameFault>) -> Result<Expr<Target>, AllocError> {
         copy_expr(self, names, &[], faults)
     }
@@ -154,7 +154,7 @@ impl ResolveValue for MenuEntry<Path> {
 
     ghost meant = { resolved_entry };
 
-    #[tactic(auto, using(crate::proofs::UseLaws::uses), unfolding(edd_name_meanings::specs::Meanings::Means, crate::specs::Copies::Meant))]
+    #[tactic(auto, using(edd_name_meanings::proofs::UseLaws::uses), unfolding(edd_name_meanings::specs::Meanings::Means, edd_name_meanings::specs::Copies::Meant))]
     fn copy(
         &self,
         names: &Names,
@@ -189,7 +189,7 @@ impl ResolveValue for DataItem<Path> {
 
     ghost meant = { resolved_data };
 
-    #[tactic(auto, using(crate::proofs::UseLaws::uses), unfolding(edd_name_meanings::specs::Meanings::Means, crate::specs::Copies::Meant))]
+    #[tactic(auto, using(edd_name_meanings::proofs::UseLaws::uses), unfolding(edd_name_meanings::specs::Meanings::Means, edd_name_meanings::specs::Copies::Meant))]
     fn copy(
         &self,
         names: &Names,

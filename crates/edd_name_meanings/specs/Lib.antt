@@ -1,3 +1,4 @@
+pub mod Copies
 pub mod Directory
 pub mod Faults
 pub mod Limits

@@ -16,7 +16,8 @@ ghost use Rattle.edd_name_meanings.specs.Paths.{Reaches};
 use crate::directory::Names;
 use crate::fault::NameFault;
 use crate::path_steps::{PathStep, is_among, step_to_member, wrong_kind};
-use edd_syntax::numbers::{ItemNo, Kind, VarNo};
+use crate::telling::UNKNOWN;
+use edd_syntax::numbers::{ItemNo, Kind};
 use edd_syntax::reference::{Path, Target};
 
 // The step to the next member, or none where the item is not known.
@@ -46,10 +47,6 @@ fn step<'b>(
         Some(item) => Ok(Some(step_to_member(names, item, member)?)),
     }
 }
-
-// What a reference means whose last member names nothing: its fault is the member's own, and is
-// found at that member.
-const UNKNOWN: Target = Target::Item(ItemNo::Variable(VarNo(0)));
 
 // The end of a path.
 fn arrive(names: &Names, allowed: &[Kind], here: PathStep) -> Result<Target, NameFault>

@@ -9,3 +9,4 @@ pub mod members;
 pub mod numbering;
 mod path_steps;
 pub mod references;
+mod telling;

@@ -1,23 +1,21 @@
 //! Looking names up.
 
-ghost use Rattle.std.specs.Prelude.{◌≡◌, false, IfErr, IfOk, map, nat_lt, option_map};
+ghost use Rattle.std.specs.Prelude.{◌≡◌, false, IfOk, nat_lt, option_map};
 ghost use Rattle.std.specs.List.{list_any};
 ghost use Rattle.edd_syntax.specs.declared.numbers.ItemNo.TheVariants as item_no;
 ghost use Rattle.edd_syntax.specs.ItemView.{named_items, member_of};
 ghost use Rattle.edd_syntax.specs.NameRules.{item_limit, kinds};
 ghost use Rattle.edd_syntax.specs.Resolution.{count_of, item_named, member_at};
 ghost use Rattle.edd_syntax.specs.TreeView.{path_of};
-ghost use Rattle.edd_name_meanings.specs.declared.fault.NameFault.TheVariants.{Memory};
 ghost use Rattle.edd_name_meanings.specs.Directory.{description_of};
 
 use crate::directory::Names;
-use crate::fault::NameFault;
 use crate::members::collections;
 use crate::numbering::number_items;
 use edd_syntax::item::{Identification, Item, Member};
 use edd_syntax::numbers::{CollNo, ItemNo, Kind};
 use edd_syntax::reference::Path;
-use std::alloc::Global;
+use std::alloc::{AllocError, Global};
 
 impl<'a> Names<'a> {
     /// The names of a unit with these items.
@@ -25,12 +23,11 @@ impl<'a> Names<'a> {
         alloc: Global,
         identification: Identification,
         items: &'a [Item<Path>],
-    ) -> Result<Names<'a>, NameFault>
+    ) -> Result<Names<'a>, AllocError>
         requires few { list_any (λ k. nat_lt item_limit (count_of k (named_items items.now))) kinds
             ≡ false }
         ensures identification { IfOk result (λ n. n.identification ≡ identification) }
         ensures items { IfOk result (λ n. n.items.now ≡ items.now) }
-        ensures refused { IfErr result (λ f. f ≡ Memory) }
     {
         let numbers = number_items(items, alloc)?;
         let collections = collections(items, alloc)?;

@@ -1,6 +1,6 @@
 //! The members of collections by their names.
 
-ghost use Rattle.std.specs.Prelude.{◌≡◌, [], ◌∷◌, ◌++◌, List, None, IfErr, IfOk, OnOk, filter, find, map, option_map};
+ghost use Rattle.std.specs.Prelude.{◌≡◌, [], ◌∷◌, ◌++◌, List, None, IfOk, OnOk, filter, find, map, option_map};
 ghost use Rattle.std.specs.List.{flat_map};
 ghost use Rattle.std.specs.Option.{option_or};
 ghost use Rattle.std.specs.Str.{bytes_eq};
@@ -14,16 +14,14 @@ ghost use Rattle.edd_syntax.specs.Reference as reference;
 ghost use Rattle.edd_syntax.specs.Resolution.{members_in, member_in};
 ghost use Rattle.edd_syntax.specs.Text.{Name};
 ghost use Rattle.edd_syntax.specs.TreeView.{path_of};
-ghost use Rattle.edd_name_meanings.specs.declared.fault.NameFault.TheVariants.{Memory};
 ghost use Rattle.edd_name_meanings.specs.Members.{member_named, member_listed, member_of_name, found_in, AreCollections};
 
-use crate::fault::NameFault;
 use crate::numbering::put_first;
 use edd_syntax::item::{Attribute, CollectionDef, Item, Member};
 use edd_syntax::numbers::Kind;
 use edd_syntax::reference::Path;
 use indexmap::IndexMap;
-use std::alloc::Global;
+use std::alloc::{AllocError, Global};
 
 /// The members of a collection, with the kind after OF. To look through a short list takes less
 /// than a map does, so that only a long one has its members by their names as well.
@@ -41,11 +39,10 @@ const MANY: usize = 17;
 fn add_members<'a>(
     into: &mut IndexMap<&'a str, &'a Member<Path>>,
     members: &'a [Member<Path>],
-) -> Result<(), NameFault>
-    ensures sound { OnOk result ((q : Name) → member_named q into.new
+) -> Result<(), AllocError>
+    ensures { OnOk result ((q : Name) → member_named q into.new
         ≡ option_or (member_named q into.old)
         (find (λ m. bytes_eq m.name q) (map (member_of path_of) members.now))) }
-    ensures refused { IfErr result (λ f. f ≡ Memory) }
 {
     for member in members {
         put_first(into, &member.name, member)?;
@@ -56,11 +53,10 @@ fn add_members<'a>(
 fn add_attribute<'a>(
     into: &mut IndexMap<&'a str, &'a Member<Path>>,
     attribute: &'a Attribute<Path>,
-) -> Result<(), NameFault>
-    ensures sound { OnOk result ((q : Name) → member_named q into.new
+) -> Result<(), AllocError>
+    ensures { OnOk result ((q : Name) → member_named q into.new
         ≡ option_or (member_named q into.old)
         (find (λ m. bytes_eq m.name q) (members_in (attribute_of path_of attribute.now)))) }
-    ensures refused { IfErr result (λ f. f ≡ Memory) }
 {
     match attribute {
         Attribute::Members(_, list) => add_members(into, list),
@@ -71,12 +67,11 @@ fn add_attribute<'a>(
 fn add_attributes<'a>(
     into: &mut IndexMap<&'a str, &'a Member<Path>>,
     attributes: &'a [Attribute<Path>],
-) -> Result<(), NameFault>
-    ensures sound { OnOk result ((q : Name) → member_named q into.new
+) -> Result<(), AllocError>
+    ensures { OnOk result ((q : Name) → member_named q into.new
         ≡ option_or (member_named q into.old)
         (find (λ m. bytes_eq m.name q)
         (flat_map members_in (map (attribute_of path_of) attributes.now)))) }
-    ensures refused { IfErr result (λ f. f ≡ Memory) }
 {
     for attribute in attributes {
         add_attribute(into, attribute)?;
@@ -98,10 +93,9 @@ fn has_many(attributes: &[Attribute<Path>]) -> bool {
 fn one_collection<'a>(
     def: &'a CollectionDef<Path>,
     alloc: Global,
-) -> Result<Collection<'a>, NameFault>
-    ensures sound { IfOk result (λ c. (q : Name)
+) -> Result<Collection<'a>, AllocError>
+    ensures { IfOk result (λ c. (q : Name)
         → found_in c q ≡ member_in (item_of path_of (item_kind.Collection def.now)) q) }
-    ensures refused { IfErr result (λ f. f ≡ Memory) }
 {
     if !has_many(&def.attributes) {
         return Ok(Collection {
@@ -124,13 +118,12 @@ fn add_collection<'a>(
     all: &mut Vec<Collection<'a>>,
     item: &'a Item<Path>,
     alloc: Global,
-) -> Result<(), NameFault>
-    ensures sound { OnOk result ((is : List (pure.Item reference.Path))
+) -> Result<(), AllocError>
+    ensures { OnOk result ((is : List (pure.Item reference.Path))
         → AreCollections all.old.items is
         → AreCollections all.new.items
         (is ++ filter (λ i. same_kind (kind_of_item i.sort) kind.Collection)
         (item_of path_of item.now ∷ []))) }
-    ensures refused { IfErr result (λ f. f ≡ Memory) }
 {
     match item {
         Item::Collection(def) => {
@@ -147,12 +140,11 @@ fn add_collections<'a>(
     all: &mut Vec<Collection<'a>>,
     items: &'a [Item<Path>],
     alloc: Global,
-) -> Result<(), NameFault>
+) -> Result<(), AllocError>
     requires { all.old.items ≡ [] }
-    ensures sound { OnOk result
+    ensures { OnOk result
         (AreCollections all.new.items (filter (λ i. same_kind (kind_of_item i.sort) kind.Collection)
         (map (item_of path_of) items.now))) }
-    ensures refused { IfErr result (λ f. f ≡ Memory) }
 {
     for item in items {
         add_collection(all, item, alloc)?;
@@ -164,12 +156,11 @@ fn add_collections<'a>(
 pub fn collections<'a>(
     items: &'a [Item<Path>],
     alloc: Global,
-) -> Result<Vec<Collection<'a>>, NameFault>
-    ensures sound { IfOk result
+) -> Result<Vec<Collection<'a>>, AllocError>
+    ensures { IfOk result
         (λ all. AreCollections all.items
         (filter (λ i. same_kind (kind_of_item i.sort) kind.Collection)
         (map (item_of path_of) items.now))) }
-    ensures refused { IfErr result (λ f. f ≡ Memory) }
 {
     let mut all = Vec::new(alloc);
     add_collections(&mut all, items, alloc)?;

@@ -1,6 +1,6 @@
 //! The numbers of items by their names.
 
-ghost use Rattle.std.specs.Prelude.{◌≡◌, ◌+◌, ◌<◌, [], false, None, IfErr, IfOk, OnOk, map, nat_lt, if◌then◌else◌};
+ghost use Rattle.std.specs.Prelude.{◌≡◌, ◌+◌, ◌<◌, [], false, None, IfOk, OnOk, map, nat_lt, if◌then◌else◌};
 ghost use Rattle.std.specs.Option.{option_or};
 ghost use Rattle.std.specs.List.{list_any};
 ghost use Rattle.edd_syntax.specs.declared.numbers.Kind.{Kind};
@@ -11,15 +11,13 @@ ghost use Rattle.edd_syntax.specs.Numbers.{item_number, same_kind};
 ghost use Rattle.edd_syntax.specs.Resolution.{count_of, look_up, numbered_names};
 ghost use Rattle.edd_syntax.specs.Text.{Name};
 ghost use Rattle.edd_syntax.specs.TreeView.{path_of};
-ghost use Rattle.edd_name_meanings.specs.declared.fault.NameFault.TheVariants.{Memory};
 ghost use Rattle.edd_name_meanings.specs.Numbering.{at, if_named, count_in};
 
-use crate::fault::NameFault;
 use edd_syntax::item::Item;
 use edd_syntax::numbers::{ItemNo, Kind};
 use edd_syntax::reference::Path;
 use indexmap::IndexMap;
-use std::alloc::Global;
+use std::alloc::{AllocError, Global};
 
 /// How many items of each kind there were.
 #[derive(Clone, Copy)]
@@ -82,10 +80,9 @@ pub fn put_first<'a, V: Copy>(
     map: &mut IndexMap<&'a str, V>,
     name: &'a str,
     value: V,
-) -> Result<(), NameFault>
-    ensures sound { OnOk result ((q : Name)
+) -> Result<(), AllocError>
+    ensures { OnOk result ((q : Name)
         → at q map.new ≡ option_or (at q map.old) (if_named name.now q value)) }
-    ensures refused { IfErr result (λ f. f ≡ Memory) }
 {
     match map.insert(name, value)? {
         None => Ok(()),
@@ -101,7 +98,7 @@ fn number_item<'a>(
     item: &'a Item<Path>,
     numbers: &mut IndexMap<&'a str, ItemNo>,
     counts: &mut Counts,
-) -> Result<(), NameFault>
+) -> Result<(), AllocError>
     requires { count_in counts.old (kind_of_item (item_of path_of item.now).sort) < 65535 }
     ensures sound { OnOk result ((q : Name) → at q numbers.new
         ≡ option_or (at q numbers.old) (if_named (item_of path_of item.now).name q
@@ -110,7 +107,6 @@ fn number_item<'a>(
     ensures counted { OnOk result ((k : Kind) → count_in counts.new k
         ≡ count_in counts.old k + (if same_kind (kind_of_item (item_of path_of item.now).sort) k
         then 1 else 0)) }
-    ensures refused { IfErr result (λ f. f ≡ Memory) }
 {
     let kind = item.kind();
     put_first(numbers, item.name(), kind.item(counts.of(kind)))?;
@@ -121,13 +117,12 @@ fn number_item<'a>(
 fn number_all<'a>(
     items: &'a [Item<Path>],
     numbers: &mut IndexMap<&'a str, ItemNo>,
-) -> Result<(), NameFault>
+) -> Result<(), AllocError>
     requires few { list_any (λ k. nat_lt item_limit (count_of k (map (item_of path_of) items.now)))
         kinds ≡ false }
     requires none { (q : Name) → at q numbers.old ≡ None }
-    ensures sound { OnOk result ((q : Name)
+    ensures { OnOk result ((q : Name)
         → at q numbers.new ≡ look_up q (numbered_names [] (map (item_of path_of) items.now))) }
-    ensures refused { IfErr result (λ f. f ≡ Memory) }
 {
     let mut counts = Counts::none();
     for item in items {
@@ -140,12 +135,11 @@ fn number_all<'a>(
 pub fn number_items<'a>(
     items: &'a [Item<Path>],
     alloc: Global,
-) -> Result<IndexMap<&'a str, ItemNo>, NameFault>
+) -> Result<IndexMap<&'a str, ItemNo>, AllocError>
     requires few { list_any (λ k. nat_lt item_limit (count_of k (map (item_of path_of) items.now)))
         kinds ≡ false }
-    ensures sound { IfOk result (λ m. (q : Name)
+    ensures { IfOk result (λ m. (q : Name)
         → at q m ≡ look_up q (numbered_names [] (map (item_of path_of) items.now))) }
-    ensures refused { IfErr result (λ f. f ≡ Memory) }
 {
     let mut numbers = IndexMap::new(alloc);
     number_all(items, &mut numbers)?;

@@ -1,23 +1,21 @@
 //! What a reference to an item means.
 
-ghost use Rattle.std.specs.Prelude.{◌≡◌, [], ◌∷◌, None, Some, IfErr, IfOk, map, option_and_then, option_map, string_bytes};
-ghost use Rattle.std.specs.List.{list_any};
+ghost use Rattle.std.specs.Prelude.{◌≡◌, None, Some, IfErr, IfOk, option_and_then, option_map};
 ghost use Rattle.edd_syntax.specs.declared.numbers.Kind.TheVariants as kind;
 ghost use Rattle.edd_syntax.specs.ItemView.{member_of};
-ghost use Rattle.edd_syntax.specs.NameRules.{is_kind_among, faults_along};
+ghost use Rattle.edd_syntax.specs.NameRules.{is_kind_among};
 ghost use Rattle.edd_syntax.specs.Numbers.{kind_of};
-ghost use Rattle.edd_syntax.specs.Refusal.{UnknownName, WrongKind, first_of};
-ghost use Rattle.edd_syntax.specs.Resolution.{FoundMember, along, item_of_member, member_at, of_kind};
+ghost use Rattle.edd_syntax.specs.Refusal.{UnknownName, WrongKind};
+ghost use Rattle.edd_syntax.specs.Resolution.{FoundMember, item_of_member, member_at, of_kind};
 ghost use Rattle.edd_syntax.specs.TreeView.{path_of};
 ghost use Rattle.edd_name_meanings.specs.Directory.{description_of};
-ghost use Rattle.edd_name_meanings.specs.Faults.{IsFound, IsFirst};
-ghost use Rattle.edd_name_meanings.specs.Meanings.{Means, item_among};
+ghost use Rattle.edd_name_meanings.specs.Faults.{IsFound};
 
 use crate::directory::Names;
 use crate::fault::NameFault;
 use edd_syntax::item::Member;
-use edd_syntax::numbers::{ItemNo, Kind, VarNo};
-use edd_syntax::reference::{Path, Target};
+use edd_syntax::numbers::{ItemNo, Kind};
+use edd_syntax::reference::Path;
 use std::alloc::Global;
 
 /// That nothing has a name, with a copy of it.

@@ -1,6 +1,6 @@
 //! What references and the names of functions mean.
 
-ghost use Rattle.std.specs.Prelude.{◌≡◌, [], ◌∷◌, None, Some, IfErr, IfOk, map, if◌then◌else◌};
+ghost use Rattle.std.specs.Prelude.{◌≡◌, [], ◌∷◌, None, Some, IfErr, IfOk, if◌then◌else◌};
 ghost use Rattle.std.specs.Str.{bytes_eq};
 ghost use Rattle.edd_syntax.specs.NameRules.{faults_of_local, faults_of_item};
 ghost use Rattle.edd_syntax.specs.NameUses.{OfItem, OfArray, OfFunction};
@@ -8,6 +8,7 @@ ghost use Rattle.edd_syntax.specs.Resolution as resolution;
 ghost use Rattle.edd_syntax.specs.Resolution.{look_up, builtin_name, builtins, meaning, array_meant, local_meant, item_meant, function_meant};
 ghost use Rattle.edd_syntax.specs.Refusal.{first_of};
 ghost use Rattle.edd_syntax.specs.TreeView.{path_of};
+ghost use Rattle.edd_name_meanings.specs.Copies.{Copies, Told};
 ghost use Rattle.edd_name_meanings.specs.Directory.{description_of};
 ghost use Rattle.edd_name_meanings.specs.Faults.{IsFirst};
 ghost use Rattle.edd_name_meanings.specs.Meanings.{Means, NoFault, FirstFault, scope_of};
@@ -16,9 +17,11 @@ use crate::directory::Names;
 use crate::fault::NameFault;
 use crate::follow::follow;
 use crate::path_steps::{unknown_name, wrong_kind};
+use crate::telling::tell;
 use edd_syntax::numbers::Kind;
 use edd_syntax::operators::Builtin;
 use edd_syntax::reference::{Path, Target};
+use std::alloc::AllocError;
 
 /// A local that can be used, with its slot.
 #[derive(Clone, Copy)]
@@ -70,14 +73,9 @@ fn refer_item(names: &Names, kinds: &[Kind], path: &Path) -> Result<Target, Name
     }
 }
 
-/// What a reference means at a place where items of some kinds may be.
+// What a reference means at a place where items of some kinds may be.
 #[tactic(auto, unfolding(crate::specs::Meanings::Means, crate::specs::Meanings::NoFault, crate::specs::Meanings::FirstFault, crate::specs::Meanings::faults_in))]
-pub fn refer(
-    names: &Names,
-    scope: &[Local],
-    kinds: &[Kind],
-    path: &Path,
-) -> Result<Target, NameFault>
+fn find(names: &Names, scope: &[Local], kinds: &[Kind], path: &Path) -> Result<Target, NameFault>
     ensures accepted { IfOk result
         (λ t. NoFault (description_of names.now)
         (OfItem (scope_of scope.now) kinds.now (path_of path.now)
@@ -96,9 +94,9 @@ pub fn refer(
     }
 }
 
-/// The array that is meant before an index; a local of the name is no array.
+// The array that is meant before an index; a local of the name is no array.
 #[tactic(auto, unfolding(crate::specs::Meanings::Means, crate::specs::Meanings::NoFault, crate::specs::Meanings::FirstFault, crate::specs::Meanings::faults_in))]
-pub fn refer_array(names: &Names, scope: &[Local], path: &Path) -> Result<Target, NameFault>
+fn find_array(names: &Names, scope: &[Local], path: &Path) -> Result<Target, NameFault>
     ensures accepted { IfOk result
         (λ t. NoFault (description_of names.now)
         (OfArray (scope_of scope.now) (path_of path.now) ∷ [])) }
@@ -160,9 +158,9 @@ pub fn argument_kinds(function: &Path) -> &'static [Kind]
     }
 }
 
-/// What the name of a call means.
+// What the name of a call means.
 #[tactic(auto, unfolding(crate::specs::Meanings::Means, crate::specs::Meanings::NoFault, crate::specs::Meanings::FirstFault, crate::specs::Meanings::faults_in))]
-pub fn refer_function(names: &Names, path: &Path) -> Result<Target, NameFault>
+fn find_function(names: &Names, path: &Path) -> Result<Target, NameFault>
     ensures accepted { IfOk result
         (λ t. NoFault (description_of names.now) (OfFunction (path_of path.now) ∷ [])) }
     ensures sound { IfOk result
@@ -174,5 +172,64 @@ pub fn refer_function(names: &Names, path: &Path) -> Result<Target, NameFault>
     match builtin(&path.base) {
         Some(function) => Ok(Target::Function(function)),
         None => Err(unknown_name(names.alloc, &path.base)),
+    }
+}
+
+/// What a reference means at a place where items of some kinds may be. A fault of it is told, and
+/// the walk goes on.
+#[tactic(auto, using(crate::proofs::UseLaws::uses), unfolding(crate::specs::Copies::Meant))]
+pub fn refer(
+    names: &Names,
+    scope: &[Local],
+    kinds: &[Kind],
+    path: &Path,
+    faults: &mut Vec<NameFault>,
+) -> Result<Target, AllocError>
+    ensures told { Told (description_of names.now) (OfItem (scope_of scope.now) kinds.now (path_of path.now) ∷ []) faults.old.items faults.new.items
+        result }
+    ensures sound { Copies (description_of names.now) (OfItem (scope_of scope.now) kinds.now (path_of path.now) ∷ [])
+        (meaning (description_of names.now) (scope_of scope.now) kinds.now (path_of path.now)) (λ t. t) result }
+{
+    match find(names, scope, kinds, path) {
+        Ok(target) => Ok(target),
+        Err(fault) => tell(fault, faults),
+    }
+}
+
+/// The array that is meant before an index; a local of the name is no array. A fault of it is told,
+/// and the walk goes on.
+#[tactic(auto, using(crate::proofs::UseLaws::uses), unfolding(crate::specs::Copies::Meant))]
+pub fn refer_array(
+    names: &Names,
+    scope: &[Local],
+    path: &Path,
+    faults: &mut Vec<NameFault>,
+) -> Result<Target, AllocError>
+    ensures told { Told (description_of names.now) (OfArray (scope_of scope.now) (path_of path.now) ∷ []) faults.old.items faults.new.items
+        result }
+    ensures sound { Copies (description_of names.now) (OfArray (scope_of scope.now) (path_of path.now) ∷ [])
+        (array_meant (description_of names.now) (scope_of scope.now) (path_of path.now)) (λ t. t) result }
+{
+    match find_array(names, scope, path) {
+        Ok(target) => Ok(target),
+        Err(fault) => tell(fault, faults),
+    }
+}
+
+/// What the name of a call means. A fault of it is told, and the walk goes on.
+#[tactic(auto, using(crate::proofs::UseLaws::uses), unfolding(crate::specs::Copies::Meant))]
+pub fn refer_function(
+    names: &Names,
+    path: &Path,
+    faults: &mut Vec<NameFault>,
+) -> Result<Target, AllocError>
+    ensures told { Told (description_of names.now) (OfFunction (path_of path.now) ∷ []) faults.old.items faults.new.items
+        result }
+    ensures sound { Copies (description_of names.now) (OfFunction (path_of path.now) ∷ [])
+        (function_meant (path_of path.now)) (λ t. t) result }
+{
+    match find_function(names, path) {
+        Ok(target) => Ok(target),
+        Err(fault) => tell(fault, faults),
     }
 }

@@ -17,7 +17,7 @@ use Rattle.edd_names.specs.Units.{unit_view}
 use Rattle.edd_name_rules.specs.Walks.{described}
 use Rattle.edd_syntax.proofs.FirstLaws.{first_of-append_none}
 use Rattle.edd_names.proofs.MemberLaws.{all_named}
-use Rattle.edd_expression_names.specs.Copies.{Meant, Tells}
+use Rattle.edd_name_meanings.specs.Copies.{Meant, Tells}
 use Rattle.edd_name_rules.proofs.Noting.{told_left, told_right}
 use Rattle.edd_syntax.specs.declared.limits.Limit.TheVariants as limit
 use Rattle.edd_syntax.specs.declared.item.Item as code_item

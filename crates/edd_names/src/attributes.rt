@@ -9,7 +9,7 @@ ghost use Rattle.edd_syntax.specs.Statement.{body_from, slots_in};
 ghost use Rattle.edd_syntax.specs.TreeView.{path_of, part_of, numbered_part};
 ghost use Rattle.edd_name_meanings.specs.Directory.{description_of};
 ghost use Rattle.edd_name_rules.specs.Spending.{locals_in};
-ghost use Rattle.edd_expression_names.specs.Copies.{Copies, Told};
+ghost use Rattle.edd_name_meanings.specs.Copies.{Copies, Told};
 
 use crate::braces::copy_parts;
 use crate::texts::{copy_responses, copy_words};
@@ -35,7 +35,7 @@ fn copy_type_word(word: &TypeWord, alloc: Global) -> Result<TypeWord, AllocError
 }
 
 // The body of a method, whose locals take the slots from 0 on.
-#[tactic(auto, using(edd_expression_names::proofs::UseLaws::uses))]
+#[tactic(auto, using(edd_name_meanings::proofs::UseLaws::uses))]
 fn copy_definition(
     parts: &[Part<Path>],
     names: &Names,
@@ -54,7 +54,7 @@ fn copy_definition(
     copy_body(parts, names, &[], &mut next, faults)
 }
 
-#[tactic(auto, using(edd_expression_names::proofs::UseLaws::uses), unfolding(edd_name_meanings::specs::Meanings::Means, edd_expression_names::specs::Copies::Meant))]
+#[tactic(auto, using(edd_name_meanings::proofs::UseLaws::uses), unfolding(edd_name_meanings::specs::Meanings::Means, edd_name_meanings::specs::Copies::Meant))]
 fn copy_attribute(
     attribute: &Attribute<Path>,
     item: &Item<Path>,

@@ -14,14 +14,14 @@ ghost use Rattle.edd_syntax.specs.ResolvedTrees.{each, resolved_type_part, resol
 ghost use Rattle.edd_syntax.specs.TreeView.{path_of};
 ghost use Rattle.edd_name_meanings.specs.Directory.{description_of};
 ghost use Rattle.edd_names.specs.MemberUses.{element_uses, member_uses};
-ghost use Rattle.edd_expression_names.specs.Copies.{Copies, Told};
+ghost use Rattle.edd_name_meanings.specs.Copies.{Copies, Told};
 
 use edd_expression_names::conditionals::{copy_cond, copy_conds};
 use edd_expression_names::exprs::refer_variable;
-use edd_expression_names::telling::refer;
 use edd_expression_names::texts::copy_optional_text;
 use edd_name_meanings::directory::Names;
 use edd_name_meanings::fault::NameFault;
+use edd_name_meanings::references::refer;
 use edd_syntax::item::{ArrayElement, Item, Member, TransactionPart, TypePart};
 use edd_syntax::reference::{Path, Target};
 use std::alloc::AllocError;
@@ -97,7 +97,7 @@ impl ResolvePart for TypePart<Path> {
 
     ghost meant = { λ unit sort. resolved_type_part unit };
 
-    #[tactic(auto, using(edd_expression_names::proofs::UseLaws::uses), unfolding(edd_name_meanings::specs::Meanings::Means, edd_expression_names::specs::Copies::Meant))]
+    #[tactic(auto, using(edd_name_meanings::proofs::UseLaws::uses), unfolding(edd_name_meanings::specs::Meanings::Means, edd_name_meanings::specs::Copies::Meant))]
     fn copy(
         &self,
         _item: &Item<Path>,
@@ -147,7 +147,7 @@ impl ResolvePart for TransactionPart<Path> {
 
     ghost meant = { λ unit sort. resolved_transaction_part unit };
 
-    #[tactic(auto, using(edd_expression_names::proofs::UseLaws::uses), unfolding(edd_name_meanings::specs::Meanings::Means, edd_expression_names::specs::Copies::Meant))]
+    #[tactic(auto, using(edd_name_meanings::proofs::UseLaws::uses), unfolding(edd_name_meanings::specs::Meanings::Means, edd_name_meanings::specs::Copies::Meant))]
     fn copy(
         &self,
         _item: &Item<Path>,
@@ -202,7 +202,7 @@ impl ResolvePart for Member<Path> {
 
     ghost meant = { λ unit sort. resolved_member unit (member_kinds sort) };
 
-    #[tactic(auto, using(edd_expression_names::proofs::UseLaws::uses), unfolding(edd_name_meanings::specs::Meanings::Means, edd_expression_names::specs::Copies::Meant))]
+    #[tactic(auto, using(edd_name_meanings::proofs::UseLaws::uses), unfolding(edd_name_meanings::specs::Meanings::Means, edd_name_meanings::specs::Copies::Meant))]
     fn copy(
         &self,
         item: &Item<Path>,
@@ -234,7 +234,7 @@ impl ResolvePart for ArrayElement<Path> {
 
     ghost meant = { λ unit sort. resolved_element unit };
 
-    #[tactic(auto, using(edd_expression_names::proofs::UseLaws::uses), unfolding(edd_name_meanings::specs::Meanings::Means, edd_expression_names::specs::Copies::Meant))]
+    #[tactic(auto, using(edd_name_meanings::proofs::UseLaws::uses), unfolding(edd_name_meanings::specs::Meanings::Means, edd_name_meanings::specs::Copies::Meant))]
     fn copy(
         &self,
         _item: &Item<Path>,

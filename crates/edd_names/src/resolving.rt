@@ -38,7 +38,7 @@ fn resolve_uses(alloc: Global, names: &Names) -> Result<Resolved, NameFault>
     let mut faults = Vec::new(alloc);
     let items = copy_items(names.items, names, &mut faults)?;
     if !faults.is_empty() {
-        return Err(faults.swap_remove(0));
+        return Err(faults.remove(0));
     }
     Ok(Resolved::new(alloc, names.identification, items)?)
 }

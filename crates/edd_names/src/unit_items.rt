@@ -8,7 +8,7 @@ ghost use Rattle.edd_syntax.specs.NameUses.{item_uses};
 ghost use Rattle.edd_syntax.specs.ResolvedTrees.{each, resolved_item};
 ghost use Rattle.edd_syntax.specs.TreeView.{path_of};
 ghost use Rattle.edd_name_meanings.specs.Directory.{description_of};
-ghost use Rattle.edd_expression_names.specs.Copies.{Copies, Told};
+ghost use Rattle.edd_name_meanings.specs.Copies.{Copies, Told};
 
 use crate::attributes::copy_attributes;
 use edd_name_meanings::directory::Names;
@@ -61,7 +61,7 @@ fn like(item: &Item<Path>, name: String, attributes: Vec<Attribute<Target>>) -> 
     }
 }
 
-#[tactic(auto, using(edd_expression_names::proofs::UseLaws::uses))]
+#[tactic(auto, using(edd_name_meanings::proofs::UseLaws::uses))]
 fn copy_item(
     item: &Item<Path>,
     names: &Names,

@@ -1,3 +1,2 @@
-pub mod CopyingIn
 pub mod DeclaratorSteps
 pub mod StatementSteps

@@ -5,7 +5,7 @@ use Rattle.std.specs.declared.alloc.Global as alloc
 use Rattle.std.proofs.lemmas.List.{at_drop_more}
 use Rattle.edd_name_meanings.specs.declared.fault.NameFault.{NameFault}
 use Rattle.edd_name_meanings.specs.Meanings.{Means, NoFault}
-use Rattle.edd_expression_names.specs.Copies.{Meant, Tells}
+use Rattle.edd_name_meanings.specs.Copies.{Meant, Tells}
 use Rattle.edd_statement_names.specs.ResolvedParts.{part_uses, resolved_part, scope_behind, next_behind}
 use Rattle.edd_statement_names.proofs.DeclaratorSteps.{State}
 use Rattle.edd_expression_names.proofs.ExprSteps.{bound, regroup}

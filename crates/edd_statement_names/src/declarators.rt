@@ -8,7 +8,7 @@ ghost use Rattle.edd_syntax.specs.TreeView.{path_of, expr_of, declarator_of, num
 ghost use Rattle.edd_name_meanings.specs.Directory.{description_of};
 ghost use Rattle.edd_name_meanings.specs.Meanings.{scope_of};
 ghost use Rattle.edd_statement_names.specs.ResolvedParts.{resolved_declarator};
-ghost use Rattle.edd_expression_names.specs.Copies.{Copies, Told};
+ghost use Rattle.edd_name_meanings.specs.Copies.{Copies, Told};
 
 use edd_expression_names::exprs::copy_expr;
 use edd_name_meanings::directory::Names;
@@ -20,7 +20,7 @@ use edd_syntax::stmt::Declarator;
 use std::alloc::AllocError;
 
 /// An expression that may be missing, with the meaning of its names.
-#[tactic(auto, using(edd_expression_names::proofs::UseLaws::uses), unfolding(edd_name_meanings::specs::Meanings::Means, edd_expression_names::specs::Copies::Meant))]
+#[tactic(auto, using(edd_name_meanings::proofs::UseLaws::uses), unfolding(edd_name_meanings::specs::Meanings::Means, edd_name_meanings::specs::Copies::Meant))]
 pub fn copy_optional(
     e: &Option<Expr<Path>>,
     names: &Names,
@@ -56,7 +56,7 @@ pub fn declare<'a>(scope: &mut Vec<Local<'a>>, place: &'a Path, slot: u8) -> Res
     Ok(())
 }
 
-#[tactic(auto, using(edd_expression_names::proofs::UseLaws::uses), unfolding(edd_name_meanings::specs::Meanings::Means, edd_expression_names::specs::Copies::Meant))]
+#[tactic(auto, using(edd_name_meanings::proofs::UseLaws::uses), unfolding(edd_name_meanings::specs::Meanings::Means, edd_name_meanings::specs::Copies::Meant))]
 fn copy_declarator(
     declarator: &Declarator<Path>,
     names: &Names,
@@ -81,7 +81,7 @@ fn copy_declarator(
 
 // The next declarator: its value is copied in the scope before it, and its local is in the scope
 // after it.
-#[tactic(auto, using(edd_expression_names::proofs::UseLaws::uses))]
+#[tactic(auto, using(edd_name_meanings::proofs::UseLaws::uses))]
 fn copy_next<'a>(
     declarator: &'a Declarator<Path>,
     names: &Names,
@@ -110,7 +110,7 @@ fn copy_next<'a>(
 
 /// Declarators with the meaning of the names in their values, and the scope and the next slot
 /// after them.
-#[tactic(auto, using(edd_expression_names::proofs::UseLaws::uses))]
+#[tactic(auto, using(edd_name_meanings::proofs::UseLaws::uses))]
 pub fn copy_declarators<'a>(
     declarators: &'a [Declarator<Path>],
     names: &Names,

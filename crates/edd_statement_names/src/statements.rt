@@ -8,7 +8,7 @@ ghost use Rattle.edd_syntax.specs.TreeView.{path_of, expr_of, stmt_of, part_of, 
 ghost use Rattle.edd_name_meanings.specs.Directory.{description_of};
 ghost use Rattle.edd_name_meanings.specs.Meanings.{scope_of};
 ghost use Rattle.edd_statement_names.specs.ResolvedParts.{part_uses, resolved_part, scope_behind, next_behind};
-ghost use Rattle.edd_expression_names.specs.Copies.{Copies, Told};
+ghost use Rattle.edd_name_meanings.specs.Copies.{Copies, Told};
 
 use crate::declarators::{copy_declarators, copy_optional};
 use edd_expression_names::exprs::copy_expr;
@@ -29,7 +29,7 @@ fn inner_scope<'a>(scope: &[Local<'a>], alloc: Global) -> Result<Vec<Local<'a>>,
 
 /// A statement with the meaning of its names. Each of its locals takes the next slot.
 #[cycle(statements)]
-#[tactic(auto, using(edd_expression_names::proofs::UseLaws::uses), unfolding(edd_expression_names::specs::Copies::Meant, edd_name_meanings::specs::Meanings::Means, edd_syntax::specs::ResolvedTrees::resolved_stmt, edd_syntax::specs::Statement::slots_of))]
+#[tactic(auto, using(edd_name_meanings::proofs::UseLaws::uses), unfolding(edd_name_meanings::specs::Copies::Meant, edd_name_meanings::specs::Meanings::Means, edd_syntax::specs::ResolvedTrees::resolved_stmt, edd_syntax::specs::Statement::slots_of))]
 fn copy_stmt<'a>(
     s: &'a Stmt<Path>,
     names: &Names,
@@ -97,7 +97,7 @@ fn copy_stmt<'a>(
 
 // A part of a statement, in its box.
 #[cycle(statements)]
-#[tactic(auto, using(edd_expression_names::proofs::UseLaws::uses), unfolding(edd_expression_names::specs::Copies::Meant))]
+#[tactic(auto, using(edd_name_meanings::proofs::UseLaws::uses), unfolding(edd_name_meanings::specs::Copies::Meant))]
 fn copy_boxed<'a>(
     s: &'a Stmt<Path>,
     names: &Names,
@@ -121,7 +121,7 @@ fn copy_boxed<'a>(
 
 // A condition, and the statement under it.
 #[cycle(statements)]
-#[tactic(auto, using(edd_expression_names::proofs::UseLaws::uses), unfolding(edd_expression_names::specs::Copies::Meant))]
+#[tactic(auto, using(edd_name_meanings::proofs::UseLaws::uses), unfolding(edd_name_meanings::specs::Copies::Meant))]
 fn copy_guarded<'a>(
     condition: &'a Expr<Path>,
     body: &'a Stmt<Path>,
@@ -154,7 +154,7 @@ fn copy_guarded<'a>(
 
 // A condition, and the two statements of which one is chosen.
 #[cycle(statements)]
-#[tactic(auto, using(edd_expression_names::proofs::UseLaws::uses), unfolding(edd_expression_names::specs::Copies::Meant))]
+#[tactic(auto, using(edd_name_meanings::proofs::UseLaws::uses), unfolding(edd_name_meanings::specs::Copies::Meant))]
 fn copy_choice<'a>(
     condition: &'a Expr<Path>,
     first: &'a Stmt<Path>,
@@ -204,7 +204,7 @@ fn copy_choice<'a>(
 
 // A statement, and the condition after it.
 #[cycle(statements)]
-#[tactic(auto, using(edd_expression_names::proofs::UseLaws::uses), unfolding(edd_expression_names::specs::Copies::Meant))]
+#[tactic(auto, using(edd_name_meanings::proofs::UseLaws::uses), unfolding(edd_name_meanings::specs::Copies::Meant))]
 fn copy_repeated<'a>(
     body: &'a Stmt<Path>,
     condition: &'a Expr<Path>,
@@ -244,7 +244,7 @@ type Looped = (
 );
 
 #[cycle(statements)]
-#[tactic(auto, using(edd_expression_names::proofs::UseLaws::uses), unfolding(edd_expression_names::specs::Copies::Meant))]
+#[tactic(auto, using(edd_name_meanings::proofs::UseLaws::uses), unfolding(edd_name_meanings::specs::Copies::Meant))]
 fn copy_looped<'a>(
     initial: &'a Option<Expr<Path>>,
     condition: &'a Option<Expr<Path>>,
@@ -301,7 +301,7 @@ fn copy_looped<'a>(
 
 // What SWITCH is on, and its parts.
 #[cycle(statements)]
-#[tactic(auto, using(edd_expression_names::proofs::UseLaws::uses), unfolding(edd_expression_names::specs::Copies::Meant))]
+#[tactic(auto, using(edd_name_meanings::proofs::UseLaws::uses), unfolding(edd_name_meanings::specs::Copies::Meant))]
 fn copy_switched<'a>(
     parts: &'a [Part<Path>],
     on: &'a Expr<Path>,
@@ -336,7 +336,7 @@ fn copy_switched<'a>(
 /// What is between braces, with the meaning of its names. Its locals can be used up to the
 /// closing brace.
 #[cycle(statements)]
-#[tactic(auto, using(edd_expression_names::proofs::UseLaws::uses), unfolding(edd_expression_names::specs::Copies::Meant))]
+#[tactic(auto, using(edd_name_meanings::proofs::UseLaws::uses), unfolding(edd_name_meanings::specs::Copies::Meant))]
 pub fn copy_body<'a>(
     parts: &'a [Part<Path>],
     names: &Names,
@@ -365,7 +365,7 @@ pub fn copy_body<'a>(
 
 // A part of a block, with the scope and the next slot after it.
 #[cycle(statements)]
-#[tactic(auto, using(edd_expression_names::proofs::UseLaws::uses), unfolding(edd_name_meanings::specs::Meanings::Means, edd_expression_names::specs::Copies::Meant, edd_syntax::specs::Statement::slots_of))]
+#[tactic(auto, using(edd_name_meanings::proofs::UseLaws::uses), unfolding(edd_name_meanings::specs::Meanings::Means, edd_name_meanings::specs::Copies::Meant, edd_syntax::specs::Statement::slots_of))]
 fn copy_part<'a>(
     part: &'a Part<Path>,
     names: &Names,

@@ -10,7 +10,7 @@ use Rattle.edd_syntax.specs.NameUses.{conds_uses, arms_uses}
 use Rattle.edd_syntax.specs.ResolvedTrees.{at_attribute, resolved_cond, resolved_conds, resolved_arms}
 use Rattle.edd_syntax.specs.TreeView.{path_of}
 use Rattle.edd_name_meanings.specs.Directory.{description_of}
-use Rattle.edd_expression_names.specs.Copies.{Meant, Tells}
+use Rattle.edd_name_meanings.specs.Copies.{Meant, Tells}
 use Rattle.edd_expression_names.specs.ResolvedParts.{resolved_arm}
 use Rattle.edd_expression_names.proofs.BranchSteps.{conds_split, arms_split, conds_joined, arms_joined, no_conds, no_arms, one_cond, value_told, value_means, if_told, if_means, select_told, select_means, case_told, case_means, default_told, default_means}
 use Rattle.edd_name_rules.proofs.CondSpends.{cond_depth, arm_depth, conds_depth, arms_depth, first_falls, otherwise_falls, arms_fall, case_falls, default_falls, element_falls, arm_falls}

@@ -20,11 +20,11 @@ loop-attribute-preserved c = λ q.
     (member_named q c.args.into.now) (member_named q c.loop-attribute.into)
     (member_named q c.add_attribute.new.into) c.loop-attribute.attribute-index
     c.args.attributes.now c.attribute-item.result (omega arith) c.attribute-item.is
-    (c.in_ok-add_attribute.ensures.sound q)
+    (c.in_ok-add_attribute.ensures q)
     (c.loop-attribute.invariant q)
 
-pub returns-clause-sound : goal.returns-clause-sound
-returns-clause-sound c = λ q.
+pub returns : goal.returns
+returns c = λ q.
     c.loop-attribute.invariant q
     ∙ ap (λ xs. option_or (member_named q c.args.into.now)
     (find (λ m. bytes_eq m.name q) (flat_map members_in (map (attribute_of path_of) xs))))

@@ -10,9 +10,9 @@ use Rattle.edd_name_meanings.specs.Members.{AreCollections}
 use Rattle.edd_name_meanings.proofs.Gathering.{one_more_collection}
 use Rattle.edd_name_meanings.proofs.members.add_collection.Goals as goal
 
-pub returns-in_ok-push-in-Collection-clause-sound :
-    goal.returns-in_ok-push-in-Collection-clause-sound
-returns-in_ok-push-in-Collection-clause-sound c = λ is h.
+pub returns-in_ok-push-in-Collection :
+    goal.returns-in_ok-push-in-Collection
+returns-in_ok-push-in-Collection c = λ is h.
     subst (λ i. AreCollections c.push.new.self.items
     (is ++ filter (λ i. same_kind (kind_of_item i.sort) kind.Collection)
     (item_of path_of i ∷ []))) (sym c.in-Collection.is)
@@ -20,4 +20,4 @@ returns-in_ok-push-in-Collection-clause-sound c = λ is h.
     (sym c.in_ok-push-in-Collection.ensures.items)
     (one_more_collection c.args.all.now.items is c.in_ok-one-in-Collection.one
     (item_of path_of (Collection c.in-Collection.def)) h
-    c.in_ok-one-in-Collection.ensures.sound))
+    c.in_ok-one-in-Collection.ensures))

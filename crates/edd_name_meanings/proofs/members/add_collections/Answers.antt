@@ -18,10 +18,10 @@ loop-item-preserved c =
     subst (AreCollections c.add_collection.new.all.items)
     (filtered_more (item_of path_of) (λ i. same_kind (kind_of_item i.sort) kind.Collection)
     c.loop-item.item-index c.args.items.now c.item-item.result (omega arith) c.item-item.is)
-    (c.in_ok-add_collection.ensures.sound _ c.loop-item.invariant)
+    (c.in_ok-add_collection.ensures _ c.loop-item.invariant)
 
-pub returns-clause-sound : goal.returns-clause-sound
-returns-clause-sound c =
+pub returns : goal.returns
+returns c =
     subst (λ xs. AreCollections c.loop-item.all.items
     (filter (λ i. same_kind (kind_of_item i.sort) kind.Collection) (map (item_of path_of) xs)))
     (take_all c.loop-item.item-index c.args.items.now (omega arith)) c.loop-item.invariant

@@ -26,7 +26,7 @@ loop-member-preserved c = λ q.
     (member_named q c.args.into.now) (member_named q c.loop-member.into)
     (member_named q c.put_first.new.map) c.loop-member.member-index c.args.members.now
     c.member-item.result (omega arith) c.member-item.is
-    (ap (option_map (λ r. member_of path_of r.now)) (c.in_ok-put_first.ensures.sound q)
+    (ap (option_map (λ r. member_of path_of r.now)) (c.in_ok-put_first.ensures q)
     ∙ mapped_or (λ r. member_of path_of r.now) (at q c.loop-member.into) _
     ∙ ap (option_or (member_named q c.loop-member.into))
     (mapped_if (λ r. member_of path_of r.now) (bytes_eq c.deref.result.now q) _
@@ -34,8 +34,8 @@ loop-member-preserved c = λ q.
     c.deref.ensures))
     (c.loop-member.invariant q)
 
-pub returns-clause-sound : goal.returns-clause-sound
-returns-clause-sound c = λ q.
+pub returns : goal.returns
+returns c = λ q.
     c.loop-member.invariant q
     ∙ ap (λ xs. option_or (member_named q c.args.into.now)
     (find (λ m. bytes_eq m.name q) (flat_map (λ m. m ∷ []) (map (member_of path_of) xs))))

@@ -7,7 +7,7 @@ use Rattle.edd_syntax.specs.ResolvedTrees.{◌>>=◌, resolved_attribute}
 use Rattle.edd_syntax.specs.TreeView.{path_of}
 use Rattle.edd_name_meanings.specs.Directory.{description_of}
 use Rattle.edd_name_meanings.specs.Meanings.{Means, NoFault}
-use Rattle.edd_expression_names.specs.Copies.{Meant}
+use Rattle.edd_name_meanings.specs.Copies.{Meant}
 use Rattle.edd_names.proofs.attributes.copy_attribute.Goals as goal
 
 pub returns-in_ok-copy_conds-in-Items-clause-sound :

@@ -5,7 +5,7 @@ use Rattle.edd_syntax.specs.ItemView.{item_of}
 use Rattle.edd_syntax.specs.ResolvedTrees.{each}
 use Rattle.edd_syntax.specs.TreeView.{path_of}
 use Rattle.edd_name_meanings.specs.Directory.{description_of}
-use Rattle.edd_expression_names.specs.Copies.{Meant, Tells}
+use Rattle.edd_name_meanings.specs.Copies.{Meant, Tells}
 use Rattle.edd_expression_names.proofs.Copying.{one_more, told_at_end, meant_at_end}
 use Rattle.edd_expression_names.proofs.ExprSteps.{each_joined}
 use Rattle.edd_syntax.proofs.FirstLaws.{flat_split, flat_one}

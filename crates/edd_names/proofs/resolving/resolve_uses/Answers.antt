@@ -4,7 +4,7 @@ use Rattle.edd_syntax.specs.ItemView.{identification_of, numbered_items}
 use Rattle.edd_syntax.specs.NameUses.{unit_uses}
 use Rattle.edd_syntax.specs.Refusal.{first_of}
 use Rattle.edd_syntax.specs.Resolved.{description}
-use Rattle.edd_expression_names.specs.Copies.{Tells}
+use Rattle.edd_name_meanings.specs.Copies.{Tells}
 use Rattle.edd_name_meanings.specs.Directory.{description_of}
 use Rattle.edd_name_rules.proofs.Passing.{passed}
 use Rattle.edd_names.proofs.ResolvingLaws.{few_locals, fault_in_use, is_resolved, meanings, memory_refused, no_breach, told_first, told_none}
@@ -26,13 +26,13 @@ returns-in_err-new-clause-refused c =
 pub returns-then-not-is_empty-clause-refused : goal.returns-then-not-is_empty-clause-refused
 returns-then-not-is_empty-clause-refused c =
     let many : 0 < length c.copy_items.new.faults.items = search rules in
-    fault_in_use (description_of c.args.names.now) c.swap_remove.result c.requires.kept
+    fault_in_use (description_of c.args.names.now) c.remove.result c.requires.kept
     (told_first (description_of c.args.names.now) (unit_uses (description_of c.args.names.now))
-    c.swap_remove.result c.copy_items.new.faults.items
+    c.remove.result c.copy_items.new.faults.items
     (subst (λ old. Tells (description_of c.args.names.now)
     (unit_uses (description_of c.args.names.now)) old c.copy_items.new.faults.items)
     c.new-faults.ensures.items c.in_ok-items.ensures.told)
-    many c.swap_remove.ensures.value)
+    many c.remove.ensures.value)
 
 pub new-requires : goal.new-requires
 new-requires c =

@@ -6,7 +6,7 @@ use Rattle.edd_syntax.specs.NameUses.{item_uses}
 use Rattle.edd_syntax.specs.ResolvedTrees.{each, resolved_item}
 use Rattle.edd_syntax.specs.TreeView.{path_of}
 use Rattle.edd_name_meanings.specs.Directory.{description_of}
-use Rattle.edd_expression_names.specs.Copies.{Meant, Tells}
+use Rattle.edd_name_meanings.specs.Copies.{Meant, Tells}
 use Rattle.edd_expression_names.proofs.Copying.{one_more, told_at_end, meant_at_end}
 use Rattle.edd_expression_names.proofs.ExprSteps.{each_joined}
 use Rattle.edd_syntax.proofs.FirstLaws.{flat_split, flat_one}

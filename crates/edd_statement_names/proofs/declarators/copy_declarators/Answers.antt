@@ -4,7 +4,7 @@ use Rattle.edd_syntax.specs.Resolution.{all_declared, declared}
 use Rattle.edd_syntax.specs.TreeView.{path_of, declarator_of, numbered_declarator}
 use Rattle.edd_name_meanings.specs.Directory.{description_of}
 use Rattle.edd_name_meanings.specs.Meanings.{scope_of}
-use Rattle.edd_statement_names.proofs.CopyingIn.{at_start, one_more, told_at_end, meant_at_end}
+use Rattle.edd_expression_names.proofs.CopyingIn.{at_start, one_more, told_at_end, meant_at_end}
 use Rattle.edd_statement_names.proofs.DeclaratorSteps.{behind, uses_here, uses_from, uses_split, meant_here, meant_from, declarators_joined, declared_more}
 use Rattle.edd_statement_names.proofs.declarators.copy_declarators.Goals as goal
 

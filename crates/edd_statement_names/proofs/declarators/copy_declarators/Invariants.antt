@@ -3,7 +3,7 @@ use Rattle.edd_syntax.specs.Resolution.{all_declared}
 use Rattle.edd_syntax.specs.TreeView.{path_of, declarator_of, numbered_declarator}
 use Rattle.edd_name_meanings.specs.Directory.{description_of}
 use Rattle.edd_name_meanings.specs.Meanings.{scope_of}
-use Rattle.edd_statement_names.proofs.CopyingIn.{Copied}
+use Rattle.edd_expression_names.proofs.CopyingIn.{Copied}
 use Rattle.edd_statement_names.proofs.DeclaratorSteps.{behind, uses_here, uses_from, uses_split, meant_here, meant_from, declarators_joined}
 use Rattle.edd_statement_names.proofs.declarators.copy_declarators.Given as goal
 

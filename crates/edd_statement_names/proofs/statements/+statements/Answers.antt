@@ -5,7 +5,7 @@ use Rattle.edd_syntax.specs.TreeView.{path_of, part_of, numbered_part}
 use Rattle.edd_name_meanings.specs.Directory.{description_of}
 use Rattle.edd_name_meanings.specs.Meanings.{scope_of}
 use Rattle.edd_statement_names.specs.ResolvedParts.{scope_behind}
-use Rattle.edd_statement_names.proofs.CopyingIn.{at_start, one_more, told_at_end, meant_at_end}
+use Rattle.edd_expression_names.proofs.CopyingIn.{at_start, one_more, told_at_end, meant_at_end}
 use Rattle.edd_statement_names.proofs.StatementSteps.{behind, uses_here, uses_from, uses_split, meant_here, meant_from, parts_joined, no_parts, no_slots, slots_next, slots_more, block_slots, block_told, block_means, switch_slots, switch_told, switch_means, block_falls, switch_falls, part_falls}
 use Rattle.edd_statement_names.proofs.statements.+statements.Goals as goal
 

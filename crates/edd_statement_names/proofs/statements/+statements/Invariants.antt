@@ -3,7 +3,7 @@ use Rattle.edd_syntax.specs.Statement.{body_from, slots_in}
 use Rattle.edd_syntax.specs.TreeView.{path_of, part_of, numbered_part}
 use Rattle.edd_name_meanings.specs.Directory.{description_of}
 use Rattle.edd_name_meanings.specs.Meanings.{scope_of}
-use Rattle.edd_statement_names.proofs.CopyingIn.{Copied}
+use Rattle.edd_expression_names.proofs.CopyingIn.{Copied}
 use Rattle.edd_statement_names.proofs.StatementSteps.{behind, uses_here, uses_from, uses_split, meant_here, meant_from, parts_joined, stmt_depth, parts_depth, part_depth}
 use Rattle.edd_statement_names.proofs.statements.+statements.Given as goal
 

@@ -7,7 +7,7 @@ use Rattle.edd_syntax.specs.ResolvedTrees.{◌>>=◌, resolved_transaction_part}
 use Rattle.edd_syntax.specs.TreeView.{path_of}
 use Rattle.edd_name_meanings.specs.Directory.{description_of}
 use Rattle.edd_name_meanings.specs.Meanings.{Means, NoFault}
-use Rattle.edd_expression_names.specs.Copies.{Meant}
+use Rattle.edd_name_meanings.specs.Copies.{Meant}
 use Rattle.edd_names.proofs.braces.TransactionPartPathResolvePart.copy.Goals as goal
 
 pub returns-in_ok-copy_conds-in-Request-clause-sound :

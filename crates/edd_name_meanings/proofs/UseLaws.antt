@@ -6,7 +6,7 @@ use Rattle.edd_name_meanings.specs.declared.fault.NameFault.{NameFault}
 use Rattle.edd_name_meanings.specs.Faults.{refusal_of}
 use Rattle.edd_name_meanings.specs.Meanings.{faults_in, NoFault}
 use Rattle.edd_name_rules.proofs.Repeating.{map_append}
-use Rattle.edd_expression_names.specs.Copies.{Tells}
+use Rattle.edd_name_meanings.specs.Copies.{Tells}
 use Rattle.edd_syntax.specs.Reference.{Path}
 use Rattle.edd_syntax.specs.Item.{Description}
 use Rattle.edd_syntax.specs.NameRules.{faults_of_use}

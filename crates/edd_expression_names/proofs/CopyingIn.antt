@@ -4,9 +4,9 @@ use Rattle.std.proofs.Common.{◌≡◌, sym, ap, ◌∙◌, ℕ, ◌+◌, ◌<�
 use Rattle.std.proofs.lemmas.List.{at_drop_more, append-nil}
 use Rattle.edd_name_meanings.specs.declared.fault.NameFault.{NameFault}
 use Rattle.edd_name_meanings.specs.Meanings.{Means, NoFault}
-use Rattle.edd_expression_names.specs.Copies.{Meant, Tells}
+use Rattle.edd_name_meanings.specs.Copies.{Meant, Tells}
 use Rattle.edd_name_rules.proofs.Repeating.{map_append}
-use Rattle.edd_expression_names.proofs.UseLaws.{tells_none, tells_append, none_left, none_right}
+use Rattle.edd_name_meanings.proofs.UseLaws.{tells_none, tells_append, none_left, none_right}
 use Rattle.edd_syntax.specs.Reference.{Path}
 use Rattle.edd_syntax.specs.Item.{Description}
 use Rattle.edd_syntax.specs.NameUses.{Use}

@@ -1,5 +1,5 @@
-use Rattle.edd_expression_names.proofs.OneFault.{tells_fault, meant_at_fault}
-use Rattle.edd_expression_names.proofs.telling.tell.Goals as goal
+use Rattle.edd_name_meanings.proofs.OneFault.{tells_fault, meant_at_fault}
+use Rattle.edd_name_meanings.proofs.telling.tell.Goals as goal
 
 pub returns-clause-told : goal.returns-clause-told
 returns-clause-told c = λ unit u first.

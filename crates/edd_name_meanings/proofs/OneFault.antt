@@ -7,7 +7,7 @@ use Rattle.edd_name_meanings.specs.Faults.{refusal_of, IsFound}
 use Rattle.edd_name_meanings.specs.Meanings.{faults_in, FirstFault, NoFault}
 use Rattle.edd_name_rules.specs.Faults.{Agrees}
 use Rattle.edd_name_rules.proofs.Repeating.{map_append}
-use Rattle.edd_expression_names.specs.Copies.{Meant, Tells}
+use Rattle.edd_name_meanings.specs.Copies.{Meant, Tells}
 use Rattle.edd_syntax.specs.declared.numbers.Kind.{Kind}
 use Rattle.edd_syntax.specs.declared.numbers.Kind.TheVariants as kind
 use Rattle.edd_syntax.specs.declared.numbers.ItemNo.{ItemNo}
