@@ -3,7 +3,7 @@
 use crate::names::{function_of, help_kind, help_unknown, named_kind};
 use crate::sources::Source;
 use edd_breaches::{Breach, Rule};
-use edd_name_meanings::fault::NameFault;
+use edd_name_rules::fault::NameFault;
 use edd_reports::diagnostic::{Diagnostic, Finding};
 use edd_reports::nearest::Nearest;
 use edd_reports::words::kind_word;

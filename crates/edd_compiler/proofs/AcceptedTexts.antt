@@ -12,7 +12,7 @@ use Rattle.edd_lexer.specs.declared.fault.Fault as lexical
 use Rattle.edd_lexer.specs.Faults.{LexicalFault}
 use Rattle.edd_lexer.specs.Views.{fault_of}
 use Rattle.edd_token_reader.specs.declared.fault.ParseFault.TheVariants as parse
-use Rattle.edd_name_meanings.specs.Faults.{refusal_of}
+use Rattle.edd_name_rules.specs.Faults.{refusal_of}
 use Rattle.edd_types.specs.Faults.{refusal_of_fault}
 use Rattle.edd_compiler.specs.declared.fault.Fault.{Fault}
 use Rattle.edd_compiler.specs.declared.fault.Fault.TheVariants as fault

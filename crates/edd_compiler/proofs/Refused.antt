@@ -9,9 +9,9 @@ use Rattle.edd_syntax.specs.Refusal.{Refusal, first_of}
 use Rattle.edd_syntax.specs.ResolvedTrees.{resolved_unit}
 use Rattle.edd_syntax.specs.Strings.{too_many_strings}
 use Rattle.edd_syntax.specs.SubsetRules.{subset_breaches}
-use Rattle.edd_name_meanings.specs.declared.fault.NameFault.{NameFault}
-use Rattle.edd_name_meanings.specs.declared.fault.NameFault.TheVariants as name
-use Rattle.edd_name_meanings.specs.Faults.{IsFound, IsFirst}
+use Rattle.edd_name_rules.specs.declared.fault.NameFault.{NameFault}
+use Rattle.edd_name_rules.specs.declared.fault.NameFault.TheVariants as name
+use Rattle.edd_name_rules.specs.Faults.{IsFound, IsFirst}
 use Rattle.edd_types.specs.declared.fault.TypeFault.{TypeFault}
 use Rattle.edd_types.specs.declared.fault.TypeFault.TheVariants as type
 use Rattle.edd_types.specs.Faults.{IsFirstOf}

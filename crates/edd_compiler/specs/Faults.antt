@@ -8,9 +8,9 @@ use Rattle.edd_lexer.specs.Faults.{LexicalFault}
 use Rattle.edd_lexer.specs.Views.{fault_of}
 use Rattle.edd_token_reader.specs.declared.fault.ParseFault.{ParseFault}
 use Rattle.edd_token_reader.specs.declared.fault.ParseFault.TheVariants as parse
-use Rattle.edd_name_meanings.specs.declared.fault.NameFault.{NameFault}
-use Rattle.edd_name_meanings.specs.declared.fault.NameFault.TheVariants as name
-use Rattle.edd_name_meanings.specs.Faults.{refusal_of}
+use Rattle.edd_name_rules.specs.declared.fault.NameFault.{NameFault}
+use Rattle.edd_name_rules.specs.declared.fault.NameFault.TheVariants as name
+use Rattle.edd_name_rules.specs.Faults.{refusal_of}
 use Rattle.edd_types.specs.declared.fault.TypeFault.{TypeFault}
 use Rattle.edd_types.specs.declared.fault.TypeFault.TheVariants as type
 use Rattle.edd_types.specs.Faults.{refusal_of_fault}

@@ -1,6 +1,6 @@
 -- Lists of trees that are copied one after another, where each means the same at any place.
 use Rattle.std.proofs.Common.{◌≡◌, refl, ℕ, ◌+◌, ◌<◌, List, [], ◌∷◌, ◌++◌, length, get_or, drop, map, Option, Some}
-use Rattle.edd_name_meanings.specs.declared.fault.NameFault.{NameFault}
+use Rattle.edd_name_rules.specs.declared.fault.NameFault.{NameFault}
 use Rattle.edd_name_meanings.specs.Copies.{Meant, Tells}
 use Rattle.edd_expression_names.proofs.CopyingIn as in_state
 use Rattle.edd_syntax.specs.Reference.{Path}

@@ -14,7 +14,7 @@ ghost use Rattle.edd_name_meanings.specs.Copies.{Copies, Told};
 
 use crate::exprs::copy_expr;
 use edd_name_meanings::directory::Names;
-use edd_name_meanings::fault::NameFault;
+use edd_name_rules::fault::NameFault;
 use edd_syntax::cond::{Arm, Cond};
 use edd_syntax::reference::{Path, Target};
 use std::alloc::AllocError;

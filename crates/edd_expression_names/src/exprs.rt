@@ -16,8 +16,8 @@ ghost use Rattle.edd_name_meanings.specs.Copies.{Copies, Told};
 
 use crate::texts::copy_text;
 use edd_name_meanings::directory::Names;
-use edd_name_meanings::fault::NameFault;
 use edd_name_meanings::references::{Local, argument_kinds, refer, refer_array, refer_function};
+use edd_name_rules::fault::NameFault;
 use edd_syntax::expr::{Argument, Expr};
 use edd_syntax::numbers::Kind;
 use edd_syntax::reference::{Path, Target};

@@ -2,8 +2,8 @@
 use Rattle.std.proofs.Common.{◌≡◌, refl, sym, ap, ◌∙◌, Bool, true, false, not, List, [], ◌∷◌, ◌++◌, map, Option, Some, None, subst}
 use Rattle.std.specs.Prelude.{is_none, if◌then◌else◌}
 use Rattle.std.proofs.lemmas.List.{append-nil}
-use Rattle.edd_name_meanings.specs.declared.fault.NameFault.{NameFault}
-use Rattle.edd_name_meanings.specs.Faults.{refusal_of, IsFound}
+use Rattle.edd_name_rules.specs.declared.fault.NameFault.{NameFault}
+use Rattle.edd_name_rules.specs.Faults.{refusal_of, IsFound}
 use Rattle.edd_name_meanings.specs.Meanings.{faults_in, FirstFault, NoFault}
 use Rattle.edd_name_rules.specs.Faults.{Agrees}
 use Rattle.edd_name_rules.proofs.Repeating.{map_append}

@@ -2,8 +2,8 @@
 use Rattle.std.proofs.Common.{◌≡◌, refl, sym, ap, ◌∙◌, List, [], ◌∷◌, ◌++◌, map, Some, None, append_assoc}
 use Rattle.std.proofs.lemmas.Grind.{flat_map-append}
 use Rattle.std.proofs.lemmas.List.{append-nil}
-use Rattle.edd_name_meanings.specs.declared.fault.NameFault.{NameFault}
-use Rattle.edd_name_meanings.specs.Faults.{refusal_of}
+use Rattle.edd_name_rules.specs.declared.fault.NameFault.{NameFault}
+use Rattle.edd_name_rules.specs.Faults.{refusal_of}
 use Rattle.edd_name_meanings.specs.Meanings.{faults_in, NoFault}
 use Rattle.edd_name_rules.proofs.Repeating.{map_append}
 use Rattle.edd_name_meanings.specs.Copies.{Tells}

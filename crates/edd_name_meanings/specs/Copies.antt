@@ -3,8 +3,8 @@ use Rattle.std.specs.Prelude.{◌≡◌, ◌++◌, List, Option, Some, Result, I
 use Rattle.edd_syntax.specs.Item.{Description}
 use Rattle.edd_syntax.specs.NameUses.{Use}
 use Rattle.edd_syntax.specs.Reference.{Path}
-use Rattle.edd_name_meanings.specs.declared.fault.NameFault.{NameFault}
-use Rattle.edd_name_meanings.specs.Faults.{refusal_of}
+use Rattle.edd_name_rules.specs.declared.fault.NameFault.{NameFault}
+use Rattle.edd_name_rules.specs.Faults.{refusal_of}
 use Rattle.edd_name_meanings.specs.Meanings.{Means, NoFault, faults_in}
 
 -- the faults of these uses come after those that were there

@@ -1,7 +1,5 @@
 pub mod Copies
 pub mod Directory
-pub mod Faults
-pub mod Limits
 pub mod Meanings
 pub mod Members
 pub mod Numbering

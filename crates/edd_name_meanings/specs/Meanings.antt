@@ -1,8 +1,8 @@
 -- What is found about uses of names, and what they mean.
 use Rattle.std.specs.Prelude.{◌≡◌, true, List, map, Option, Some, None, is_some, if◌then◌else◌}
 use Rattle.std.specs.List.{flat_map}
-use Rattle.edd_name_meanings.specs.declared.fault.NameFault.{NameFault}
-use Rattle.edd_name_meanings.specs.Faults.{IsFirst}
+use Rattle.edd_name_rules.specs.declared.fault.NameFault.{NameFault}
+use Rattle.edd_name_rules.specs.Faults.{IsFirst}
 use Rattle.edd_name_meanings.specs.declared.references.Local.{Local}
 use Rattle.edd_syntax.specs.declared.numbers.Kind.{Kind}
 use Rattle.edd_syntax.specs.declared.numbers.ItemNo.{ItemNo}

@@ -9,14 +9,14 @@ ghost use Rattle.edd_syntax.specs.Refusal.{Refusal, first_of};
 ghost use Rattle.edd_syntax.specs.Resolution.{along};
 ghost use Rattle.edd_syntax.specs.Text.{Name};
 ghost use Rattle.edd_name_meanings.specs.Directory.{description_of};
-ghost use Rattle.edd_name_meanings.specs.Faults.{IsFirst};
+ghost use Rattle.edd_name_rules.specs.Faults.{IsFirst};
 ghost use Rattle.edd_name_meanings.specs.Meanings.{AllMembersNamed, Means, item_among};
 ghost use Rattle.edd_name_meanings.specs.Paths.{Reaches};
 
 use crate::directory::Names;
-use crate::fault::NameFault;
 use crate::path_steps::{PathStep, is_among, step_to_member, wrong_kind};
 use crate::telling::UNKNOWN;
+use edd_name_rules::fault::NameFault;
 use edd_syntax::numbers::{ItemNo, Kind};
 use edd_syntax::reference::{Path, Target};
 

@@ -2,7 +2,6 @@
 #![tactic(auto)]
 
 pub mod directory;
-pub mod fault;
 mod follow;
 mod lookups;
 pub mod members;

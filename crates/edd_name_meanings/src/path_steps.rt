@@ -9,17 +9,17 @@ ghost use Rattle.edd_syntax.specs.Refusal.{UnknownName, WrongKind};
 ghost use Rattle.edd_syntax.specs.Resolution.{FoundMember, item_of_member, member_at, of_kind};
 ghost use Rattle.edd_syntax.specs.TreeView.{path_of};
 ghost use Rattle.edd_name_meanings.specs.Directory.{description_of};
-ghost use Rattle.edd_name_meanings.specs.Faults.{IsFound};
+ghost use Rattle.edd_name_rules.specs.Faults.{IsFound};
 
 use crate::directory::Names;
-use crate::fault::NameFault;
+use edd_name_rules::fault::NameFault;
 use edd_syntax::item::Member;
 use edd_syntax::numbers::{ItemNo, Kind};
 use edd_syntax::reference::Path;
 use std::alloc::Global;
 
 /// That nothing has a name, with a copy of it.
-#[tactic(auto, unfolding(crate::specs::Faults::IsFound))]
+#[tactic(auto, unfolding(edd_name_rules::specs::Faults::IsFound))]
 pub fn unknown_name(alloc: Global, name: &str) -> NameFault
     ensures { IsFound result (Some (UnknownName name.now)) }
 {
@@ -30,7 +30,7 @@ pub fn unknown_name(alloc: Global, name: &str) -> NameFault
 }
 
 /// That an item of this name may not be there, with a copy of the name.
-#[tactic(auto, unfolding(crate::specs::Faults::IsFound))]
+#[tactic(auto, unfolding(edd_name_rules::specs::Faults::IsFound))]
 pub fn wrong_kind(alloc: Global, name: &str) -> NameFault
     ensures { IsFound result (Some (WrongKind name.now)) }
 {

@@ -10,14 +10,14 @@ ghost use Rattle.edd_syntax.specs.Refusal.{first_of};
 ghost use Rattle.edd_syntax.specs.TreeView.{path_of};
 ghost use Rattle.edd_name_meanings.specs.Copies.{Copies, Told};
 ghost use Rattle.edd_name_meanings.specs.Directory.{description_of};
-ghost use Rattle.edd_name_meanings.specs.Faults.{IsFirst};
+ghost use Rattle.edd_name_rules.specs.Faults.{IsFirst};
 ghost use Rattle.edd_name_meanings.specs.Meanings.{Means, NoFault, FirstFault, scope_of};
 
 use crate::directory::Names;
-use crate::fault::NameFault;
 use crate::follow::follow;
 use crate::path_steps::{unknown_name, wrong_kind};
 use crate::telling::tell;
+use edd_name_rules::fault::NameFault;
 use edd_syntax::numbers::Kind;
 use edd_syntax::operators::Builtin;
 use edd_syntax::reference::{Path, Target};

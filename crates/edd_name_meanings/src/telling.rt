@@ -6,10 +6,10 @@ ghost use Rattle.edd_syntax.specs.Item.{Description};
 ghost use Rattle.edd_syntax.specs.NameUses.{Use};
 ghost use Rattle.edd_syntax.specs.Reference as pure;
 ghost use Rattle.edd_name_meanings.specs.Copies.{Meant, Tells};
-ghost use Rattle.edd_name_meanings.specs.Faults.{refusal_of};
+ghost use Rattle.edd_name_rules.specs.Faults.{refusal_of};
 ghost use Rattle.edd_name_meanings.specs.Meanings.{FirstFault};
 
-use crate::fault::NameFault;
+use edd_name_rules::fault::NameFault;
 use edd_syntax::numbers::{ItemNo, VarNo};
 use edd_syntax::reference::Target;
 use std::alloc::AllocError;

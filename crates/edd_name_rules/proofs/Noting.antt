@@ -8,8 +8,8 @@ use Rattle.std.proofs.lemmas.List.{at_drop_more}
 use Rattle.std.proofs.lemmas.Map.Text.{hash_map_updates_str}
 use Rattle.edd_syntax.specs.Text.{Name}
 use Rattle.edd_syntax.specs.Refusal.{Refusal, DuplicateName, is_name_in, repeated, first_of}
-use Rattle.edd_name_rules.specs.declared.fault.RuleFault.{RuleFault}
-use Rattle.edd_name_rules.specs.declared.fault.RuleFault.TheVariants.{Memory}
+use Rattle.edd_name_rules.specs.declared.fault.NameFault.{NameFault}
+use Rattle.edd_name_rules.specs.declared.fault.NameFault.TheVariants.{Memory}
 use Rattle.std.proofs.lemmas.Grind.{common_steps}
 use Rattle.edd_name_rules.specs.Faults.{refusal_of, Agrees, IsFound, IsDuplicate}
 use Rattle.edd_name_rules.specs.declared.seen.Seen.{Seen}
@@ -77,13 +77,13 @@ pub memory_refused : (o : Option Refusal) → IsFound Memory o
 unfolding IsFound
 memory_refused o = tt
 
-pub duplicate_left : (f : RuleFault) (xs ys : List Name) → IsDuplicate f xs
+pub duplicate_left : (f : NameFault) (xs ys : List Name) → IsDuplicate f xs
     → IsDuplicate f (xs ++ ys)
 unfolding IsFound
 duplicate_left f [] ys h = found_any (refusal_of f) (option_map DuplicateName (first_of ys)) h
 duplicate_left f (x ∷ xs) ys h = h
 
-pub duplicate_right : (f : RuleFault) (xs ys : List Name) → None ≡ first_of xs → IsDuplicate f ys
+pub duplicate_right : (f : NameFault) (xs ys : List Name) → None ≡ first_of xs → IsDuplicate f ys
     → IsDuplicate f (xs ++ ys)
 duplicate_right f xs ys none h = subst (λ o. IsFound f (option_map DuplicateName o))
     (sym (first_of-append_none xs ys none)) h
@@ -148,7 +148,7 @@ module _ {X : Type 0} (name : X → Name) (before : List Name) where
       rotated q = append_left (name x ∷ map name (take i xs)) (map name (take i xs) ++ name x ∷ [])
           before (append_comm (name x ∷ []) (map name (take i xs))) q
 
-  pub noted_stops : (f : RuleFault) (seen : Seen) (i : ℕ) (xs : List X)
+  pub noted_stops : (f : NameFault) (seen : Seen) (i : ℕ) (xs : List X)
       (x : X) → i < length xs → x ≡ get_or xs i x
       → ((b : List Name) → HasSeen b seen → IsDuplicate f (repeated b (name x ∷ [])))
       → Noted seen i xs → IsDuplicate f (repeated before (map name xs))
@@ -212,7 +212,7 @@ module _ {X Y : Type 0} (view : X → Y) (names : Y → List Name) (here : List 
           ∙ sym (walk_next i xs x b h is) ∙ eq,
     )
 
-    pub walked_stops : (f : RuleFault) (seen : Seen) (i : ℕ) (xs : List X)
+    pub walked_stops : (f : NameFault) (seen : Seen) (i : ℕ) (xs : List X)
         (x : X) → i < length xs → x ≡ get_or xs i x
         → ((b : List Name) → HasSeen b seen → IsDuplicate f (here b (view x))) → Walked seen i xs
         → IsDuplicate f (walk before (map view xs))

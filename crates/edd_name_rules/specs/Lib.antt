@@ -1,4 +1,5 @@
 pub mod Faults
+pub mod Limits
 pub mod Scopes
 pub mod Seen
 pub mod Spending

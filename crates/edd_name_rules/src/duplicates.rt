@@ -1,17 +1,18 @@
 //! Items, members of collections and locals of blocks with one name.
 
 ghost use Rattle.std.specs.Prelude.{◌≡◌, [], ◌∷◌, ◌++◌, List, None, IfErr, OnOk, map};
-ghost use Rattle.edd_syntax.specs.ItemView.{item_of, attribute_of};
-ghost use Rattle.edd_syntax.specs.NameRules.{repeated_inside, repeated_locals, repeated_in_attributes, repeated_in_items};
+ghost use Rattle.edd_syntax.specs.ItemView.{item_of, attribute_of, named_items};
+ghost use Rattle.edd_syntax.specs.NameRules.{duplicate_names, repeated_inside, repeated_locals, repeated_in_attributes, repeated_in_items};
 ghost use Rattle.edd_syntax.specs.Refusal.{first_of};
 ghost use Rattle.edd_syntax.specs.Statement.{body_from};
 ghost use Rattle.edd_syntax.specs.Text.{Name};
 ghost use Rattle.edd_syntax.specs.TreeView.{path_of, stmt_of, part_of};
-ghost use Rattle.edd_name_rules.specs.Faults.{IsDuplicate};
+ghost use Rattle.edd_name_rules.specs.Faults.{IsDuplicate, IsFirst};
 ghost use Rattle.edd_name_rules.specs.Scopes.{part_repeats, names_of_part, attribute_repeats, names_of_attribute, item_repeats};
 ghost use Rattle.edd_name_rules.specs.Seen.{HasSeen};
+ghost use Rattle.edd_name_rules.specs.Walks.{described};
 
-use crate::fault::RuleFault;
+use crate::fault::NameFault;
 use crate::seen::{Seen, note, note_declarators, note_members};
 use edd_syntax::item::{Attribute, Item};
 use edd_syntax::reference::Path;
@@ -21,7 +22,7 @@ use std::alloc::Global;
 /// No block inside a statement has two locals of one name.
 #[cycle(locals)]
 #[tactic(auto, using(crate::proofs::Noting::duplicates))]
-pub fn check_inside(s: &Stmt<Path>, alloc: Global) -> Result<(), RuleFault>
+pub fn check_inside(s: &Stmt<Path>, alloc: Global) -> Result<(), NameFault>
     ensures sound { OnOk result (None ≡ first_of (repeated_inside (stmt_of path_of s.now))) }
     ensures refused { IfErr result (λ f. IsDuplicate f (repeated_inside (stmt_of path_of s.now))) }
 {
@@ -44,7 +45,7 @@ pub fn check_inside(s: &Stmt<Path>, alloc: Global) -> Result<(), RuleFault>
 
 /// A block has no two locals of one name, nor has a block inside it.
 #[cycle(locals)]
-pub fn check_block(parts: &[Part<Path>], alloc: Global) -> Result<(), RuleFault>
+pub fn check_block(parts: &[Part<Path>], alloc: Global) -> Result<(), NameFault>
     ensures sound { OnOk result
         (None ≡ first_of (repeated_locals [] (body_from (map (part_of path_of) parts.now)))) }
     ensures refused { IfErr result
@@ -59,7 +60,7 @@ fn check_parts<'a>(
     parts: &'a [Part<Path>],
     block: &mut Seen<'a>,
     alloc: Global,
-) -> Result<(), RuleFault>
+) -> Result<(), NameFault>
     ensures sound { OnOk result ((b : List Name) → HasSeen b block.old
         → None ≡ first_of (repeated_locals b (body_from (map (part_of path_of) parts.now)))) }
     ensures refused { IfErr result (λ f. (b : List Name) → HasSeen b block.old
@@ -76,7 +77,7 @@ fn check_part<'a>(
     part: &'a Part<Path>,
     block: &mut Seen<'a>,
     alloc: Global,
-) -> Result<(), RuleFault>
+) -> Result<(), NameFault>
     ensures sound { OnOk result ((b : List Name) → HasSeen b block.old
         → (None ≡ first_of (part_repeats b (part_of path_of part.now)))
         × HasSeen (names_of_part (part_of path_of part.now) ++ b) block.new) }
@@ -95,7 +96,7 @@ fn check_attribute<'a>(
     attribute: &'a Attribute<Path>,
     members: &mut Seen<'a>,
     alloc: Global,
-) -> Result<(), RuleFault>
+) -> Result<(), NameFault>
     ensures sound { OnOk result ((b : List Name) → HasSeen b members.old
         → (None ≡ first_of (attribute_repeats b (attribute_of path_of attribute.now)))
         × HasSeen (names_of_attribute (attribute_of path_of attribute.now) ++ b) members.new) }
@@ -113,7 +114,7 @@ fn check_attributes_in<'a>(
     attributes: &'a [Attribute<Path>],
     members: &mut Seen<'a>,
     alloc: Global,
-) -> Result<(), RuleFault>
+) -> Result<(), NameFault>
     ensures sound { OnOk result ((b : List Name) → HasSeen b members.old
         → None ≡ first_of (repeated_in_attributes b (map (attribute_of path_of) attributes.now))) }
     ensures refused { IfErr result (λ f. (b : List Name) → HasSeen b members.old
@@ -126,7 +127,7 @@ fn check_attributes_in<'a>(
 }
 
 /// No two members and no two locals of a block among these attributes of one item have one name.
-pub fn check_attributes(attributes: &[Attribute<Path>], alloc: Global) -> Result<(), RuleFault>
+pub fn check_attributes(attributes: &[Attribute<Path>], alloc: Global) -> Result<(), NameFault>
     ensures sound { OnOk result
         (None ≡ first_of (repeated_in_attributes [] (map (attribute_of path_of) attributes.now))) }
     ensures refused { IfErr result
@@ -138,7 +139,7 @@ pub fn check_attributes(attributes: &[Attribute<Path>], alloc: Global) -> Result
 }
 
 #[tactic(auto, using(crate::proofs::Noting::duplicates))]
-fn check_item<'a>(item: &'a Item<Path>, seen: &mut Seen<'a>, alloc: Global) -> Result<(), RuleFault>
+fn check_item<'a>(item: &'a Item<Path>, seen: &mut Seen<'a>, alloc: Global) -> Result<(), NameFault>
     ensures sound { OnOk result ((b : List Name) → HasSeen b seen.old
         → (None ≡ first_of (item_repeats b (item_of path_of item.now)))
         × HasSeen ((item_of path_of item.now).name ∷ b) seen.new) }
@@ -153,7 +154,7 @@ fn check_items_in<'a>(
     items: &'a [Item<Path>],
     seen: &mut Seen<'a>,
     alloc: Global,
-) -> Result<(), RuleFault>
+) -> Result<(), NameFault>
     ensures sound { OnOk result ((b : List Name) → HasSeen b seen.old
         → None ≡ first_of (repeated_in_items b (map (item_of path_of) items.now))) }
     ensures refused { IfErr result (λ f. (b : List Name) → HasSeen b seen.old
@@ -166,11 +167,12 @@ fn check_items_in<'a>(
 }
 
 /// No two items, members of a collection or locals of a block have one name.
-pub fn check_names(items: &[Item<Path>], alloc: Global) -> Result<(), RuleFault>
+#[tactic(auto, using(crate::proofs::RuleLaws::rules_in_order), unfolding(crate::specs::Faults::IsFound))]
+pub fn check_names(items: &[Item<Path>], alloc: Global) -> Result<(), NameFault>
     ensures sound { OnOk result
-        (None ≡ first_of (repeated_in_items [] (map (item_of path_of) items.now))) }
+        (None ≡ first_of (duplicate_names (described (named_items items.now)))) }
     ensures refused { IfErr result
-        (λ f. IsDuplicate f (repeated_in_items [] (map (item_of path_of) items.now))) }
+        (λ f. IsFirst f (duplicate_names (described (named_items items.now)))) }
 {
     let mut seen = Seen::of_many(alloc);
     check_items_in(items, &mut seen, alloc)

@@ -1,6 +1,6 @@
 //! Parts of a transaction and of a type's braces that are there twice.
 
-ghost use Rattle.std.specs.Prelude.{◌≡◌, [], ◌∷◌, map, option_map};
+ghost use Rattle.std.specs.Prelude.{◌≡◌, [], map, option_map};
 ghost use Rattle.std.specs.List.{cons_option, flat_map};
 ghost use Rattle.edd_syntax.specs.ItemView.{item_of, attribute_of, transaction_part_of, type_part_of};
 ghost use Rattle.edd_syntax.specs.NameRules.{attribute_word, repeated_words, repeated_words_inside, transaction_part_word, type_part_words};

@@ -9,7 +9,7 @@ ghost use Rattle.edd_syntax.specs.TreeView.{path_of, declarator_of};
 ghost use Rattle.edd_name_rules.specs.Faults.{IsDuplicate};
 ghost use Rattle.edd_name_rules.specs.Seen.{HasSeen};
 
-use crate::fault::RuleFault;
+use crate::fault::NameFault;
 use arrayvec::ArrayVec;
 use edd_syntax::item::Member;
 use edd_syntax::reference::Path;
@@ -63,18 +63,18 @@ fn is_among(names: &[&str], name: &str) -> bool
 
 /// That a name is there twice, with a copy of it.
 #[tactic(auto, unfolding(crate::specs::Faults::IsFound))]
-pub fn duplicate(alloc: Global, name: &str) -> RuleFault
+pub fn duplicate(alloc: Global, name: &str) -> NameFault
     ensures { IsDuplicate result (name.now ∷ []) }
 {
     match String::from_str(alloc, name) {
-        Ok(name) => RuleFault::DuplicateName(name),
-        Err(_) => RuleFault::Memory,
+        Ok(name) => NameFault::DuplicateName(name),
+        Err(_) => NameFault::Memory,
     }
 }
 
 /// One more name of a scope, which must not be there yet.
 #[tactic(auto, unfolding(crate::specs::Faults::IsFound))]
-pub fn note<'a>(seen: &mut Seen<'a>, name: &'a str, alloc: Global) -> Result<(), RuleFault>
+pub fn note<'a>(seen: &mut Seen<'a>, name: &'a str, alloc: Global) -> Result<(), NameFault>
     ensures sound { OnOk result ((before : List Name) → HasSeen before seen.old
         → (None ≡ first_of (repeated before (name.now ∷ [])))
         × HasSeen (name.now ∷ before) seen.new) }
@@ -91,9 +91,10 @@ pub fn note<'a>(seen: &mut Seen<'a>, name: &'a str, alloc: Global) -> Result<(),
         seen.few.push(name);
         return Ok(());
     }
-    match seen.many.insert(name, ())? {
-        None => Ok(()),
-        Some(_) => Err(duplicate(alloc, name)),
+    match seen.many.insert(name, ()) {
+        Ok(None) => Ok(()),
+        Ok(Some(_)) => Err(duplicate(alloc, name)),
+        Err(_) => Err(NameFault::Memory),
     }
 }
 
@@ -102,7 +103,7 @@ pub fn note_declarators<'a>(
     seen: &mut Seen<'a>,
     declarators: &'a [Declarator<Path>],
     alloc: Global,
-) -> Result<(), RuleFault>
+) -> Result<(), NameFault>
     ensures sound { OnOk result ((before : List Name) → HasSeen before seen.old
         → (None ≡ first_of (repeated before
         (names_declared (map (declarator_of path_of) declarators.now))))
@@ -123,7 +124,7 @@ pub fn note_members<'a>(
     seen: &mut Seen<'a>,
     members: &'a [Member<Path>],
     alloc: Global,
-) -> Result<(), RuleFault>
+) -> Result<(), NameFault>
     ensures sound { OnOk result ((before : List Name) → HasSeen before seen.old
         → (None ≡ first_of (repeated before
         (map (λ m. m.name) (map (member_of path_of) members.now))))

@@ -1,6 +1,6 @@
 //! The nodes of a description.
 
-ghost use Rattle.std.specs.Prelude.{◌≡◌, ◌+◌, [], ◌∷◌, map, sum, nat_lt, if◌then◌else◌};
+ghost use Rattle.std.specs.Prelude.{◌≡◌, ◌+◌, map, sum, nat_lt, if◌then◌else◌};
 ghost use Rattle.std.specs.List.{list_any};
 ghost use Rattle.edd_syntax.specs.ItemView.{item_of, attribute_of, type_part_of, transaction_part_of};
 ghost use Rattle.edd_syntax.specs.NameRules.{node_limit};

@@ -1,6 +1,6 @@
 //! The nodes of conditionals, by the kind of value under their conditions.
 
-ghost use Rattle.std.specs.Prelude.{◌≡◌, map};
+ghost use Rattle.std.specs.Prelude.{◌≡◌};
 ghost use Rattle.edd_syntax.specs.ItemView.{cond_of, conds_of, enumerator_of, entry_of, data_item_of};
 ghost use Rattle.edd_syntax.specs.Size.{nodes, cond_nodes, conds_nodes, leaf};
 ghost use Rattle.edd_syntax.specs.TreeView.{path_of, expr_of};

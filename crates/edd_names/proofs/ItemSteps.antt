@@ -2,7 +2,7 @@
 use Rattle.std.proofs.Common.{◌≡◌, sym, ap, ◌∙◌, List, Some, subst}
 use Rattle.std.specs.List.{flat_map}
 use Rattle.edd_name_meanings.specs.Copies.{Meant, Tells}
-use Rattle.edd_name_meanings.specs.declared.fault.NameFault.{NameFault}
+use Rattle.edd_name_rules.specs.declared.fault.NameFault.{NameFault}
 use Rattle.edd_name_meanings.specs.Meanings.{Means, NoFault}
 use Rattle.edd_syntax.specs.declared.reference.Target.{Target}
 use Rattle.edd_syntax.specs.Item.{Attribute, Description, Item, ItemKind}

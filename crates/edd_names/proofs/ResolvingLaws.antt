@@ -1,24 +1,19 @@
 -- A unit that breaks no rule on names is resolved; else the first fault is the first of its
 -- breaches.
-use Rattle.std.proofs.Common.{◌≡◌, refl, sym, ap, ◌∙◌, Bool, true, false, ◌<◌, List, [], ◌∷◌, ◌++◌, length, map, Option, Some, None, append_assoc, arith, subst}
+use Rattle.std.proofs.Common.{◌≡◌, refl, sym, ap, ◌∙◌, Bool, true, false, ◌<◌, List, [], ◌∷◌, ◌++◌, length, map, Some, None, append_assoc, arith, subst}
 use Rattle.std.specs.Prelude.{IsTrue, nat_lt, slice_index_or}
 use Rattle.std.specs.List.{list_any}
 use Rattle.edd_name_meanings.specs.declared.directory.Names.{Names}
-use Rattle.edd_name_meanings.specs.declared.fault.NameFault.{NameFault}
-use Rattle.edd_name_meanings.specs.declared.fault.NameFault.TheVariants.{Memory}
+use Rattle.edd_name_rules.specs.declared.fault.NameFault.{NameFault}
 use Rattle.edd_name_meanings.specs.Directory.{description_of}
-use Rattle.edd_name_rules.specs.declared.fault.RuleFault.{RuleFault}
-use Rattle.edd_name_rules.specs.declared.fault.RuleFault.TheVariants as rule
-use Rattle.edd_name_rules.specs.Faults as rules
-use Rattle.edd_name_rules.specs.Faults.{Agrees}
-use Rattle.edd_name_meanings.specs.Faults.{IsFound, IsFirst, of_rule, refusal_of}
+use Rattle.edd_name_rules.specs.Faults.{Agrees, IsFound, IsFirst, refusal_of}
 use Rattle.edd_name_meanings.specs.Meanings.{Means, NoFault, FirstFault, faults_in}
 use Rattle.edd_names.specs.Units.{unit_view}
 use Rattle.edd_name_rules.specs.Walks.{described}
 use Rattle.edd_syntax.proofs.FirstLaws.{first_of-append_none}
 use Rattle.edd_names.proofs.MemberLaws.{all_named}
 use Rattle.edd_name_meanings.specs.Copies.{Meant, Tells}
-use Rattle.edd_name_rules.proofs.Noting.{told_left, told_right}
+use Rattle.edd_name_rules.proofs.RuleLaws.{first_left_of, first_right_of}
 use Rattle.edd_syntax.specs.declared.limits.Limit.TheVariants as limit
 use Rattle.edd_syntax.specs.declared.item.Item as code_item
 use Rattle.edd_syntax.specs.declared.reference.Path as code_path
@@ -61,20 +56,6 @@ few_locals items h =
 
 -- ---- the first fault
 
-pub first_left_of : (f : NameFault) (xs ys : List Refusal) → IsFirst f xs → IsFirst f (xs ++ ys)
-unfolding IsFound
-first_left_of f xs ys h = told_left (refusal_of f) xs ys h
-
-pub first_right_of : (f : NameFault) (xs ys : List Refusal) → None ≡ first_of xs → IsFirst f ys
-    → IsFirst f (xs ++ ys)
-unfolding IsFound
-first_right_of f xs ys none h = told_right (refusal_of f) xs ys none h
-
--- memory that was refused is no breach
-pub memory_refused : (o : Option Refusal) → IsFound Memory o
-unfolding IsFound
-memory_refused o = tt
-
 -- the first of the faults that were told
 is_first : (f : NameFault) (fs : List NameFault) (rs : List Refusal)
     → map refusal_of (f ∷ fs) ≡ map (λ r. Some r) rs → IsFirst f rs
@@ -103,15 +84,6 @@ told_none unit us [] h few = nothing (faults_in unit us) h
 told_none unit us (g ∷ gs) h few = absurd (omega (arith, few))
 
 -- ---- the rules one after the other
-
-pub rule_first : (f : RuleFault) (all : List Refusal) → rules.IsFirst f all
-    → IsFirst (of_rule f) all
-unfolding IsFound rules.IsFound
-rule_first (rule.TooMany limit) all h = h
-rule_first (rule.DuplicateName name) all h = h
-rule_first (rule.DuplicateAttribute word) all h = h
-rule_first (rule.MissingAttribute item word) all h = h
-rule_first rule.Memory all h = h
 
 module _ (unit : Description Path) where
   abbrev pub rules_before : List Refusal

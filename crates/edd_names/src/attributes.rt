@@ -15,7 +15,7 @@ use crate::braces::copy_parts;
 use crate::texts::{copy_responses, copy_words};
 use edd_expression_names::conditionals::{copy_cond, copy_conds};
 use edd_name_meanings::directory::Names;
-use edd_name_meanings::fault::NameFault;
+use edd_name_rules::fault::NameFault;
 use edd_statement_names::statements::copy_body;
 use edd_syntax::item::{Attribute, Item, TypeWord};
 use edd_syntax::reference::{Path, Target};

@@ -9,13 +9,13 @@ ghost use Rattle.edd_syntax.specs.Resolved.{description};
 ghost use Rattle.edd_syntax.specs.ResolvedTrees.{resolved_unit};
 ghost use Rattle.edd_syntax.specs.WellFormed.{are_items};
 ghost use Rattle.edd_name_meanings.specs.Directory.{description_of};
-ghost use Rattle.edd_name_meanings.specs.Faults.{IsFirst};
+ghost use Rattle.edd_name_rules.specs.Faults.{IsFirst};
 ghost use Rattle.edd_names.specs.Units.{unit_view};
 
 use crate::unit_items::copy_items;
 use edd_name_meanings::directory::Names;
-use edd_name_meanings::fault::NameFault;
 use edd_name_rules::check_rules;
+use edd_name_rules::fault::NameFault;
 use edd_syntax::resolved::Resolved;
 use edd_syntax::unit::Unit;
 use std::alloc::Global;

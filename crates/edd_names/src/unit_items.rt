@@ -12,7 +12,7 @@ ghost use Rattle.edd_name_meanings.specs.Copies.{Copies, Told};
 
 use crate::attributes::copy_attributes;
 use edd_name_meanings::directory::Names;
-use edd_name_meanings::fault::NameFault;
+use edd_name_rules::fault::NameFault;
 use edd_syntax::item::{
     ArrayDef, Attribute, CollectionDef, CommandDef, Item, MenuDef, MethodDef, VariableDef,
 };

@@ -12,8 +12,8 @@ ghost use Rattle.edd_name_meanings.specs.Copies.{Copies, Told};
 
 use edd_expression_names::exprs::copy_expr;
 use edd_name_meanings::directory::Names;
-use edd_name_meanings::fault::NameFault;
 use edd_name_meanings::references::Local;
+use edd_name_rules::fault::NameFault;
 use edd_syntax::expr::Expr;
 use edd_syntax::reference::{Path, Target};
 use edd_syntax::stmt::Declarator;

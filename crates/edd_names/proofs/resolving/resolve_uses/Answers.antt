@@ -6,8 +6,9 @@ use Rattle.edd_syntax.specs.Refusal.{first_of}
 use Rattle.edd_syntax.specs.Resolved.{description}
 use Rattle.edd_name_meanings.specs.Copies.{Tells}
 use Rattle.edd_name_meanings.specs.Directory.{description_of}
+use Rattle.edd_name_rules.proofs.Noting.{memory_refused}
 use Rattle.edd_name_rules.proofs.Passing.{passed}
-use Rattle.edd_names.proofs.ResolvingLaws.{few_locals, fault_in_use, is_resolved, meanings, memory_refused, no_breach, told_first, told_none}
+use Rattle.edd_names.proofs.ResolvingLaws.{few_locals, fault_in_use, is_resolved, meanings, no_breach, told_first, told_none}
 use Rattle.edd_names.proofs.resolving.resolve_uses.Goals as goal
 
 pub copy_items-requires : goal.copy_items-requires
