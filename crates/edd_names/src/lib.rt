@@ -7,5 +7,5 @@ mod resolving;
 mod texts;
 mod unit_items;
 
-pub use edd_name_meanings::fault;
+pub use edd_name_rules::fault;
 pub use resolving::resolve;
