@@ -1,230 +1,109 @@
 //! The reserved words.
 
-ghost use Rattle.std.specs.Prelude.{◌≡◌, length};
-ghost use Rattle.edd_syntax.specs.Token.{spelling};
+ghost use Rattle.std.specs.Prelude.{◌≡◌, ◌<◌, length, bytes_eq, if◌then◌else◌};
+ghost use Rattle.edd_syntax.specs.Token.{Reserved, Identifier, spelling, all_keywords, word_token};
 ghost use Rattle.edd_lexer.specs.Keywords as words;
+ghost use Rattle.edd_lexer.specs.Views.{token_of};
 
+use crate::token::TokenKind;
 use edd_syntax::symbols::Keyword;
 
-// This reserved word, with its letters, or none.
-#[tactic(auto, unfolding(crate::specs::Keywords::only))]
-fn only(word: &[u8], letters: &[u8], keyword: Keyword) -> Option<Keyword>
-    requires { letters.now ≡ spelling keyword }
-    ensures { result ≡ words.only word.now keyword }
+// The place of a word among the reserved words. The factors were found by trying: with them no
+// two reserved words share a place, which the proof of `kind_at` needs.
+#[tactic(auto, unfolding(crate::specs::Keywords::place))]
+fn place(word: &[u8]) -> usize
+    requires { 0 < length word.now }
+    ensures { result ≡ words.place word.now }
 {
-    if word == letters { Some(keyword) } else { None }
+    2 * usize::from(word[0]) + 8 * usize::from(word[word.len() / 4]) + word.len()
 }
 
-#[tactic(auto, unfolding(crate::specs::Keywords::of_two))]
-fn of_two(first: u8, word: &[u8]) -> Option<Keyword>
-    ensures { result ≡ words.of_two first word.now }
+// The token of a word that is this reserved word, or else a name.
+fn only(word: &[u8], keyword: Keyword) -> TokenKind
+    ensures { token_of result word.now
+        ≡ if bytes_eq (spelling keyword) word.now then Reserved keyword else Identifier word.now }
 {
-    match first {
-        b'O' => only(word, b"OF", Keyword::Of),
-        b'I' => only(word, b"IF", Keyword::If),
-        b'i' => only(word, b"if", Keyword::MethodIf),
-        b'd' => only(word, b"do", Keyword::Do),
-        _ => None,
+    if keyword.spelling().as_bytes() == word {
+        TokenKind::Keyword(keyword)
+    } else {
+        TokenKind::Name
     }
 }
 
-#[tactic(auto, unfolding(crate::specs::Keywords::of_three))]
-fn of_three(first: u8, word: &[u8]) -> Option<Keyword>
-    ensures { result ≡ words.of_three first word.now }
+// The token of a word that is the reserved word of this place, or else a name.
+#[tactic(auto, unfolding(crate::specs::Keywords::place, crate::specs::Keywords::token_at))]
+fn kind_at(place: usize, word: &[u8]) -> TokenKind
+    ensures { token_of result word.now ≡ words.token_at place word.now all_keywords }
 {
-    match first {
-        b'i' => only(word, b"int", Keyword::Int),
-        b'f' => only(word, b"for", Keyword::For),
-        _ => None,
+    match place {
+        658 => only(word, Keyword::Case),
+        669 => only(word, Keyword::DefaultValue),
+        677 => only(word, Keyword::Label),
+        695 => only(word, Keyword::Default),
+        698 => only(word, Keyword::Elements),
+        699 => only(word, Keyword::Transaction),
+        700 => only(word, Keyword::Help),
+        706 => only(word, Keyword::Definition),
+        710 => only(word, Keyword::Menu),
+        712 => only(word, Keyword::Method),
+        713 => only(word, Keyword::Members),
+        719 => only(word, Keyword::Operation),
+        721 => only(word, Keyword::Reply),
+        723 => only(word, Keyword::Request),
+        724 => only(word, Keyword::Select),
+        732 => only(word, Keyword::If),
+        733 => only(word, Keyword::EditFormat),
+        735 => only(word, Keyword::DeviceRevision),
+        747 => only(word, Keyword::Class),
+        750 => only(word, Keyword::Else),
+        752 => only(word, Keyword::Collection),
+        773 => only(word, Keyword::Command),
+        776 => only(word, Keyword::Handling),
+        787 => only(word, Keyword::MinValue),
+        788 => only(word, Keyword::Validity),
+        790 => only(word, Keyword::DisplayFormat),
+        791 => only(word, Keyword::Array),
+        792 => only(word, Keyword::Of),
+        811 => only(word, Keyword::ConstantUnit),
+        818 => only(word, Keyword::ResponseCodes),
+        823 => only(word, Keyword::Items),
+        835 => only(word, Keyword::DeviceType),
+        836 => only(word, Keyword::Variable),
+        842 => only(word, Keyword::Number),
+        846 => only(word, Keyword::Manufacturer),
+        867 => only(word, Keyword::MaxValue),
+        884 => only(word, Keyword::Type),
+        907 => only(word, Keyword::DdRevision),
+        978 => only(word, Keyword::MethodCase),
+        1002 => only(word, Keyword::Do),
+        1015 => only(word, Keyword::MethodDefault),
+        1023 => only(word, Keyword::For),
+        1034 => only(word, Keyword::Char),
+        1042 => only(word, Keyword::Return),
+        1052 => only(word, Keyword::MethodIf),
+        1053 => only(word, Keyword::Int),
+        1067 => only(word, Keyword::Short),
+        1070 => only(word, Keyword::MethodElse),
+        1073 => only(word, Keyword::Float),
+        1075 => only(word, Keyword::While),
+        1076 => only(word, Keyword::Signed),
+        1086 => only(word, Keyword::Continue),
+        1094 => only(word, Keyword::Double),
+        1098 => only(word, Keyword::Goto),
+        1108 => only(word, Keyword::Long),
+        1113 => only(word, Keyword::Break),
+        1162 => only(word, Keyword::Unsigned),
+        1188 => only(word, Keyword::Switch),
+        _ => TokenKind::Name,
     }
 }
 
-#[tactic(auto, unfolding(crate::specs::Keywords::of_four))]
-fn of_four(first: u8, word: &[u8]) -> Option<Keyword>
-    requires { length word.now ≡ 4 }
-    ensures { result ≡ words.of_four first word.now }
-{
-    match first {
-        b'M' => only(word, b"MENU", Keyword::Menu),
-        b'H' => only(word, b"HELP", Keyword::Help),
-        b'T' => only(word, b"TYPE", Keyword::Type),
-        b'E' => only(word, b"ELSE", Keyword::Else),
-        b'C' => only(word, b"CASE", Keyword::Case),
-        b'l' => only(word, b"long", Keyword::Long),
-        b'e' => only(word, b"else", Keyword::MethodElse),
-        b'c' if word[2] == b's' => only(word, b"case", Keyword::MethodCase),
-        b'c' => only(word, b"char", Keyword::Char),
-        b'g' => only(word, b"goto", Keyword::Goto),
-        _ => None,
-    }
-}
-
-#[tactic(auto, unfolding(crate::specs::Keywords::of_five))]
-fn of_five(first: u8, word: &[u8]) -> Option<Keyword>
-    ensures { result ≡ words.of_five first word.now }
-{
-    match first {
-        b'L' => only(word, b"LABEL", Keyword::Label),
-        b'C' => only(word, b"CLASS", Keyword::Class),
-        b'R' => only(word, b"REPLY", Keyword::Reply),
-        b'I' => only(word, b"ITEMS", Keyword::Items),
-        b'w' => only(word, b"while", Keyword::While),
-        b'b' => only(word, b"break", Keyword::Break),
-        b's' => only(word, b"short", Keyword::Short),
-        b'f' => only(word, b"float", Keyword::Float),
-        b'A' => only(word, b"ARRAY", Keyword::Array),
-        _ => None,
-    }
-}
-
-#[tactic(auto, unfolding(crate::specs::Keywords::of_six))]
-fn of_six(first: u8, word: &[u8]) -> Option<Keyword>
-    requires { length word.now ≡ 6 }
-    ensures { result ≡ words.of_six first word.now }
-{
-    match first {
-        b'M' => only(word, b"METHOD", Keyword::Method),
-        b'N' => only(word, b"NUMBER", Keyword::Number),
-        b'S' => only(word, b"SELECT", Keyword::Select),
-        b's' if word[2] == b'i' => only(word, b"switch", Keyword::Switch),
-        b's' => only(word, b"signed", Keyword::Signed),
-        b'r' => only(word, b"return", Keyword::Return),
-        b'd' => only(word, b"double", Keyword::Double),
-        _ => None,
-    }
-}
-
-#[tactic(auto, unfolding(crate::specs::Keywords::of_seven))]
-fn of_seven(first: u8, word: &[u8]) -> Option<Keyword>
-    ensures { result ≡ words.of_seven first word.now }
-{
-    match first {
-        b'C' => only(word, b"COMMAND", Keyword::Command),
-        b'R' => only(word, b"REQUEST", Keyword::Request),
-        b'M' => only(word, b"MEMBERS", Keyword::Members),
-        b'D' => only(word, b"DEFAULT", Keyword::Default),
-        b'd' => only(word, b"default", Keyword::MethodDefault),
-        _ => None,
-    }
-}
-
-#[tactic(auto, unfolding(crate::specs::Keywords::of_eight))]
-fn of_eight(first: u8, word: &[u8]) -> Option<Keyword>
-    requires { length word.now ≡ 8 }
-    ensures { result ≡ words.of_eight first word.now }
-{
-    match first {
-        b'V' if word[2] == b'R' => only(word, b"VARIABLE", Keyword::Variable),
-        b'V' => only(word, b"VALIDITY", Keyword::Validity),
-        b'H' => only(word, b"HANDLING", Keyword::Handling),
-        b'c' => only(word, b"continue", Keyword::Continue),
-        b'u' => only(word, b"unsigned", Keyword::Unsigned),
-        b'E' => only(word, b"ELEMENTS", Keyword::Elements),
-        _ => None,
-    }
-}
-
-#[tactic(auto, unfolding(crate::specs::Keywords::of_nine))]
-fn of_nine(first: u8, word: &[u8]) -> Option<Keyword>
-    requires { length word.now ≡ 9 }
-    ensures { result ≡ words.of_nine first word.now }
-{
-    match first {
-        b'O' => only(word, b"OPERATION", Keyword::Operation),
-        b'M' if word[2] == b'N' => only(word, b"MIN_VALUE", Keyword::MinValue),
-        b'M' => only(word, b"MAX_VALUE", Keyword::MaxValue),
-        _ => None,
-    }
-}
-
-#[tactic(auto, unfolding(crate::specs::Keywords::of_ten))]
-fn of_ten(first: u8, word: &[u8]) -> Option<Keyword>
-    ensures { result ≡ words.of_ten first word.now }
-{
-    match first {
-        b'C' => only(word, b"COLLECTION", Keyword::Collection),
-        b'D' => only(word, b"DEFINITION", Keyword::Definition),
-        _ => None,
-    }
-}
-
-#[tactic(auto, unfolding(crate::specs::Keywords::of_eleven))]
-fn of_eleven(first: u8, word: &[u8]) -> Option<Keyword>
-    requires { length word.now ≡ 11 }
-    ensures { result ≡ words.of_eleven first word.now }
-{
-    match first {
-        b'D' if word[2] == b'V' => only(word, b"DEVICE_TYPE", Keyword::DeviceType),
-        b'D' => only(word, b"DD_REVISION", Keyword::DdRevision),
-        b'T' => only(word, b"TRANSACTION", Keyword::Transaction),
-        b'E' => only(word, b"EDIT_FORMAT", Keyword::EditFormat),
-        _ => None,
-    }
-}
-
-#[tactic(auto, unfolding(crate::specs::Keywords::of_twelve))]
-fn of_twelve(first: u8, word: &[u8]) -> Option<Keyword>
-    ensures { result ≡ words.of_twelve first word.now }
-{
-    match first {
-        b'M' => only(word, b"MANUFACTURER", Keyword::Manufacturer),
-        _ => None,
-    }
-}
-
-#[tactic(auto, unfolding(crate::specs::Keywords::of_thirteen))]
-fn of_thirteen(first: u8, word: &[u8]) -> Option<Keyword>
-    ensures { result ≡ words.of_thirteen first word.now }
-{
-    match first {
-        b'C' => only(word, b"CONSTANT_UNIT", Keyword::ConstantUnit),
-        b'D' => only(word, b"DEFAULT_VALUE", Keyword::DefaultValue),
-        _ => None,
-    }
-}
-
-#[tactic(auto, unfolding(crate::specs::Keywords::of_fourteen))]
-fn of_fourteen(first: u8, word: &[u8]) -> Option<Keyword>
-    ensures { result ≡ words.of_fourteen first word.now }
-{
-    match first {
-        b'R' => only(word, b"RESPONSE_CODES", Keyword::ResponseCodes),
-        b'D' => only(word, b"DISPLAY_FORMAT", Keyword::DisplayFormat),
-        _ => None,
-    }
-}
-
-#[tactic(auto, unfolding(crate::specs::Keywords::of_fifteen))]
-fn of_fifteen(first: u8, word: &[u8]) -> Option<Keyword>
-    ensures { result ≡ words.of_fifteen first word.now }
-{
-    match first {
-        b'D' => only(word, b"DEVICE_REVISION", Keyword::DeviceRevision),
-        _ => None,
-    }
-}
-
-/// The reserved word that these bytes spell.
+/// The token of a word: a reserved word, or a name.
 #[inline(never)]
-#[tactic(auto, unfolding(crate::specs::Keywords::keyword_by_length))]
-pub fn keyword(word: &[u8]) -> Option<Keyword>
-    ensures { result ≡ words.keyword_by_length word.now }
+#[tactic(auto, using(crate::proofs::ReservedWords::token_at_place))]
+pub fn word_kind(word: &[u8]) -> TokenKind
+    requires { 0 < length word.now }
+    ensures { token_of result word.now ≡ word_token word.now }
 {
-    match word.len() {
-        2 => of_two(word[0], word),
-        3 => of_three(word[0], word),
-        4 => of_four(word[0], word),
-        5 => of_five(word[0], word),
-        6 => of_six(word[0], word),
-        7 => of_seven(word[0], word),
-        8 => of_eight(word[0], word),
-        9 => of_nine(word[0], word),
-        10 => of_ten(word[0], word),
-        11 => of_eleven(word[0], word),
-        12 => of_twelve(word[0], word),
-        13 => of_thirteen(word[0], word),
-        14 => of_fourteen(word[0], word),
-        15 => of_fifteen(word[0], word),
-        _ => None,
-    }
+    kind_at(place(word), word)
 }

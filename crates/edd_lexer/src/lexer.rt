@@ -3,7 +3,6 @@
 ghost use Rattle.std.specs.Prelude.{◌≡◌, ◌<◌, ◌≤◌, ◌-◌, drop, length, IfOk, IfErr, IfSome, MatchResult, ◌⊎◌, List, true, false, Some, map, ◌∷◌, ◌==◌, ◌||◌};
 ghost use Rattle.std.specs.Char.{is_ascii_digit};
 ghost use Rattle.edd_syntax.specs.Names as names;
-ghost use Rattle.edd_syntax.specs.Token.{word_token};
 ghost use Rattle.edd_lexer.specs.Bytes as bytes;
 ghost use Rattle.edd_lexer.specs.Bytes.{begins};
 ghost use Rattle.edd_lexer.specs.Numbers as spelled;
@@ -23,7 +22,7 @@ use crate::bytes::{
 };
 use crate::fault::{Fault, LexFault};
 use crate::gaps::{behind_close, makes_mark};
-use crate::keywords::keyword;
+use crate::keywords::word_kind;
 use crate::lines::last_line;
 use crate::numbers::{Number, begins_sticking, digit_value, number_at};
 use crate::strings::string_end;
@@ -40,17 +39,6 @@ enum Step<'a> {
     /// `true` says that only blanks come after it on its last line so far.
     Gap(bool, u32, &'a [u8]),
     Wrong(Fault),
-}
-
-// A reserved word or a name.
-#[tactic(auto, using(crate::proofs::ReservedWords::token_by_length))]
-fn word_kind(word: &[u8]) -> TokenKind
-    ensures { token_of result word.now ≡ word_token word.now }
-{
-    match keyword(word) {
-        Some(keyword) => TokenKind::Keyword(keyword),
-        None => TokenKind::Name,
-    }
 }
 
 // A word, unless it is too long.
