@@ -13,7 +13,7 @@ ghost use Rattle.edd_lexer.specs.Faults as kinds;
 ghost use Rattle.edd_lexer.specs.declared.fault.LexFault.TheVariants.{Memory};
 ghost use Rattle.edd_lexer.specs.Reading as reading;
 ghost use Rattle.edd_lexer.specs.Reading.{tokens_of};
-ghost use Rattle.edd_lexer.specs.Views.{token_of, lexeme_of, fault_of, Answers};
+ghost use Rattle.edd_lexer.specs.Views.{lexeme_of, fault_of, Answers};
 ghost use Rattle.edd_lexer.specs.Parts.{step_of, Leads, Gives};
 
 use crate::bytes::{
