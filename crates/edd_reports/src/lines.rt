@@ -45,9 +45,11 @@ impl<'a> Lines<'a> {
     pub fn of(alloc: Global, text: &'a [u8]) -> Result<Lines<'a>, AllocError> {
         let mut starts = Vec::new(alloc);
         starts.push(0)?;
-        for (index, byte) in text.iter().enumerate() {
+        let mut rest = text;
+        while let [byte, behind @ ..] = rest {
+            rest = behind;
             if *byte == b'\n' {
-                starts.push(index.saturating_add(1))?;
+                starts.push(text.len().saturating_sub(behind.len()))?;
             }
         }
         let marks = Marks::of(alloc, text, &starts)?;
@@ -71,6 +73,16 @@ impl<'a> Lines<'a> {
         match self.starts.get(line.saturating_add(1)) {
             Some(next) => next.saturating_sub(1),
             None => self.text.len(),
+        }
+    }
+
+    /// How many characters a place has on its first line.
+    pub fn width(&self, place: Span) -> usize {
+        let end = place.end.min(self.end_of(self.line_of(place.start)));
+        let bytes = self.text.get(place.start..end).unwrap_or(b"");
+        match str::from_utf8(bytes) {
+            Ok(text) => text.chars().count(),
+            Err(_) => bytes.iter().filter(|byte| **byte & 0xc0 != 0x80).count(),
         }
     }
 

@@ -23,16 +23,6 @@ pub struct Spot<'a> {
     pub made: Option<&'a str>,
 }
 
-// How many characters the bytes of a place have on its first line.
-fn width_of(text: &[u8], place: Span) -> usize {
-    let bytes = text.iter().skip(place.start);
-    bytes
-        .take(place.end.saturating_sub(place.start))
-        .take_while(|byte| **byte != b'\n')
-        .filter(|byte| **byte & 0xc0 != 0x80)
-        .count()
-}
-
 // The same place in the line of the file that it was made from.
 fn in_original<'a>(spot: Spot<'a>, line: &'a str, length: usize) -> Spot<'a> {
     let start = spot.before.len();
@@ -68,7 +58,7 @@ pub fn spot_of<'a>(source: Source<'a>, place: Span) -> Spot<'a> {
         column: at.column,
         text: at.text,
         before: at.text.get(..at.before).unwrap_or(""),
-        width: width_of(source.lines.text, place),
+        width: source.lines.width(place),
         is_original: false,
         made: None,
     };
