@@ -43,7 +43,7 @@ pub fn code_text(code: &[u8]) -> &str {
     str::from_utf8(code).unwrap_or("en")
 }
 
-pub fn is_number(code: &[u8]) -> bool {
+fn is_number(code: &[u8]) -> bool {
     matches!(code.first(), Some(b'0'..=b'9'))
 }
 
@@ -74,6 +74,11 @@ pub fn place_of(code: &[u8]) -> usize {
             .saturating_add(FIRST_OF_LETTERS),
         _ => 0,
     }
+}
+
+/// Whether a place is that of a number.
+pub fn is_of_number(place: usize) -> bool {
+    place < FIRST_OF_LETTERS
 }
 
 /// Whether a code is one of a language, or a number.
@@ -107,6 +112,13 @@ impl Row {
     pub fn set(&mut self, place: usize, number: usize) {
         if let Some(old) = self.numbers.get_mut(place) {
             *old = number;
+        }
+    }
+
+    /// Makes the number of a place greater by one.
+    pub fn count(&mut self, place: usize) {
+        if let Some(number) = self.numbers.get_mut(place) {
+            *number = number.saturating_add(1);
         }
     }
 

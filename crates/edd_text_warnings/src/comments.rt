@@ -81,9 +81,6 @@ pub fn check_comments(
     tokens: &[Token],
     findings: &mut Findings,
 ) -> Result<(), AllocError> {
-    if !text.contains(&LEAD) {
-        return Ok(());
-    }
     let mut gap = Gap {
         before: 0,
         line: 1,

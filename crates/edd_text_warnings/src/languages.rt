@@ -1,45 +1,23 @@
 //! The languages of texts: bars that open none, codes that are none, languages that are there
 //! twice, without words or with other choices, and one that most other texts have.
 
-use crate::codes::{Row, code_text, is_language, place_of};
+use crate::codes::code_text;
 use crate::texts::Spoken;
-use crate::usual::Languages;
+use crate::usual::{Languages, Met};
 use crate::variants::{Variant, Variants};
 use edd_lints::lint::Lint;
 use edd_lints::tokens_left::Mark;
 use edd_lints::warning::Findings;
 use std::alloc::AllocError;
-use std::collections::BTreeSet;
 
-// The first language of a text that some rule is broken by, where there is one.
+// The first code of a text that some rule is broken by, where there is one.
 #[derive(Clone, Copy)]
 struct Wrong<'r> {
-    repeated: Option<&'r str>,
-    unknown: Option<&'r str>,
-    empty: Option<&'r str>,
-}
-
-/// The codes of the texts so far, which have numbers from 1.
-#[derive(Drop)]
-struct Seen<'r> {
-    /// The text in which each code without a country was last.
-    short: Row,
-    /// Each text that has a code with a country, and the code.
-    long: BTreeSet<(usize, &'r str)>,
-}
-
-impl<'r> Seen<'r> {
-    // Notes that a text has a code. Says whether it was noted before.
-    fn is_repeated(&mut self, text: usize, code: &'r [u8]) -> Result<bool, AllocError> {
-        if 3 < code.len() {
-            let is_new = self.long.insert((text, code_text(code)))?;
-            return Ok(!is_new);
-        }
-        let place = place_of(code);
-        let is_repeated = self.short.get(place) == text;
-        self.short.set(place, text);
-        Ok(is_repeated)
-    }
+    repeated: Option<&'r [u8]>,
+    unknown: Option<&'r [u8]>,
+    empty: Option<&'r [u8]>,
+    /// Whether one of the languages has words: of a text without any, none is told to be empty.
+    has_words: bool,
 }
 
 // Whether words are more than spaces.
@@ -47,66 +25,79 @@ fn has_sign(words: &[u8]) -> bool {
     words.iter().any(|byte| *byte != b' ')
 }
 
-// What is wrong with the languages of a text, of which a reader needs one each.
+impl<'r> Wrong<'r> {
+    // Adds a language, of which a reader needs one each.
+    fn add(&mut self, variant: Variant<'r>, met: Met) {
+        let code = Some(variant.code);
+        let has_words = has_sign(variant.words);
+        self.has_words = self.has_words || has_words;
+        if met.is_repeated {
+            self.repeated = self.repeated.or(code);
+            return;
+        }
+        if !met.is_known && self.unknown.is_none() {
+            self.unknown = code;
+        }
+        if !has_words && self.empty.is_none() {
+            self.empty = code;
+        }
+    }
+}
+
+// What is wrong with the languages of a text, which are passed.
 fn wrong_in<'r>(
-    text: usize,
-    variants: &[Variant<'r>],
-    seen: &mut Seen<'r>,
+    raw: &'r [u8],
+    variants: &mut Variants<'r>,
+    languages: &mut Languages<'_, 'r>,
 ) -> Result<Wrong<'r>, AllocError> {
     let mut wrong = Wrong {
         repeated: None,
         unknown: None,
         empty: None,
+        has_words: false,
     };
-    let has_words = variants.iter().any(|variant| has_sign(variant.words));
-    for variant in variants {
-        let code = variant.code;
-        if seen.is_repeated(text, code)? {
-            wrong.repeated = wrong.repeated.or(Some(code_text(code)));
-            continue;
-        }
-        if !is_language(code) {
-            wrong.unknown = wrong.unknown.or(Some(code_text(code)));
-        }
-        if has_words && !has_sign(variant.words) {
-            wrong.empty = wrong.empty.or(Some(code_text(code)));
-        }
+    for _ in raw {
+        let Some(variant) = variants.pass() else {
+            break;
+        };
+        wrong.add(variant, languages.meet(variant.code)?);
     }
     Ok(wrong)
 }
 
 // The languages of a text by themselves.
 fn check_text<'r>(
-    number: usize,
-    spoken: &Spoken<'_>,
-    variants: &Variants<'r>,
-    seen: &mut Seen<'r>,
+    raw: &'r [u8],
+    at: Mark<'_>,
+    languages: &mut Languages<'_, 'r>,
     findings: &mut Findings,
 ) -> Result<(), AllocError> {
+    let mut variants = Variants::of(raw);
+    let wrong = wrong_in(raw, &mut variants, languages)?;
     if variants.has_stray_bar {
         let message = String::from_str(findings.alloc, "a bar in this text opens no language")?;
-        findings.add(Lint::StrayBar, spoken.at, message)?;
+        findings.add(Lint::StrayBar, at, message)?;
     }
-    let wrong = wrong_in(number, &variants.all, seen)?;
-    add_wrong(wrong, spoken.at, findings)?;
-    if spoken.is_choices {
-        check_choices(&variants.all, spoken.at, findings)?;
-    }
-    Ok(())
+    add_wrong(wrong, at, findings)
 }
 
-// What is wrong with the languages of a text.
+// Tells what is wrong with the languages of a text.
 fn add_wrong(wrong: Wrong<'_>, at: Mark<'_>, findings: &mut Findings) -> Result<(), AllocError> {
     let alloc = findings.alloc;
     if let Some(code) = wrong.repeated {
+        let code = code_text(code);
         let message = format!(in alloc; "{code} is twice in this text")?;
         findings.add(Lint::RepeatedLanguage, at, message)?;
     }
     if let Some(code) = wrong.empty {
-        let message = format!(in alloc; "this text has no words in {code}")?;
-        findings.add(Lint::EmptyLanguage, at, message)?;
+        if wrong.has_words {
+            let code = code_text(code);
+            let message = format!(in alloc; "this text has no words in {code}")?;
+            findings.add(Lint::EmptyLanguage, at, message)?;
+        }
     }
     if let Some(code) = wrong.unknown {
+        let code = code_text(code);
         let message = format!(in alloc; "{code} is no code of a language")?;
         findings.add(Lint::UnknownLanguage, at, message)?;
     }
@@ -125,16 +116,16 @@ fn choices_in(words: &[u8]) -> usize {
 }
 
 // A language with another number of choices than the first one.
-fn check_choices(
-    variants: &[Variant<'_>],
-    at: Mark<'_>,
-    findings: &mut Findings,
-) -> Result<(), AllocError> {
-    let Some(first) = variants.first() else {
+fn check_choices(raw: &[u8], at: Mark<'_>, findings: &mut Findings) -> Result<(), AllocError> {
+    let mut variants = Variants::of(raw);
+    let Some(first) = variants.pass() else {
         return Ok(());
     };
     let count = choices_in(first.words);
-    for variant in variants {
+    for _ in raw {
+        let Some(variant) = variants.pass() else {
+            break;
+        };
         let other = choices_in(variant.words);
         if other != count {
             let (one, two) = (code_text(first.code), code_text(variant.code));
@@ -150,20 +141,15 @@ fn check_choices(
 /// with each other, and those without with each other. A text without bars is in one language,
 /// of which nothing is to be said.
 pub fn check_languages(texts: &[Spoken<'_>], findings: &mut Findings) -> Result<(), AllocError> {
-    let alloc = findings.alloc;
-    let mut variants = Variants::new(alloc);
-    let mut seen = Seen {
-        short: Row::new(alloc)?,
-        long: BTreeSet::new(alloc),
-    };
-    let mut languages = Languages::new(alloc)?;
-    let mut number = 0usize;
+    let mut languages = Languages::new(findings.alloc)?;
     for spoken in texts {
-        if spoken.raw().contains(&b'|') {
-            number = number.saturating_add(1);
-            variants.read(spoken.raw())?;
-            check_text(number, spoken, &variants, &mut seen, findings)?;
-            languages.add(number, &variants.all, spoken.at)?;
+        let raw = spoken.raw();
+        if raw.contains(&b'|') {
+            check_text(raw, spoken.at, &mut languages, findings)?;
+            languages.end(spoken.at)?;
+            if spoken.is_choices {
+                check_choices(raw, spoken.at, findings)?;
+            }
         }
     }
     languages.check_missing(findings)

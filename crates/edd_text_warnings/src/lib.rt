@@ -12,6 +12,7 @@ mod texts;
 mod usual;
 mod variants;
 
+use comments::LEAD;
 use edd_lexer::token::Token;
 use edd_lints::warning::Findings;
 use std::alloc::AllocError;
@@ -24,7 +25,10 @@ pub fn check_texts(
 ) -> Result<(), AllocError> {
     let texts = texts::texts_of(findings.alloc, text, tokens)?;
     languages::check_languages(&texts, findings)?;
-    signs::check_signs(&texts, findings)?;
-    comments::check_comments(text, tokens, findings)?;
+    let may_turn = text.contains(&LEAD);
+    signs::check_signs(&texts, may_turn, findings)?;
+    if may_turn {
+        comments::check_comments(text, tokens, findings)?;
+    }
     classes::check_classes(text, tokens, findings)
 }

@@ -105,7 +105,11 @@ fn is_shown_as_it_is(spoken: &Spoken<'_>) -> bool {
     )
 }
 
-fn check_text(spoken: &Spoken<'_>, findings: &mut Findings) -> Result<(), AllocError> {
+fn check_text(
+    spoken: &Spoken<'_>,
+    may_turn: bool,
+    findings: &mut Findings,
+) -> Result<(), AllocError> {
     let alloc = findings.alloc;
     if is_shown_as_it_is(spoken) && has_placeholder(spoken.raw()) {
         let message = String::from_str(
@@ -121,7 +125,7 @@ fn check_text(spoken: &Spoken<'_>, findings: &mut Findings) -> Result<(), AllocE
         )?;
         findings.add(Lint::JoinedTexts, at, message)?;
     }
-    if has_turn(spoken.raw()) {
+    if may_turn && has_turn(spoken.raw()) {
         let message = String::from_str(
             alloc,
             "this text has a character that turns its direction and is not seen",
@@ -131,10 +135,15 @@ fn check_text(spoken: &Spoken<'_>, findings: &mut Findings) -> Result<(), AllocE
     Ok(())
 }
 
-/// The signs in the texts of a description.
-pub fn check_signs(texts: &[Spoken<'_>], findings: &mut Findings) -> Result<(), AllocError> {
+/// The signs in the texts of a description. Where no character of it may turn the direction, none is
+/// looked for.
+pub fn check_signs(
+    texts: &[Spoken<'_>],
+    may_turn: bool,
+    findings: &mut Findings,
+) -> Result<(), AllocError> {
     for spoken in texts {
-        check_text(spoken, findings)?;
+        check_text(spoken, may_turn, findings)?;
     }
     Ok(())
 }

@@ -1,11 +1,12 @@
-//! The languages that most texts have, and texts that lack one of them.
+//! The languages of texts by their places: which one a text has twice, and which it lacks that most
+//! texts have.
 
-use crate::codes::{PLACES, Row, code_text, is_number, language_of, place_of};
-use crate::variants::Variant;
+use crate::codes::{PLACES, Row, code_text, is_language, is_of_number, language_of, place_of};
 use edd_lints::lint::Lint;
 use edd_lints::tokens_left::Mark;
 use edd_lints::warning::Findings;
 use std::alloc::{AllocError, Global};
+use std::collections::BTreeSet;
 
 /// How many texts of more than one language there are, and how many of them have each language.
 #[derive(Drop)]
@@ -26,16 +27,15 @@ impl Counts {
     fn add(&mut self, places: &[usize], from: usize) {
         self.texts = self.texts.saturating_add(1);
         for place in places.get(from..).unwrap_or(&[]) {
-            let count = self.of_language.get(*place);
-            self.of_language.set(*place, count.saturating_add(1));
+            self.of_language.count(*place);
         }
     }
 
-    // The places of the languages that more than half of the texts have.
+    // The places of the languages that more than half of the texts have, and some text lacks.
     fn usual(&self, alloc: Global) -> Result<Vec<usize>, AllocError> {
         let mut usual = Vec::new(alloc);
         for (place, count) in self.of_language.all().iter().enumerate() {
-            if self.texts / 2 < *count {
+            if self.texts / 2 < *count && *count < self.texts {
                 usual.push(place)?;
             }
         }
@@ -54,75 +54,138 @@ struct Manifold<'a> {
     has_number: bool,
 }
 
-/// The languages of the texts so far. Those of texts with codes of three digits are counted by
-/// themselves.
+/// A language, and the numbers of the texts that it was in last.
+#[derive(Clone, Copy)]
+struct Language<'r> {
+    /// Its code without a country. Nothing where no text has it.
+    name: &'r str,
+    /// Whether its code is one of ISO 639-1 or a number.
+    is_known: bool,
+    /// 0 where there is none.
+    last: usize,
+    /// The same of the texts in which its code has no country.
+    last_bare: usize,
+}
+
+/// A language that no text has.
+const UNMET: Language<'static> = Language {
+    name: "",
+    is_known: false,
+    last: 0,
+    last_bare: 0,
+};
+
+impl<'r> Language<'r> {
+    // The language of a code, which no text has so far.
+    fn of(code: &'r [u8]) -> Language<'r> {
+        Language {
+            name: code_text(language_of(code)),
+            is_known: is_language(code),
+            last: 0,
+            last_bare: 0,
+        }
+    }
+}
+
+/// What there is to a code of a text.
+#[derive(Clone, Copy)]
+pub struct Met {
+    /// Whether the text has it twice.
+    pub is_repeated: bool,
+    /// Whether it is that of a language, or a number.
+    pub is_known: bool,
+}
+
+/// The languages of the texts so far, whose numbers count from 1. Those of texts with codes of three
+/// digits are counted by themselves.
 #[derive(Drop)]
 pub struct Languages<'a, 'r> {
+    /// The language of each place.
+    all: Vec<Language<'r>>,
+    /// Each text that has a code with a country, and the code.
+    countries: BTreeSet<(usize, &'r str)>,
     texts: Vec<Manifold<'a>>,
     /// The places of the languages of all texts, text by text.
     places: Vec<usize>,
-    /// What the language of each place is called.
-    names: Vec<&'r str>,
-    /// The number of the text that each language was in last.
-    last: Row,
     lettered: Counts,
     numbered: Counts,
+    /// The number of the text whose codes come.
+    text: usize,
+    /// Where the places of its languages begin.
+    from: usize,
+    /// Whether one of its codes so far is a number.
+    has_number: bool,
 }
 
 impl<'a, 'r> Languages<'a, 'r> {
     pub fn new(alloc: Global) -> Result<Languages<'a, 'r>, AllocError> {
         Ok(Languages {
+            all: Vec::from_elem(alloc, UNMET, PLACES)?,
+            countries: BTreeSet::new(alloc),
             texts: Vec::new(alloc),
             places: Vec::new(alloc),
-            names: Vec::from_elem(alloc, "", PLACES)?,
-            last: Row::new(alloc)?,
             lettered: Counts::new(alloc)?,
             numbered: Counts::new(alloc)?,
+            text: 1,
+            from: 0,
+            has_number: false,
         })
     }
 
-    // Notes that the text of a number has a language, once.
-    fn add_language(&mut self, text: usize, code: &'r [u8]) -> Result<(), AllocError> {
-        let place = place_of(code);
-        if self.last.get(place) == text {
-            return Ok(());
-        }
-        self.last.set(place, text);
-        self.places.push(place)?;
-        if let Some(name) = self.names.get_mut(place) {
-            *name = code_text(language_of(code));
-        }
-        Ok(())
+    // Notes that the text has a code with a country. Says whether it was noted before.
+    fn is_repeated(&mut self, code: &'r [u8]) -> Result<bool, AllocError> {
+        let is_new = self.countries.insert((self.text, code_text(code)))?;
+        Ok(!is_new)
     }
 
-    /// Adds the languages of a text, which has a number over 0 of its own.
-    pub fn add(
-        &mut self,
-        text: usize,
-        variants: &[Variant<'r>],
-        at: Mark<'a>,
-    ) -> Result<(), AllocError> {
-        let from = self.places.len();
-        let mut has_number = false;
-        for variant in variants {
-            has_number = has_number || is_number(variant.code);
-            self.add_language(text, variant.code)?;
+    /// Takes the next code of a text.
+    #[inline(always)]
+    pub fn meet(&mut self, code: &'r [u8]) -> Result<Met, AllocError> {
+        let text = self.text;
+        let place = place_of(code);
+        let has_country = 3 < code.len();
+        let mut met = Met {
+            is_repeated: has_country && self.is_repeated(code)?,
+            is_known: true,
+        };
+        self.has_number = self.has_number || is_of_number(place);
+        if let Some(language) = self.all.get_mut(place) {
+            if language.last == 0 {
+                *language = Language::of(code);
+            }
+            met.is_known = language.is_known;
+            if !has_country {
+                met.is_repeated = language.last_bare == text;
+                language.last_bare = text;
+            }
+            if language.last != text {
+                language.last = text;
+                self.places.push(place)?;
+            }
         }
-        let to = self.places.len();
-        if to.saturating_sub(from) < 2 {
+        Ok(met)
+    }
+
+    /// Ends a text, all of whose codes were taken.
+    pub fn end(&mut self, at: Mark<'a>) -> Result<(), AllocError> {
+        let text = Manifold {
+            at,
+            from: self.from,
+            to: self.places.len(),
+            has_number: self.has_number,
+        };
+        self.text = self.text.saturating_add(1);
+        self.from = text.to;
+        self.has_number = false;
+        if text.to.saturating_sub(text.from) < 2 {
             return Ok(());
         }
-        if has_number {
-            self.numbered.add(&self.places, from);
+        if text.has_number {
+            self.numbered.add(&self.places, text.from);
         } else {
-            self.lettered.add(&self.places, from);
+            self.lettered.add(&self.places, text.from);
         }
-        self.texts.push(Manifold {
-            at,
-            from,
-            to,
-            has_number,
-        })?;
+        self.texts.push(text)?;
         Ok(())
     }
 
@@ -138,7 +201,7 @@ impl<'a, 'r> Languages<'a, 'r> {
     ) -> Result<(), AllocError> {
         for place in usual {
             if here.get(*place) != number {
-                let code = self.names.get(*place).copied().unwrap_or("");
+                let code = self.all.get(*place).copied().unwrap_or(UNMET).name;
                 let alloc = findings.alloc;
                 let message = format!(in alloc; "this text lacks {code}, which most texts have")?;
                 findings.add(Lint::MissingLanguage, text.at, message)?;
@@ -152,6 +215,9 @@ impl<'a, 'r> Languages<'a, 'r> {
         let alloc = findings.alloc;
         let letters = self.lettered.usual(alloc)?;
         let numbers = self.numbered.usual(alloc)?;
+        if letters.is_empty() && numbers.is_empty() {
+            return Ok(());
+        }
         let mut here = Row::new(alloc)?;
         let mut number = 0usize;
         for text in &self.texts {

@@ -1,7 +1,5 @@
 //! The languages of a text.
 
-use std::alloc::{AllocError, Global};
-
 /// What a text has for a language.
 #[derive(Clone, Copy)]
 pub struct Variant<'r> {
@@ -9,18 +7,31 @@ pub struct Variant<'r> {
     pub words: &'r [u8],
 }
 
-/// What the bars of a text open.
-#[derive(Drop)]
+impl<'r> Variant<'r> {
+    // The same without these bytes at the end of its words and the bar before them.
+    fn up_to(self, behind: &[u8]) -> Variant<'r> {
+        let len = self.words.len().saturating_sub(behind.len());
+        Variant {
+            code: self.code,
+            words: self.words.get(..len.saturating_sub(1)).unwrap_or(b""),
+        }
+    }
+}
+
+/// The languages of a text, which are passed one by one.
+#[derive(Clone, Copy)]
 pub struct Variants<'r> {
-    pub all: Vec<Variant<'r>>,
+    /// The language that comes next, and all that is behind its code.
+    next: Option<Variant<'r>>,
+    /// Whether a bar was passed that opens no language.
     pub has_stray_bar: bool,
 }
 
-// The length of the code here, where a bar follows it.
-fn code_len(here: &[u8]) -> Option<usize> {
-    match here {
-        [b'a'..=b'z', b'a'..=b'z', b'|', ..] => Some(2),
-        [b'0'..=b'9', b'0'..=b'9', b'0'..=b'9', b'|', ..] => Some(3),
+// The code that a bar opens before these bytes, and what is behind the bar that closes it.
+fn opened(behind: &[u8]) -> Option<Variant<'_>> {
+    let (len, words) = match behind {
+        [b'a'..=b'z', b'a'..=b'z', b'|', words @ ..] => (2, words),
+        [b'0'..=b'9', b'0'..=b'9', b'0'..=b'9', b'|', words @ ..] => (3, words),
         [
             b'a'..=b'z',
             b'a'..=b'z',
@@ -28,66 +39,53 @@ fn code_len(here: &[u8]) -> Option<usize> {
             b'a'..=b'z',
             b'a'..=b'z',
             b'|',
-            ..
-        ] => Some(5),
-        _ => None,
-    }
+            words @ ..,
+        ] => (5, words),
+        _ => return None,
+    };
+    Some(Variant {
+        code: behind.get(..len)?,
+        words,
+    })
 }
 
 impl<'r> Variants<'r> {
-    /// No languages yet.
-    pub fn new(alloc: Global) -> Variants<'r> {
+    /// All languages of a text. What is before the first code is English.
+    pub fn of(raw: &'r [u8]) -> Variants<'r> {
+        let first = match raw {
+            [b'|', behind @ ..] => opened(behind),
+            _ => None,
+        };
+        let english = Variant {
+            code: b"en",
+            words: raw,
+        };
         Variants {
-            all: Vec::new(alloc),
+            next: first.or(Some(english)),
             has_stray_bar: false,
         }
     }
 
-    // What is between two places; nothing of the text before a first code.
-    fn add(
-        &mut self,
-        raw: &'r [u8],
-        code: Option<&'r [u8]>,
-        from: usize,
-        to: usize,
-    ) -> Result<(), AllocError> {
-        if code.is_none() && from == to {
-            return Ok(());
-        }
-        self.all.push(Variant {
-            code: code.unwrap_or(b"en"),
-            words: raw.get(from..to).unwrap_or(b""),
-        })?;
-        Ok(())
-    }
-
-    /// Reads the languages of a text in place of those that were read before. A backslash and the
-    /// byte after it are passed together. What is before the first code is English.
-    pub fn read(&mut self, raw: &'r [u8]) -> Result<(), AllocError> {
-        self.all.clear();
-        self.has_stray_bar = false;
-        let mut code = None;
-        let mut from = 0usize;
-        let mut passed = 0usize;
-        for (at, byte) in raw.iter().enumerate() {
-            if !matches!(*byte, b'|' | b'\\') || at < passed {
-                continue;
-            }
-            if *byte == b'\\' {
-                passed = at.saturating_add(2);
-                continue;
-            }
-            let behind = raw.get(at.saturating_add(1)..).unwrap_or(b"");
-            match code_len(behind) {
-                Some(len) => {
-                    self.add(raw, code, from, at)?;
-                    code = behind.get(..len);
-                    passed = at.saturating_add(len).saturating_add(2);
-                    from = passed;
+    /// Passes the next language. A backslash and the byte after it are passed together.
+    #[inline(always)]
+    pub fn pass(&mut self) -> Option<Variant<'r>> {
+        let variant = self.next?;
+        let mut rest = variant.words;
+        while let [byte, behind @ ..] = rest {
+            rest = match (*byte, behind) {
+                (b'\\', [_, tail @ ..]) => tail,
+                _ => behind,
+            };
+            if *byte == b'|' {
+                let next = opened(behind);
+                if next.is_some() {
+                    self.next = next;
+                    return Some(variant.up_to(behind));
                 }
-                None => self.has_stray_bar = true,
+                self.has_stray_bar = true;
             }
         }
-        self.add(raw, code, from, raw.len())
+        self.next = None;
+        Some(variant)
     }
 }
