@@ -42,15 +42,44 @@ fn is_in_token(tokens: &[Token], place: usize) -> bool {
     }
 }
 
+// What is before and behind the first remark in bytes, if there is one.
+fn parted(bytes: &[u8]) -> Option<(&str, &str)> {
+    if !bytes.contains(&b':') {
+        return None;
+    }
+    str::from_utf8(bytes).unwrap_or("").split_once(ALLOW)
+}
+
+// Whether a remark is between two places.
+fn is_between(text: &[u8], start: usize, end: usize) -> bool {
+    ALLOW.len() <= end.saturating_sub(start)
+        && parted(text.get(start..end).unwrap_or(b"")).is_some()
+}
+
+// Whether there is a remark between tokens, as in few sources.
+fn has_remark(text: &[u8], tokens: &[Token]) -> bool {
+    let mut start: usize = 0;
+    for token in tokens {
+        if is_between(text, start, token.start as usize) {
+            return true;
+        }
+        start = token.end as usize;
+    }
+    is_between(text, start, text.len())
+}
+
 impl Remarks {
     pub fn of(alloc: Global, text: &[u8], tokens: &[Token]) -> Result<Remarks, AllocError> {
         let mut remarks = Remarks {
             remarks: Vec::new(alloc),
         };
+        if !has_remark(text, tokens) {
+            return Ok(remarks);
+        }
         let mut start: usize = 0;
         let mut line: u32 = 1;
         for bytes in text.split(|byte| *byte == b'\n') {
-            if let Some((before, names)) = str::from_utf8(bytes).unwrap_or("").split_once(ALLOW) {
+            if let Some((before, names)) = parted(bytes) {
                 if !is_in_token(tokens, start.saturating_add(before.len())) {
                     remarks.add(line, names)?;
                 }
