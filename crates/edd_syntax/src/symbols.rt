@@ -69,8 +69,8 @@ pub enum Keyword {
 }
 
 impl Keyword {
-    /// How the word is written, as EDDL has it (IEC 61804-3).
     // Inlined, so that a comparison with one known word is one with its letters.
+    /// How the word is written, as EDDL has it (IEC 61804-3).
     #[inline]
     pub fn spelling(self) -> &'static str
         ensures { result.now ≡ spelling self }
