@@ -3,14 +3,12 @@
 ghost use Rattle.std.specs.Prelude.{IfOk, OnOk};
 ghost use Rattle.edd_check.specs.Said.{IsWarning, WarnsAlone};
 
-use crate::choices::{Choices, Level};
-use crate::remarks::Remarks;
 use crate::reports::Reports;
 use edd_lexer::token::Token;
 use edd_reports::diagnostic::{Diagnostic, Finding, Help};
 use edd_reports::words::{Span, span_of, tokens_before, word_of};
 use edd_syntax::checked::Checked;
-use edd_warnings::{Warning, warnings};
+use edd_warnings::{Choices, Level, Remarks, Warning, warnings};
 use std::alloc::{AllocError, Global};
 
 // Whether a token begins at a byte, where one is known, and has a spelling.

@@ -11,13 +11,13 @@ ghost use Rattle.edd_compiler.specs.Sources.{IsUnitOf, IsDescriptionOf};
 ghost use Rattle.edd_check.specs.Said.{Refuses, WarnsAlone};
 
 use crate::accepted::of_text;
-use crate::choices::Choices;
 use crate::refusals::{of_excess, of_unit, of_words};
 use crate::reports::Reports;
 use edd_compiler::{Fault, checked_from, image_from, tokens_of, unit_from};
 use edd_lexer::token::Token;
 use edd_syntax::checked::Checked;
 use edd_syntax::unit::Unit;
+use edd_warnings::Choices;
 use std::alloc::{AllocError, Global};
 
 fn accepted(said: Reports) -> Reports

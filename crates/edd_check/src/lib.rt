@@ -12,25 +12,22 @@ ghost use Rattle.std.specs.Prelude.{◌≡◌, false, IfOk};
 ghost use Rattle.edd_compiler.specs.Images.{HasImage};
 
 mod accepted;
-mod choices;
 mod diagnosing;
 mod grammar;
 mod kinds;
 mod look;
 mod names;
 mod refusals;
-mod remarks;
 mod reports;
 mod rules;
 mod sources;
 
-pub use choices::{Choices, Level};
 pub use diagnosing::diagnose;
 pub use edd_reports::diagnostic::{Diagnostic, Finding};
 pub use edd_reports::nearest::Nearest;
 pub use edd_reports::words::Span;
 pub use edd_reports::{Format, ReportFault};
-pub use edd_warnings::{LINTS, Lint};
+pub use edd_warnings::{Choices, LINTS, Level, Lint};
 pub use look::{Look, print_document};
 pub use reports::Reports;
 use std::alloc::{AllocError, Global};

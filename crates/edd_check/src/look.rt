@@ -5,7 +5,6 @@ ghost use Rattle.edd_compiler.specs.Faults.{HasFault};
 ghost use Rattle.edd_compiler.specs.Images.{HasImage};
 ghost use Rattle.edd_check.specs.Said.{Refuses, WarnsAlone};
 
-use crate::choices::Choices;
 use crate::diagnose;
 use crate::reports::Reports;
 use edd_reports::diagnostic::Diagnostic;
@@ -15,6 +14,7 @@ use edd_reports::{
     Format, Originals, ReportFault, Source, Spot, print_diagnostic, print_more, spot_of,
 };
 use edd_sarif::{Findings, print_sarif};
+use edd_warnings::Choices;
 use std::alloc::{AllocError, Global};
 use std::io::Write;
 

@@ -1,6 +1,8 @@
-//! The lints, their warnings, and what is known of the places and the expressions of an item.
+//! The lints, which of them are shown, their warnings, and what is known of the places and the
+//! expressions of an item.
 #![tactic(auto)]
 
+pub mod choices;
 pub mod classes;
 pub mod constants;
 pub mod facts;
@@ -10,6 +12,7 @@ mod lint_words;
 mod listed;
 pub mod names;
 pub mod range;
+pub mod remarks;
 mod sorted;
 pub mod tokens_left;
 pub mod warning;

@@ -16,6 +16,8 @@ mod repeats;
 mod steps;
 mod variables;
 
+pub use edd_lints::choices::{Choices, Level};
 pub use edd_lints::lint::{LINTS, Lint};
+pub use edd_lints::remarks::Remarks;
 pub use edd_lints::warning::{Spot, Warning};
 pub use finding::warnings;

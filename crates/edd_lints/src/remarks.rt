@@ -1,8 +1,9 @@
 //! Comments in a source that allow lints: `edd: allow NAME, NAME`, on the line that a warning points
 //! at or on the line before it. `all` stands for every lint.
 
+use crate::lint::Lint;
+use crate::warning::Warning;
 use edd_lexer::token::Token;
-use edd_warnings::{Lint, Warning};
 use std::alloc::{AllocError, Global};
 
 const ALLOW: &str = "edd: allow ";

@@ -1,6 +1,6 @@
 //! Which lints are shown, and which refuse a source.
 
-use edd_warnings::Lint;
+use crate::lint::Lint;
 use std::alloc::{AllocError, Global};
 
 /// What is done where a lint finds something.
