@@ -6,6 +6,7 @@ use Rattle.std.proofs.lemmas.List.{append-nil}
 use Rattle.edd_name_rules.specs.declared.fault.NameFault.{NameFault}
 use Rattle.edd_name_meanings.specs.Meanings.{Means, NoFault}
 use Rattle.edd_name_meanings.specs.Copies.{Meant, Tells}
+use Rattle.edd_name_meanings.proofs.UseLaws.{none_head, none_tail}
 use Rattle.edd_expression_names.specs.ResolvedParts.{resolved_argument}
 use Rattle.edd_syntax.specs.declared.numbers.TokenNo.{TokenNo}
 use Rattle.edd_syntax.specs.declared.expr.Expr as code
@@ -89,11 +90,8 @@ module _ (unit : Description Path) (x : code.Expr code_path.Path) (token : Token
   pub call_means : (scope : Scope) (kinds : List Kind) (at : Meanings)
       (plain : Path → Option Target) (t : Target)
       (w : Vec (code_argument.Argument Target) alloc.Global)
-      → Meant unit (OfFunction (path_of p)
-      ∷ argument_uses scope (argument_kinds (path_of p))
-      (arguments_from (map (argument_of path_of) items))) (function_meant (path_of p)) t
-      → Meant unit (OfFunction (path_of p)
-      ∷ argument_uses scope (argument_kinds (path_of p))
+      → Meant unit (OfFunction (path_of p) ∷ []) (function_meant (path_of p)) t
+      → Meant unit (argument_uses scope (argument_kinds (path_of p))
       (arguments_from (map (argument_of path_of) items)))
       (resolved_arguments at (at.argument (path_of p))
       (arguments_from (map (argument_of path_of) items)))
@@ -107,8 +105,9 @@ module _ (unit : Description Path) (x : code.Expr code_path.Path) (token : Token
       ∙ bound (function_meant (path_of p))
       (resolved_arguments at (at.argument (path_of p))
       (arguments_from (map (argument_of path_of) items)))
-      (λ f r. Call f r) t (arguments_from (map numbered_argument w.items)) (h fine known)
-      (k fine known)
+      (λ f r. Call f r) t (arguments_from (map numbered_argument w.items))
+      (h (none_head unit (OfFunction (path_of p)) _ fine) known)
+      (k (none_tail unit (OfFunction (path_of p)) _ fine) known)
       ∙ ap (λ y. Some y) (sym (call_is (λ r. r) (e.Call token t w) token t w refl))
 
 -- ---- what is inside an expression has fewer nodes than it

@@ -162,7 +162,7 @@ fn copy_boxed(
 
 // Two parts of an expression, one after the other.
 #[cycle(exprs)]
-#[tactic(auto, using(edd_name_meanings::proofs::UseLaws::uses), unfolding(edd_name_meanings::specs::Copies::Meant))]
+#[tactic(auto, using(edd_name_meanings::proofs::UseLaws::uses))]
 fn copy_pair(
     left: &Expr<Path>,
     right: &Expr<Path>,
@@ -174,13 +174,11 @@ fn copy_pair(
         (expr_uses (scope_of scope.now) (expr_of path_of left.now) ++ expr_uses (scope_of scope.now)
         (expr_of path_of right.now)) faults.old.items faults.new.items result }
     ensures left { Copies (description_of names.now)
-        (expr_uses (scope_of scope.now) (expr_of path_of left.now) ++ expr_uses (scope_of scope.now)
-        (expr_of path_of right.now))
+        (expr_uses (scope_of scope.now) (expr_of path_of left.now))
         (resolved_expr (at_scope (description_of names.now) (scope_of scope.now))
         (expr_of path_of left.now)) (λ t. numbered_expr t.0.value) result }
     ensures right { Copies (description_of names.now)
-        (expr_uses (scope_of scope.now) (expr_of path_of left.now) ++ expr_uses (scope_of scope.now)
-        (expr_of path_of right.now))
+        (expr_uses (scope_of scope.now) (expr_of path_of right.now))
         (resolved_expr (at_scope (description_of names.now) (scope_of scope.now))
         (expr_of path_of right.now)) (λ t. numbered_expr t.1.value) result }
 {
@@ -191,7 +189,7 @@ fn copy_pair(
 
 // What is assigned to, and the value.
 #[cycle(exprs)]
-#[tactic(auto, using(edd_name_meanings::proofs::UseLaws::uses), unfolding(edd_name_meanings::specs::Copies::Meant))]
+#[tactic(auto, using(edd_name_meanings::proofs::UseLaws::uses))]
 fn copy_assigned(
     value: &Expr<Path>,
     to: &Path,
@@ -204,13 +202,11 @@ fn copy_assigned(
         ∷ expr_uses (scope_of scope.now) (expr_of path_of value.now))
         faults.old.items faults.new.items result }
     ensures to { Copies (description_of names.now)
-        (OfItem (scope_of scope.now) variable_kinds (path_of to.now)
-        ∷ expr_uses (scope_of scope.now) (expr_of path_of value.now))
+        (OfItem (scope_of scope.now) variable_kinds (path_of to.now) ∷ [])
         (meaning (description_of names.now) (scope_of scope.now) variable_kinds (path_of to.now))
         (λ t. t.0) result }
     ensures value { Copies (description_of names.now)
-        (OfItem (scope_of scope.now) variable_kinds (path_of to.now)
-        ∷ expr_uses (scope_of scope.now) (expr_of path_of value.now))
+        (expr_uses (scope_of scope.now) (expr_of path_of value.now))
         (resolved_expr (at_scope (description_of names.now) (scope_of scope.now))
         (expr_of path_of value.now)) (λ t. numbered_expr t.1.value) result }
 {
@@ -221,7 +217,7 @@ fn copy_assigned(
 
 // An array, and the number of its element.
 #[cycle(exprs)]
-#[tactic(auto, using(edd_name_meanings::proofs::UseLaws::uses), unfolding(edd_name_meanings::specs::Copies::Meant))]
+#[tactic(auto, using(edd_name_meanings::proofs::UseLaws::uses))]
 fn copy_indexed(
     index: &Expr<Path>,
     array: &Path,
@@ -234,13 +230,11 @@ fn copy_indexed(
         ∷ expr_uses (scope_of scope.now) (expr_of path_of index.now))
         faults.old.items faults.new.items result }
     ensures array { Copies (description_of names.now)
-        (OfArray (scope_of scope.now) (path_of array.now)
-        ∷ expr_uses (scope_of scope.now) (expr_of path_of index.now))
+        (OfArray (scope_of scope.now) (path_of array.now) ∷ [])
         (array_meant (description_of names.now) (scope_of scope.now) (path_of array.now))
         (λ t. t.0) result }
     ensures index { Copies (description_of names.now)
-        (OfArray (scope_of scope.now) (path_of array.now)
-        ∷ expr_uses (scope_of scope.now) (expr_of path_of index.now))
+        (expr_uses (scope_of scope.now) (expr_of path_of index.now))
         (resolved_expr (at_scope (description_of names.now) (scope_of scope.now))
         (expr_of path_of index.now)) (λ t. numbered_expr t.1.value) result }
 {
@@ -251,7 +245,7 @@ fn copy_indexed(
 
 // The function that is called, and its arguments.
 #[cycle(exprs)]
-#[tactic(auto, using(edd_name_meanings::proofs::UseLaws::uses), unfolding(edd_name_meanings::specs::Copies::Meant))]
+#[tactic(auto, using(edd_name_meanings::proofs::UseLaws::uses))]
 fn copy_call(
     arguments: &[Argument<Path>],
     function: &Path,
@@ -263,12 +257,9 @@ fn copy_call(
         ∷ argument_uses (scope_of scope.now) (resolution.argument_kinds (path_of function.now))
         (arguments_from (map (argument_of path_of) arguments.now)))
         faults.old.items faults.new.items result }
-    ensures function { Copies (description_of names.now) (OfFunction (path_of function.now)
-        ∷ argument_uses (scope_of scope.now) (resolution.argument_kinds (path_of function.now))
-        (arguments_from (map (argument_of path_of) arguments.now)))
+    ensures function { Copies (description_of names.now) (OfFunction (path_of function.now) ∷ [])
         (function_meant (path_of function.now)) (λ t. t.0) result }
-    ensures arguments { Copies (description_of names.now) (OfFunction (path_of function.now)
-        ∷ argument_uses (scope_of scope.now) (resolution.argument_kinds (path_of function.now))
+    ensures arguments { Copies (description_of names.now) (argument_uses (scope_of scope.now) (resolution.argument_kinds (path_of function.now))
         (arguments_from (map (argument_of path_of) arguments.now)))
         (resolved_arguments (at_scope (description_of names.now) (scope_of scope.now))
         (meaning (description_of names.now) (scope_of scope.now)

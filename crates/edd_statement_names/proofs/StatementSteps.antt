@@ -6,6 +6,7 @@ use Rattle.std.proofs.lemmas.List.{at_drop_more}
 use Rattle.edd_name_rules.specs.declared.fault.NameFault.{NameFault}
 use Rattle.edd_name_meanings.specs.Meanings.{Means, NoFault}
 use Rattle.edd_name_meanings.specs.Copies.{Meant, Tells}
+use Rattle.edd_name_meanings.proofs.UseLaws.{none_left, none_right}
 use Rattle.edd_statement_names.specs.ResolvedParts.{part_uses, resolved_part, scope_behind, next_behind}
 use Rattle.edd_statement_names.proofs.DeclaratorSteps.{State}
 use Rattle.edd_expression_names.proofs.ExprSteps.{bound, regroup}
@@ -152,10 +153,10 @@ module _ (unit : Description Path) (x : code.Stmt code_path.Path)
 
     pub switch_means : (scope : Scope) (n : ℕ) (on' : code_expr.Expr Target)
         (w : Vec (code_part.Part Target) alloc.Global)
-        → Meant unit (expr_uses scope (expr_of path_of on) ++ body_uses listed scope n)
+        → Meant unit (expr_uses scope (expr_of path_of on))
         (resolved_expr (at_scope unit scope) (expr_of path_of on)) (numbered_expr on')
-        → Meant unit (expr_uses scope (expr_of path_of on) ++ body_uses listed scope n)
-        (resolved_body unit listed scope n) (body_from (map numbered_part w.items))
+        → Meant unit (body_uses listed scope n) (resolved_body unit listed scope n)
+        (body_from (map numbered_part w.items))
         → Meant unit (stmt_uses (stmt_of path_of x) scope n)
         (resolved_stmt unit (stmt_of path_of x) scope n) (numbered_stmt (s.Switch on' w))
     unfolding Means Meant resolved_stmt
@@ -164,7 +165,8 @@ module _ (unit : Description Path) (x : code.Stmt code_path.Path)
         ap (λ t. resolved_stmt unit t scope n) switch
         ∙ bound (resolved_expr (at_scope unit scope) (expr_of path_of on))
         (resolved_body unit listed scope n) (λ o b. Switch o b) (numbered_expr on') _
-        (h fine known) (k fine known)
+        (h (none_left unit (expr_uses scope (expr_of path_of on)) _ fine) known)
+        (k (none_right unit (expr_uses scope (expr_of path_of on)) _ fine) known)
         ∙ ap (λ t. Some t) (sym (switch_is (λ r. r) (s.Switch on' w) on' w refl))
 
 -- ---- what is inside a statement has fewer nodes than it

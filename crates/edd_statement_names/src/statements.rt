@@ -97,7 +97,7 @@ fn copy_stmt<'a>(
 
 // A part of a statement, in its box.
 #[cycle(statements)]
-#[tactic(auto, using(edd_name_meanings::proofs::UseLaws::uses), unfolding(edd_name_meanings::specs::Copies::Meant))]
+#[tactic(auto, using(edd_name_meanings::proofs::UseLaws::uses))]
 fn copy_boxed<'a>(
     s: &'a Stmt<Path>,
     names: &Names,
@@ -121,7 +121,7 @@ fn copy_boxed<'a>(
 
 // A condition, and the statement under it.
 #[cycle(statements)]
-#[tactic(auto, using(edd_name_meanings::proofs::UseLaws::uses), unfolding(edd_name_meanings::specs::Copies::Meant))]
+#[tactic(auto, using(edd_name_meanings::proofs::UseLaws::uses))]
 fn copy_guarded<'a>(
     condition: &'a Expr<Path>,
     body: &'a Stmt<Path>,
@@ -136,13 +136,11 @@ fn copy_guarded<'a>(
         ++ stmt_uses (stmt_of path_of body.now) (scope_of scope.now) next.old)
         faults.old.items faults.new.items result }
     ensures condition { Copies (description_of names.now)
-        (expr_uses (scope_of scope.now) (expr_of path_of condition.now)
-        ++ stmt_uses (stmt_of path_of body.now) (scope_of scope.now) next.old)
+        (expr_uses (scope_of scope.now) (expr_of path_of condition.now))
         (resolved_expr (at_scope (description_of names.now) (scope_of scope.now))
         (expr_of path_of condition.now)) (λ t. numbered_expr t.0) result }
     ensures body { Copies (description_of names.now)
-        (expr_uses (scope_of scope.now) (expr_of path_of condition.now)
-        ++ stmt_uses (stmt_of path_of body.now) (scope_of scope.now) next.old)
+        (stmt_uses (stmt_of path_of body.now) (scope_of scope.now) next.old)
         (resolved_stmt (description_of names.now) (stmt_of path_of body.now) (scope_of scope.now)
         next.old) (λ t. numbered_stmt t.1.value) result }
     ensures next { OnOk result (next.new ≡ next.old + slots_of (stmt_of path_of body.now)) }
@@ -154,7 +152,7 @@ fn copy_guarded<'a>(
 
 // A condition, and the two statements of which one is chosen.
 #[cycle(statements)]
-#[tactic(auto, using(edd_name_meanings::proofs::UseLaws::uses), unfolding(edd_name_meanings::specs::Copies::Meant))]
+#[tactic(auto, using(edd_name_meanings::proofs::UseLaws::uses))]
 fn copy_choice<'a>(
     condition: &'a Expr<Path>,
     first: &'a Stmt<Path>,
@@ -173,24 +171,16 @@ fn copy_choice<'a>(
         (next.old + slots_of (stmt_of path_of first.now))))
         faults.old.items faults.new.items result }
     ensures condition { Copies (description_of names.now)
-        (expr_uses (scope_of scope.now) (expr_of path_of condition.now)
-        ++ (stmt_uses (stmt_of path_of first.now) (scope_of scope.now) next.old
-        ++ stmt_uses (stmt_of path_of otherwise.now) (scope_of scope.now)
-        (next.old + slots_of (stmt_of path_of first.now))))
+        (expr_uses (scope_of scope.now) (expr_of path_of condition.now))
         (resolved_expr (at_scope (description_of names.now) (scope_of scope.now))
         (expr_of path_of condition.now)) (λ t. numbered_expr t.0) result }
     ensures first { Copies (description_of names.now)
-        (expr_uses (scope_of scope.now) (expr_of path_of condition.now)
-        ++ (stmt_uses (stmt_of path_of first.now) (scope_of scope.now) next.old
-        ++ stmt_uses (stmt_of path_of otherwise.now) (scope_of scope.now)
-        (next.old + slots_of (stmt_of path_of first.now))))
+        (stmt_uses (stmt_of path_of first.now) (scope_of scope.now) next.old)
         (resolved_stmt (description_of names.now) (stmt_of path_of first.now) (scope_of scope.now)
         next.old) (λ t. numbered_stmt t.1.value) result }
     ensures otherwise { Copies (description_of names.now)
-        (expr_uses (scope_of scope.now) (expr_of path_of condition.now)
-        ++ (stmt_uses (stmt_of path_of first.now) (scope_of scope.now) next.old
-        ++ stmt_uses (stmt_of path_of otherwise.now) (scope_of scope.now)
-        (next.old + slots_of (stmt_of path_of first.now))))
+        (stmt_uses (stmt_of path_of otherwise.now) (scope_of scope.now) (next.old
+        + slots_of (stmt_of path_of first.now)))
         (resolved_stmt (description_of names.now) (stmt_of path_of otherwise.now) (scope_of scope.now)
         (next.old + slots_of (stmt_of path_of first.now))) (λ t. numbered_stmt t.2.value) result }
     ensures next { OnOk result (next.new ≡ next.old
@@ -204,7 +194,7 @@ fn copy_choice<'a>(
 
 // A statement, and the condition after it.
 #[cycle(statements)]
-#[tactic(auto, using(edd_name_meanings::proofs::UseLaws::uses), unfolding(edd_name_meanings::specs::Copies::Meant))]
+#[tactic(auto, using(edd_name_meanings::proofs::UseLaws::uses))]
 fn copy_repeated<'a>(
     body: &'a Stmt<Path>,
     condition: &'a Expr<Path>,
@@ -219,13 +209,11 @@ fn copy_repeated<'a>(
         ++ expr_uses (scope_of scope.now) (expr_of path_of condition.now))
         faults.old.items faults.new.items result }
     ensures body { Copies (description_of names.now)
-        (stmt_uses (stmt_of path_of body.now) (scope_of scope.now) next.old
-        ++ expr_uses (scope_of scope.now) (expr_of path_of condition.now))
+        (stmt_uses (stmt_of path_of body.now) (scope_of scope.now) next.old)
         (resolved_stmt (description_of names.now) (stmt_of path_of body.now) (scope_of scope.now)
         next.old) (λ t. numbered_stmt t.0.value) result }
     ensures condition { Copies (description_of names.now)
-        (stmt_uses (stmt_of path_of body.now) (scope_of scope.now) next.old
-        ++ expr_uses (scope_of scope.now) (expr_of path_of condition.now))
+        (expr_uses (scope_of scope.now) (expr_of path_of condition.now))
         (resolved_expr (at_scope (description_of names.now) (scope_of scope.now))
         (expr_of path_of condition.now)) (λ t. numbered_expr t.1) result }
     ensures next { OnOk result (next.new ≡ next.old + slots_of (stmt_of path_of body.now)) }
@@ -244,7 +232,7 @@ type Looped = (
 );
 
 #[cycle(statements)]
-#[tactic(auto, using(edd_name_meanings::proofs::UseLaws::uses), unfolding(edd_name_meanings::specs::Copies::Meant))]
+#[tactic(auto, using(edd_name_meanings::proofs::UseLaws::uses))]
 fn copy_looped<'a>(
     initial: &'a Option<Expr<Path>>,
     condition: &'a Option<Expr<Path>>,
@@ -263,31 +251,19 @@ fn copy_looped<'a>(
         ++ stmt_uses (stmt_of path_of body.now) (scope_of scope.now) next.old)))
         faults.old.items faults.new.items result }
     ensures initial { Copies (description_of names.now)
-        (optional_uses (scope_of scope.now) (option_map (expr_of path_of) initial.now)
-        ++ (optional_uses (scope_of scope.now) (option_map (expr_of path_of) condition.now)
-        ++ (optional_uses (scope_of scope.now) (option_map (expr_of path_of) update.now)
-        ++ stmt_uses (stmt_of path_of body.now) (scope_of scope.now) next.old)))
+        (optional_uses (scope_of scope.now) (option_map (expr_of path_of) initial.now))
         (resolved_optional (at_scope (description_of names.now) (scope_of scope.now))
         (option_map (expr_of path_of) initial.now)) (λ t. option_map numbered_expr t.0) result }
     ensures condition { Copies (description_of names.now)
-        (optional_uses (scope_of scope.now) (option_map (expr_of path_of) initial.now)
-        ++ (optional_uses (scope_of scope.now) (option_map (expr_of path_of) condition.now)
-        ++ (optional_uses (scope_of scope.now) (option_map (expr_of path_of) update.now)
-        ++ stmt_uses (stmt_of path_of body.now) (scope_of scope.now) next.old)))
+        (optional_uses (scope_of scope.now) (option_map (expr_of path_of) condition.now))
         (resolved_optional (at_scope (description_of names.now) (scope_of scope.now))
         (option_map (expr_of path_of) condition.now)) (λ t. option_map numbered_expr t.1) result }
     ensures update { Copies (description_of names.now)
-        (optional_uses (scope_of scope.now) (option_map (expr_of path_of) initial.now)
-        ++ (optional_uses (scope_of scope.now) (option_map (expr_of path_of) condition.now)
-        ++ (optional_uses (scope_of scope.now) (option_map (expr_of path_of) update.now)
-        ++ stmt_uses (stmt_of path_of body.now) (scope_of scope.now) next.old)))
+        (optional_uses (scope_of scope.now) (option_map (expr_of path_of) update.now))
         (resolved_optional (at_scope (description_of names.now) (scope_of scope.now))
         (option_map (expr_of path_of) update.now)) (λ t. option_map numbered_expr t.2) result }
     ensures body { Copies (description_of names.now)
-        (optional_uses (scope_of scope.now) (option_map (expr_of path_of) initial.now)
-        ++ (optional_uses (scope_of scope.now) (option_map (expr_of path_of) condition.now)
-        ++ (optional_uses (scope_of scope.now) (option_map (expr_of path_of) update.now)
-        ++ stmt_uses (stmt_of path_of body.now) (scope_of scope.now) next.old)))
+        (stmt_uses (stmt_of path_of body.now) (scope_of scope.now) next.old)
         (resolved_stmt (description_of names.now) (stmt_of path_of body.now) (scope_of scope.now)
         next.old) (λ t. numbered_stmt t.3.value) result }
     ensures next { OnOk result (next.new ≡ next.old + slots_of (stmt_of path_of body.now)) }
@@ -301,7 +277,7 @@ fn copy_looped<'a>(
 
 // What SWITCH is on, and its parts.
 #[cycle(statements)]
-#[tactic(auto, using(edd_name_meanings::proofs::UseLaws::uses), unfolding(edd_name_meanings::specs::Copies::Meant))]
+#[tactic(auto, using(edd_name_meanings::proofs::UseLaws::uses))]
 fn copy_switched<'a>(
     parts: &'a [Part<Path>],
     on: &'a Expr<Path>,
@@ -316,13 +292,11 @@ fn copy_switched<'a>(
         ++ body_uses (body_from (map (part_of path_of) parts.now)) (scope_of scope.now) next.old)
         faults.old.items faults.new.items result }
     ensures on { Copies (description_of names.now)
-        (expr_uses (scope_of scope.now) (expr_of path_of on.now)
-        ++ body_uses (body_from (map (part_of path_of) parts.now)) (scope_of scope.now) next.old)
+        (expr_uses (scope_of scope.now) (expr_of path_of on.now))
         (resolved_expr (at_scope (description_of names.now) (scope_of scope.now))
         (expr_of path_of on.now)) (λ t. numbered_expr t.0) result }
     ensures parts { Copies (description_of names.now)
-        (expr_uses (scope_of scope.now) (expr_of path_of on.now)
-        ++ body_uses (body_from (map (part_of path_of) parts.now)) (scope_of scope.now) next.old)
+        (body_uses (body_from (map (part_of path_of) parts.now)) (scope_of scope.now) next.old)
         (resolved_body (description_of names.now) (body_from (map (part_of path_of) parts.now))
         (scope_of scope.now) next.old) (λ t. body_from (map numbered_part t.1.items)) result }
     ensures next { OnOk result (next.new ≡ next.old
@@ -336,7 +310,6 @@ fn copy_switched<'a>(
 /// What is between braces, with the meaning of its names. Its locals can be used up to the
 /// closing brace.
 #[cycle(statements)]
-#[tactic(auto, using(edd_name_meanings::proofs::UseLaws::uses), unfolding(edd_name_meanings::specs::Copies::Meant))]
 pub fn copy_body<'a>(
     parts: &'a [Part<Path>],
     names: &Names,
