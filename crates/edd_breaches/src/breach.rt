@@ -3,7 +3,7 @@
 use edd_syntax::limits::Limit;
 use edd_syntax::numbers::TokenNo;
 
-/// A rule that is broken, with the names that a refusal says.
+/// A rule that is broken, with the names that its refusal says.
 #[derive(Clone, Copy)]
 pub enum Rule<'a> {
     TooMany(Limit),
@@ -29,44 +29,8 @@ pub struct Breach<'a> {
     pub rule: Rule<'a>,
     /// None where no token stands for it.
     pub place: Option<TokenNo>,
-    /// Where two clash, the token of the earlier one.
+    /// Where two clash, the token of the earlier one: a help, of which nothing is proved.
     pub earlier: Option<TokenNo>,
-}
-
-/// The rules in the order in which they are answered.
-#[derive(Clone, Copy)]
-pub enum Rank {
-    Counts,
-    Names,
-    Attributes,
-    Missing,
-    Uses,
-    Types,
-    Mismatches,
-    Decimals,
-    Breaks,
-    Constants,
-    Cases,
-    Elements,
-}
-
-impl<'a> Rule<'a> {
-    pub fn rank(&self) -> Rank {
-        match self {
-            Rule::TooMany(_) => Rank::Counts,
-            Rule::DuplicateName(_) => Rank::Names,
-            Rule::DuplicateAttribute(_) => Rank::Attributes,
-            Rule::MissingAttribute { .. } => Rank::Missing,
-            Rule::UnknownName(_) | Rule::WrongKind(_) => Rank::Uses,
-            Rule::FloatVariable(_) | Rule::OtherType { .. } | Rule::BadSize(_) => Rank::Types,
-            Rule::Mismatch => Rank::Mismatches,
-            Rule::FloatValue => Rank::Decimals,
-            Rule::BreakOutside => Rank::Breaks,
-            Rule::ConstRange => Rank::Constants,
-            Rule::DuplicateCase => Rank::Cases,
-            Rule::DuplicateElement => Rank::Elements,
-        }
-    }
 }
 
 impl<'a> Breach<'a> {

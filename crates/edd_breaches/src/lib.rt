@@ -1,20 +1,8 @@
-//! All rules that a description breaks which parses, each at its token.
-//!
-//! A walk over the trees says what is broken, and where. The first breach is the one that the
-//! compiler answers, which tests compare: proved is that the walk is safe and ends.
+//! A rule that a description breaks, at its token, and the list of those that were told.
 #![tactic(auto)]
 
-mod attributes;
 mod breach;
-mod conditionals;
-mod directory;
-mod expressions;
-mod items;
-mod locals;
-mod paths;
-mod statements;
-mod types;
-mod walk;
+mod telling;
 
 pub use breach::{Breach, Rule};
-pub use items::breaches;
+pub use telling::{tell, tell_clash};

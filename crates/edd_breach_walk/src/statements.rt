@@ -1,8 +1,8 @@
 //! Statements.
 
-use crate::breach::Rule;
 use crate::expressions::{walk_expr, walk_optional};
 use crate::walk::Walk;
+use edd_breaches::Rule;
 use edd_syntax::expr::Expr;
 use edd_syntax::numbers::TokenNo;
 use edd_syntax::reference::Path;

@@ -1,10 +1,10 @@
 //! Attributes.
 
-use crate::breach::Rule;
 use crate::conditionals::{walk_cond, walk_conds};
 use crate::statements::{Around, walk_block};
 use crate::types::walk_type;
 use crate::walk::{VARIABLES, Walk, Words, has_word};
+use edd_breaches::Rule;
 use edd_syntax::item::{ArrayElement, Attribute, Item, Member, TransactionPart};
 use edd_syntax::numbers::{Attr, Kind, TokenNo};
 use edd_syntax::reference::Path;

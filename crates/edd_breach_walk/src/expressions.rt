@@ -1,8 +1,8 @@
 //! Expressions.
 
-use crate::breach::Rule;
 use crate::paths::Meaning;
 use crate::walk::{VARIABLES, Walk};
+use edd_breaches::Rule;
 use edd_name_meanings::references::{argument_kinds, builtin};
 use edd_syntax::expr::{Argument, Expr};
 use edd_syntax::numbers::{Kind, TokenNo};

@@ -1,7 +1,7 @@
 //! What a reference means.
 
-use crate::breach::Rule;
 use crate::directory::{Directory, Named};
+use edd_breaches::Rule;
 use edd_syntax::item::Member;
 use edd_syntax::numbers::Kind;
 use edd_syntax::reference::Path;

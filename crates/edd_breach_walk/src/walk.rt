@@ -1,9 +1,9 @@
 //! A walk over a description.
 
-use crate::breach::{Breach, Rule};
 use crate::directory::Directory;
 use crate::locals::{Declaration, Locals};
 use crate::paths::{Meaning, item_meant, local_meant};
+use edd_breaches::{Breach, Rule};
 use edd_syntax::numbers::{Kind, TokenNo};
 use edd_syntax::reference::Path;
 use std::alloc::{AllocError, Global};

@@ -1,8 +1,8 @@
 //! Conditionals, and the values under their conditions.
 
-use crate::breach::Rule;
 use crate::expressions::walk_expr;
 use crate::walk::{ENTRIES, VARIABLES, Walk, behind_token};
+use edd_breaches::Rule;
 use edd_syntax::cond::{Arm, Cond};
 use edd_syntax::expr::Expr;
 use edd_syntax::item::{DataItem, Enumerator, MenuEntry};

@@ -3,7 +3,7 @@ use Rattle.edd_syntax.specs.Conditional.{conds_from, arms_from}
 use Rattle.edd_syntax.specs.ItemView.{cond_of, arm_of}
 use Rattle.edd_syntax.specs.TreeView.{path_of}
 use Rattle.edd_types.proofs.Weights.{weight, weight_of_all, weight_of_arm, weight_of_arms}
-use Rattle.edd_breaches.proofs.conditionals.+conditionals.Given as goal
+use Rattle.edd_breach_walk.proofs.conditionals.+conditionals.Given as goal
 
 abbrev pub decreases-walk_cond : goal.decreases-walk_cond
 decreases-walk_cond g l = weight (cond_of path_of (λ v. v) l.c.now)

@@ -1,10 +1,11 @@
 //! Items, and all breaches of a description.
 
 use crate::attributes::{Members, walk_attribute};
-use crate::breach::{Breach, Rule};
 use crate::directory::Directory;
 use crate::locals::Locals;
+use crate::ranks::rank;
 use crate::walk::{Walk, Words, has_word};
+use edd_breaches::{Breach, Rule};
 use edd_syntax::item::{Attribute, Item};
 use edd_syntax::limits::Limit;
 use edd_syntax::numbers::{Attr, Kind, TokenNo};
@@ -189,6 +190,6 @@ pub fn breaches<'a>(alloc: Global, items: &'a [Item<Path>]) -> Result<Vec<Breach
     note_counts(too_many, &mut walk)?;
     let Walk { found, .. } = walk;
     let mut found = found;
-    found.sort_by_key(|breach| breach.rule.rank() as u8)?;
+    found.sort_by_key(|breach| rank(&breach.rule) as u8)?;
     Ok(found)
 }

@@ -1,8 +1,8 @@
 //! Types of variables, and what is in their braces.
 
-use crate::breach::Rule;
 use crate::conditionals::walk_cond;
 use crate::walk::{Walk, Words, behind_token};
+use edd_breaches::Rule;
 use edd_syntax::cond::{Arm, Cond};
 use edd_syntax::item::{Enumerator, TypePart, TypeWord};
 use edd_syntax::numbers::{Attr, TokenNo};
