@@ -1,1 +1,2 @@
+pub mod BrokenLaws
 pub mod TellLaws

@@ -1,6 +1,8 @@
 -- Breaches that are told one after another.
-use Rattle.std.proofs.Common.{◌≡◌, refl, sym, ap, ◌∙◌, List, [], ◌∷◌, ◌++◌, map, append_assoc}
-use Rattle.std.proofs.lemmas.List.{append-nil, map-append}
+use Rattle.std.proofs.Common.{◌≡◌, sym, ap, ◌∙◌, subst, ℕ, ◌+◌, ◌<◌, List, [], ◌∷◌, ◌++◌, length, get_or, take, map, append_assoc}
+use Rattle.std.proofs.lemmas.Grind.{flat_map-append}
+use Rattle.std.proofs.lemmas.List.{append-nil, map-append, take_more}
+use Rattle.std.specs.List.{flat_map}
 use Rattle.edd_breaches.specs.declared.breach.Breach.{Breach}
 use Rattle.edd_breaches.specs.Told.{Told, Tells, told_of, refusals}
 
@@ -24,11 +26,18 @@ pub tells_one : (b : Breach) (old new : List Breach) → new ≡ old ++ b ∷ []
 unfolding Tells
 tells_one b old new grown = ap (map told_of) grown ∙ map-append told_of old (b ∷ [])
 
--- all that is told is what was told, where nothing was told before
-pub told_from_none : (xs : List Told) (old new : List Breach) → old ≡ [] → Tells xs old new
-    → map told_of new ≡ xs
-unfolding Tells
-told_from_none xs old new none h = h ∙ ap (λ all. map told_of all ++ xs) none
+-- those of one more element of a list
+pub tells_more : {X : Type 0} (f : X → List Told) (i : ℕ) (xs : List X) (x : X)
+    (old mid new : List Breach) → i < length xs → x ≡ get_or xs i x
+    → Tells (flat_map f (take i xs)) old mid → Tells (f x) mid new
+    → Tells (flat_map f (take (i + 1) xs)) old new
+tells_more f i xs x old mid new h is before more =
+    subst (λ all. Tells all old new)
+    (ap (λ y. flat_map f (take i xs) ++ f y) is
+    ∙ ap (λ ys. flat_map f (take i xs) ++ ys) (sym (append-nil (f (get_or xs i x))))
+    ∙ sym (flat_map-append f (take i xs) (get_or xs i x ∷ []))
+    ∙ ap (flat_map f) (sym (take_more xs i x h)))
+    (tells_append (flat_map f (take i xs)) (f x) old mid new before more)
 
 pub ruleset tells = (tells_none, tells_append, tells_cons, tells_one)
 

@@ -43,6 +43,10 @@ refusal_of rule.DuplicateElement = refusal.DuplicateElement
 abbrev pub told_of : Breach → Told
 told_of b = record { refusal = refusal_of b.rule; place = b.place }
 
+-- the refusals for breaches
+abbrev pub broken : List Breach → List Refusal
+broken breaches = map (λ b. refusal_of b.rule) breaches
+
 -- these breaches come after those that were there
 unfoldable pub Tells : List Told → (old new : List Breach) → Type 0
 Tells more old new = map told_of new ≡ map told_of old ++ more

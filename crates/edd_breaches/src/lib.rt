@@ -2,7 +2,9 @@
 #![tactic(auto)]
 
 mod breach;
+mod fault;
 mod telling;
 
 pub use breach::{Breach, Rule};
+pub use fault::RuleFault;
 pub use telling::{tell, tell_clash};

@@ -1,1 +1,2 @@
+pub mod BreachLaws
 pub mod SaidLaws

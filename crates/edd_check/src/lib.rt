@@ -2,25 +2,22 @@
 //! is accepted.
 //!
 //! Proved is that a text is refused exactly where the compiler refuses it, that a refusal is said
-//! of it first, and that of a text that is accepted nothing but warnings is said. That the first
-//! refusal is the compiler's holds of each step that is handed that refusal, and is not in the
-//! contract of the whole. Of places, helps, further faults and warnings nothing is proved but that
-//! they are found safely and in bounded time.
+//! of it first, that of a text that is accepted nothing but warnings is said, and which broken rules
+//! are told of a unit. That the first refusal is the compiler's holds of each step that is handed
+//! that refusal, and is not in the contract of the whole. Of places, helps, further faults and
+//! warnings nothing is proved but that they are found safely and in bounded time.
 #![tactic(auto)]
 
 ghost use Rattle.std.specs.Prelude.{◌≡◌, false, IfOk};
 ghost use Rattle.edd_compiler.specs.Images.{HasImage};
 
 mod accepted;
+mod breaches;
 mod diagnosing;
 mod grammar;
-mod kinds;
 mod look;
-mod names;
 mod refusals;
 mod reports;
-mod rules;
-mod sources;
 
 pub use diagnosing::diagnose;
 pub use edd_reports::diagnostic::{Diagnostic, Finding};

@@ -3,12 +3,10 @@
 ghost use Rattle.std.specs.Prelude.{◌≡◌, [], IfOk, IsTrue, OnOk, string_bytes};
 ghost use Rattle.edd_check.specs.Said.{BeginsWith, IsRefusal, SaysMore};
 
+use crate::breaches::told_of;
 use crate::grammar::Compiler;
-use crate::kinds::OtherKinds;
 use crate::reports::Reports;
-use crate::rules::diagnostic;
-use crate::sources::Source;
-use edd_breach_walk::breaches;
+use edd_breach_reports::{OtherKinds, Source, diagnostic, without_followers};
 use edd_breaches::{Breach, Rule};
 use edd_compiler::Fault;
 use edd_lexer::token::Token;
@@ -128,7 +126,7 @@ fn of_text(
 }
 
 // What is said of a breach.
-fn told_of<'a>(
+fn told_about<'a>(
     alloc: Global,
     source: &Source<'_>,
     breach: &Breach<'a>,
@@ -158,7 +156,7 @@ fn show_breach<'a>(
         reports.pass();
         return Ok(());
     }
-    reports.show(told_of(alloc, source, breach, told)?)
+    reports.show(told_about(alloc, source, breach, told)?)
 }
 
 // Shows breaches after the first.
@@ -197,7 +195,7 @@ fn show_breaches(
         names: IndexMap::new(alloc),
         kinds: OtherKinds::of(alloc, source, found)?,
     };
-    let made = told_of(alloc, source, first, &mut told)?;
+    let made = told_about(alloc, source, first, &mut told)?;
     show_first(alloc, made, refusal, reports)?;
     show_others(alloc, source, others, &mut told, reports)
 }
@@ -269,7 +267,9 @@ pub fn of_unit(
 {
     let mut reports = Reports::new(alloc);
     let source = Source::of(alloc, text, tokens)?;
-    let found = breaches(alloc, &unit.items)?;
+    let mut items = Vec::new(alloc);
+    let told = told_of(alloc, unit, &mut items)?;
+    let found = without_followers(alloc, &source, &told)?;
     show_breaches(alloc, &source, &found, refusal, &mut reports)?;
     Ok(reports)
 }

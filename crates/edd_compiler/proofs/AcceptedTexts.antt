@@ -12,8 +12,7 @@ use Rattle.edd_lexer.specs.declared.fault.Fault as lexical
 use Rattle.edd_lexer.specs.Faults.{LexicalFault}
 use Rattle.edd_lexer.specs.Views.{fault_of}
 use Rattle.edd_token_reader.specs.declared.fault.ParseFault.TheVariants as parse
-use Rattle.edd_name_rules.specs.Faults.{refusal_of}
-use Rattle.edd_types.specs.Faults.{refusal_of_fault}
+use Rattle.edd_breaches.specs.Faults.{refusal_of_fault}
 use Rattle.edd_compiler.specs.declared.fault.Fault.{Fault}
 use Rattle.edd_compiler.specs.declared.fault.Fault.TheVariants as fault
 use Rattle.edd_compiler.specs.Faults.{Explains}
@@ -58,7 +57,6 @@ module _ (text : List ℕ) (unit : Description Path)
   memory_alone (fault.Parse (parse.TooDeep at)) is = absurd (some_unit is)
   memory_alone (fault.Parse (parse.Unsupported at word)) is = absurd (some_unit is)
   memory_alone (fault.Parse parse.Memory) is = absurd is
-  memory_alone (fault.Name e) is = absurd (none_of (refusal_of e) is)
-  memory_alone (fault.Type e) is = absurd (none_of (refusal_of_fault e) is)
+  memory_alone (fault.Rule e) is = absurd (none_of (refusal_of_fault e) is)
   memory_alone fault.TooManyStrings is = absurd (no_rule _ is)
   memory_alone fault.Memory is = refl

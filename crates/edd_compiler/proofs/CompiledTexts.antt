@@ -41,8 +41,7 @@ module _ (text : List ℕ) (d : Description Target) (of : IsDescriptionOf text d
       → Explains text e
   explained (fault.Lex e) is = absurd is
   explained (fault.Parse e) is = absurd is
-  explained (fault.Name e) is = absurd is
-  explained (fault.Type e) is = absurd is
+  explained (fault.Rule e) is = absurd is
   explained fault.TooManyStrings is = (
     of.0.is_resolved.unit,
     of.1,

@@ -98,7 +98,6 @@ module _ (d : Description Target) where
 pub over_more : {P Q : Type 0} (e : Fault) → (P → Q) → IsOfLowering P e → IsOfLowering Q e
 over_more (fault.Lex e) more is = is
 over_more (fault.Parse e) more is = is
-over_more (fault.Name e) more is = is
-over_more (fault.Type e) more is = is
+over_more (fault.Rule e) more is = is
 over_more fault.TooManyStrings more is = more is
 over_more fault.Memory more is = is

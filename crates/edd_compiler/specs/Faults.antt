@@ -8,12 +8,9 @@ use Rattle.edd_lexer.specs.Faults.{LexicalFault}
 use Rattle.edd_lexer.specs.Views.{fault_of}
 use Rattle.edd_token_reader.specs.declared.fault.ParseFault.{ParseFault}
 use Rattle.edd_token_reader.specs.declared.fault.ParseFault.TheVariants as parse
-use Rattle.edd_name_rules.specs.declared.fault.NameFault.{NameFault}
-use Rattle.edd_name_rules.specs.declared.fault.NameFault.TheVariants as name
-use Rattle.edd_name_rules.specs.Faults.{refusal_of}
-use Rattle.edd_types.specs.declared.fault.TypeFault.{TypeFault}
-use Rattle.edd_types.specs.declared.fault.TypeFault.TheVariants as type
-use Rattle.edd_types.specs.Faults.{refusal_of_fault}
+use Rattle.edd_breaches.specs.declared.fault.RuleFault.{RuleFault}
+use Rattle.edd_breaches.specs.declared.fault.RuleFault.TheVariants as rule
+use Rattle.edd_breaches.specs.Faults.{refusal_of_fault}
 use Rattle.edd_code.specs.declared.fault.LowerFault.{LowerFault}
 use Rattle.edd_code.specs.declared.fault.LowerFault.TheVariants as lower
 use Rattle.edd_compiler.specs.declared.fault.Fault.{Fault}
@@ -39,28 +36,24 @@ of_parse (parse.TooDeep at) = fault.Parse (parse.TooDeep at)
 of_parse (parse.Unsupported at word) = fault.Parse (parse.Unsupported at word)
 of_parse parse.Memory = fault.Memory
 
--- a refusal by the rules on names
-abbrev pub of_name : NameFault → Fault
-of_name (name.TooMany limit) = fault.Name (name.TooMany limit)
-of_name (name.DuplicateName n) = fault.Name (name.DuplicateName n)
-of_name (name.DuplicateAttribute word) = fault.Name (name.DuplicateAttribute word)
-of_name (name.MissingAttribute item word) = fault.Name (name.MissingAttribute item word)
-of_name (name.UnknownName n) = fault.Name (name.UnknownName n)
-of_name (name.WrongKind n) = fault.Name (name.WrongKind n)
-of_name name.Memory = fault.Memory
-
--- a refusal by the rules of the profile
-abbrev pub of_type : TypeFault → Fault
-of_type (type.FloatVariable variable) = fault.Type (type.FloatVariable variable)
-of_type (type.OtherType variable word) = fault.Type (type.OtherType variable word)
-of_type (type.BadSize variable) = fault.Type (type.BadSize variable)
-of_type (type.Mismatch at) = fault.Type (type.Mismatch at)
-of_type (type.FloatValue at) = fault.Type (type.FloatValue at)
-of_type (type.BreakOutside at) = fault.Type (type.BreakOutside at)
-of_type (type.ConstRange at) = fault.Type (type.ConstRange at)
-of_type (type.DuplicateCase at) = fault.Type (type.DuplicateCase at)
-of_type (type.DuplicateElement at) = fault.Type (type.DuplicateElement at)
-of_type type.Memory = fault.Memory
+-- a refusal by a rule on names or of the profile
+abbrev pub of_rule : RuleFault → Fault
+of_rule (rule.TooMany limit) = fault.Rule (rule.TooMany limit)
+of_rule (rule.DuplicateName name) = fault.Rule (rule.DuplicateName name)
+of_rule (rule.DuplicateAttribute word) = fault.Rule (rule.DuplicateAttribute word)
+of_rule (rule.MissingAttribute item word) = fault.Rule (rule.MissingAttribute item word)
+of_rule (rule.UnknownName name) = fault.Rule (rule.UnknownName name)
+of_rule (rule.WrongKind name) = fault.Rule (rule.WrongKind name)
+of_rule (rule.FloatVariable variable) = fault.Rule (rule.FloatVariable variable)
+of_rule (rule.OtherType variable word) = fault.Rule (rule.OtherType variable word)
+of_rule (rule.BadSize variable) = fault.Rule (rule.BadSize variable)
+of_rule (rule.Mismatch at) = fault.Rule (rule.Mismatch at)
+of_rule (rule.FloatValue at) = fault.Rule (rule.FloatValue at)
+of_rule (rule.BreakOutside at) = fault.Rule (rule.BreakOutside at)
+of_rule (rule.ConstRange at) = fault.Rule (rule.ConstRange at)
+of_rule (rule.DuplicateCase at) = fault.Rule (rule.DuplicateCase at)
+of_rule (rule.DuplicateElement at) = fault.Rule (rule.DuplicateElement at)
+of_rule rule.Memory = fault.Memory
 
 -- a refusal by a lowering
 abbrev pub of_lower : LowerFault → Fault
@@ -71,8 +64,7 @@ of_lower lower.Memory = fault.Memory
 abbrev pub IsOfLowering : Type 0 → Fault → Type 0
 IsOfLowering over (fault.Lex e) = ⊥
 IsOfLowering over (fault.Parse e) = ⊥
-IsOfLowering over (fault.Name e) = ⊥
-IsOfLowering over (fault.Type e) = ⊥
+IsOfLowering over (fault.Rule e) = ⊥
 IsOfLowering over fault.TooManyStrings = over
 IsOfLowering over fault.Memory = ⊤
 
@@ -83,8 +75,7 @@ abbrev pub Explains : List ℕ → Fault → Type 0
 Explains text (fault.Lex e) = IsSomeAnd (fault_of e) (LexicalFault text)
 Explains text (fault.Parse parse.Memory) = ⊥
 Explains text (fault.Parse e) = HasNoUnit text
-Explains text (fault.Name e) = IsSomeAnd (refusal_of e) (IsRefused text)
-Explains text (fault.Type e) = IsSomeAnd (refusal_of_fault e) (IsRefused text)
+Explains text (fault.Rule e) = IsSomeAnd (refusal_of_fault e) (IsRefused text)
 Explains text fault.TooManyStrings = IsRefused text (TooMany limit.Strings)
 Explains text fault.Memory = ⊤
 

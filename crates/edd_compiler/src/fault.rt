@@ -1,16 +1,15 @@
 //! Why a text is not compiled.
 
 ghost use Rattle.std.specs.Prelude.{◌≡◌};
-ghost use Rattle.edd_compiler.specs.Faults.{of_lex, of_parse, of_name, of_type, of_lower};
+ghost use Rattle.edd_compiler.specs.Faults.{of_lex, of_parse, of_rule, of_lower};
 
+use edd_breaches::RuleFault;
 use edd_code::LowerFault;
 use edd_lexer::fault::LexFault;
 use edd_lexer::token::Token;
 use edd_lexer::{lex, line_of};
-use edd_names::fault::NameFault;
 use edd_parser::fault::ParseFault;
 use edd_syntax::numbers::TokenNo;
-use edd_types::fault::TypeFault;
 use std::alloc::{AllocError, AllocFailed, Global};
 use thiserror::Error;
 
@@ -23,9 +22,7 @@ pub enum Fault {
     #[error("{0}")]
     Parse(ParseFault),
     #[error("{0}")]
-    Name(NameFault),
-    #[error("{0}")]
-    Type(TypeFault),
+    Rule(RuleFault),
     /// More than 65,535 different strings.
     #[error("40 TOO_MANY strings")]
     TooManyStrings,
@@ -38,7 +35,7 @@ impl Fault {
     fn token(&self) -> Option<TokenNo> {
         match self {
             Fault::Parse(ParseFault::Syntax { at } | ParseFault::TooDeep { at }) => Some(*at),
-            Fault::Type(fault) => fault.place(),
+            Fault::Rule(fault) => fault.place(),
             _ => None,
         }
     }
@@ -94,24 +91,13 @@ impl From<ParseFault> for Fault {
     }
 }
 
-impl From<NameFault> for Fault {
-    ghost from_gives = { λ given made. made ≡ of_name given };
+impl From<RuleFault> for Fault {
+    ghost from_gives = { λ given made. made ≡ of_rule given };
 
-    fn from(fault: NameFault) -> Fault {
+    fn from(fault: RuleFault) -> Fault {
         match fault {
-            NameFault::Memory => Fault::Memory,
-            other => Fault::Name(other),
-        }
-    }
-}
-
-impl From<TypeFault> for Fault {
-    ghost from_gives = { λ given made. made ≡ of_type given };
-
-    fn from(fault: TypeFault) -> Fault {
-        match fault {
-            TypeFault::Memory => Fault::Memory,
-            other => Fault::Type(other),
+            RuleFault::Memory => Fault::Memory,
+            other => Fault::Rule(other),
         }
     }
 }

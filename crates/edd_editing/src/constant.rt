@@ -1,12 +1,12 @@
 //! The value of an expression of numbers alone.
 
+use edd_breaches::RuleFault;
 use edd_document::Document;
 use edd_instructions::Sort;
 use edd_lexer::fault::LexFault;
 use edd_lexer::lex;
 use edd_lexer::token::TokenKind;
 use edd_lints::constants::{Known, evaluate};
-use edd_names::fault::NameFault;
 use edd_names::resolve;
 use edd_parser::fault::ParseFault;
 use edd_parser::parse;
@@ -129,7 +129,7 @@ fn value_in(alloc: Global, source: &str, sort: Sort) -> Result<Known, AllocError
     };
     match resolve(alloc, &unit) {
         Ok(resolved) => Ok(value_of(&resolved.items, sort)),
-        Err(NameFault::Memory) => Err(AllocError),
+        Err(RuleFault::Memory) => Err(AllocError),
         Err(_) => Ok(Known::Nothing),
     }
 }

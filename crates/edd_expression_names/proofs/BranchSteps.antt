@@ -3,7 +3,7 @@ use Rattle.std.proofs.Common.{◌≡◌, refl, sym, ap, ◌∙◌, ℤ, List, []
 use Rattle.std.specs.Prelude.{Vec}
 use Rattle.std.specs.declared.alloc.Global as alloc
 use Rattle.std.proofs.lemmas.List.{append-nil}
-use Rattle.edd_name_rules.specs.declared.fault.NameFault.{NameFault}
+use Rattle.edd_breaches.specs.declared.breach.Breach.{Breach}
 use Rattle.edd_name_meanings.specs.Meanings.{Means, NoFault}
 use Rattle.edd_name_meanings.specs.Copies.{Meant, Tells}
 use Rattle.edd_expression_names.specs.ResolvedParts.{resolved_arm}
@@ -124,7 +124,7 @@ module _ {V W X Y : Type 0} (unit : Description Path) (before : V → W) (after 
     value : cond_of path_of before x ≡ Value (before v)
     value = ap (cond_of path_of before) is ∙ of_value path_of before v
 
-    pub value_told : (old new : List NameFault) → Tells unit (uses (before v)) old new
+    pub value_told : (old new : List Breach) → Tells unit (uses (before v)) old new
         → Tells unit (cond_uses uses (cond_of path_of before x)) old new
     value_told old new h = subst (λ t. Tells unit (cond_uses uses t) old new) (sym value) h
 
@@ -147,7 +147,7 @@ module _ {V W X Y : Type 0} (unit : Description Path) (before : V → W) (after 
         ∙ ap (λ zs. If (expr_of path_of test) (listed zs) (listed w.items)) (sym same)
         ∙ ap (λ zs. If (expr_of path_of test) (listed xs) (listed zs)) (sym same')
 
-    pub if_told : (old first otherwise new : List NameFault)
+    pub if_told : (old first otherwise new : List Breach)
         → Tells unit (attribute_expr_uses (expr_of path_of test)) old first
         → Tells unit (conds_uses uses (listed xs)) first otherwise
         → Tells unit (conds_uses uses (listed ys)) otherwise new
@@ -189,7 +189,7 @@ module _ {V W X Y : Type 0} (unit : Description Path) (before : V → W) (after 
       select_is = ap (cond_of path_of before) is ∙ of_select path_of before on v
           ∙ ap (λ zs. Select (expr_of path_of on) (armed zs)) (sym same)
 
-      pub select_told : (old mid new : List NameFault)
+      pub select_told : (old mid new : List Breach)
           → Tells unit (attribute_expr_uses (expr_of path_of on)) old mid
           → Tells unit (arms_uses uses (armed xs)) mid new
           → Tells unit (cond_uses uses (cond_of path_of before x)) old new
@@ -231,7 +231,7 @@ module _ {V W X Y : Type 0} (unit : Description Path) (before : V → W) (after 
       case_is = ap (arm_of path_of before) is ∙ of_case path_of before label v
           ∙ ap (λ zs. Case label (listed zs)) (sym same)
 
-      pub case_told : (old new : List NameFault)
+      pub case_told : (old new : List Breach)
           → Tells unit (conds_uses uses (listed xs)) old new
           → Tells unit (arms_uses uses (arms_from (arm_of path_of before x ∷ []))) old new
       case_told old new h = subst (λ us. Tells unit us old new)
@@ -258,7 +258,7 @@ module _ {V W X Y : Type 0} (unit : Description Path) (before : V → W) (after 
       default_is = ap (arm_of path_of before) is ∙ of_default path_of before token v
           ∙ ap (λ zs. Default (listed zs)) (sym same)
 
-      pub default_told : (old new : List NameFault)
+      pub default_told : (old new : List Breach)
           → Tells unit (conds_uses uses (listed xs)) old new
           → Tells unit (arms_uses uses (arms_from (arm_of path_of before x ∷ []))) old new
       default_told old new h = subst (λ us. Tells unit us old new)

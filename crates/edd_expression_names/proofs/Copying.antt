@@ -1,6 +1,6 @@
 -- Lists of trees that are copied one after another, where each means the same at any place.
 use Rattle.std.proofs.Common.{◌≡◌, refl, ℕ, ◌+◌, ◌<◌, List, [], ◌∷◌, ◌++◌, length, get_or, drop, map, Option, Some}
-use Rattle.edd_name_rules.specs.declared.fault.NameFault.{NameFault}
+use Rattle.edd_breaches.specs.declared.breach.Breach.{Breach}
 use Rattle.edd_name_meanings.specs.Copies.{Meant, Tells}
 use Rattle.edd_expression_names.proofs.CopyingIn as in_state
 use Rattle.edd_syntax.specs.Reference.{Path}
@@ -13,21 +13,21 @@ module _ {X Y Z W C : Type 0} (unit : Description Path) (view : X → Y) (shown 
     (one : Y → Option W) (resolved : List Y → Option C) (join : List W → C)
     (joined : (y : Y) (ys : List Y) (w : W) (ws : List W) → one y ≡ Some w
     → resolved ys ≡ Some (join ws) → resolved (y ∷ ys) ≡ Some (join (w ∷ ws)))
-    (old : List NameFault) where
+    (old : List Breach) where
   -- the copies zs are those of the first i elements, whose faults were told
-  abbrev pub Copied : (i : ℕ) (xs : List X) (zs : List Z) (mid : List NameFault) → Type 0
+  abbrev pub Copied : (i : ℕ) (xs : List X) (zs : List Z) (mid : List Breach) → Type 0
   Copied i xs zs mid = in_state.Copied {S = Unit {0}} unit view shown (λ s y. s)
       (λ s y. uses (y ∷ [])) (λ s. uses) (λ s. split) (λ s. one) (λ s. resolved) join (λ s. joined)
       tt old tt i xs zs mid
 
-  pub at_start : (xs : List X) (zs : List Z) (mid : List NameFault) → zs ≡ [] → mid ≡ old
+  pub at_start : (xs : List X) (zs : List Z) (mid : List Breach) → zs ≡ [] → mid ≡ old
       → Copied 0 xs zs mid
   at_start xs zs mid is same = in_state.at_start unit view shown (λ s y. s)
       (λ s y. uses (y ∷ [])) (λ s. uses) (λ s. split) (λ s. one) (λ s. resolved) join (λ s. joined)
       tt old tt xs zs mid refl is same
 
   pub one_more : (i : ℕ) (xs : List X) (x : X) (zs ys : List Z) (z : Z)
-      (mid next : List NameFault) → i < length xs → x ≡ get_or xs i x
+      (mid next : List Breach) → i < length xs → x ≡ get_or xs i x
       → Tells unit (uses (view x ∷ [])) mid next
       → Meant unit (uses (view x ∷ [])) (one (view x)) (shown z) → ys ≡ zs ++ z ∷ []
       → Copied i xs zs mid → Copied (i + 1) xs ys next
@@ -35,13 +35,13 @@ module _ {X Y Z W C : Type 0} (unit : Description Path) (view : X → Y) (shown 
       (λ s y. s) (λ s y. uses (y ∷ [])) (λ s. uses) (λ s. split) (λ s. one) (λ s. resolved) join
       (λ s. joined) tt old tt tt i xs x zs ys z mid next h is refl tells m grown c
 
-  pub told_at_end : uses [] ≡ [] → (i : ℕ) (xs : List X) (zs : List Z) (mid : List NameFault)
+  pub told_at_end : uses [] ≡ [] → (i : ℕ) (xs : List X) (zs : List Z) (mid : List Breach)
       → drop i xs ≡ [] → Copied i xs zs mid → Tells unit (uses (map view xs)) old mid
   told_at_end empty = in_state.told_at_end unit view shown (λ s y. s) (λ s y. uses (y ∷ []))
       (λ s. uses) (λ s. split) (λ s. one) (λ s. resolved) join (λ s. joined) tt old (λ s. empty) tt
 
   pub meant_at_end : resolved [] ≡ Some (join []) → (i : ℕ) (xs : List X) (zs : List Z)
-      (mid : List NameFault) → drop i xs ≡ [] → Copied i xs zs mid
+      (mid : List Breach) → drop i xs ≡ [] → Copied i xs zs mid
       → Meant unit (uses (map view xs)) (resolved (map view xs)) (join (map shown zs))
   meant_at_end empty = in_state.meant_at_end unit view shown (λ s y. s) (λ s y. uses (y ∷ []))
       (λ s. uses) (λ s. split) (λ s. one) (λ s. resolved) join (λ s. joined) tt old (λ s. empty) tt

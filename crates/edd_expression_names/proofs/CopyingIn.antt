@@ -2,7 +2,7 @@
 -- is the state before the next one.
 use Rattle.std.proofs.Common.{◌≡◌, sym, ap, ◌∙◌, ℕ, ◌+◌, ◌<◌, List, [], ◌∷◌, ◌++◌, length, get_or, drop, map, Option, Some, append_assoc, subst}
 use Rattle.std.proofs.lemmas.List.{at_drop_more, append-nil}
-use Rattle.edd_name_rules.specs.declared.fault.NameFault.{NameFault}
+use Rattle.edd_breaches.specs.declared.breach.Breach.{Breach}
 use Rattle.edd_name_meanings.specs.Meanings.{Means, NoFault}
 use Rattle.edd_name_meanings.specs.Copies.{Meant, Tells}
 use Rattle.edd_name_rules.proofs.Repeating.{map_append}
@@ -17,12 +17,12 @@ module _ {S X Y Z W C : Type 0} (unit : Description Path) (view : X → Y) (show
     (one : S → Y → Option W) (resolved : S → List Y → Option C) (join : List W → C)
     (joined : (s : S) (y : Y) (ys : List Y) (w : W) (ws : List W) → one s y ≡ Some w
     → resolved (next s y) ys ≡ Some (join ws) → resolved s (y ∷ ys) ≡ Some (join (w ∷ ws)))
-    (start : S) (old : List NameFault) where
+    (start : S) (old : List Breach) where
   -- the copies zs are those of the first i elements, after which the state is s, and whose faults
   -- were told
-  pub record Copied (s : S) (i : ℕ) (xs : List X) (zs : List Z) (mid : List NameFault)
+  pub record Copied (s : S) (i : ℕ) (xs : List X) (zs : List Z) (mid : List Breach)
       : Type 0 where
-    pub told : (new : List NameFault) → Tells unit (uses s (map view (drop i xs))) mid new
+    pub told : (new : List Breach) → Tells unit (uses s (map view (drop i xs))) mid new
         → Tells unit (uses start (map view xs)) old new
     pub fine : NoFault unit (uses start (map view xs))
         → NoFault unit (uses s (map view (drop i xs)))
@@ -30,7 +30,7 @@ module _ {S X Y Z W C : Type 0} (unit : Description Path) (view : X → Y) (show
         → Means unit (resolved s (map view (drop i xs))) (join ws)
         → Means unit (resolved start (map view xs)) (join (map shown zs ++ ws))
 
-  pub at_start : (s : S) (xs : List X) (zs : List Z) (mid : List NameFault) → s ≡ start → zs ≡ []
+  pub at_start : (s : S) (xs : List X) (zs : List Z) (mid : List Breach) → s ≡ start → zs ≡ []
       → mid ≡ old → Copied s 0 xs zs mid
   at_start s xs zs mid same is before = record {
     told = λ new h. subst (λ m. Tells unit (uses start (map view xs)) m new) before
@@ -60,7 +60,7 @@ module _ {S X Y Z W C : Type 0} (unit : Description Path) (view : X → Y) (show
       ∙ joined s (view x) (map view (drop (i + 1) xs)) w ws (m known) (ms known)
 
   pub one_more : (s t : S) (i : ℕ) (xs : List X) (x : X) (zs ys : List Z) (z : Z)
-      (mid after : List NameFault) → i < length xs → x ≡ get_or xs i x → t ≡ next s (view x)
+      (mid after : List Breach) → i < length xs → x ≡ get_or xs i x → t ≡ next s (view x)
       → Tells unit (here s (view x)) mid after
       → Meant unit (here s (view x)) (one s (view x)) (shown z) → ys ≡ zs ++ z ∷ []
       → Copied s i xs zs mid → Copied t (i + 1) xs ys after
@@ -84,7 +84,7 @@ module _ {S X Y Z W C : Type 0} (unit : Description Path) (view : X → Y) (show
   }
 
   pub told_at_end : ((s : S) → uses s [] ≡ []) → (s : S) (i : ℕ) (xs : List X) (zs : List Z)
-      (mid : List NameFault) → drop i xs ≡ [] → Copied s i xs zs mid
+      (mid : List Breach) → drop i xs ≡ [] → Copied s i xs zs mid
       → Tells unit (uses start (map view xs)) old mid
   told_at_end empty s i xs zs mid over c = c.told mid
       (subst (λ us. Tells unit us mid mid) (sym (ap (λ ys. uses s (map view ys)) over ∙ empty s))
@@ -95,7 +95,7 @@ module _ {S X Y Z W C : Type 0} (unit : Description Path) (view : X → Y) (show
   means_empty o x e = λ known. e
 
   pub meant_at_end : ((s : S) → resolved s [] ≡ Some (join []))
-      → (s : S) (i : ℕ) (xs : List X) (zs : List Z) (mid : List NameFault) → drop i xs ≡ []
+      → (s : S) (i : ℕ) (xs : List X) (zs : List Z) (mid : List Breach) → drop i xs ≡ []
       → Copied s i xs zs mid
       → Meant unit (uses start (map view xs)) (resolved start (map view xs)) (join (map shown zs))
   unfolding Meant

@@ -3,7 +3,7 @@ use Rattle.std.proofs.Common.{◌≡◌, refl, sym, ap, ◌∙◌, ℕ, zero, su
 use Rattle.std.specs.Prelude.{Vec}
 use Rattle.std.specs.declared.alloc.Global as alloc
 use Rattle.std.proofs.lemmas.List.{append-nil}
-use Rattle.edd_name_rules.specs.declared.fault.NameFault.{NameFault}
+use Rattle.edd_breaches.specs.declared.breach.Breach.{Breach}
 use Rattle.edd_name_meanings.specs.Meanings.{Means, NoFault}
 use Rattle.edd_name_meanings.specs.Copies.{Meant, Tells}
 use Rattle.edd_name_meanings.proofs.UseLaws.{none_head, none_tail}
@@ -79,7 +79,7 @@ module _ (unit : Description Path) (x : code.Expr code_path.Path) (token : Token
   call = call_is path_of x token p v is
       ∙ ap (λ xs. Call (path_of p) (arguments_from (map (argument_of path_of) xs))) (sym same)
 
-  pub call_told : (scope : Scope) (kinds : List Kind) (old new : List NameFault)
+  pub call_told : (scope : Scope) (kinds : List Kind) (old new : List Breach)
       → Tells unit (OfFunction (path_of p)
       ∷ argument_uses scope (argument_kinds (path_of p))
       (arguments_from (map (argument_of path_of) items))) old new

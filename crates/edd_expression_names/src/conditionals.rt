@@ -13,8 +13,8 @@ ghost use Rattle.edd_expression_names.specs.ResolvedParts.{resolved_arm};
 ghost use Rattle.edd_name_meanings.specs.Copies.{Copies, Told};
 
 use crate::exprs::copy_expr;
+use edd_breaches::Breach;
 use edd_name_meanings::directory::Names;
-use edd_name_rules::fault::NameFault;
 use edd_syntax::cond::{Arm, Cond};
 use edd_syntax::reference::{Path, Target};
 use std::alloc::AllocError;
@@ -38,23 +38,27 @@ pub trait ResolveValue {
     ghost meant: { Description pure.Path → Before → Option After };
 
     /// The value with the meaning of its names.
-    fn copy(&self, names: &Names, faults: &mut Vec<NameFault>) -> Result<Self::Out, AllocError>
-        ensures told { Told (description_of names.now) (uses (before self.now)) faults.old.items
-            faults.new.items result }
+    fn copy<'a>(
+        &'a self,
+        names: &Names,
+        told: &mut Vec<Breach<'a>>,
+    ) -> Result<Self::Out, AllocError>
+        ensures told { Told (description_of names.now) (uses (before self.now)) told.old.items
+            told.new.items result }
         ensures sound { Copies (description_of names.now) (uses (before self.now))
             (meant (description_of names.now) (before self.now)) after result };
 }
 
 /// A conditional with the meaning of its names.
 #[cycle(branches)]
-pub fn copy_cond<V: ResolveValue>(
-    c: &Cond<Path, V>,
+pub fn copy_cond<'a, V: ResolveValue>(
+    c: &'a Cond<Path, V>,
     names: &Names,
-    faults: &mut Vec<NameFault>,
+    told: &mut Vec<Breach<'a>>,
 ) -> Result<Cond<Target, V::Out>, AllocError>
     ensures told { Told (description_of names.now)
         (cond_uses V.uses (cond_of path_of V.before c.now))
-        faults.old.items faults.new.items result }
+        told.old.items told.new.items result }
     ensures sound { Copies (description_of names.now)
         (cond_uses V.uses (cond_of path_of V.before c.now))
         (resolved_cond (at_attribute (description_of names.now))
@@ -62,15 +66,15 @@ pub fn copy_cond<V: ResolveValue>(
         (numbered_cond V.after) result }
 {
     match c {
-        Cond::Value(v) => Ok(Cond::Value(v.copy(names, faults)?)),
+        Cond::Value(v) => Ok(Cond::Value(v.copy(names, told)?)),
         Cond::If {
             condition,
             first,
             otherwise,
         } => {
-            let condition = copy_expr(condition, names, &[], faults)?;
-            let first = copy_conds(first, names, faults)?;
-            let otherwise = copy_conds(otherwise, names, faults)?;
+            let condition = copy_expr(condition, names, &[], told)?;
+            let first = copy_conds(first, names, told)?;
+            let otherwise = copy_conds(otherwise, names, told)?;
             Ok(Cond::If {
                 condition,
                 first,
@@ -78,8 +82,8 @@ pub fn copy_cond<V: ResolveValue>(
             })
         }
         Cond::Select { on, arms } => {
-            let on = copy_expr(on, names, &[], faults)?;
-            let arms = copy_arms(arms, names, faults)?;
+            let on = copy_expr(on, names, &[], told)?;
+            let arms = copy_arms(arms, names, told)?;
             Ok(Cond::Select { on, arms })
         }
     }
@@ -87,14 +91,14 @@ pub fn copy_cond<V: ResolveValue>(
 
 /// Conditionals with the meaning of their names.
 #[cycle(branches)]
-pub fn copy_conds<V: ResolveValue>(
-    all: &[Cond<Path, V>],
+pub fn copy_conds<'a, V: ResolveValue>(
+    all: &'a [Cond<Path, V>],
     names: &Names,
-    faults: &mut Vec<NameFault>,
+    told: &mut Vec<Breach<'a>>,
 ) -> Result<Vec<Cond<Target, V::Out>>, AllocError>
     ensures told { Told (description_of names.now)
         (conds_uses V.uses (conds_from (map (cond_of path_of V.before) all.now)))
-        faults.old.items faults.new.items result }
+        told.old.items told.new.items result }
     ensures sound { Copies (description_of names.now)
         (conds_uses V.uses (conds_from (map (cond_of path_of V.before) all.now)))
         (resolved_conds (at_attribute (description_of names.now))
@@ -103,20 +107,20 @@ pub fn copy_conds<V: ResolveValue>(
 {
     let mut copies = Vec::with_capacity(names.alloc, all.len())?;
     for c in all {
-        copies.push(copy_cond(c, names, faults)?)?;
+        copies.push(copy_cond(c, names, told)?)?;
     }
     Ok(copies)
 }
 
 #[cycle(branches)]
-fn copy_arms<V: ResolveValue>(
-    arms: &[Arm<Path, V>],
+fn copy_arms<'a, V: ResolveValue>(
+    arms: &'a [Arm<Path, V>],
     names: &Names,
-    faults: &mut Vec<NameFault>,
+    told: &mut Vec<Breach<'a>>,
 ) -> Result<Vec<Arm<Target, V::Out>>, AllocError>
     ensures told { Told (description_of names.now)
         (arms_uses V.uses (arms_from (map (arm_of path_of V.before) arms.now)))
-        faults.old.items faults.new.items result }
+        told.old.items told.new.items result }
     ensures sound { Copies (description_of names.now)
         (arms_uses V.uses (arms_from (map (arm_of path_of V.before) arms.now)))
         (resolved_arms (at_attribute (description_of names.now))
@@ -125,20 +129,20 @@ fn copy_arms<V: ResolveValue>(
 {
     let mut copies = Vec::with_capacity(names.alloc, arms.len())?;
     for arm in arms {
-        copies.push(copy_arm(arm, names, faults)?)?;
+        copies.push(copy_arm(arm, names, told)?)?;
     }
     Ok(copies)
 }
 
 #[cycle(branches)]
-fn copy_arm<V: ResolveValue>(
-    arm: &Arm<Path, V>,
+fn copy_arm<'a, V: ResolveValue>(
+    arm: &'a Arm<Path, V>,
     names: &Names,
-    faults: &mut Vec<NameFault>,
+    told: &mut Vec<Breach<'a>>,
 ) -> Result<Arm<Target, V::Out>, AllocError>
     ensures told { Told (description_of names.now)
         (arms_uses V.uses (arms_from (arm_of path_of V.before arm.now ∷ [])))
-        faults.old.items faults.new.items result }
+        told.old.items told.new.items result }
     ensures sound { Copies (description_of names.now)
         (arms_uses V.uses (arms_from (arm_of path_of V.before arm.now ∷ [])))
         (resolved_arm (at_attribute (description_of names.now)) (V.meant (description_of names.now))
@@ -146,14 +150,14 @@ fn copy_arm<V: ResolveValue>(
 {
     match arm {
         Arm::Case { label, body } => {
-            let body = copy_conds(body, names, faults)?;
+            let body = copy_conds(body, names, told)?;
             Ok(Arm::Case {
                 label: *label,
                 body,
             })
         }
         Arm::Default { at, body } => {
-            let body = copy_conds(body, names, faults)?;
+            let body = copy_conds(body, names, told)?;
             Ok(Arm::Default { at: *at, body })
         }
     }

@@ -15,63 +15,63 @@ ghost use Rattle.edd_name_meanings.specs.Meanings.{scope_of};
 ghost use Rattle.edd_name_meanings.specs.Copies.{Copies, Told};
 
 use crate::texts::copy_text;
+use edd_breaches::Breach;
 use edd_name_meanings::directory::Names;
 use edd_name_meanings::references::{Local, argument_kinds, refer, refer_array, refer_function};
-use edd_name_rules::fault::NameFault;
 use edd_syntax::expr::{Argument, Expr};
 use edd_syntax::numbers::Kind;
 use edd_syntax::reference::{Path, Target};
 use std::alloc::AllocError;
 
 /// What a reference of an expression means, which is a variable or a local.
-pub fn refer_variable(
+pub fn refer_variable<'a>(
     names: &Names,
     scope: &[Local],
-    path: &Path,
-    faults: &mut Vec<NameFault>,
+    path: &'a Path,
+    told: &mut Vec<Breach<'a>>,
 ) -> Result<Target, AllocError>
     ensures told { Told (description_of names.now)
         (OfItem (scope_of scope.now) variable_kinds (path_of path.now) ∷ [])
-        faults.old.items faults.new.items result }
+        told.old.items told.new.items result }
     ensures sound { Copies (description_of names.now)
         (OfItem (scope_of scope.now) variable_kinds (path_of path.now) ∷ [])
         (meaning (description_of names.now) (scope_of scope.now) variable_kinds (path_of path.now))
         (λ t. t) result }
 {
-    refer(names, scope, &[Kind::Variable], path, faults)
+    refer(names, scope, &[Kind::Variable], path, told)
 }
 
 /// An expression with the meaning of its names.
-pub fn copy_expr(
-    e: &Expr<Path>,
+pub fn copy_expr<'a>(
+    e: &'a Expr<Path>,
     names: &Names,
     scope: &[Local],
-    faults: &mut Vec<NameFault>,
+    told: &mut Vec<Breach<'a>>,
 ) -> Result<Expr<Target>, AllocError>
     ensures told { Told (description_of names.now)
         (expr_uses (scope_of scope.now) (expr_of path_of e.now))
-        faults.old.items faults.new.items result }
+        told.old.items told.new.items result }
     ensures sound { Copies (description_of names.now)
         (expr_uses (scope_of scope.now) (expr_of path_of e.now))
         (resolved_expr (at_scope (description_of names.now) (scope_of scope.now))
         (expr_of path_of e.now)) numbered_expr result }
 {
-    copy_among(e, &[Kind::Variable], names, scope, faults)
+    copy_among(e, &[Kind::Variable], names, scope, told)
 }
 
 // An expression in whose place a plain reference names an item of these kinds.
 #[cycle(exprs)]
 #[tactic(auto, using(edd_name_meanings::proofs::UseLaws::uses), unfolding(edd_name_meanings::specs::Meanings::Means, edd_name_meanings::specs::Copies::Meant, edd_syntax::specs::ResolvedTrees::resolved_by))]
-fn copy_among(
-    e: &Expr<Path>,
+fn copy_among<'a>(
+    e: &'a Expr<Path>,
     kinds: &[Kind],
     names: &Names,
     scope: &[Local],
-    faults: &mut Vec<NameFault>,
+    told: &mut Vec<Breach<'a>>,
 ) -> Result<Expr<Target>, AllocError>
     ensures told { Told (description_of names.now)
         (uses_among (scope_of scope.now) kinds.now (expr_of path_of e.now))
-        faults.old.items faults.new.items result }
+        told.old.items told.new.items result }
     ensures sound { Copies (description_of names.now)
         (uses_among (scope_of scope.now) kinds.now (expr_of path_of e.now))
         (resolved_by (at_scope (description_of names.now) (scope_of scope.now))
@@ -81,55 +81,55 @@ fn copy_among(
     match e {
         Expr::Literal(value) => Ok(Expr::Literal(*value)),
         Expr::Decimal { at } => Ok(Expr::Decimal { at: *at }),
-        Expr::Reference(from) => Ok(Expr::Reference(refer(names, scope, kinds, from, faults)?)),
+        Expr::Reference(from) => Ok(Expr::Reference(refer(names, scope, kinds, from, told)?)),
         Expr::Indexed(array, index) => {
-            let (array, index) = copy_indexed(index, array, names, scope, faults)?;
+            let (array, index) = copy_indexed(index, array, names, scope, told)?;
             Ok(Expr::Indexed(array, index))
         }
         Expr::Parentheses(inner) => {
-            Ok(Expr::Parentheses(copy_boxed(inner, names, scope, faults)?))
+            Ok(Expr::Parentheses(copy_boxed(inner, names, scope, told)?))
         }
         Expr::Unary(op, operand) => {
-            Ok(Expr::Unary(*op, copy_boxed(operand, names, scope, faults)?))
+            Ok(Expr::Unary(*op, copy_boxed(operand, names, scope, told)?))
         }
         Expr::Binary(op, left, right) => {
-            let (left, right) = copy_pair(left, right, names, scope, faults)?;
+            let (left, right) = copy_pair(left, right, names, scope, told)?;
             Ok(Expr::Binary(*op, left, right))
         }
         Expr::Compare(by, left, right) => {
-            let (left, right) = copy_pair(left, right, names, scope, faults)?;
+            let (left, right) = copy_pair(left, right, names, scope, told)?;
             Ok(Expr::Compare(*by, left, right))
         }
         Expr::LogicalAnd(left, right) => {
-            let (left, right) = copy_pair(left, right, names, scope, faults)?;
+            let (left, right) = copy_pair(left, right, names, scope, told)?;
             Ok(Expr::LogicalAnd(left, right))
         }
         Expr::LogicalOr(left, right) => {
-            let (left, right) = copy_pair(left, right, names, scope, faults)?;
+            let (left, right) = copy_pair(left, right, names, scope, told)?;
             Ok(Expr::LogicalOr(left, right))
         }
         Expr::Conditional(test, first, second) => {
-            let test = copy_boxed(test, names, scope, faults)?;
-            let (first, second) = copy_pair(first, second, names, scope, faults)?;
+            let test = copy_boxed(test, names, scope, told)?;
+            let (first, second) = copy_pair(first, second, names, scope, told)?;
             Ok(Expr::Conditional(test, first, second))
         }
         Expr::Assign(to, value) => {
-            let (to, value) = copy_assigned(value, to, names, scope, faults)?;
+            let (to, value) = copy_assigned(value, to, names, scope, told)?;
             Ok(Expr::Assign(to, value))
         }
         Expr::CompoundAssign(op, to, value) => {
-            let (to, value) = copy_assigned(value, to, names, scope, faults)?;
+            let (to, value) = copy_assigned(value, to, names, scope, told)?;
             Ok(Expr::CompoundAssign(*op, to, value))
         }
         Expr::Increment(by, to) => {
-            Ok(Expr::Increment(*by, refer_variable(names, scope, to, faults)?))
+            Ok(Expr::Increment(*by, refer_variable(names, scope, to, told)?))
         }
         Expr::Call {
             at,
             function,
             arguments,
         } => {
-            let (function, arguments) = copy_call(arguments, function, names, scope, faults)?;
+            let (function, arguments) = copy_call(arguments, function, names, scope, told)?;
             Ok(Expr::Call {
                 at: *at,
                 function,
@@ -142,37 +142,37 @@ fn copy_among(
 // A part of an expression, in its box.
 #[cycle(exprs)]
 #[tactic(auto, using(edd_name_meanings::proofs::UseLaws::uses))]
-fn copy_boxed(
-    e: &Expr<Path>,
+fn copy_boxed<'a>(
+    e: &'a Expr<Path>,
     names: &Names,
     scope: &[Local],
-    faults: &mut Vec<NameFault>,
+    told: &mut Vec<Breach<'a>>,
 ) -> Result<Box<Expr<Target>>, AllocError>
     ensures told { Told (description_of names.now)
         (expr_uses (scope_of scope.now) (expr_of path_of e.now))
-        faults.old.items faults.new.items result }
+        told.old.items told.new.items result }
     ensures sound { Copies (description_of names.now)
         (expr_uses (scope_of scope.now) (expr_of path_of e.now))
         (resolved_expr (at_scope (description_of names.now) (scope_of scope.now))
         (expr_of path_of e.now)) (λ t. numbered_expr t.value) result }
 {
-    let copy = copy_among(e, &[Kind::Variable], names, scope, faults)?;
+    let copy = copy_among(e, &[Kind::Variable], names, scope, told)?;
     Ok(Box::new(names.alloc, copy)?)
 }
 
 // Two parts of an expression, one after the other.
 #[cycle(exprs)]
 #[tactic(auto, using(edd_name_meanings::proofs::UseLaws::uses))]
-fn copy_pair(
-    left: &Expr<Path>,
-    right: &Expr<Path>,
+fn copy_pair<'a>(
+    left: &'a Expr<Path>,
+    right: &'a Expr<Path>,
     names: &Names,
     scope: &[Local],
-    faults: &mut Vec<NameFault>,
+    told: &mut Vec<Breach<'a>>,
 ) -> Result<(Box<Expr<Target>>, Box<Expr<Target>>), AllocError>
     ensures told { Told (description_of names.now)
         (expr_uses (scope_of scope.now) (expr_of path_of left.now) ++ expr_uses (scope_of scope.now)
-        (expr_of path_of right.now)) faults.old.items faults.new.items result }
+        (expr_of path_of right.now)) told.old.items told.new.items result }
     ensures left { Copies (description_of names.now)
         (expr_uses (scope_of scope.now) (expr_of path_of left.now))
         (resolved_expr (at_scope (description_of names.now) (scope_of scope.now))
@@ -182,25 +182,25 @@ fn copy_pair(
         (resolved_expr (at_scope (description_of names.now) (scope_of scope.now))
         (expr_of path_of right.now)) (λ t. numbered_expr t.1.value) result }
 {
-    let left = copy_boxed(left, names, scope, faults)?;
-    let right = copy_boxed(right, names, scope, faults)?;
+    let left = copy_boxed(left, names, scope, told)?;
+    let right = copy_boxed(right, names, scope, told)?;
     Ok((left, right))
 }
 
 // What is assigned to, and the value.
 #[cycle(exprs)]
 #[tactic(auto, using(edd_name_meanings::proofs::UseLaws::uses))]
-fn copy_assigned(
-    value: &Expr<Path>,
-    to: &Path,
+fn copy_assigned<'a>(
+    value: &'a Expr<Path>,
+    to: &'a Path,
     names: &Names,
     scope: &[Local],
-    faults: &mut Vec<NameFault>,
+    told: &mut Vec<Breach<'a>>,
 ) -> Result<(Target, Box<Expr<Target>>), AllocError>
     ensures told { Told (description_of names.now)
         (OfItem (scope_of scope.now) variable_kinds (path_of to.now)
         ∷ expr_uses (scope_of scope.now) (expr_of path_of value.now))
-        faults.old.items faults.new.items result }
+        told.old.items told.new.items result }
     ensures to { Copies (description_of names.now)
         (OfItem (scope_of scope.now) variable_kinds (path_of to.now) ∷ [])
         (meaning (description_of names.now) (scope_of scope.now) variable_kinds (path_of to.now))
@@ -210,25 +210,25 @@ fn copy_assigned(
         (resolved_expr (at_scope (description_of names.now) (scope_of scope.now))
         (expr_of path_of value.now)) (λ t. numbered_expr t.1.value) result }
 {
-    let to = refer_variable(names, scope, to, faults)?;
-    let value = copy_boxed(value, names, scope, faults)?;
+    let to = refer_variable(names, scope, to, told)?;
+    let value = copy_boxed(value, names, scope, told)?;
     Ok((to, value))
 }
 
 // An array, and the number of its element.
 #[cycle(exprs)]
 #[tactic(auto, using(edd_name_meanings::proofs::UseLaws::uses))]
-fn copy_indexed(
-    index: &Expr<Path>,
-    array: &Path,
+fn copy_indexed<'a>(
+    index: &'a Expr<Path>,
+    array: &'a Path,
     names: &Names,
     scope: &[Local],
-    faults: &mut Vec<NameFault>,
+    told: &mut Vec<Breach<'a>>,
 ) -> Result<(Target, Box<Expr<Target>>), AllocError>
     ensures told { Told (description_of names.now)
         (OfArray (scope_of scope.now) (path_of array.now)
         ∷ expr_uses (scope_of scope.now) (expr_of path_of index.now))
-        faults.old.items faults.new.items result }
+        told.old.items told.new.items result }
     ensures array { Copies (description_of names.now)
         (OfArray (scope_of scope.now) (path_of array.now) ∷ [])
         (array_meant (description_of names.now) (scope_of scope.now) (path_of array.now))
@@ -238,25 +238,25 @@ fn copy_indexed(
         (resolved_expr (at_scope (description_of names.now) (scope_of scope.now))
         (expr_of path_of index.now)) (λ t. numbered_expr t.1.value) result }
 {
-    let array = refer_array(names, scope, array, faults)?;
-    let index = copy_boxed(index, names, scope, faults)?;
+    let array = refer_array(names, scope, array, told)?;
+    let index = copy_boxed(index, names, scope, told)?;
     Ok((array, index))
 }
 
 // The function that is called, and its arguments.
 #[cycle(exprs)]
 #[tactic(auto, using(edd_name_meanings::proofs::UseLaws::uses))]
-fn copy_call(
-    arguments: &[Argument<Path>],
-    function: &Path,
+fn copy_call<'a>(
+    arguments: &'a [Argument<Path>],
+    function: &'a Path,
     names: &Names,
     scope: &[Local],
-    faults: &mut Vec<NameFault>,
+    told: &mut Vec<Breach<'a>>,
 ) -> Result<(Target, Vec<Argument<Target>>), AllocError>
     ensures told { Told (description_of names.now) (OfFunction (path_of function.now)
         ∷ argument_uses (scope_of scope.now) (resolution.argument_kinds (path_of function.now))
         (arguments_from (map (argument_of path_of) arguments.now)))
-        faults.old.items faults.new.items result }
+        told.old.items told.new.items result }
     ensures function { Copies (description_of names.now) (OfFunction (path_of function.now) ∷ [])
         (function_meant (path_of function.now)) (λ t. t.0) result }
     ensures arguments { Copies (description_of names.now) (argument_uses (scope_of scope.now) (resolution.argument_kinds (path_of function.now))
@@ -268,23 +268,23 @@ fn copy_call(
         (λ t. arguments_from (map numbered_argument t.1.items)) result }
 {
     let kinds = argument_kinds(function);
-    let function = refer_function(names, function, faults)?;
-    let arguments = copy_arguments(arguments, kinds, names, scope, faults)?;
+    let function = refer_function(names, function, told)?;
+    let arguments = copy_arguments(arguments, kinds, names, scope, told)?;
     Ok((function, arguments))
 }
 
 #[cycle(exprs)]
-fn copy_arguments(
-    arguments: &[Argument<Path>],
+fn copy_arguments<'a>(
+    arguments: &'a [Argument<Path>],
     kinds: &[Kind],
     names: &Names,
     scope: &[Local],
-    faults: &mut Vec<NameFault>,
+    told: &mut Vec<Breach<'a>>,
 ) -> Result<Vec<Argument<Target>>, AllocError>
     ensures told { Told (description_of names.now)
         (argument_uses (scope_of scope.now) kinds.now
         (arguments_from (map (argument_of path_of) arguments.now)))
-        faults.old.items faults.new.items result }
+        told.old.items told.new.items result }
     ensures sound { Copies (description_of names.now)
         (argument_uses (scope_of scope.now) kinds.now
         (arguments_from (map (argument_of path_of) arguments.now)))
@@ -295,24 +295,24 @@ fn copy_arguments(
 {
     let mut all = Vec::with_capacity(names.alloc, arguments.len())?;
     for argument in arguments {
-        all.push(copy_argument(argument, kinds, names, scope, faults)?)?;
+        all.push(copy_argument(argument, kinds, names, scope, told)?)?;
     }
     Ok(all)
 }
 
 #[cycle(exprs)]
 #[tactic(auto, using(edd_name_meanings::proofs::UseLaws::uses), unfolding(edd_name_meanings::specs::Meanings::Means, edd_name_meanings::specs::Copies::Meant))]
-fn copy_argument(
-    argument: &Argument<Path>,
+fn copy_argument<'a>(
+    argument: &'a Argument<Path>,
     kinds: &[Kind],
     names: &Names,
     scope: &[Local],
-    faults: &mut Vec<NameFault>,
+    told: &mut Vec<Breach<'a>>,
 ) -> Result<Argument<Target>, AllocError>
     ensures told { Told (description_of names.now)
         (argument_uses (scope_of scope.now) kinds.now
         (arguments_from (argument_of path_of argument.now ∷ [])))
-        faults.old.items faults.new.items result }
+        told.old.items told.new.items result }
     ensures sound { Copies (description_of names.now)
         (argument_uses (scope_of scope.now) kinds.now
         (arguments_from (argument_of path_of argument.now ∷ [])))
@@ -322,6 +322,6 @@ fn copy_argument(
 {
     match argument {
         Argument::Text(text) => Ok(Argument::Text(copy_text(text, names.alloc)?)),
-        Argument::Value(e) => Ok(Argument::Value(copy_among(e, kinds, names, scope, faults)?)),
+        Argument::Value(e) => Ok(Argument::Value(copy_among(e, kinds, names, scope, told)?)),
     }
 }

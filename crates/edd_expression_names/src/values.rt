@@ -16,9 +16,9 @@ ghost use Rattle.edd_syntax.specs.WordsView.{text_of};
 use crate::conditionals::ResolveValue;
 use crate::exprs::{copy_expr, refer_variable};
 use crate::texts::{copy_optional_text, copy_text};
+use edd_breaches::Breach;
 use edd_name_meanings::directory::Names;
 use edd_name_meanings::references::refer;
-use edd_name_rules::fault::NameFault;
 use edd_syntax::expr::Expr;
 use edd_syntax::item::{DataItem, Enumerator, MenuEntry};
 use edd_syntax::numbers::Kind;
@@ -43,7 +43,7 @@ impl ResolveValue for Text {
     ghost meant = { λ unit. unchanged };
 
     #[tactic(auto, using(edd_name_meanings::proofs::UseLaws::uses), unfolding(edd_name_meanings::specs::Meanings::Means, edd_name_meanings::specs::Copies::Meant))]
-    fn copy(&self, names: &Names, faults: &mut Vec<NameFault>) -> Result<Text, AllocError> {
+    fn copy<'a>(&'a self, names: &Names, told: &mut Vec<Breach<'a>>) -> Result<Text, AllocError> {
         copy_text(self, names.alloc)
     }
 }
@@ -64,7 +64,11 @@ impl ResolveValue for Handling {
     ghost meant = { λ unit. unchanged };
 
     #[tactic(auto, using(edd_name_meanings::proofs::UseLaws::uses), unfolding(edd_name_meanings::specs::Meanings::Means, edd_name_meanings::specs::Copies::Meant))]
-    fn copy(&self, names: &Names, faults: &mut Vec<NameFault>) -> Result<Handling, AllocError> {
+    fn copy<'a>(
+        &'a self,
+        names: &Names,
+        told: &mut Vec<Breach<'a>>,
+    ) -> Result<Handling, AllocError> {
         Ok(*self)
     }
 }
@@ -85,7 +89,7 @@ impl ResolveValue for bool {
     ghost meant = { λ unit. unchanged };
 
     #[tactic(auto, using(edd_name_meanings::proofs::UseLaws::uses), unfolding(edd_name_meanings::specs::Meanings::Means, edd_name_meanings::specs::Copies::Meant))]
-    fn copy(&self, names: &Names, faults: &mut Vec<NameFault>) -> Result<bool, AllocError> {
+    fn copy<'a>(&'a self, names: &Names, told: &mut Vec<Breach<'a>>) -> Result<bool, AllocError> {
         Ok(*self)
     }
 }
@@ -106,7 +110,11 @@ impl ResolveValue for Enumerator {
     ghost meant = { λ unit. unchanged };
 
     #[tactic(auto, using(edd_name_meanings::proofs::UseLaws::uses), unfolding(edd_name_meanings::specs::Meanings::Means, edd_name_meanings::specs::Copies::Meant))]
-    fn copy(&self, names: &Names, faults: &mut Vec<NameFault>) -> Result<Enumerator, AllocError> {
+    fn copy<'a>(
+        &'a self,
+        names: &Names,
+        told: &mut Vec<Breach<'a>>,
+    ) -> Result<Enumerator, AllocError> {
         let text = copy_text(&self.text, names.alloc)?;
         let help = copy_optional_text(&self.help, names.alloc)?;
         Ok(Enumerator {
@@ -134,8 +142,12 @@ impl ResolveValue for Expr<Path> {
     ghost meant = { λ unit. resolved_expr (at_attribute unit) };
 
     #[tactic(auto, using(edd_name_meanings::proofs::UseLaws::uses), unfolding(edd_name_meanings::specs::Meanings::Means, edd_name_meanings::specs::Copies::Meant))]
-    fn copy(&self, names: &Names, faults: &mut Vec<NameFault>) -> Result<Expr<Target>, AllocError> {
-        copy_expr(self, names, &[], faults)
+    fn copy<'a>(
+        &'a self,
+        names: &Names,
+        told: &mut Vec<Breach<'a>>,
+    ) -> Result<Expr<Target>, AllocError> {
+        copy_expr(self, names, &[], told)
     }
 }
 
@@ -155,16 +167,16 @@ impl ResolveValue for MenuEntry<Path> {
     ghost meant = { resolved_entry };
 
     #[tactic(auto, using(edd_name_meanings::proofs::UseLaws::uses), unfolding(edd_name_meanings::specs::Meanings::Means, edd_name_meanings::specs::Copies::Meant))]
-    fn copy(
-        &self,
+    fn copy<'a>(
+        &'a self,
         names: &Names,
-        faults: &mut Vec<NameFault>,
+        told: &mut Vec<Breach<'a>>,
     ) -> Result<MenuEntry<Target>, AllocError> {
         match self {
             MenuEntry::Text(text) => Ok(MenuEntry::Text(copy_text(text, names.alloc)?)),
             MenuEntry::Reference { to, qualifiers } => {
                 let kinds = [Kind::Variable, Kind::Menu, Kind::Collection, Kind::Method];
-                let to = refer(names, &[], &kinds, to, faults)?;
+                let to = refer(names, &[], &kinds, to, told)?;
                 Ok(MenuEntry::Reference {
                     to,
                     qualifiers: *qualifiers,
@@ -190,10 +202,10 @@ impl ResolveValue for DataItem<Path> {
     ghost meant = { resolved_data };
 
     #[tactic(auto, using(edd_name_meanings::proofs::UseLaws::uses), unfolding(edd_name_meanings::specs::Meanings::Means, edd_name_meanings::specs::Copies::Meant))]
-    fn copy(
-        &self,
+    fn copy<'a>(
+        &'a self,
         names: &Names,
-        faults: &mut Vec<NameFault>,
+        told: &mut Vec<Breach<'a>>,
     ) -> Result<DataItem<Target>, AllocError> {
         match self {
             DataItem::Constant { at, value } => Ok(DataItem::Constant {
@@ -207,7 +219,7 @@ impl ResolveValue for DataItem<Path> {
                 qualifiers,
             } => Ok(DataItem::Variable {
                 at: *at,
-                variable: refer_variable(names, &[], variable, faults)?,
+                variable: refer_variable(names, &[], variable, told)?,
                 mask: *mask,
                 qualifiers: *qualifiers,
             }),

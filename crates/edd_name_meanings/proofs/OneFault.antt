@@ -1,12 +1,10 @@
 -- A use has one fault at most.
-use Rattle.std.proofs.Common.{◌≡◌, refl, sym, ap, ◌∙◌, Bool, true, false, not, List, [], ◌∷◌, ◌++◌, map, Option, Some, None, subst}
-use Rattle.std.specs.Prelude.{is_none, if◌then◌else◌}
-use Rattle.std.proofs.lemmas.List.{append-nil}
-use Rattle.edd_name_rules.specs.declared.fault.NameFault.{NameFault}
-use Rattle.edd_name_rules.specs.Faults.{refusal_of, IsFound}
+use Rattle.std.proofs.Common.{◌≡◌, sym, ap, ◌∙◌, Bool, true, false, not, List, [], ◌∷◌, ◌++◌, Option, Some, None}
+use Rattle.std.specs.Prelude.{if◌then◌else◌}
+use Rattle.std.proofs.lemmas.List.{append-nil, map-append}
+use Rattle.edd_breaches.specs.declared.breach.Breach.{Breach}
+use Rattle.edd_breaches.specs.Told.{broken, refusal_of}
 use Rattle.edd_name_meanings.specs.Meanings.{faults_in, FirstFault, NoFault}
-use Rattle.edd_name_rules.specs.Faults.{Agrees}
-use Rattle.edd_name_rules.proofs.Repeating.{map_append}
 use Rattle.edd_name_meanings.specs.Copies.{Meant, Tells}
 use Rattle.edd_syntax.specs.declared.numbers.Kind.{Kind}
 use Rattle.edd_syntax.specs.declared.numbers.Kind.TheVariants as kind
@@ -85,41 +83,24 @@ module _ (unit : Description Path) where
       few_either (look_up path.base builtins) (λ f. []) (UnknownName path.base ∷ [])
       (λ f. few_of_none) (few_of_one (UnknownName path.base))
 
-  -- the fault of a use that is known is all that is told of it
-  is_all : (f : NameFault) (u : Use) (r : Refusal) → refusal_of f ≡ Some r
-      → FirstFault f unit (u ∷ []) → faults_in unit (u ∷ []) ≡ r ∷ []
-  unfolding FirstFault IsFound faults_in
-  is_all f u r is first =
-      append-nil (faults_of_use unit u) ∙ few_of_use u r
-      (ap first_of (sym (append-nil (faults_of_use unit u)))
-      ∙ subst (λ o. Agrees o (first_of (faults_in unit (u ∷ [])))) is first)
+  -- the fault of a use is all that is told of it
+  is_all : (b : Breach) (u : Use) → FirstFault b unit (u ∷ [])
+      → faults_in unit (u ∷ []) ≡ refusal_of b.rule ∷ []
+  unfolding FirstFault faults_in
+  is_all b u first =
+      append-nil (faults_of_use unit u) ∙ few_of_use u (refusal_of b.rule)
+      (ap first_of (sym (append-nil (faults_of_use unit u))) ∙ first)
 
-  told_of : (f : NameFault) (u : Use) (o : Option Refusal) (old new : List NameFault)
-      → refusal_of f ≡ o → false ≡ is_none o → FirstFault f unit (u ∷ []) → new ≡ old ++ f ∷ []
-      → Tells unit (u ∷ []) old new
+  pub tells_fault : (b : Breach) (u : Use) (old new : List Breach) → FirstFault b unit (u ∷ [])
+      → new ≡ old ++ b ∷ [] → Tells unit (u ∷ []) old new
   unfolding Tells
-  told_of f u None old new is known first grown = absurd cc
-  told_of f u (Some r) old new is known first grown =
-      ap (map refusal_of) grown ∙ map_append refusal_of old (f ∷ [])
-      ∙ ap (λ o. map refusal_of old ++ o ∷ []) is
-      ∙ ap (λ rs. map refusal_of old ++ map (λ r. Some r) rs) (sym (is_all f u r is first))
+  tells_fault b u old new first grown =
+      ap broken grown ∙ map-append (λ c. refusal_of c.rule) old (b ∷ [])
+      ∙ ap (λ rs. broken old ++ rs) (sym (is_all b u first))
 
-  pub tells_fault : (f : NameFault) (u : Use) (old new : List NameFault)
-      → false ≡ is_none (refusal_of f) → FirstFault f unit (u ∷ []) → new ≡ old ++ f ∷ []
-      → Tells unit (u ∷ []) old new
-  tells_fault f u old new known first grown =
-      told_of f u (refusal_of f) old new refl known first grown
-
-  clash_of : (f : NameFault) (u : Use) (o : Option Refusal) → refusal_of f ≡ o
-      → false ≡ is_none o → FirstFault f unit (u ∷ []) → NoFault unit (u ∷ []) → ⊥
-  unfolding NoFault
-  clash_of f u None is known first none = absurd cc
-  clash_of f u (Some r) is known first none =
-      let some = ap first_of (is_all f u r is first) in
-      let clash : None ≡ Some r = none ∙ some in absurd cc
-
-  pub meant_at_fault : (f : NameFault) (u : Use) (meant : Option Target) (t : Target)
-      → false ≡ is_none (refusal_of f) → FirstFault f unit (u ∷ []) → Meant unit (u ∷ []) meant t
-  unfolding Meant
-  meant_at_fault f u meant t known first = λ none.
-      absurd (clash_of f u (refusal_of f) refl known first none)
+  pub meant_at_fault : (b : Breach) (u : Use) (meant : Option Target) (t : Target)
+      → FirstFault b unit (u ∷ []) → Meant unit (u ∷ []) meant t
+  unfolding Meant NoFault
+  meant_at_fault b u meant t first = λ none.
+      let clash : None ≡ Some (refusal_of b.rule) = none ∙ ap first_of (is_all b u first) in
+      absurd cc

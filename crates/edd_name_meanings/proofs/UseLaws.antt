@@ -1,11 +1,10 @@
 -- Faults in uses that are one after the other.
-use Rattle.std.proofs.Common.{◌≡◌, refl, sym, ap, ◌∙◌, List, [], ◌∷◌, ◌++◌, map, Some, None, append_assoc}
+use Rattle.std.proofs.Common.{◌≡◌, refl, sym, ap, ◌∙◌, List, [], ◌∷◌, ◌++◌, Some, None, append_assoc}
 use Rattle.std.proofs.lemmas.Grind.{flat_map-append}
 use Rattle.std.proofs.lemmas.List.{append-nil}
-use Rattle.edd_name_rules.specs.declared.fault.NameFault.{NameFault}
-use Rattle.edd_name_rules.specs.Faults.{refusal_of}
+use Rattle.edd_breaches.specs.declared.breach.Breach.{Breach}
+use Rattle.edd_breaches.specs.Told.{broken}
 use Rattle.edd_name_meanings.specs.Meanings.{faults_in, NoFault}
-use Rattle.edd_name_rules.proofs.Repeating.{map_append}
 use Rattle.edd_name_meanings.specs.Copies.{Tells}
 use Rattle.edd_syntax.specs.Reference.{Path}
 use Rattle.edd_syntax.specs.Item.{Description}
@@ -33,28 +32,25 @@ module _ (unit : Description Path) where
 
   -- ---- what is told
 
-  pub tells_none : (old : List NameFault) → Tells unit [] old old
+  pub tells_none : (old : List Breach) → Tells unit [] old old
   unfolding Tells faults_in
-  tells_none old = sym (append-nil (map refusal_of old))
+  tells_none old = sym (append-nil (broken old))
 
-  pub tells_fine : (us : List Use) (old : List NameFault) → NoFault unit us
+  pub tells_fine : (us : List Use) (old : List Breach) → NoFault unit us
       → Tells unit us old old
   unfolding Tells NoFault
-  tells_fine us old none = sym (append-nil (map refusal_of old))
-      ∙ ap (λ rs. map refusal_of old ++ map (λ r. Some r) rs) (sym (nothing (faults_in unit us) none))
+  tells_fine us old none = sym (append-nil (broken old))
+      ∙ ap (λ rs. broken old ++ rs) (sym (nothing (faults_in unit us) none))
 
-  pub tells_append : (us vs : List Use) (old mid new : List NameFault) → Tells unit us old mid
+  pub tells_append : (us vs : List Use) (old mid new : List Breach) → Tells unit us old mid
       → Tells unit vs mid new → Tells unit (us ++ vs) old new
   unfolding Tells
   tells_append us vs old mid new h k =
-      k ∙ ap (λ rs. rs ++ map (λ r. Some r) (faults_in unit vs)) h
-      ∙ append_assoc (map refusal_of old) (map (λ r. Some r) (faults_in unit us))
-      (map (λ r. Some r) (faults_in unit vs))
-      ∙ ap (λ rs. map refusal_of old ++ rs)
-      (sym (ap (map (λ r. Some r)) (faults_append us vs)
-      ∙ map_append (λ r. Some r) (faults_in unit us) (faults_in unit vs)))
+      k ∙ ap (λ rs. rs ++ faults_in unit vs) h
+      ∙ append_assoc (broken old) (faults_in unit us) (faults_in unit vs)
+      ∙ ap (λ rs. broken old ++ rs) (sym (faults_append us vs))
 
-  pub tells_cons : (u : Use) (vs : List Use) (old mid new : List NameFault)
+  pub tells_cons : (u : Use) (vs : List Use) (old mid new : List Breach)
       → Tells unit (u ∷ []) old mid → Tells unit vs mid new → Tells unit (u ∷ vs) old new
   tells_cons u vs old mid new h k = tells_append (u ∷ []) vs old mid new h k
 

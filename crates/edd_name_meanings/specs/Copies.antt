@@ -1,19 +1,19 @@
 -- What is answered of a copy: a tree with the meaning of each name in its place.
-use Rattle.std.specs.Prelude.{◌≡◌, ◌++◌, List, Option, Some, Result, IfOk, OnOk, map}
+use Rattle.std.specs.Prelude.{◌≡◌, ◌++◌, List, Option, Result, IfOk, OnOk}
 use Rattle.edd_syntax.specs.Item.{Description}
 use Rattle.edd_syntax.specs.NameUses.{Use}
 use Rattle.edd_syntax.specs.Reference.{Path}
-use Rattle.edd_name_rules.specs.declared.fault.NameFault.{NameFault}
-use Rattle.edd_name_rules.specs.Faults.{refusal_of}
+use Rattle.edd_breaches.specs.declared.breach.Breach.{Breach}
+use Rattle.edd_breaches.specs.Told.{broken}
 use Rattle.edd_name_meanings.specs.Meanings.{Means, NoFault, faults_in}
 
 -- the faults of these uses come after those that were there
-unfoldable pub Tells : Description Path → List Use → (old new : List NameFault) → Type 0
+unfoldable pub Tells : Description Path → List Use → (old new : List Breach) → Type 0
 Tells unit uses old new =
-    map refusal_of new ≡ map refusal_of old ++ map (λ r. Some r) (faults_in unit uses)
+    broken new ≡ broken old ++ faults_in unit uses
 
 -- where there is a copy, all faults of these uses are told
-abbrev pub Told : {T E : Type 0} → Description Path → List Use → (old new : List NameFault)
+abbrev pub Told : {T E : Type 0} → Description Path → List Use → (old new : List Breach)
     → Result T E → Type 0
 Told unit uses old new answer = OnOk answer (Tells unit uses old new)
 

@@ -9,15 +9,14 @@ ghost use Rattle.edd_syntax.specs.Refusal.{Refusal, first_of};
 ghost use Rattle.edd_syntax.specs.Resolution.{along};
 ghost use Rattle.edd_syntax.specs.Text.{Name};
 ghost use Rattle.edd_name_meanings.specs.Directory.{description_of};
-ghost use Rattle.edd_name_rules.specs.Faults.{IsFirst};
-ghost use Rattle.edd_name_meanings.specs.Meanings.{AllMembersNamed, Means, item_among};
+ghost use Rattle.edd_name_meanings.specs.Meanings.{AllMembersNamed, IsFirst, Means, item_among};
 ghost use Rattle.edd_name_meanings.specs.Paths.{Reaches};
 
 use crate::directory::Names;
 use crate::path_steps::{PathStep, is_among, step_to_member, wrong_kind};
-use crate::telling::UNKNOWN;
-use edd_name_rules::fault::NameFault;
-use edd_syntax::numbers::{ItemNo, Kind};
+use crate::telling::stand_in;
+use edd_breaches::Breach;
+use edd_syntax::numbers::{ItemNo, Kind, TokenNo};
 use edd_syntax::reference::{Path, Target};
 
 // The step to the next member, or none where the item is not known.
@@ -26,7 +25,7 @@ fn step<'b>(
     names: &Names,
     here: PathStep<'b>,
     member: &'b str,
-) -> Result<Option<PathStep<'b>>, NameFault>
+) -> Result<Option<PathStep<'b>>, Breach<'b>>
     requires { (j : ItemNo) → here.item ≡ Some j → kind_of j ≡ here.kind }
     ensures sound { IfOk result (λ next. (allowed : List Kind) (all : List Refusal)
         (meant : Option ItemNo) (rest : List Name)
@@ -35,44 +34,46 @@ fn step<'b>(
         → ⊥))
         (λ p. Reaches (description_of names.now) allowed all meant p rest)) }
     ensures refused { IfErr result
-        (λ f. (allowed : List Kind) (all : List Refusal) (meant : Option ItemNo) (rest : List Name)
+        (λ b. (allowed : List Kind) (all : List Refusal) (meant : Option ItemNo) (rest : List Name)
         → Reaches (description_of names.now) allowed all meant here.entry (member.now ∷ rest)
-        → IsFirst f all) }
+        → IsFirst b all) }
 {
     if here.kind != Kind::Collection {
-        return Err(wrong_kind(names.alloc, here.name));
+        return Err(wrong_kind(here.name, here.at, None));
     }
+    // A dot is before each member.
+    let at = TokenNo(here.at.0.saturating_add(2));
     match here.item {
         None => Ok(None),
-        Some(item) => Ok(Some(step_to_member(names, item, member)?)),
+        Some(item) => Ok(Some(step_to_member(names, item, member, at)?)),
     }
 }
 
 // The end of a path.
-fn arrive(names: &Names, allowed: &[Kind], here: PathStep) -> Result<Target, NameFault>
+fn arrive<'b>(names: &Names, allowed: &[Kind], here: PathStep<'b>) -> Result<Target, Breach<'b>>
     ensures sound { IfOk result (λ t. (all : List Refusal) (meant : Option ItemNo)
         → Reaches (description_of names.now) allowed.now all meant here.entry []
         → (None ≡ first_of all) × Means (description_of names.now) (item_among allowed.now meant)
         t) }
-    ensures refused { IfErr result (λ f. (all : List Refusal) (meant : Option ItemNo)
-        → Reaches (description_of names.now) allowed.now all meant here.entry [] → IsFirst f all) }
+    ensures refused { IfErr result (λ b. (all : List Refusal) (meant : Option ItemNo)
+        → Reaches (description_of names.now) allowed.now all meant here.entry [] → IsFirst b all) }
 {
     if !is_among(allowed, here.kind) {
-        return Err(wrong_kind(names.alloc, here.name));
+        return Err(wrong_kind(here.name, here.at, None));
     }
     match here.item {
         Some(item) => Ok(Target::Item(item)),
-        None => Ok(UNKNOWN),
+        None => Ok(stand_in(allowed)),
     }
 }
 
 /// The item that a path means which begins at an item, where items of some kinds are allowed.
-pub fn follow(
+pub fn follow<'b>(
     names: &Names,
     allowed: &[Kind],
-    path: &Path,
+    path: &'b Path,
     from: ItemNo,
-) -> Result<Target, NameFault>
+) -> Result<Target, Breach<'b>>
     ensures sound { IfOk result
         (λ t. (None ≡ first_of (faults_along (description_of names.now) allowed.now
         (string_bytes path.now.base) (kind_of from) (Some from)
@@ -81,19 +82,20 @@ pub fn follow(
         (item_among allowed.now (along (description_of names.now) from
         (map string_bytes path.now.members.items))) t) }
     ensures refused { IfErr result
-        (λ f. IsFirst f (faults_along (description_of names.now) allowed.now
+        (λ b. IsFirst b (faults_along (description_of names.now) allowed.now
         (string_bytes path.now.base)
         (kind_of from) (Some from) (map string_bytes path.now.members.items))) }
 {
     let mut here = PathStep {
         name: &path.base,
+        at: path.at,
         kind: from.kind(),
         item: Some(from),
     };
     for member in &path.members {
         match step(names, here, member)? {
             Some(next) => here = next,
-            None => return Ok(UNKNOWN),
+            None => return Ok(stand_in(allowed)),
         }
     }
     arrive(names, allowed, here)

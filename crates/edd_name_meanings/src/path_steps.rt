@@ -9,34 +9,33 @@ ghost use Rattle.edd_syntax.specs.Refusal.{UnknownName, WrongKind};
 ghost use Rattle.edd_syntax.specs.Resolution.{FoundMember, item_of_member, member_at, of_kind};
 ghost use Rattle.edd_syntax.specs.TreeView.{path_of};
 ghost use Rattle.edd_name_meanings.specs.Directory.{description_of};
-ghost use Rattle.edd_name_rules.specs.Faults.{IsFound};
+ghost use Rattle.edd_breaches.specs.Told.{refusal_of};
 
 use crate::directory::Names;
-use edd_name_rules::fault::NameFault;
+use edd_breaches::{Breach, Rule};
 use edd_syntax::item::Member;
-use edd_syntax::numbers::{ItemNo, Kind};
+use edd_syntax::numbers::{ItemNo, Kind, TokenNo};
 use edd_syntax::reference::Path;
-use std::alloc::Global;
 
-/// That nothing has a name, with a copy of it.
-#[tactic(auto, unfolding(edd_name_rules::specs::Faults::IsFound))]
-pub fn unknown_name(alloc: Global, name: &str) -> NameFault
-    ensures { IsFound result (Some (UnknownName name.now)) }
+/// Nothing has the name at a token.
+pub fn unknown_name<'a>(name: &'a str, at: TokenNo) -> Breach<'a>
+    ensures { refusal_of result.rule ≡ UnknownName name.now }
 {
-    match String::from_str(alloc, name) {
-        Ok(name) => NameFault::UnknownName(name),
-        Err(_) => NameFault::Memory,
+    Breach {
+        rule: Rule::UnknownName(name),
+        place: Some(at),
+        earlier: None,
     }
 }
 
-/// That an item of this name may not be there, with a copy of the name.
-#[tactic(auto, unfolding(edd_name_rules::specs::Faults::IsFound))]
-pub fn wrong_kind(alloc: Global, name: &str) -> NameFault
-    ensures { IsFound result (Some (WrongKind name.now)) }
+/// What has the name at a token may not be there; a local is declared at the earlier token.
+pub fn wrong_kind<'a>(name: &'a str, at: TokenNo, earlier: Option<TokenNo>) -> Breach<'a>
+    ensures { refusal_of result.rule ≡ WrongKind name.now }
 {
-    match String::from_str(alloc, name) {
-        Ok(name) => NameFault::WrongKind(name),
-        Err(_) => NameFault::Memory,
+    Breach {
+        rule: Rule::WrongKind(name),
+        place: Some(at),
+        earlier,
     }
 }
 
@@ -51,10 +50,12 @@ pub fn is_among(allowed: &[Kind], kind: Kind) -> bool
     false
 }
 
-/// A name on the way along a path, the kind of what it names, and the item where that is known.
+/// A name on the way along a path and its token, the kind of what it names, and the item where that
+/// is known.
 #[derive(Clone, Copy)]
 pub struct PathStep<'a> {
     pub name: &'a str,
+    pub at: TokenNo,
     pub kind: Kind,
     pub item: Option<ItemNo>,
 }
@@ -87,27 +88,29 @@ fn member_of_item<'a>(
     }
 }
 
-// The step to a member of a collection.
+// The step to a member of a collection, whose name is at a token.
 pub fn step_to_member<'b>(
     names: &Names,
     item: ItemNo,
     member: &'b str,
-) -> Result<PathStep<'b>, NameFault>
+    at: TokenNo,
+) -> Result<PathStep<'b>, Breach<'b>>
     requires { kind_of item ≡ kind.Collection }
     ensures sound { IfOk result (λ p. (found : FoundMember)
         × (member_at (description_of names.now) item member.now ≡ Some found)
         × (p.name.now ≡ member.now) × (p.kind ≡ found.1)
         × (p.item ≡ item_of_member (description_of names.now) found)) }
     ensures refused { IfErr result
-        (λ f. (member_at (description_of names.now) item member.now ≡ None)
-        × IsFound f (Some (UnknownName member.now))) }
+        (λ b. (member_at (description_of names.now) item member.now ≡ None)
+        × (refusal_of b.rule ≡ UnknownName member.now)) }
 {
     match member_of_item(names, item, member) {
         Some((found, of)) => Ok(PathStep {
             name: member,
+            at,
             kind: of,
             item: item_of_kind(names.item(&found.item.base), of),
         }),
-        None => Err(unknown_name(names.alloc, member)),
+        None => Err(unknown_name(member, at)),
     }
 }

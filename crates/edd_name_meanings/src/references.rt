@@ -1,63 +1,65 @@
 //! What references and the names of functions mean.
 
-ghost use Rattle.std.specs.Prelude.{◌≡◌, [], ◌∷◌, None, Some, IfErr, IfOk, if◌then◌else◌};
+ghost use Rattle.std.specs.Prelude.{◌≡◌, [], ◌∷◌, None, Some, IfErr, IfOk, if◌then◌else◌, option_map};
 ghost use Rattle.std.specs.Str.{bytes_eq};
+ghost use Rattle.edd_syntax.specs.Item.{Description};
 ghost use Rattle.edd_syntax.specs.NameRules.{faults_of_local, faults_of_item};
 ghost use Rattle.edd_syntax.specs.NameUses.{OfItem, OfArray, OfFunction};
+ghost use Rattle.edd_syntax.specs.Reference as pure;
 ghost use Rattle.edd_syntax.specs.Resolution as resolution;
 ghost use Rattle.edd_syntax.specs.Resolution.{look_up, builtin_name, builtins, meaning, array_meant, local_meant, item_meant, function_meant};
 ghost use Rattle.edd_syntax.specs.Refusal.{first_of};
 ghost use Rattle.edd_syntax.specs.TreeView.{path_of};
 ghost use Rattle.edd_name_meanings.specs.Copies.{Copies, Told};
 ghost use Rattle.edd_name_meanings.specs.Directory.{description_of};
-ghost use Rattle.edd_name_rules.specs.Faults.{IsFirst};
-ghost use Rattle.edd_name_meanings.specs.Meanings.{Means, NoFault, FirstFault, scope_of};
+ghost use Rattle.edd_name_meanings.specs.Meanings.{IsFirst, Means, NoFault, FirstFault, scope_of};
 
 use crate::directory::Names;
 use crate::follow::follow;
 use crate::path_steps::{unknown_name, wrong_kind};
-use crate::telling::tell;
-use edd_name_rules::fault::NameFault;
-use edd_syntax::numbers::Kind;
+use crate::telling::{stand_in, tell};
+use edd_breaches::Breach;
+use edd_syntax::numbers::{Kind, TokenNo};
 use edd_syntax::operators::Builtin;
 use edd_syntax::reference::{Path, Target};
 use std::alloc::AllocError;
 
-/// A local that can be used, with its slot.
+/// A local that can be used, with its slot and the token that declares it.
 #[derive(Clone, Copy)]
 pub struct Local<'a> {
     pub name: &'a str,
     pub slot: u8,
+    pub at: TokenNo,
 }
 
-/// The slot of the first local of a name.
-pub fn find_local(scope: &[Local], name: &str) -> Option<u8>
-    ensures { result ≡ look_up name.now (scope_of scope.now) }
+// The first local of a name.
+fn find_local<'a>(scope: &[Local<'a>], name: &str) -> Option<Local<'a>>
+    ensures { option_map (λ l. l.slot) result ≡ look_up name.now (scope_of scope.now) }
 {
     for local in scope {
         if local.name == name {
-            return Some(local.slot);
+            return Some(*local);
         }
     }
     None
 }
 
-// The local of a slot, which has no members.
-fn refer_local(names: &Names, slot: u8, path: &Path) -> Result<Target, NameFault>
+// A local, which has no members.
+fn refer_local<'b>(local: Local, path: &'b Path) -> Result<Target, Breach<'b>>
     ensures sound { IfOk result
         (λ t. (None ≡ first_of (faults_of_local (path_of path.now) (path_of path.now).members))
-        × (local_meant slot (path_of path.now).members ≡ Some t)) }
+        × (local_meant local.entry.slot (path_of path.now).members ≡ Some t)) }
     ensures refused { IfErr result
-        (λ f. IsFirst f (faults_of_local (path_of path.now) (path_of path.now).members)) }
+        (λ b. IsFirst b (faults_of_local (path_of path.now) (path_of path.now).members)) }
 {
     if path.members.is_empty() {
-        Ok(Target::Local(slot))
+        Ok(Target::Local(local.slot))
     } else {
-        Err(wrong_kind(names.alloc, &path.base))
+        Err(wrong_kind(&path.base, path.at, Some(local.at)))
     }
 }
 
-fn refer_item(names: &Names, kinds: &[Kind], path: &Path) -> Result<Target, NameFault>
+fn refer_item<'b>(names: &Names, kinds: &[Kind], path: &'b Path) -> Result<Target, Breach<'b>>
     ensures sound { IfOk result
         (λ t. (None ≡ first_of (faults_of_item (description_of names.now) kinds.now
         (path_of path.now)))
@@ -65,17 +67,22 @@ fn refer_item(names: &Names, kinds: &[Kind], path: &Path) -> Result<Target, Name
         (item_meant (description_of names.now) kinds.now (path_of path.now))
         t) }
     ensures refused { IfErr result
-        (λ f. IsFirst f (faults_of_item (description_of names.now) kinds.now (path_of path.now))) }
+        (λ b. IsFirst b (faults_of_item (description_of names.now) kinds.now (path_of path.now))) }
 {
     match names.item(&path.base) {
         Some(item) => follow(names, kinds, path, item),
-        None => Err(unknown_name(names.alloc, &path.base)),
+        None => Err(unknown_name(&path.base, path.at)),
     }
 }
 
 // What a reference means at a place where items of some kinds may be.
 #[tactic(auto, unfolding(crate::specs::Meanings::Means, crate::specs::Meanings::NoFault, crate::specs::Meanings::FirstFault, crate::specs::Meanings::faults_in))]
-fn find(names: &Names, scope: &[Local], kinds: &[Kind], path: &Path) -> Result<Target, NameFault>
+fn find<'b>(
+    names: &Names,
+    scope: &[Local],
+    kinds: &[Kind],
+    path: &'b Path,
+) -> Result<Target, Breach<'b>>
     ensures accepted { IfOk result
         (λ t. NoFault (description_of names.now)
         (OfItem (scope_of scope.now) kinds.now (path_of path.now)
@@ -85,18 +92,18 @@ fn find(names: &Names, scope: &[Local], kinds: &[Kind], path: &Path) -> Result<T
         (meaning (description_of names.now) (scope_of scope.now) kinds.now
         (path_of path.now)) t) }
     ensures refused { IfErr result
-        (λ f. FirstFault f (description_of names.now)
+        (λ b. FirstFault b (description_of names.now)
         (OfItem (scope_of scope.now) kinds.now (path_of path.now) ∷ [])) }
 {
     match find_local(scope, &path.base) {
-        Some(slot) => refer_local(names, slot, path),
+        Some(local) => refer_local(local, path),
         None => refer_item(names, kinds, path),
     }
 }
 
 // The array that is meant before an index; a local of the name is no array.
 #[tactic(auto, unfolding(crate::specs::Meanings::Means, crate::specs::Meanings::NoFault, crate::specs::Meanings::FirstFault, crate::specs::Meanings::faults_in))]
-fn find_array(names: &Names, scope: &[Local], path: &Path) -> Result<Target, NameFault>
+fn find_array<'b>(names: &Names, scope: &[Local], path: &'b Path) -> Result<Target, Breach<'b>>
     ensures accepted { IfOk result
         (λ t. NoFault (description_of names.now)
         (OfArray (scope_of scope.now) (path_of path.now) ∷ [])) }
@@ -104,11 +111,11 @@ fn find_array(names: &Names, scope: &[Local], path: &Path) -> Result<Target, Nam
         (λ t. Means (description_of names.now)
         (array_meant (description_of names.now) (scope_of scope.now) (path_of path.now)) t) }
     ensures refused { IfErr result
-        (λ f. FirstFault f (description_of names.now)
+        (λ b. FirstFault b (description_of names.now)
         (OfArray (scope_of scope.now) (path_of path.now) ∷ [])) }
 {
     match find_local(scope, &path.base) {
-        Some(_) => Err(wrong_kind(names.alloc, &path.base)),
+        Some(local) => Err(wrong_kind(&path.base, path.at, Some(local.at))),
         None => refer_item(names, &[Kind::Array], path),
     }
 }
@@ -160,76 +167,75 @@ pub fn argument_kinds(function: &Path) -> &'static [Kind]
 
 // What the name of a call means.
 #[tactic(auto, unfolding(crate::specs::Meanings::Means, crate::specs::Meanings::NoFault, crate::specs::Meanings::FirstFault, crate::specs::Meanings::faults_in))]
-fn find_function(names: &Names, path: &Path) -> Result<Target, NameFault>
+fn find_function<'b>(path: &'b Path) -> Result<Target, Breach<'b>>
     ensures accepted { IfOk result
-        (λ t. NoFault (description_of names.now) (OfFunction (path_of path.now) ∷ [])) }
-    ensures sound { IfOk result
-        (λ t. Means (description_of names.now) (function_meant (path_of path.now))
-        t) }
-    ensures refused { IfErr result
-        (λ f. FirstFault f (description_of names.now) (OfFunction (path_of path.now) ∷ [])) }
+        (λ t. (unit : Description pure.Path) → NoFault unit (OfFunction (path_of path.now) ∷ [])) }
+    ensures sound { IfOk result (λ t. (unit : Description pure.Path)
+        → Means unit (function_meant (path_of path.now)) t) }
+    ensures refused { IfErr result (λ b. (unit : Description pure.Path)
+        → FirstFault b unit (OfFunction (path_of path.now) ∷ [])) }
 {
     match builtin(&path.base) {
         Some(function) => Ok(Target::Function(function)),
-        None => Err(unknown_name(names.alloc, &path.base)),
+        None => Err(unknown_name(&path.base, path.at)),
     }
 }
 
 /// What a reference means at a place where items of some kinds may be. A fault of it is told, and
 /// the walk goes on.
 #[tactic(auto, using(crate::proofs::UseLaws::uses), unfolding(crate::specs::Copies::Meant))]
-pub fn refer(
+pub fn refer<'a>(
     names: &Names,
     scope: &[Local],
     kinds: &[Kind],
-    path: &Path,
-    faults: &mut Vec<NameFault>,
+    path: &'a Path,
+    told: &mut Vec<Breach<'a>>,
 ) -> Result<Target, AllocError>
-    ensures told { Told (description_of names.now) (OfItem (scope_of scope.now) kinds.now (path_of path.now) ∷ []) faults.old.items faults.new.items
+    ensures told { Told (description_of names.now) (OfItem (scope_of scope.now) kinds.now (path_of path.now) ∷ []) told.old.items told.new.items
         result }
     ensures sound { Copies (description_of names.now) (OfItem (scope_of scope.now) kinds.now (path_of path.now) ∷ [])
         (meaning (description_of names.now) (scope_of scope.now) kinds.now (path_of path.now)) (λ t. t) result }
 {
     match find(names, scope, kinds, path) {
         Ok(target) => Ok(target),
-        Err(fault) => tell(fault, faults),
+        Err(fault) => tell(fault, stand_in(kinds), told),
     }
 }
 
 /// The array that is meant before an index; a local of the name is no array. A fault of it is told,
 /// and the walk goes on.
 #[tactic(auto, using(crate::proofs::UseLaws::uses), unfolding(crate::specs::Copies::Meant))]
-pub fn refer_array(
+pub fn refer_array<'a>(
     names: &Names,
     scope: &[Local],
-    path: &Path,
-    faults: &mut Vec<NameFault>,
+    path: &'a Path,
+    told: &mut Vec<Breach<'a>>,
 ) -> Result<Target, AllocError>
-    ensures told { Told (description_of names.now) (OfArray (scope_of scope.now) (path_of path.now) ∷ []) faults.old.items faults.new.items
+    ensures told { Told (description_of names.now) (OfArray (scope_of scope.now) (path_of path.now) ∷ []) told.old.items told.new.items
         result }
     ensures sound { Copies (description_of names.now) (OfArray (scope_of scope.now) (path_of path.now) ∷ [])
         (array_meant (description_of names.now) (scope_of scope.now) (path_of path.now)) (λ t. t) result }
 {
     match find_array(names, scope, path) {
         Ok(target) => Ok(target),
-        Err(fault) => tell(fault, faults),
+        Err(fault) => tell(fault, stand_in(&[Kind::Array]), told),
     }
 }
 
 /// What the name of a call means. A fault of it is told, and the walk goes on.
 #[tactic(auto, using(crate::proofs::UseLaws::uses), unfolding(crate::specs::Copies::Meant))]
-pub fn refer_function(
+pub fn refer_function<'a>(
     names: &Names,
-    path: &Path,
-    faults: &mut Vec<NameFault>,
+    path: &'a Path,
+    told: &mut Vec<Breach<'a>>,
 ) -> Result<Target, AllocError>
-    ensures told { Told (description_of names.now) (OfFunction (path_of path.now) ∷ []) faults.old.items faults.new.items
+    ensures told { Told (description_of names.now) (OfFunction (path_of path.now) ∷ []) told.old.items told.new.items
         result }
     ensures sound { Copies (description_of names.now) (OfFunction (path_of path.now) ∷ [])
         (function_meant (path_of path.now)) (λ t. t) result }
 {
-    match find_function(names, path) {
+    match find_function(path) {
         Ok(target) => Ok(target),
-        Err(fault) => tell(fault, faults),
+        Err(fault) => tell(fault, stand_in(&[]), told),
     }
 }

@@ -1,6 +1,7 @@
-pub mod Faults
-pub mod Limits
-pub mod Scopes
+pub mod NamesTold
+pub mod Places
+pub mod RulesTold
 pub mod Seen
 pub mod Spending
 pub mod Walks
+pub mod WordsTold

@@ -8,7 +8,7 @@ use Rattle.edd_syntax.specs.Refusal.{is_name_in}
 
 -- the list has a name
 abbrev pub in_few : Seen → Name → Bool
-in_few seen q = is_name_in (map (λ n. n.now) seen.few.items) q
+in_few seen q = is_name_in (map (λ m. m.name.now) seen.few.items) q
 
 -- the map has it
 abbrev pub in_many : Seen → Name → Bool

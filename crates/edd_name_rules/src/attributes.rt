@@ -1,24 +1,21 @@
 //! Missing attributes.
 
-ghost use Rattle.std.specs.Prelude.{◌≡◌, [], ◌∷◌, map, option_map};
+ghost use Rattle.std.specs.Prelude.{◌≡◌, [], ◌∷◌, OnOk, map};
+ghost use Rattle.edd_breaches.specs.Told.{Tells};
 ghost use Rattle.edd_syntax.specs.declared.numbers.Kind.TheVariants.{Command};
-ghost use Rattle.edd_syntax.specs.ItemView.{item_of, attribute_of};
+ghost use Rattle.edd_syntax.specs.ItemView.{attribute_of};
 ghost use Rattle.edd_syntax.specs.NameRules.{attribute_word, required_words};
-ghost use Rattle.edd_syntax.specs.Refusal.{first_of, is_name_in};
+ghost use Rattle.edd_syntax.specs.Refusal.{is_name_in};
 ghost use Rattle.edd_syntax.specs.TreeView.{path_of};
-ghost use Rattle.edd_name_rules.specs.Walks.{missing_in, missing_among, refusal_of_missing};
+ghost use Rattle.edd_name_rules.specs.RulesTold.{missing_among, missing_in, missing_told};
 
+use crate::places::item_at;
+use edd_breaches::{Breach, Rule, tell};
 use edd_syntax::item::{Attribute, Item};
-use edd_syntax::numbers::Attr;
+use edd_syntax::numbers::{Attr, Kind};
 use edd_syntax::reference::Path;
 use edd_syntax::symbols::Keyword;
-
-/// An item without an attribute that its kind needs.
-#[derive(Clone, Copy)]
-pub struct Missing<'a> {
-    pub item: &'a str,
-    pub word: &'static str,
-}
+use std::alloc::AllocError;
 
 /// The word of an attribute.
 pub fn word_of(attribute: &Attribute<Path>) -> &'static str
@@ -54,61 +51,60 @@ pub fn has_word(attributes: &[Attribute<Path>], word: &str) -> bool
     false
 }
 
-#[tactic(auto, using(crate::proofs::Missing::missing))]
-fn missing_in_item(item: &Item<Path>) -> Option<Missing>
-    ensures { option_map refusal_of_missing result
-        ≡ first_of (missing_in (item_of path_of item.now ∷ [])) }
-{
-    match item {
-        Item::Variable(d) => missing_word(&d.name, &d.attributes, Keyword::Type.spelling()),
-        Item::Command(d) => missing_of_command(&d.name, &d.attributes),
-        Item::Menu(d) => missing_word(&d.name, &d.attributes, Attr::Items.word()),
-        Item::Collection(d) => missing_word(&d.name, &d.attributes, Attr::Members.word()),
-        Item::Method(d) => missing_word(&d.name, &d.attributes, Attr::Definition.word()),
-        Item::Array(d) => missing_word(&d.name, &d.attributes, Attr::Elements.word()),
-    }
-}
-
-#[tactic(auto, using(crate::proofs::Missing::missing))]
-fn missing_of_command<'a>(name: &'a str, attributes: &[Attribute<Path>]) -> Option<Missing<'a>>
-    ensures { option_map refusal_of_missing result
-        ≡ first_of (missing_among name.now (map (attribute_of path_of) attributes.now)
-        (required_words Command)) }
-{
-    if let Some(missing) = missing_word(name, attributes, Attr::Number.word()) {
-        return Some(missing);
-    }
-    if let Some(missing) = missing_word(name, attributes, Attr::Operation.word()) {
-        return Some(missing);
-    }
-    missing_word(name, attributes, Attr::Transaction.word())
-}
-
-fn missing_word<'a>(
-    item: &'a str,
-    attributes: &[Attribute<Path>],
+// The word is told unless an attribute of it is there.
+#[tactic(auto, using(crate::proofs::Telling::one_word))]
+fn tell_word<'a>(
+    item: &'a Item<Path>,
     word: &'static str,
-) -> Option<Missing<'a>>
-    ensures { option_map refusal_of_missing result
-        ≡ first_of (missing_among item.now (map (attribute_of path_of) attributes.now)
-        (word.now ∷ [])) }
+    told: &mut Vec<Breach<'a>>,
+) -> Result<(), AllocError>
+    ensures told { OnOk result
+        (Tells (missing_among item.now (word.now ∷ [])) told.old.items told.new.items) }
 {
-    if has_word(attributes, word) {
-        None
-    } else {
-        Some(Missing { item, word })
+    if has_word(item.attributes(), word) {
+        return Ok(());
+    }
+    let rule = Rule::MissingAttribute {
+        item: item.name(),
+        word,
+    };
+    tell(rule, item_at(item), told)
+}
+
+#[tactic(auto, using(crate::proofs::Telling::more_words))]
+fn tell_of_command<'a>(item: &'a Item<Path>, told: &mut Vec<Breach<'a>>) -> Result<(), AllocError>
+    ensures told { OnOk result
+        (Tells (missing_among item.now (required_words Command)) told.old.items told.new.items) }
+{
+    tell_word(item, Attr::Number.word(), told)?;
+    tell_word(item, Attr::Operation.word(), told)?;
+    tell_word(item, Attr::Transaction.word(), told)?;
+    Ok(())
+}
+
+fn tell_of_item<'a>(item: &'a Item<Path>, told: &mut Vec<Breach<'a>>) -> Result<(), AllocError>
+    ensures told { OnOk result (Tells (missing_in item.now) told.old.items told.new.items) }
+{
+    match item.kind() {
+        Kind::Variable => tell_word(item, Keyword::Type.spelling(), told),
+        Kind::Command => tell_of_command(item, told),
+        Kind::Menu => tell_word(item, Attr::Items.word(), told),
+        Kind::Collection => tell_word(item, Attr::Members.word(), told),
+        Kind::Method => tell_word(item, Attr::Definition.word(), told),
+        Kind::Array => tell_word(item, Attr::Elements.word(), told),
     }
 }
 
-/// The first item without an attribute that its kind needs.
-pub fn missing_attribute(items: &[Item<Path>]) -> Option<Missing>
-    ensures { option_map refusal_of_missing result
-        ≡ first_of (missing_in (map (item_of path_of) items.now)) }
+/// The attributes that items lack.
+#[tactic(auto, using(edd_breaches::proofs::TellLaws::tells))]
+pub fn tell_missing<'a>(
+    items: &'a [Item<Path>],
+    told: &mut Vec<Breach<'a>>,
+) -> Result<(), AllocError>
+    ensures told { OnOk result (Tells (missing_told items.now) told.old.items told.new.items) }
 {
     for item in items {
-        if let Some(missing) = missing_in_item(item) {
-            return Some(missing);
-        }
+        tell_of_item(item, told)?;
     }
-    None
+    Ok(())
 }

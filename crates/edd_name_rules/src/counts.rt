@@ -8,8 +8,9 @@ ghost use Rattle.edd_syntax.specs.Resolution.{count_of};
 ghost use Rattle.edd_syntax.specs.TreeView.{path_of};
 ghost use Rattle.edd_name_rules.specs.Spending.{spent, transactions_in};
 
+use crate::places::item_at;
 use edd_syntax::item::{Attribute, Item};
-use edd_syntax::numbers::Kind;
+use edd_syntax::numbers::{Kind, TokenNo};
 use edd_syntax::reference::Path;
 
 /// What is left of a number of items of a kind after these, if they are enough.
@@ -72,4 +73,22 @@ fn is_over(items: &[Item<Path>], kind: Kind) -> bool
     ensures { result ≡ nat_lt item_limit (count_of kind (map (item_of path_of) items.now)) }
 {
     spend_items(items, kind, 4096).is_none()
+}
+
+/// The name of the first item before which there are 4,096 of its kind, where there are too many.
+/// It is a help, of which nothing is proved.
+pub fn first_extra_item(items: &[Item<Path>], is_over: bool) -> Option<TokenNo> {
+    if !is_over {
+        return None;
+    }
+    let mut counts = [0u32; 7];
+    for item in items {
+        if let Some(count) = counts.get_mut(item.kind() as usize) {
+            *count = count.saturating_add(1);
+            if *count > 4096 {
+                return Some(item_at(item));
+            }
+        }
+    }
+    None
 }

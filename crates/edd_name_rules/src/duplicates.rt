@@ -1,30 +1,59 @@
 //! Items, members of collections and locals of blocks with one name.
 
-ghost use Rattle.std.specs.Prelude.{◌≡◌, [], ◌∷◌, ◌++◌, List, None, IfErr, OnOk, map};
-ghost use Rattle.edd_syntax.specs.ItemView.{item_of, attribute_of, named_items};
-ghost use Rattle.edd_syntax.specs.NameRules.{duplicate_names, repeated_inside, repeated_locals, repeated_in_attributes, repeated_in_items};
-ghost use Rattle.edd_syntax.specs.Refusal.{first_of};
-ghost use Rattle.edd_syntax.specs.Statement.{body_from};
+ghost use Rattle.std.specs.Prelude.{[], List, OnOk};
+ghost use Rattle.edd_breaches.specs.Told.{Tells};
 ghost use Rattle.edd_syntax.specs.Text.{Name};
-ghost use Rattle.edd_syntax.specs.TreeView.{path_of, stmt_of, part_of};
-ghost use Rattle.edd_name_rules.specs.Faults.{IsDuplicate, IsFirst};
-ghost use Rattle.edd_name_rules.specs.Scopes.{part_repeats, names_of_part, attribute_repeats, names_of_attribute, item_repeats};
+ghost use Rattle.edd_breaches.specs.Along.{told_along, after_all};
+ghost use Rattle.edd_name_rules.specs.NamesTold.{local_told, with_local, with_locals, inside_told, part_told, member_told, with_member, with_members, members_told, item_told, with_item, names_told};
 ghost use Rattle.edd_name_rules.specs.Seen.{HasSeen};
-ghost use Rattle.edd_name_rules.specs.Walks.{described};
 
-use crate::fault::NameFault;
-use crate::seen::{Seen, note, note_declarators, note_members};
-use edd_syntax::item::{Attribute, Item};
+use crate::places::item_at;
+use crate::seen::{Seen, note_name};
+use edd_breaches::Breach;
+use edd_syntax::item::{Attribute, Item, Member};
 use edd_syntax::reference::Path;
-use edd_syntax::stmt::{Part, Stmt};
-use std::alloc::Global;
+use edd_syntax::stmt::{Declarator, Part, Stmt};
+use std::alloc::{AllocError, Global};
 
-/// No block inside a statement has two locals of one name.
+fn tell_local<'a>(
+    declarator: &'a Declarator<Path>,
+    block: &mut Seen<'a>,
+    told: &mut Vec<Breach<'a>>,
+) -> Result<(), AllocError>
+    ensures told { OnOk result ((before : List Name) → HasSeen before block.old
+        → Tells (local_told before declarator.now) told.old.items told.new.items) }
+    ensures known { OnOk result ((before : List Name) → HasSeen before block.old
+        → HasSeen (with_local before declarator.now) block.new) }
+{
+    note_name(block, &declarator.place.base, declarator.place.at, told)
+}
+
+fn tell_locals<'a>(
+    declarators: &'a [Declarator<Path>],
+    block: &mut Seen<'a>,
+    told: &mut Vec<Breach<'a>>,
+) -> Result<(), AllocError>
+    ensures told { OnOk result ((before : List Name) → HasSeen before block.old
+        → Tells (told_along local_told with_local before declarators.now)
+        told.old.items told.new.items) }
+    ensures known { OnOk result ((before : List Name) → HasSeen before block.old
+        → HasSeen (after_all with_local before declarators.now) block.new) }
+{
+    for declarator in declarators {
+        tell_local(declarator, block, told)?;
+    }
+    Ok(())
+}
+
+// The locals of the blocks inside a statement.
 #[cycle(locals)]
-#[tactic(auto, using(crate::proofs::Noting::duplicates))]
-pub fn check_inside(s: &Stmt<Path>, alloc: Global) -> Result<(), NameFault>
-    ensures sound { OnOk result (None ≡ first_of (repeated_inside (stmt_of path_of s.now))) }
-    ensures refused { IfErr result (λ f. IsDuplicate f (repeated_inside (stmt_of path_of s.now))) }
+#[tactic(auto, using(edd_breaches::proofs::TellLaws::tells))]
+fn tell_inside<'a>(
+    s: &'a Stmt<Path>,
+    alloc: Global,
+    told: &mut Vec<Breach<'a>>,
+) -> Result<(), AllocError>
+    ensures told { OnOk result (Tells (inside_told s.now) told.old.items told.new.items) }
 {
     match s {
         Stmt::Empty
@@ -32,148 +61,148 @@ pub fn check_inside(s: &Stmt<Path>, alloc: Global) -> Result<(), NameFault>
         | Stmt::Break { .. }
         | Stmt::Continue { .. }
         | Stmt::Return => Ok(()),
-        Stmt::Block(parts) => check_block(parts, alloc),
-        Stmt::Switch(_, parts) => check_block(parts, alloc),
+        Stmt::Block(parts) => tell_block(parts, alloc, told),
+        Stmt::Switch(_, parts) => tell_block(parts, alloc, told),
         Stmt::If(_, body) | Stmt::While(_, body) | Stmt::Do(body, _) | Stmt::For { body, .. } =>
-            check_inside(body, alloc),
+            tell_inside(body, alloc, told),
         Stmt::IfElse(_, first, otherwise) => {
-            check_inside(first, alloc)?;
-            check_inside(otherwise, alloc)
+            tell_inside(first, alloc, told)?;
+            tell_inside(otherwise, alloc, told)
         }
     }
 }
 
-/// A block has no two locals of one name, nor has a block inside it.
+// The locals of a block and of the blocks inside it.
 #[cycle(locals)]
-pub fn check_block(parts: &[Part<Path>], alloc: Global) -> Result<(), NameFault>
-    ensures sound { OnOk result
-        (None ≡ first_of (repeated_locals [] (body_from (map (part_of path_of) parts.now)))) }
-    ensures refused { IfErr result
-        (λ f. IsDuplicate f (repeated_locals [] (body_from (map (part_of path_of) parts.now)))) }
+fn tell_block<'a>(
+    parts: &'a [Part<Path>],
+    alloc: Global,
+    told: &mut Vec<Breach<'a>>,
+) -> Result<(), AllocError>
+    ensures told { OnOk result
+        (Tells (told_along part_told with_locals [] parts.now) told.old.items told.new.items) }
 {
     let mut block = Seen::of_few(alloc);
-    check_parts(parts, &mut block, alloc)
-}
-
-#[cycle(locals)]
-fn check_parts<'a>(
-    parts: &'a [Part<Path>],
-    block: &mut Seen<'a>,
-    alloc: Global,
-) -> Result<(), NameFault>
-    ensures sound { OnOk result ((b : List Name) → HasSeen b block.old
-        → None ≡ first_of (repeated_locals b (body_from (map (part_of path_of) parts.now)))) }
-    ensures refused { IfErr result (λ f. (b : List Name) → HasSeen b block.old
-        → IsDuplicate f (repeated_locals b (body_from (map (part_of path_of) parts.now)))) }
-{
     for part in parts {
-        check_part(part, block, alloc)?;
+        tell_part(part, &mut block, alloc, told)?;
     }
     Ok(())
 }
 
 #[cycle(locals)]
-fn check_part<'a>(
+#[tactic(auto, using(edd_breaches::proofs::TellLaws::tells))]
+fn tell_part<'a>(
     part: &'a Part<Path>,
     block: &mut Seen<'a>,
     alloc: Global,
-) -> Result<(), NameFault>
-    ensures sound { OnOk result ((b : List Name) → HasSeen b block.old
-        → (None ≡ first_of (part_repeats b (part_of path_of part.now)))
-        × HasSeen (names_of_part (part_of path_of part.now) ++ b) block.new) }
-    ensures refused { IfErr result (λ f. (b : List Name) → HasSeen b block.old
-        → IsDuplicate f (part_repeats b (part_of path_of part.now))) }
+    told: &mut Vec<Breach<'a>>,
+) -> Result<(), AllocError>
+    ensures told { OnOk result ((before : List Name) → HasSeen before block.old
+        → Tells (part_told before part.now) told.old.items told.new.items) }
+    ensures known { OnOk result ((before : List Name) → HasSeen before block.old
+        → HasSeen (with_locals before part.now) block.new) }
 {
     match part {
-        Part::Declare(declarators) => note_declarators(block, declarators, alloc),
-        Part::Statement(s) => check_inside(s, alloc),
+        Part::Declare(declarators) => tell_locals(declarators, block, told),
+        Part::Statement(s) => tell_inside(s, alloc, told),
         Part::CaseLabel { .. } | Part::DefaultLabel { .. } => Ok(()),
     }
 }
 
-// The members of a collection or the locals of a method, after members that were seen.
-fn check_attribute<'a>(
+fn tell_member<'a>(
+    member: &'a Member<Path>,
+    seen: &mut Seen<'a>,
+    told: &mut Vec<Breach<'a>>,
+) -> Result<(), AllocError>
+    ensures told { OnOk result ((before : List Name) → HasSeen before seen.old
+        → Tells (member_told before member.now) told.old.items told.new.items) }
+    ensures known { OnOk result ((before : List Name) → HasSeen before seen.old
+        → HasSeen (with_member before member.now) seen.new) }
+{
+    note_name(seen, &member.name, member.at, told)
+}
+
+fn tell_members<'a>(
+    members: &'a [Member<Path>],
+    seen: &mut Seen<'a>,
+    told: &mut Vec<Breach<'a>>,
+) -> Result<(), AllocError>
+    ensures told { OnOk result ((before : List Name) → HasSeen before seen.old
+        → Tells (told_along member_told with_member before members.now)
+        told.old.items told.new.items) }
+    ensures known { OnOk result ((before : List Name) → HasSeen before seen.old
+        → HasSeen (after_all with_member before members.now) seen.new) }
+{
+    for member in members {
+        tell_member(member, seen, told)?;
+    }
+    Ok(())
+}
+
+// The members that an attribute lists, or the locals of a method.
+#[tactic(auto, using(edd_breaches::proofs::TellLaws::tells))]
+fn tell_attribute<'a>(
     attribute: &'a Attribute<Path>,
     members: &mut Seen<'a>,
     alloc: Global,
-) -> Result<(), NameFault>
-    ensures sound { OnOk result ((b : List Name) → HasSeen b members.old
-        → (None ≡ first_of (attribute_repeats b (attribute_of path_of attribute.now)))
-        × HasSeen (names_of_attribute (attribute_of path_of attribute.now) ++ b) members.new) }
-    ensures refused { IfErr result (λ f. (b : List Name) → HasSeen b members.old
-        → IsDuplicate f (attribute_repeats b (attribute_of path_of attribute.now))) }
+    told: &mut Vec<Breach<'a>>,
+) -> Result<(), AllocError>
+    ensures told { OnOk result ((before : List Name) → HasSeen before members.old
+        → Tells (members_told before attribute.now) told.old.items told.new.items) }
+    ensures known { OnOk result ((before : List Name) → HasSeen before members.old
+        → HasSeen (with_members before attribute.now) members.new) }
 {
     match attribute {
-        Attribute::Members(_, list) => note_members(members, list, alloc),
-        Attribute::Definition(_, parts) => check_block(parts, alloc),
+        Attribute::Members(_, list) => tell_members(list, members, told),
+        Attribute::Definition(_, parts) => tell_block(parts, alloc, told),
         _ => Ok(()),
     }
 }
 
-fn check_attributes_in<'a>(
+// The members and the locals of one item.
+fn tell_attributes<'a>(
     attributes: &'a [Attribute<Path>],
-    members: &mut Seen<'a>,
     alloc: Global,
-) -> Result<(), NameFault>
-    ensures sound { OnOk result ((b : List Name) → HasSeen b members.old
-        → None ≡ first_of (repeated_in_attributes b (map (attribute_of path_of) attributes.now))) }
-    ensures refused { IfErr result (λ f. (b : List Name) → HasSeen b members.old
-        → IsDuplicate f (repeated_in_attributes b (map (attribute_of path_of) attributes.now))) }
-{
-    for attribute in attributes {
-        check_attribute(attribute, members, alloc)?;
-    }
-    Ok(())
-}
-
-/// No two members and no two locals of a block among these attributes of one item have one name.
-pub fn check_attributes(attributes: &[Attribute<Path>], alloc: Global) -> Result<(), NameFault>
-    ensures sound { OnOk result
-        (None ≡ first_of (repeated_in_attributes [] (map (attribute_of path_of) attributes.now))) }
-    ensures refused { IfErr result
-        (λ f. IsDuplicate f (repeated_in_attributes []
-        (map (attribute_of path_of) attributes.now))) }
+    told: &mut Vec<Breach<'a>>,
+) -> Result<(), AllocError>
+    ensures told { OnOk result (Tells (told_along members_told with_members [] attributes.now)
+        told.old.items told.new.items) }
 {
     let mut members = Seen::of_few(alloc);
-    check_attributes_in(attributes, &mut members, alloc)
-}
-
-#[tactic(auto, using(crate::proofs::Noting::duplicates))]
-fn check_item<'a>(item: &'a Item<Path>, seen: &mut Seen<'a>, alloc: Global) -> Result<(), NameFault>
-    ensures sound { OnOk result ((b : List Name) → HasSeen b seen.old
-        → (None ≡ first_of (item_repeats b (item_of path_of item.now)))
-        × HasSeen ((item_of path_of item.now).name ∷ b) seen.new) }
-    ensures refused { IfErr result (λ f. (b : List Name) → HasSeen b seen.old
-        → IsDuplicate f (item_repeats b (item_of path_of item.now))) }
-{
-    note(seen, item.name(), alloc)?;
-    check_attributes(item.attributes(), alloc)
-}
-
-fn check_items_in<'a>(
-    items: &'a [Item<Path>],
-    seen: &mut Seen<'a>,
-    alloc: Global,
-) -> Result<(), NameFault>
-    ensures sound { OnOk result ((b : List Name) → HasSeen b seen.old
-        → None ≡ first_of (repeated_in_items b (map (item_of path_of) items.now))) }
-    ensures refused { IfErr result (λ f. (b : List Name) → HasSeen b seen.old
-        → IsDuplicate f (repeated_in_items b (map (item_of path_of) items.now))) }
-{
-    for item in items {
-        check_item(item, seen, alloc)?;
+    for attribute in attributes {
+        tell_attribute(attribute, &mut members, alloc, told)?;
     }
     Ok(())
 }
 
-/// No two items, members of a collection or locals of a block have one name.
-#[tactic(auto, using(crate::proofs::RuleLaws::rules_in_order), unfolding(crate::specs::Faults::IsFound))]
-pub fn check_names(items: &[Item<Path>], alloc: Global) -> Result<(), NameFault>
-    ensures sound { OnOk result
-        (None ≡ first_of (duplicate_names (described (named_items items.now)))) }
-    ensures refused { IfErr result
-        (λ f. IsFirst f (duplicate_names (described (named_items items.now)))) }
+#[tactic(auto, using(edd_breaches::proofs::TellLaws::tells))]
+fn tell_item<'a>(
+    item: &'a Item<Path>,
+    seen: &mut Seen<'a>,
+    alloc: Global,
+    told: &mut Vec<Breach<'a>>,
+) -> Result<(), AllocError>
+    ensures told { OnOk result ((before : List Name) → HasSeen before seen.old
+        → Tells (item_told before item.now) told.old.items told.new.items) }
+    ensures known { OnOk result ((before : List Name) → HasSeen before seen.old
+        → HasSeen (with_item before item.now) seen.new) }
+{
+    note_name(seen, item.name(), item_at(item), told)?;
+    tell_attributes(item.attributes(), alloc, told)?;
+    Ok(())
+}
+
+/// The items, members of a collection and locals of a block whose name an earlier one has.
+pub fn tell_names<'a>(
+    items: &'a [Item<Path>],
+    alloc: Global,
+    told: &mut Vec<Breach<'a>>,
+) -> Result<(), AllocError>
+    ensures told { OnOk result (Tells (names_told items.now) told.old.items told.new.items) }
 {
     let mut seen = Seen::of_many(alloc);
-    check_items_in(items, &mut seen, alloc)
+    for item in items {
+        tell_item(item, &mut seen, alloc, told)?;
+    }
+    Ok(())
 }

@@ -6,8 +6,9 @@ mod attributes;
 mod conditionals;
 mod counts;
 mod duplicates;
-pub mod fault;
+mod excess;
 mod nodes;
+mod places;
 mod repeats;
 mod rules;
 mod seen;
@@ -15,4 +16,4 @@ mod sizes;
 mod slots;
 mod values;
 
-pub use rules::check_rules;
+pub use rules::tell_rules;

@@ -1,126 +1,111 @@
-//! Parts of a transaction and of a type's braces that are there twice.
+//! Attributes of an item and parts of braces that are there twice.
 
-ghost use Rattle.std.specs.Prelude.{◌≡◌, [], map, option_map};
-ghost use Rattle.std.specs.List.{cons_option, flat_map};
-ghost use Rattle.edd_syntax.specs.ItemView.{item_of, attribute_of, transaction_part_of, type_part_of};
-ghost use Rattle.edd_syntax.specs.NameRules.{attribute_word, repeated_words, repeated_words_inside, transaction_part_word, type_part_words};
-ghost use Rattle.edd_syntax.specs.Refusal.{first_of, is_name_in, repeated};
+ghost use Rattle.std.specs.Prelude.{◌≡◌, [], List, OnOk};
+ghost use Rattle.edd_breaches.specs.Told.{Tells};
+ghost use Rattle.edd_syntax.specs.ItemView.{attribute_of};
+ghost use Rattle.edd_syntax.specs.NameRules.{is_transaction};
+ghost use Rattle.edd_syntax.specs.Text.{Name};
 ghost use Rattle.edd_syntax.specs.TreeView.{path_of};
-ghost use Rattle.edd_name_rules.specs.Walks.{repeated_here, is_transaction};
+ghost use Rattle.edd_breaches.specs.Along.{told_along};
+ghost use Rattle.edd_name_rules.specs.Seen.{HasSeen};
+ghost use Rattle.edd_name_rules.specs.WordsTold.{part_told, with_part, option_told, with_option, braces_told, own_word_told, attribute_told, with_attribute, words_told_in, words_told};
 
-use crate::attributes::{has_word, word_of};
+use crate::attributes::word_of;
+use crate::places::attribute_at;
+use crate::seen::{Seen, add, note_word};
+use edd_breaches::Breach;
 use edd_syntax::item::{Attribute, Item, TransactionPart, TypePart};
 use edd_syntax::numbers::Attr;
 use edd_syntax::reference::Path;
+use std::alloc::{AllocError, Global};
 
-fn part_word(part: &TransactionPart<Path>) -> &'static str
-    ensures { result.now ≡ transaction_part_word (transaction_part_of path_of part.now) }
+fn tell_part<'a>(
+    part: &TransactionPart<Path>,
+    seen: &mut Seen<'a>,
+    told: &mut Vec<Breach<'a>>,
+) -> Result<(), AllocError>
+    ensures told { OnOk result ((before : List Name) → HasSeen before seen.old
+        → Tells (part_told before part.now) told.old.items told.new.items) }
+    ensures known { OnOk result ((before : List Name) → HasSeen before seen.old
+        → HasSeen (with_part before part.now) seen.new) }
 {
     match part {
-        TransactionPart::Request(_, _) => Attr::Request.word(),
-        TransactionPart::Reply(_, _) => Attr::Reply.word(),
+        TransactionPart::Request(at, _) => note_word(seen, Attr::Request.word(), *at, told),
+        TransactionPart::Reply(at, _) => note_word(seen, Attr::Reply.word(), *at, told),
     }
 }
 
-fn has_part(parts: &[TransactionPart<Path>], word: &str) -> bool
-    ensures { result ≡ is_name_in (map (λ p. transaction_part_word (transaction_part_of path_of p))
-        parts.now) word.now }
+// A REQUEST or a REPLY that is there already.
+fn tell_parts<'a>(
+    parts: &[TransactionPart<Path>],
+    alloc: Global,
+    told: &mut Vec<Breach<'a>>,
+) -> Result<(), AllocError>
+    ensures told { OnOk result
+        (Tells (told_along part_told with_part [] parts.now) told.old.items told.new.items) }
 {
+    let mut seen = Seen::of_few(alloc);
     for part in parts {
-        if part_word(part) == word {
-            return true;
-        }
+        tell_part(part, &mut seen, told)?;
     }
-    false
+    Ok(())
 }
 
-/// The first word that is there twice in the braces of a transaction. It looks back at most three
-/// times, since there are two words.
-pub fn repeated_part(parts: &[TransactionPart<Path>]) -> Option<&'static str>
-    ensures { option_map (λ w. w.now) result
-        ≡ first_of (repeated [] (map (λ p. transaction_part_word (transaction_part_of path_of p))
-        parts.now)) }
-{
-    for i in 0..parts.len() {
-        let word = part_word(&parts[i]);
-        if has_part(&parts[..i], word) {
-            return Some(word);
-        }
-    }
-    None
-}
-
-fn option_word(part: &TypePart<Path>) -> Option<&'static str>
-    ensures { cons_option (option_map (λ w. w.now) result) []
-        ≡ type_part_words (type_part_of path_of part.now) }
+#[tactic(auto, using(edd_breaches::proofs::TellLaws::tells))]
+fn tell_option<'a>(
+    part: &TypePart<Path>,
+    seen: &mut Seen<'a>,
+    told: &mut Vec<Breach<'a>>,
+) -> Result<(), AllocError>
+    ensures told { OnOk result ((before : List Name) → HasSeen before seen.old
+        → Tells (option_told before part.now) told.old.items told.new.items) }
+    ensures known { OnOk result ((before : List Name) → HasSeen before seen.old
+        → HasSeen (with_option before part.now) seen.new) }
 {
     match part {
-        TypePart::DefaultValue { .. } => Some(Attr::DefaultValue.word()),
-        TypePart::MinValue { .. } => Some(Attr::MinValue.word()),
-        TypePart::MaxValue { .. } => Some(Attr::MaxValue.word()),
-        TypePart::DisplayFormat { .. } => Some(Attr::DisplayFormat.word()),
-        TypePart::EditFormat { .. } => Some(Attr::EditFormat.word()),
-        TypePart::Element(_) => None,
+        TypePart::DefaultValue { at, .. } => note_word(seen, Attr::DefaultValue.word(), *at, told),
+        TypePart::MinValue { at, .. } => note_word(seen, Attr::MinValue.word(), *at, told),
+        TypePart::MaxValue { at, .. } => note_word(seen, Attr::MaxValue.word(), *at, told),
+        TypePart::DisplayFormat { at, .. } => note_word(
+            seen,
+            Attr::DisplayFormat.word(),
+            *at,
+            told,
+        ),
+        TypePart::EditFormat { at, .. } => note_word(seen, Attr::EditFormat.word(), *at, told),
+        TypePart::Element(_) => Ok(()),
     }
 }
 
-fn is_option(part: &TypePart<Path>, word: &str) -> bool
-    ensures { result ≡ is_name_in (type_part_words (type_part_of path_of part.now)) word.now }
+// An option of a type that is there already.
+fn tell_options<'a>(
+    parts: &[TypePart<Path>],
+    alloc: Global,
+    told: &mut Vec<Breach<'a>>,
+) -> Result<(), AllocError>
+    ensures told { OnOk result
+        (Tells (told_along option_told with_option [] parts.now) told.old.items told.new.items) }
 {
-    match option_word(part) {
-        Some(other) => other == word,
-        None => false,
-    }
-}
-
-#[tactic(auto, using(crate::proofs::SeenBefore::names_in))]
-fn has_option(parts: &[TypePart<Path>], word: &str) -> bool
-    ensures { result ≡ is_name_in (flat_map type_part_words (map (type_part_of path_of) parts.now))
-        word.now }
-{
+    let mut seen = Seen::of_few(alloc);
     for part in parts {
-        if is_option(part, word) {
-            return true;
-        }
+        tell_option(part, &mut seen, told)?;
     }
-    false
+    Ok(())
 }
 
-// The word of an option that is there already.
-fn repeated_word_at(part: &TypePart<Path>, before: &[TypePart<Path>]) -> Option<&'static str>
-    ensures { option_map (λ w. w.now) result
-        ≡ first_of (repeated (flat_map type_part_words (map (type_part_of path_of) before.now))
-        (type_part_words (type_part_of path_of part.now))) }
-{
-    match option_word(part) {
-        Some(word) if has_option(before, word) => Some(word),
-        _ => None,
-    }
-}
-
-/// The first word of an option that is there twice in the braces of a type. It looks back only for
-/// options, of which there are five.
-pub fn repeated_option(parts: &[TypePart<Path>]) -> Option<&'static str>
-    ensures { option_map (λ w. w.now) result
-        ≡ first_of (repeated [] (flat_map type_part_words (map (type_part_of path_of) parts.now))) }
-{
-    for i in 0..parts.len() {
-        if let Some(word) = repeated_word_at(&parts[i], &parts[..i]) {
-            return Some(word);
-        }
-    }
-    None
-}
-
-// The first word inside the braces of an attribute that is there twice.
-fn repeated_inside(attribute: &Attribute<Path>) -> Option<&'static str>
-    ensures { option_map (λ w. w.now) result
-        ≡ first_of (repeated_words_inside (attribute_of path_of attribute.now)) }
+// What is there twice in the braces of an attribute.
+#[tactic(auto, using(edd_breaches::proofs::TellLaws::tells))]
+fn tell_braces<'a>(
+    attribute: &Attribute<Path>,
+    alloc: Global,
+    told: &mut Vec<Breach<'a>>,
+) -> Result<(), AllocError>
+    ensures told { OnOk result (Tells (braces_told attribute.now) told.old.items told.new.items) }
 {
     match attribute {
-        Attribute::TypeOf { parts, .. } => repeated_option(parts),
-        Attribute::Transaction { parts, .. } => repeated_part(parts),
-        _ => None,
+        Attribute::TypeOf { parts, .. } => tell_options(parts, alloc, told),
+        Attribute::Transaction { parts, .. } => tell_parts(parts, alloc, told),
+        _ => Ok(()),
     }
 }
 
@@ -130,55 +115,79 @@ fn is_transaction(attribute: &Attribute<Path>) -> bool
     matches!(attribute, Attribute::Transaction { .. })
 }
 
-// The word of an attribute that is there already, unless it is a transaction, or the first such
-// word inside it.
-#[tactic(auto, using(edd_syntax::proofs::FirstLaws::firsts))]
-fn repeated_at(attribute: &Attribute<Path>, before: &[Attribute<Path>]) -> Option<&'static str>
-    ensures { option_map (λ w. w.now) result
-        ≡ first_of (repeated_here (map attribute_word (map (attribute_of path_of) before.now))
-        (attribute_of path_of attribute.now)) }
+// An attribute whose word is there already, unless it is a transaction.
+fn tell_own_word<'a>(
+    attribute: &Attribute<Path>,
+    seen: &mut Seen<'a>,
+    told: &mut Vec<Breach<'a>>,
+) -> Result<(), AllocError>
+    ensures told { OnOk result ((before : List Name) → HasSeen before seen.old
+        → Tells (own_word_told before attribute.now) told.old.items told.new.items) }
+    ensures known { OnOk result ((before : List Name) → HasSeen before seen.old
+        → HasSeen (with_attribute before attribute.now) seen.new) }
 {
-    if !is_transaction(attribute) {
-        let word = word_of(attribute);
-        if has_word(before, word) {
-            return Some(word);
-        }
+    let at = attribute_at(attribute);
+    if is_transaction(attribute) {
+        add(seen, word_of(attribute), at)?;
+        return Ok(());
     }
-    repeated_inside(attribute)
+    note_word(seen, word_of(attribute), at, told)
 }
 
-/// The first word of an attribute that is there twice among these attributes or in the braces of
-/// one of them. It looks back only for attributes other than transactions, of which there are
-/// thirteen.
-pub fn repeated_attribute(attributes: &[Attribute<Path>]) -> Option<&'static str>
-    ensures { option_map (λ w. w.now) result
-        ≡ first_of (repeated_words [] (map (attribute_of path_of) attributes.now)) }
+#[tactic(auto, using(edd_breaches::proofs::TellLaws::tells))]
+fn tell_attribute<'a>(
+    attribute: &Attribute<Path>,
+    seen: &mut Seen<'a>,
+    alloc: Global,
+    told: &mut Vec<Breach<'a>>,
+) -> Result<(), AllocError>
+    ensures told { OnOk result ((before : List Name) → HasSeen before seen.old
+        → Tells (attribute_told before attribute.now) told.old.items told.new.items) }
+    ensures known { OnOk result ((before : List Name) → HasSeen before seen.old
+        → HasSeen (with_attribute before attribute.now) seen.new) }
 {
-    for i in 0..attributes.len() {
-        if let Some(word) = repeated_at(&attributes[i], &attributes[..i]) {
-            return Some(word);
-        }
+    tell_own_word(attribute, seen, told)?;
+    tell_braces(attribute, alloc, told)?;
+    Ok(())
+}
+
+// The attributes that are there twice in one item or in the braces of one of them.
+fn tell_attributes<'a>(
+    attributes: &[Attribute<Path>],
+    alloc: Global,
+    told: &mut Vec<Breach<'a>>,
+) -> Result<(), AllocError>
+    ensures told { OnOk result (Tells (told_along attribute_told with_attribute [] attributes.now)
+        told.old.items told.new.items) }
+{
+    let mut seen = Seen::of_few(alloc);
+    for attribute in attributes {
+        tell_attribute(attribute, &mut seen, alloc, told)?;
     }
-    None
+    Ok(())
 }
 
-fn repeated_in_item(item: &Item<Path>) -> Option<&'static str>
-    ensures { option_map (λ w. w.now) result
-        ≡ first_of (repeated_words [] (item_of path_of item.now).attributes) }
+fn tell_in_item<'a>(
+    item: &Item<Path>,
+    alloc: Global,
+    told: &mut Vec<Breach<'a>>,
+) -> Result<(), AllocError>
+    ensures told { OnOk result (Tells (words_told_in item.now) told.old.items told.new.items) }
 {
-    repeated_attribute(item.attributes())
+    tell_attributes(item.attributes(), alloc, told)
 }
 
-/// The first word of an attribute that is there twice in an item, a transaction or a type's braces.
-pub fn repeated_in_items(items: &[Item<Path>]) -> Option<&'static str>
-    ensures { option_map (λ w. w.now) result
-        ≡ first_of (flat_map (λ i. repeated_words [] i.attributes)
-        (map (item_of path_of) items.now)) }
+/// The attributes that are there twice in an item, a transaction or a type's braces.
+#[tactic(auto, using(edd_breaches::proofs::TellLaws::tells))]
+pub fn tell_repeats<'a>(
+    items: &[Item<Path>],
+    alloc: Global,
+    told: &mut Vec<Breach<'a>>,
+) -> Result<(), AllocError>
+    ensures told { OnOk result (Tells (words_told items.now) told.old.items told.new.items) }
 {
     for item in items {
-        if let Some(word) = repeated_in_item(item) {
-            return Some(word);
-        }
+        tell_in_item(item, alloc, told)?;
     }
-    None
+    Ok(())
 }

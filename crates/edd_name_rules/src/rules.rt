@@ -1,101 +1,42 @@
 //! The rules on counts, names and attributes, in the order in which they are answered.
 
-ghost use Rattle.std.specs.Prelude.{◌≡◌, ◌++◌, None, Some, IfErr, OnOk};
+ghost use Rattle.std.specs.Prelude.{◌≡◌, ◌++◌, IfOk, OnOk};
+ghost use Rattle.edd_breaches.specs.Told.{Tells, refusals};
 ghost use Rattle.edd_syntax.specs.ItemView.{named_items};
 ghost use Rattle.edd_syntax.specs.NameRules.{too_many, duplicate_names, duplicate_attributes, missing_attributes};
-ghost use Rattle.edd_syntax.specs.Refusal.{MissingAttribute, first_of};
-ghost use Rattle.edd_name_rules.specs.Faults.{IsFirst, IsFound};
+ghost use Rattle.edd_name_rules.specs.RulesTold.{are_few, rules_told};
 ghost use Rattle.edd_name_rules.specs.Walks.{described};
 
-use crate::attributes::missing_attribute;
-use crate::counts::has_too_many_items;
-use crate::duplicates::check_names;
-use crate::fault::NameFault;
-use crate::repeats::repeated_in_items;
-use crate::sizes::has_too_many_nodes;
-use crate::slots::{has_too_many_locals, has_too_many_transactions};
+use crate::attributes::tell_missing;
+use crate::duplicates::tell_names;
+use crate::excess::tell_too_many;
+use crate::repeats::tell_repeats;
+use edd_breaches::Breach;
 use edd_syntax::item::Item;
-use edd_syntax::limits::Limit;
 use edd_syntax::reference::Path;
-use std::alloc::Global;
+use std::alloc::{AllocError, Global};
 
-/// There are not too many items, transactions, locals or nodes.
-#[tactic(auto, using(crate::proofs::RuleLaws::rules_in_order), unfolding(crate::specs::Faults::IsFound))]
-pub fn check_counts(items: &[Item<Path>]) -> Result<(), NameFault>
-    ensures sound { OnOk result (None ≡ first_of (too_many (described (named_items items.now)))) }
-    ensures refused { IfErr result (λ f. IsFirst f (too_many (described (named_items items.now)))) }
-{
-    if has_too_many_items(items) {
-        return Err(NameFault::TooMany(Limit::Items));
-    }
-    if has_too_many_transactions(items) {
-        return Err(NameFault::TooMany(Limit::Transactions));
-    }
-    if has_too_many_locals(items) {
-        return Err(NameFault::TooMany(Limit::Locals));
-    }
-    if has_too_many_nodes(items) {
-        return Err(NameFault::TooMany(Limit::Nodes));
-    }
-    Ok(())
-}
-
-/// No attribute is there twice.
-#[tactic(auto, using(crate::proofs::RuleLaws::rules_in_order), unfolding(crate::specs::Faults::IsFound))]
-pub fn check_repeats(items: &[Item<Path>]) -> Result<(), NameFault>
-    ensures sound { OnOk result
-        (None ≡ first_of (duplicate_attributes (described (named_items items.now)))) }
-    ensures refused { IfErr result
-        (λ f. IsFirst f (duplicate_attributes (described (named_items items.now)))) }
-{
-    match repeated_in_items(items) {
-        Some(word) => Err(NameFault::DuplicateAttribute(word)),
-        None => Ok(()),
-    }
-}
-
-// That an item has no attribute of a word, with a copy of its name.
-#[tactic(auto, unfolding(crate::specs::Faults::IsFound))]
-fn missing(alloc: Global, item: &str, word: &'static str) -> NameFault
-    ensures { IsFound result (Some (MissingAttribute item.now word.now)) }
-{
-    match String::from_str(alloc, item) {
-        Ok(item) => NameFault::MissingAttribute { item, word },
-        Err(_) => NameFault::Memory,
-    }
-}
-
-/// No item lacks an attribute that its kind needs.
-#[tactic(auto, using(crate::proofs::RuleLaws::rules_in_order), unfolding(crate::specs::Faults::IsFound))]
-pub fn check_attributes(items: &[Item<Path>], alloc: Global) -> Result<(), NameFault>
-    ensures sound { OnOk result
-        (None ≡ first_of (missing_attributes (described (named_items items.now)))) }
-    ensures refused { IfErr result
-        (λ f. IsFirst f (missing_attributes (described (named_items items.now)))) }
-{
-    match missing_attribute(items) {
-        Some(found) => Err(missing(alloc, found.item, found.word)),
-        None => Ok(()),
-    }
-}
-
-/// No rule on counts, names and attributes is broken; the rules on uses of names come after these.
-#[tactic(auto, using(crate::proofs::RuleLaws::rules_in_order))]
-pub fn check_rules(items: &[Item<Path>], alloc: Global) -> Result<(), NameFault>
-    ensures counted { OnOk result (None ≡ first_of (too_many (described (named_items items.now)))) }
-    ensures sound { OnOk result
-        (None ≡ first_of (too_many (described (named_items items.now))
+/// All that breaks a rule on counts, names and attributes, each at its token: rule after rule, and
+/// for each rule in the order of the source. What there is too much of has no token. Where two
+/// clash, the earlier one's token is beside it. The answer is whether there are so few items of each
+/// kind, and locals of each method, that they have numbers.
+#[tactic(auto, using(edd_breaches::proofs::TellLaws::tells), unfolding(crate::specs::RulesTold::rules_told))]
+pub fn tell_rules<'a>(
+    items: &'a [Item<Path>],
+    alloc: Global,
+    told: &mut Vec<Breach<'a>>,
+) -> Result<bool, AllocError>
+    ensures told { OnOk result (Tells (rules_told items.now) told.old.items told.new.items) }
+    ensures few { IfOk result (λ few. few ≡ are_few (named_items items.now)) }
+    ensures rules { OnOk result (refusals (rules_told items.now)
+        ≡ too_many (described (named_items items.now))
         ++ (duplicate_names (described (named_items items.now))
         ++ (duplicate_attributes (described (named_items items.now))
-        ++ missing_attributes (described (named_items items.now)))))) }
-    ensures refused { IfErr result
-        (λ f. IsFirst f (too_many (described (named_items items.now))
-        ++ (duplicate_names (described (named_items items.now))
-        ++ (duplicate_attributes (described (named_items items.now))
-        ++ missing_attributes (described (named_items items.now)))))) }
+        ++ missing_attributes (described (named_items items.now))))) }
 {
-    check_counts(items)?;
-    check_names(items, alloc)?;
-    check_repeats(items)?;
-    check_attributes(items, alloc)
+    let are_few = tell_too_many(items, told)?;
+    tell_names(items, alloc, told)?;
+    tell_repeats(items, alloc, told)?;
+    tell_missing(items, told)?;
+    Ok(are_few)
 }

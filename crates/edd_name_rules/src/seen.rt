@@ -1,29 +1,34 @@
 //! Names that must differ.
 
-ghost use Rattle.std.specs.Prelude.{◌≡◌, [], ◌∷◌, ◌++◌, List, None, IfErr, OnOk, map};
-ghost use Rattle.edd_syntax.specs.ItemView.{member_of};
-ghost use Rattle.edd_syntax.specs.NameRules.{names_declared};
-ghost use Rattle.edd_syntax.specs.Refusal.{first_of, is_name_in, repeated};
+ghost use Rattle.std.specs.Prelude.{◌≡◌, [], ◌∷◌, List, OnOk, IfOk, is_some, map};
+ghost use Rattle.edd_breaches.specs.Told.{Tells, told_if, refusal_of};
+ghost use Rattle.edd_syntax.specs.Refusal.{is_name_in};
 ghost use Rattle.edd_syntax.specs.Text.{Name};
-ghost use Rattle.edd_syntax.specs.TreeView.{path_of, declarator_of};
-ghost use Rattle.edd_name_rules.specs.Faults.{IsDuplicate};
-ghost use Rattle.edd_name_rules.specs.Seen.{HasSeen};
+ghost use Rattle.edd_name_rules.specs.NamesTold.{name_told};
+ghost use Rattle.edd_name_rules.specs.WordsTold.{word_told};
+ghost use Rattle.edd_name_rules.specs.Seen.{in_many, HasSeen};
 
-use crate::fault::NameFault;
 use arrayvec::ArrayVec;
-use edd_syntax::item::Member;
-use edd_syntax::reference::Path;
-use edd_syntax::stmt::Declarator;
+use edd_breaches::{Breach, Rule, tell_clash};
+use edd_syntax::numbers::TokenNo;
 use indexmap::IndexMap;
-use std::alloc::Global;
+use std::alloc::{AllocError, Global};
+
+/// A name, and the number of its token.
+#[derive(Clone, Copy, Default)]
+pub struct Mark<'a> {
+    pub name: &'a str,
+    pub token: u32,
+}
 
 /// Names of one scope, which must differ. Where mostly few come, the first stand in a list, since to
 /// look through a short one takes less than a map does, and the others in the map.
 #[derive(Drop)]
 pub struct Seen<'a> {
-    pub few: ArrayVec<&'a str, 16>,
+    pub few: ArrayVec<Mark<'a>, 16>,
     pub is_short: bool,
-    pub many: IndexMap<&'a str, ()>,
+    /// Each with the number of its token.
+    pub many: IndexMap<&'a str, u32>,
 }
 
 impl<'a> Seen<'a> {
@@ -50,91 +55,104 @@ impl<'a> Seen<'a> {
     }
 }
 
-fn is_among(names: &[&str], name: &str) -> bool
-    ensures { result ≡ is_name_in (map (λ n. n.now) names.now) name.now }
+// The token of a name in a list.
+fn among(marks: &[Mark], name: &str) -> Option<u32>
+    ensures { is_some result ≡ is_name_in (map (λ m. m.name.now) marks.now) name.now }
 {
-    for known in names {
-        if *known == name {
-            return true;
+    for mark in marks {
+        if mark.name == name {
+            return Some(mark.token);
         }
     }
-    false
+    None
 }
 
-/// That a name is there twice, with a copy of it.
-#[tactic(auto, unfolding(crate::specs::Faults::IsFound))]
-pub fn duplicate(alloc: Global, name: &str) -> NameFault
-    ensures { IsDuplicate result (name.now ∷ []) }
+// One more name that is not in the list. The answer is the token of the first one of this name, if
+// it was in the map. While the list has room there is mostly none, and the map is not asked.
+fn put<'a>(seen: &mut Seen<'a>, name: &'a str, at: TokenNo) -> Result<Option<TokenNo>, AllocError>
+    ensures found { IfOk result (λ found. is_some found ≡ in_many seen.old name.now) }
+    ensures known { OnOk result ((before : List Name) → HasSeen before seen.old
+        → HasSeen (name.now ∷ before) seen.new) }
 {
-    match String::from_str(alloc, name) {
-        Ok(name) => NameFault::DuplicateName(name),
-        Err(_) => NameFault::Memory,
+    let token = at.0;
+    if seen.is_short && !seen.few.is_full() && seen.many.is_empty() {
+        seen.few.push(Mark { name, token });
+        return Ok(None);
     }
-}
-
-/// One more name of a scope, which must not be there yet.
-#[tactic(auto, unfolding(crate::specs::Faults::IsFound))]
-pub fn note<'a>(seen: &mut Seen<'a>, name: &'a str, alloc: Global) -> Result<(), NameFault>
-    ensures sound { OnOk result ((before : List Name) → HasSeen before seen.old
-        → (None ≡ first_of (repeated before (name.now ∷ [])))
-        × HasSeen (name.now ∷ before) seen.new) }
-    ensures refused { IfErr result (λ f. (before : List Name) → HasSeen before seen.old
-        → IsDuplicate f (repeated before (name.now ∷ []))) }
-{
-    if is_among(&seen.few, name) {
-        return Err(duplicate(alloc, name));
-    }
-    if seen.is_short && !seen.few.is_full() {
-        if seen.many.get(name).is_some() {
-            return Err(duplicate(alloc, name));
+    match seen.many.insert(name, token)? {
+        None => Ok(None),
+        Some(first) => {
+            seen.many.insert(name, first)?;
+            Ok(Some(TokenNo(first)))
         }
-        seen.few.push(name);
-        return Ok(());
-    }
-    match seen.many.insert(name, ()) {
-        Ok(None) => Ok(()),
-        Ok(Some(_)) => Err(duplicate(alloc, name)),
-        Err(_) => Err(NameFault::Memory),
     }
 }
 
-/// The names of declarators.
-pub fn note_declarators<'a>(
+/// One more name of a scope. The answer is the token of the first one of this name, if it was there.
+pub fn add<'a>(
     seen: &mut Seen<'a>,
-    declarators: &'a [Declarator<Path>],
-    alloc: Global,
-) -> Result<(), NameFault>
-    ensures sound { OnOk result ((before : List Name) → HasSeen before seen.old
-        → (None ≡ first_of (repeated before
-        (names_declared (map (declarator_of path_of) declarators.now))))
-        × HasSeen (names_declared (map (declarator_of path_of) declarators.now) ++ before)
-        seen.new) }
-    ensures refused { IfErr result (λ f. (before : List Name) → HasSeen before seen.old
-        → IsDuplicate f (repeated before
-        (names_declared (map (declarator_of path_of) declarators.now)))) }
+    name: &'a str,
+    at: TokenNo,
+) -> Result<Option<TokenNo>, AllocError>
+    ensures found { IfOk result (λ found. (before : List Name) → HasSeen before seen.old
+        → is_some found ≡ is_name_in before name.now) }
+    ensures known { OnOk result ((before : List Name) → HasSeen before seen.old
+        → HasSeen (name.now ∷ before) seen.new) }
 {
-    for declarator in declarators {
-        note(seen, &declarator.place.base, alloc)?;
+    if let Some(token) = among(&seen.few, name) {
+        return Ok(Some(TokenNo(token)));
     }
-    Ok(())
+    put(seen, name, at)
 }
 
-/// The names of members.
-pub fn note_members<'a>(
+// One more name or word of a scope, which must not be there yet.
+#[tactic(auto, using(crate::proofs::Telling::told_where))]
+fn note<'a>(
     seen: &mut Seen<'a>,
-    members: &'a [Member<Path>],
-    alloc: Global,
-) -> Result<(), NameFault>
-    ensures sound { OnOk result ((before : List Name) → HasSeen before seen.old
-        → (None ≡ first_of (repeated before
-        (map (λ m. m.name) (map (member_of path_of) members.now))))
-        × HasSeen (map (λ m. m.name) (map (member_of path_of) members.now) ++ before) seen.new) }
-    ensures refused { IfErr result (λ f. (before : List Name) → HasSeen before seen.old
-        → IsDuplicate f (repeated before
-        (map (λ m. m.name) (map (member_of path_of) members.now)))) }
+    name: &'a str,
+    at: TokenNo,
+    rule: Rule<'a>,
+    told: &mut Vec<Breach<'a>>,
+) -> Result<(), AllocError>
+    ensures told { OnOk result ((before : List Name) → HasSeen before seen.old
+        → Tells (told_if (is_name_in before name.now) (refusal_of rule.entry) at)
+        told.old.items told.new.items) }
+    ensures known { OnOk result ((before : List Name) → HasSeen before seen.old
+        → HasSeen (name.now ∷ before) seen.new) }
 {
-    for member in members {
-        note(seen, &member.name, alloc)?;
+    match add(seen, name, at)? {
+        Some(earlier) => tell_clash(rule, at, Some(earlier), told),
+        None => Ok(()),
     }
-    Ok(())
+}
+
+/// One more name of a scope.
+pub fn note_name<'a>(
+    seen: &mut Seen<'a>,
+    name: &'a str,
+    at: TokenNo,
+    told: &mut Vec<Breach<'a>>,
+) -> Result<(), AllocError>
+    ensures told { OnOk result ((before : List Name) → HasSeen before seen.old
+        → Tells (name_told before name.now at) told.old.items told.new.items) }
+    ensures known { OnOk result ((before : List Name) → HasSeen before seen.old
+        → HasSeen (name.now ∷ before) seen.new) }
+{
+    note(seen, name, at, Rule::DuplicateName(name), told)
+}
+
+/// One more word of attributes.
+pub fn note_word<'a>(
+    seen: &mut Seen<'a>,
+    word: &'static str,
+    at: TokenNo,
+    told: &mut Vec<Breach<'a>>,
+) -> Result<(), AllocError>
+    ensures told { OnOk result ((before : List Name) → HasSeen before seen.old
+        → Tells (word_told before word.now at) told.old.items told.new.items) }
+    ensures known { OnOk result ((before : List Name) → HasSeen before seen.old
+        → HasSeen (word.now ∷ before) seen.new) }
+{
+    let name: &'a str = word;
+    note(seen, name, at, Rule::DuplicateAttribute(word), told)
 }

@@ -1,6 +1,6 @@
 //! The locals of a method, taken from a number of locals that it may have.
 
-ghost use Rattle.std.specs.Prelude.{◌≡◌, [], ◌∷◌, map, nat_lt};
+ghost use Rattle.std.specs.Prelude.{◌≡◌, [], ◌∷◌, is_some, map, nat_lt};
 ghost use Rattle.std.specs.List.{list_any};
 ghost use Rattle.edd_syntax.specs.ItemView.{item_of, attribute_of};
 ghost use Rattle.edd_syntax.specs.NameRules.{local_limit, transaction_limit, transaction_count, locals_of};
@@ -9,7 +9,9 @@ ghost use Rattle.edd_syntax.specs.TreeView.{path_of, stmt_of, part_of};
 ghost use Rattle.edd_name_rules.specs.Spending.{spent, locals_in};
 
 use crate::counts::spend_transactions;
+use crate::places::item_at;
 use edd_syntax::item::{Attribute, Item};
+use edd_syntax::numbers::TokenNo;
 use edd_syntax::reference::Path;
 use edd_syntax::stmt::{Part, Stmt};
 
@@ -89,17 +91,17 @@ fn spend_locals_of(attribute: &Attribute<Path>, budget: u32) -> Option<u32>
     }
 }
 
-/// Whether an item has more than 64 locals.
-pub fn has_too_many_locals(items: &[Item<Path>]) -> bool
-    ensures { result ≡ list_any (λ i. nat_lt local_limit (locals_of i))
+/// The name of the first item that has more than 64 locals.
+pub fn first_with_locals(items: &[Item<Path>]) -> Option<TokenNo>
+    ensures { is_some result ≡ list_any (λ i. nat_lt local_limit (locals_of i))
         (map (item_of path_of) items.now) }
 {
     for item in items {
         if are_locals_over(item) {
-            return true;
+            return Some(item_at(item));
         }
     }
-    false
+    None
 }
 
 #[tactic(auto, using(crate::proofs::Spends::over_limit))]
@@ -109,17 +111,17 @@ fn are_locals_over(item: &Item<Path>) -> bool
     spend_locals(item.attributes(), 64).is_none()
 }
 
-/// Whether an item has more than 4,096 transactions.
-pub fn has_too_many_transactions(items: &[Item<Path>]) -> bool
-    ensures { result ≡ list_any (λ i. nat_lt transaction_limit (transaction_count i))
+/// The name of the first item that has more than 4,096 transactions.
+pub fn first_with_transactions(items: &[Item<Path>]) -> Option<TokenNo>
+    ensures { is_some result ≡ list_any (λ i. nat_lt transaction_limit (transaction_count i))
         (map (item_of path_of) items.now) }
 {
     for item in items {
         if are_transactions_over(item) {
-            return true;
+            return Some(item_at(item));
         }
     }
-    false
+    None
 }
 
 #[tactic(auto, using(crate::proofs::Spends::over_limit))]

@@ -2,7 +2,7 @@
 use Rattle.std.proofs.Common.{◌≡◌, sym, ap, ◌∙◌, List, Some, subst}
 use Rattle.std.specs.List.{flat_map}
 use Rattle.edd_name_meanings.specs.Copies.{Meant, Tells}
-use Rattle.edd_name_rules.specs.declared.fault.NameFault.{NameFault}
+use Rattle.edd_breaches.specs.declared.breach.Breach.{Breach}
 use Rattle.edd_name_meanings.specs.Meanings.{Means, NoFault}
 use Rattle.edd_syntax.specs.declared.reference.Target.{Target}
 use Rattle.edd_syntax.specs.Item.{Attribute, Description, Item, ItemKind}
@@ -15,7 +15,7 @@ abbrev made : ItemKind → Name → List (Attribute Target) → Item Target
 made sort name attributes = record { sort = sort; name = name; attributes = attributes }
 
 pub item_told : (unit : Description Path) (i : Item Path) (xs : List (Attribute Path))
-    (old new : List NameFault) → xs ≡ i.attributes
+    (old new : List Breach) → xs ≡ i.attributes
     → Tells unit (flat_map (attribute_uses i.sort) xs) old new → Tells unit (item_uses i) old new
 item_told unit i xs old new same h =
     subst (λ ys. Tells unit (flat_map (attribute_uses i.sort) ys) old new) same h

@@ -1,2 +1,3 @@
 pub mod MemberUses
+pub mod Told
 pub mod Units

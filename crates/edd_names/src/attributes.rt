@@ -13,9 +13,9 @@ ghost use Rattle.edd_name_meanings.specs.Copies.{Copies, Told};
 
 use crate::braces::copy_parts;
 use crate::texts::{copy_responses, copy_words};
+use edd_breaches::Breach;
 use edd_expression_names::conditionals::{copy_cond, copy_conds};
 use edd_name_meanings::directory::Names;
-use edd_name_rules::fault::NameFault;
 use edd_statement_names::statements::copy_body;
 use edd_syntax::item::{Attribute, Item, TypeWord};
 use edd_syntax::reference::{Path, Target};
@@ -36,35 +36,35 @@ fn copy_type_word(word: &TypeWord, alloc: Global) -> Result<TypeWord, AllocError
 
 // The body of a method, whose locals take the slots from 0 on.
 #[tactic(auto, using(edd_name_meanings::proofs::UseLaws::uses))]
-fn copy_definition(
-    parts: &[Part<Path>],
+fn copy_definition<'a>(
+    parts: &'a [Part<Path>],
     names: &Names,
-    faults: &mut Vec<NameFault>,
+    told: &mut Vec<Breach<'a>>,
 ) -> Result<Vec<Part<Target>>, AllocError>
     requires { slots_in (body_from (map (part_of path_of) parts.now)) ≤ 64 }
     ensures told { Told (description_of names.now)
         (body_uses (body_from (map (part_of path_of) parts.now)) [] 0)
-        faults.old.items faults.new.items result }
+        told.old.items told.new.items result }
     ensures sound { Copies (description_of names.now)
         (body_uses (body_from (map (part_of path_of) parts.now)) [] 0)
         (resolved_body (description_of names.now) (body_from (map (part_of path_of) parts.now)) []
         0) (λ t. body_from (map numbered_part t.items)) result }
 {
     let mut next = 0;
-    copy_body(parts, names, &[], &mut next, faults)
+    copy_body(parts, names, &[], &mut next, told)
 }
 
 #[tactic(auto, using(edd_name_meanings::proofs::UseLaws::uses), unfolding(edd_name_meanings::specs::Meanings::Means, edd_name_meanings::specs::Copies::Meant))]
-fn copy_attribute(
-    attribute: &Attribute<Path>,
+fn copy_attribute<'a>(
+    attribute: &'a Attribute<Path>,
     item: &Item<Path>,
     names: &Names,
-    faults: &mut Vec<NameFault>,
+    told: &mut Vec<Breach<'a>>,
 ) -> Result<Attribute<Target>, AllocError>
     requires { locals_in (attribute_of path_of attribute.now ∷ []) ≤ 64 }
     ensures told { Told (description_of names.now)
         (attribute_uses (item_of path_of item.now).sort (attribute_of path_of attribute.now))
-        faults.old.items faults.new.items result }
+        told.old.items told.new.items result }
     ensures sound { Copies (description_of names.now)
         (attribute_uses (item_of path_of item.now).sort (attribute_of path_of attribute.now))
         (resolved_attribute (description_of names.now) (item_of path_of item.now).sort
@@ -72,54 +72,54 @@ fn copy_attribute(
 {
     match attribute {
         Attribute::OneText(at, which, c) => {
-            Ok(Attribute::OneText(*at, *which, copy_cond(c, names, faults)?))
+            Ok(Attribute::OneText(*at, *which, copy_cond(c, names, told)?))
         }
         Attribute::Class(at, words) => {
             Ok(Attribute::Class(*at, copy_words(words, names.alloc)?))
         }
-        Attribute::Handling(at, c) => Ok(Attribute::Handling(*at, copy_cond(c, names, faults)?)),
-        Attribute::Validity(at, c) => Ok(Attribute::Validity(*at, copy_cond(c, names, faults)?)),
+        Attribute::Handling(at, c) => Ok(Attribute::Handling(*at, copy_cond(c, names, told)?)),
+        Attribute::Validity(at, c) => Ok(Attribute::Validity(*at, copy_cond(c, names, told)?)),
         Attribute::TypeOf { at, word, parts } => Ok(Attribute::TypeOf {
             at: *at,
             word: copy_type_word(word, names.alloc)?,
-            parts: copy_parts(parts, item, names, faults)?,
+            parts: copy_parts(parts, item, names, told)?,
         }),
         Attribute::Number(at, n) => Ok(Attribute::Number(*at, *n)),
         Attribute::Operation(at, o) => Ok(Attribute::Operation(*at, *o)),
         Attribute::Transaction { at, number, parts } => Ok(Attribute::Transaction {
             at: *at,
             number: *number,
-            parts: copy_parts(parts, item, names, faults)?,
+            parts: copy_parts(parts, item, names, told)?,
         }),
         Attribute::ResponseCodes(at, all) => {
             Ok(Attribute::ResponseCodes(*at, copy_responses(all, names.alloc)?))
         }
         Attribute::Items(at, entries) => {
-            Ok(Attribute::Items(*at, copy_conds(entries, names, faults)?))
+            Ok(Attribute::Items(*at, copy_conds(entries, names, told)?))
         }
         Attribute::Members(at, all) => {
-            Ok(Attribute::Members(*at, copy_parts(all, item, names, faults)?))
+            Ok(Attribute::Members(*at, copy_parts(all, item, names, told)?))
         }
         Attribute::Definition(at, parts) => {
-            Ok(Attribute::Definition(*at, copy_definition(parts, names, faults)?))
+            Ok(Attribute::Definition(*at, copy_definition(parts, names, told)?))
         }
         Attribute::Elements(at, all) => {
-            Ok(Attribute::Elements(*at, copy_parts(all, item, names, faults)?))
+            Ok(Attribute::Elements(*at, copy_parts(all, item, names, told)?))
         }
     }
 }
 
 /// The attributes of an item with the meaning of their names.
-pub fn copy_attributes(
-    attributes: &[Attribute<Path>],
+pub fn copy_attributes<'a>(
+    attributes: &'a [Attribute<Path>],
     item: &Item<Path>,
     names: &Names,
-    faults: &mut Vec<NameFault>,
+    told: &mut Vec<Breach<'a>>,
 ) -> Result<Vec<Attribute<Target>>, AllocError>
     requires { locals_in (map (attribute_of path_of) attributes.now) ≤ 64 }
     ensures told { Told (description_of names.now)
         (flat_map (attribute_uses (item_of path_of item.now).sort)
-        (map (attribute_of path_of) attributes.now)) faults.old.items faults.new.items result }
+        (map (attribute_of path_of) attributes.now)) told.old.items told.new.items result }
     ensures sound { Copies (description_of names.now)
         (flat_map (attribute_uses (item_of path_of item.now).sort)
         (map (attribute_of path_of) attributes.now))
@@ -128,7 +128,7 @@ pub fn copy_attributes(
 {
     let mut copies = Vec::with_capacity(names.alloc, attributes.len())?;
     for attribute in attributes {
-        copies.push(copy_attribute(attribute, item, names, faults)?)?;
+        copies.push(copy_attribute(attribute, item, names, told)?)?;
     }
     Ok(copies)
 }

@@ -16,12 +16,12 @@ ghost use Rattle.edd_name_meanings.specs.Directory.{description_of};
 ghost use Rattle.edd_names.specs.MemberUses.{element_uses, member_uses};
 ghost use Rattle.edd_name_meanings.specs.Copies.{Copies, Told};
 
+use edd_breaches::Breach;
 use edd_expression_names::conditionals::{copy_cond, copy_conds};
 use edd_expression_names::exprs::refer_variable;
 use edd_expression_names::texts::copy_optional_text;
 use edd_name_meanings::directory::Names;
 use edd_name_meanings::references::refer;
-use edd_name_rules::fault::NameFault;
 use edd_syntax::item::{ArrayElement, Item, Member, TransactionPart, TypePart};
 use edd_syntax::reference::{Path, Target};
 use std::alloc::AllocError;
@@ -45,15 +45,15 @@ pub trait ResolvePart {
     ghost meant: { Description reference.Path → ItemKind → Before → Option After };
 
     /// The part with the meaning of its names.
-    fn copy(
-        &self,
+    fn copy<'a>(
+        &'a self,
         item: &Item<Path>,
         names: &Names,
-        faults: &mut Vec<NameFault>,
+        told: &mut Vec<Breach<'a>>,
     ) -> Result<Self::Out, AllocError>
         ensures told { Told (description_of names.now)
-            (uses (item_of path_of item.now).sort (before self.now)) faults.old.items
-            faults.new.items result }
+            (uses (item_of path_of item.now).sort (before self.now)) told.old.items
+            told.new.items result }
         ensures sound { Copies (description_of names.now)
             (uses (item_of path_of item.now).sort (before self.now))
             (meant (description_of names.now) (item_of path_of item.now).sort (before self.now))
@@ -61,15 +61,15 @@ pub trait ResolvePart {
 }
 
 /// The parts of an attribute of an item with the meaning of their names.
-pub fn copy_parts<P: ResolvePart>(
-    parts: &[P],
+pub fn copy_parts<'a, P: ResolvePart>(
+    parts: &'a [P],
     item: &Item<Path>,
     names: &Names,
-    faults: &mut Vec<NameFault>,
+    told: &mut Vec<Breach<'a>>,
 ) -> Result<Vec<P::Out>, AllocError>
     ensures told { Told (description_of names.now)
         (flat_map (P.uses (item_of path_of item.now).sort) (map P.before parts.now))
-        faults.old.items faults.new.items result }
+        told.old.items told.new.items result }
     ensures sound { Copies (description_of names.now)
         (flat_map (P.uses (item_of path_of item.now).sort) (map P.before parts.now))
         (each (P.meant (description_of names.now) (item_of path_of item.now).sort)
@@ -77,7 +77,7 @@ pub fn copy_parts<P: ResolvePart>(
 {
     let mut copies = Vec::with_capacity(names.alloc, parts.len())?;
     for part in parts {
-        copies.push(part.copy(item, names, faults)?)?;
+        copies.push(part.copy(item, names, told)?)?;
     }
     Ok(copies)
 }
@@ -98,35 +98,35 @@ impl ResolvePart for TypePart<Path> {
     ghost meant = { λ unit sort. resolved_type_part unit };
 
     #[tactic(auto, using(edd_name_meanings::proofs::UseLaws::uses), unfolding(edd_name_meanings::specs::Meanings::Means, edd_name_meanings::specs::Copies::Meant))]
-    fn copy(
-        &self,
+    fn copy<'a>(
+        &'a self,
         _item: &Item<Path>,
         names: &Names,
-        faults: &mut Vec<NameFault>,
+        told: &mut Vec<Breach<'a>>,
     ) -> Result<TypePart<Target>, AllocError> {
         match self {
             TypePart::DefaultValue { at, value } => Ok(TypePart::DefaultValue {
                 at: *at,
-                value: copy_cond(value, names, faults)?,
+                value: copy_cond(value, names, told)?,
             }),
             TypePart::MinValue { at, value } => Ok(TypePart::MinValue {
                 at: *at,
-                value: copy_cond(value, names, faults)?,
+                value: copy_cond(value, names, told)?,
             }),
             TypePart::MaxValue { at, value } => Ok(TypePart::MaxValue {
                 at: *at,
-                value: copy_cond(value, names, faults)?,
+                value: copy_cond(value, names, told)?,
             }),
             TypePart::DisplayFormat { at, format } => Ok(TypePart::DisplayFormat {
                 at: *at,
-                format: copy_cond(format, names, faults)?,
+                format: copy_cond(format, names, told)?,
             }),
             TypePart::EditFormat { at, format } => Ok(TypePart::EditFormat {
                 at: *at,
-                format: copy_cond(format, names, faults)?,
+                format: copy_cond(format, names, told)?,
             }),
             TypePart::Element(element) => {
-                Ok(TypePart::Element(copy_cond(element, names, faults)?))
+                Ok(TypePart::Element(copy_cond(element, names, told)?))
             }
         }
     }
@@ -148,42 +148,42 @@ impl ResolvePart for TransactionPart<Path> {
     ghost meant = { λ unit sort. resolved_transaction_part unit };
 
     #[tactic(auto, using(edd_name_meanings::proofs::UseLaws::uses), unfolding(edd_name_meanings::specs::Meanings::Means, edd_name_meanings::specs::Copies::Meant))]
-    fn copy(
-        &self,
+    fn copy<'a>(
+        &'a self,
         _item: &Item<Path>,
         names: &Names,
-        faults: &mut Vec<NameFault>,
+        told: &mut Vec<Breach<'a>>,
     ) -> Result<TransactionPart<Target>, AllocError> {
         match self {
             TransactionPart::Request(at, all) => {
-                Ok(TransactionPart::Request(*at, copy_conds(all, names, faults)?))
+                Ok(TransactionPart::Request(*at, copy_conds(all, names, told)?))
             }
             TransactionPart::Reply(at, all) => {
-                Ok(TransactionPart::Reply(*at, copy_conds(all, names, faults)?))
+                Ok(TransactionPart::Reply(*at, copy_conds(all, names, told)?))
             }
         }
     }
 }
 
 // What a member of an item means: one of a collection is of the kind after OF.
-fn refer_member(
+fn refer_member<'a>(
     item: &Item<Path>,
     names: &Names,
-    path: &Path,
-    faults: &mut Vec<NameFault>,
+    path: &'a Path,
+    told: &mut Vec<Breach<'a>>,
 ) -> Result<Target, AllocError>
     ensures told { Told (description_of names.now)
         (OfItem [] (member_kinds (item_of path_of item.now).sort) (path_of path.now) ∷ [])
-        faults.old.items faults.new.items result }
+        told.old.items told.new.items result }
     ensures sound { Copies (description_of names.now)
         (OfItem [] (member_kinds (item_of path_of item.now).sort) (path_of path.now) ∷ [])
         (meaning (description_of names.now) [] (member_kinds (item_of path_of item.now).sort)
         (path_of path.now)) (λ t. t) result }
 {
     match item {
-        Item::Collection(d) => refer(names, &[], &[d.of], path, faults),
+        Item::Collection(d) => refer(names, &[], &[d.of], path, told),
         Item::Variable(_) | Item::Command(_) | Item::Menu(_) | Item::Method(_) | Item::Array(_) =>
-            refer(names, &[], &[], path, faults),
+            refer(names, &[], &[], path, told),
     }
 }
 
@@ -203,15 +203,15 @@ impl ResolvePart for Member<Path> {
     ghost meant = { λ unit sort. resolved_member unit (member_kinds sort) };
 
     #[tactic(auto, using(edd_name_meanings::proofs::UseLaws::uses), unfolding(edd_name_meanings::specs::Meanings::Means, edd_name_meanings::specs::Copies::Meant))]
-    fn copy(
-        &self,
+    fn copy<'a>(
+        &'a self,
         item: &Item<Path>,
         names: &Names,
-        faults: &mut Vec<NameFault>,
+        told: &mut Vec<Breach<'a>>,
     ) -> Result<Member<Target>, AllocError> {
         Ok(Member {
             at: self.at,
-            item: refer_member(item, names, &self.item, faults)?,
+            item: refer_member(item, names, &self.item, told)?,
             name: String::from_str(names.alloc, &self.name)?,
             label: copy_optional_text(&self.label, names.alloc)?,
             help: copy_optional_text(&self.help, names.alloc)?,
@@ -235,16 +235,16 @@ impl ResolvePart for ArrayElement<Path> {
     ghost meant = { λ unit sort. resolved_element unit };
 
     #[tactic(auto, using(edd_name_meanings::proofs::UseLaws::uses), unfolding(edd_name_meanings::specs::Meanings::Means, edd_name_meanings::specs::Copies::Meant))]
-    fn copy(
-        &self,
+    fn copy<'a>(
+        &'a self,
         _item: &Item<Path>,
         names: &Names,
-        faults: &mut Vec<NameFault>,
+        told: &mut Vec<Breach<'a>>,
     ) -> Result<ArrayElement<Target>, AllocError> {
         Ok(ArrayElement {
             at: self.at,
             number: self.number,
-            variable: refer_variable(names, &[], &self.variable, faults)?,
+            variable: refer_variable(names, &[], &self.variable, told)?,
             label: copy_optional_text(&self.label, names.alloc)?,
             help: copy_optional_text(&self.help, names.alloc)?,
         })

@@ -7,5 +7,4 @@ mod resolving;
 mod texts;
 mod unit_items;
 
-pub use edd_name_rules::fault;
-pub use resolving::resolve;
+pub use resolving::{resolve, tell_names};

@@ -1,60 +1,67 @@
 //! The meaning of all names of a description.
 
-ghost use Rattle.std.specs.Prelude.{◌≡◌, ◌++◌, [], None, Some, IfErr, IfOk, IsTrue};
+ghost use Rattle.std.specs.Prelude.{◌≡◌, ◌++◌, [], false, Some, IfErr, IfOk, IfSome, is_some};
+ghost use Rattle.edd_breaches.specs.Faults.{IsFirstOf};
+ghost use Rattle.edd_breaches.specs.Told.{broken};
 ghost use Rattle.edd_syntax.specs.Accepted.{name_breaches};
 ghost use Rattle.edd_syntax.specs.ItemView.{identification_of, numbered_items};
-ghost use Rattle.edd_syntax.specs.NameRules.{too_many, duplicate_names, duplicate_attributes, missing_attributes};
-ghost use Rattle.edd_syntax.specs.Refusal.{first_of};
+ghost use Rattle.edd_syntax.specs.NameRules.{too_many};
 ghost use Rattle.edd_syntax.specs.Resolved.{description};
 ghost use Rattle.edd_syntax.specs.ResolvedTrees.{resolved_unit};
-ghost use Rattle.edd_syntax.specs.WellFormed.{are_items};
-ghost use Rattle.edd_name_meanings.specs.Directory.{description_of};
-ghost use Rattle.edd_name_rules.specs.Faults.{IsFirst};
+ghost use Rattle.edd_names.specs.Told.{IsMeant, told_of_names};
 ghost use Rattle.edd_names.specs.Units.{unit_view};
 
 use crate::unit_items::copy_items;
+use edd_breaches::{Breach, RuleFault};
 use edd_name_meanings::directory::Names;
-use edd_name_rules::check_rules;
-use edd_name_rules::fault::NameFault;
+use edd_name_rules::tell_rules;
+use edd_syntax::item::Item;
+use edd_syntax::reference::Target;
 use edd_syntax::resolved::Resolved;
 use edd_syntax::unit::Unit;
-use std::alloc::Global;
+use std::alloc::{AllocError, Global};
 
-// The unit of these names with their meaning, where the rules before those on uses of names are
-// kept.
-fn resolve_uses(alloc: Global, names: &Names) -> Result<Resolved, NameFault>
-    requires counted { None ≡ first_of (too_many (description_of names.now)) }
-    requires kept { None ≡ first_of (too_many (description_of names.now)
-        ++ (duplicate_names (description_of names.now)
-        ++ (duplicate_attributes (description_of names.now)
-        ++ missing_attributes (description_of names.now)))) }
-    requires well_formed { IsTrue (are_items (description_of names.now).items) }
-    ensures sound { IfOk result (λ r. resolved_unit (description_of names.now)
-        ≡ Some (description (identification_of r.identification)
-        (numbered_items r.items.value.items))) }
-    ensures accepted { IfOk result (λ r. name_breaches (description_of names.now) ≡ []) }
-    ensures refused { IfErr result (λ f. IsFirst f (name_breaches (description_of names.now))) }
+/// All that breaks a rule on names, each at its token, and the items of the unit with the meaning of
+/// each name in its place, where no such rule is broken: else something stands for what a name does
+/// not mean. What there is too much of has no numbers: then it is not asked what names mean, and
+/// there are no items.
+pub fn tell_names<'a>(
+    alloc: Global,
+    unit: &'a Unit,
+    told: &mut Vec<Breach<'a>>,
+) -> Result<Option<Vec<Item<Target>>>, AllocError>
+    ensures told { IfOk result (λ items. broken told.new.items ≡ broken told.old.items
+        ++ told_of_names (unit_view unit.now) (is_some items)) }
+    ensures counted { IfOk result (λ items. is_some items ≡ false
+        → too_many (unit_view unit.now) ≡ [] → ⊥) }
+    ensures sound { IfOk result (λ items. IfSome items
+        (λ v. IsMeant (unit_view unit.now) (numbered_items v.items))) }
 {
-    let mut faults = Vec::new(alloc);
-    let items = copy_items(names.items, names, &mut faults)?;
-    if !faults.is_empty() {
-        return Err(faults.remove(0));
+    if !tell_rules(&unit.items, alloc, told)? {
+        return Ok(None);
     }
-    Ok(Resolved::new(alloc, names.identification, items)?)
+    let names = Names::new(alloc, unit.identification, &unit.items)?;
+    Ok(Some(copy_items(&unit.items, &names, told)?))
 }
 
 /// The unit with the meaning of each name in its place: the number of an item, the slot of a local,
 /// or the function of a call. An error other than refused memory is the first broken rule on counts
 /// (40), names that are there twice (20), attributes that are there twice (23), missing attributes
 /// (24), and on unknown names (21) and items of a wrong kind (22) in the order of the source.
-pub fn resolve(alloc: Global, unit: &Unit) -> Result<Resolved, NameFault>
+pub fn resolve(alloc: Global, unit: &Unit) -> Result<Resolved, RuleFault>
     ensures sound { IfOk result (λ r. resolved_unit (unit_view unit.now)
         ≡ Some (description (identification_of r.identification)
         (numbered_items r.items.value.items))) }
     ensures accepted { IfOk result (λ r. name_breaches (unit_view unit.now) ≡ []) }
-    ensures refused { IfErr result (λ f. IsFirst f (name_breaches (unit_view unit.now))) }
+    ensures refused { IfErr result (IsFirstOf (name_breaches (unit_view unit.now))) }
 {
-    check_rules(&unit.items, alloc)?;
-    let names = Names::new(alloc, unit.identification, &unit.items)?;
-    resolve_uses(alloc, &names)
+    let mut told = Vec::new(alloc);
+    let items = tell_names(alloc, unit, &mut told)?;
+    if let Some(first) = told.first() {
+        return Err(RuleFault::of(alloc, first)?);
+    }
+    match items {
+        Some(items) => Ok(Resolved::new(alloc, unit.identification, items)?),
+        None => unreachable!(),
+    }
 }

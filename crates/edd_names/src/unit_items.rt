@@ -11,8 +11,8 @@ ghost use Rattle.edd_name_meanings.specs.Directory.{description_of};
 ghost use Rattle.edd_name_meanings.specs.Copies.{Copies, Told};
 
 use crate::attributes::copy_attributes;
+use edd_breaches::Breach;
 use edd_name_meanings::directory::Names;
-use edd_name_rules::fault::NameFault;
 use edd_syntax::item::{
     ArrayDef, Attribute, CollectionDef, CommandDef, Item, MenuDef, MethodDef, VariableDef,
 };
@@ -62,33 +62,33 @@ fn like(item: &Item<Path>, name: String, attributes: Vec<Attribute<Target>>) -> 
 }
 
 #[tactic(auto, using(edd_name_meanings::proofs::UseLaws::uses))]
-fn copy_item(
-    item: &Item<Path>,
+fn copy_item<'a>(
+    item: &'a Item<Path>,
     names: &Names,
-    faults: &mut Vec<NameFault>,
+    told: &mut Vec<Breach<'a>>,
 ) -> Result<Item<Target>, AllocError>
     requires { nat_lt local_limit (locals_of (item_of path_of item.now)) ≡ false }
     ensures told { Told (description_of names.now) (item_uses (item_of path_of item.now))
-        faults.old.items faults.new.items result }
+        told.old.items told.new.items result }
     ensures sound { Copies (description_of names.now) (item_uses (item_of path_of item.now))
         (resolved_item (description_of names.now) (item_of path_of item.now)) numbered_item result }
 {
-    let attributes = copy_attributes(item.attributes(), item, names, faults)?;
+    let attributes = copy_attributes(item.attributes(), item, names, told)?;
     let name = String::from_str(names.alloc, item.name())?;
     Ok(like(item, name, attributes))
 }
 
 /// The items of a unit with the meaning of their names, where no method has too many locals.
-pub fn copy_items(
-    items: &[Item<Path>],
+pub fn copy_items<'a>(
+    items: &'a [Item<Path>],
     names: &Names,
-    faults: &mut Vec<NameFault>,
+    told: &mut Vec<Breach<'a>>,
 ) -> Result<Vec<Item<Target>>, AllocError>
     requires { list_any (λ i. nat_lt local_limit (locals_of i)) (map (item_of path_of) items.now)
         ≡ false }
     ensures told { Told (description_of names.now)
         (flat_map item_uses (map (item_of path_of) items.now))
-        faults.old.items faults.new.items result }
+        told.old.items told.new.items result }
     ensures sound { Copies (description_of names.now)
         (flat_map item_uses (map (item_of path_of) items.now))
         (each (resolved_item (description_of names.now)) (map (item_of path_of) items.now))
@@ -96,7 +96,7 @@ pub fn copy_items(
 {
     let mut copies = Vec::with_capacity(names.alloc, items.len())?;
     for item in items {
-        copies.push(copy_item(item, names, faults)?)?;
+        copies.push(copy_item(item, names, told)?)?;
     }
     Ok(copies)
 }

@@ -3,7 +3,7 @@ use Rattle.std.proofs.Common.{◌≡◌, refl, sym, ap, ◌∙◌, ℕ, zero, su
 use Rattle.std.specs.Prelude.{Vec}
 use Rattle.std.specs.declared.alloc.Global as alloc
 use Rattle.std.proofs.lemmas.List.{at_drop_more}
-use Rattle.edd_name_rules.specs.declared.fault.NameFault.{NameFault}
+use Rattle.edd_breaches.specs.declared.breach.Breach.{Breach}
 use Rattle.edd_name_meanings.specs.Meanings.{Means, NoFault}
 use Rattle.edd_name_meanings.specs.Copies.{Meant, Tells}
 use Rattle.edd_name_meanings.proofs.UseLaws.{none_left, none_right}
@@ -119,7 +119,7 @@ module _ (unit : Description Path) (x : code.Stmt code_path.Path)
     unfolding slots_of
     block_slots = ap slots_of block
 
-    pub block_told : (scope : Scope) (n : ℕ) (old new : List NameFault)
+    pub block_told : (scope : Scope) (n : ℕ) (old new : List Breach)
         → Tells unit (body_uses listed scope n) old new
         → Tells unit (stmt_uses (stmt_of path_of x) scope n) old new
     block_told scope n old new h =
@@ -145,7 +145,7 @@ module _ (unit : Description Path) (x : code.Stmt code_path.Path)
     unfolding slots_of
     switch_slots = ap slots_of switch
 
-    pub switch_told : (scope : Scope) (n : ℕ) (old new : List NameFault)
+    pub switch_told : (scope : Scope) (n : ℕ) (old new : List Breach)
         → Tells unit (expr_uses scope (expr_of path_of on) ++ body_uses listed scope n) old new
         → Tells unit (stmt_uses (stmt_of path_of x) scope n) old new
     switch_told scope n old new h =

@@ -10,10 +10,10 @@ ghost use Rattle.edd_name_meanings.specs.Meanings.{scope_of};
 ghost use Rattle.edd_statement_names.specs.ResolvedParts.{resolved_declarator};
 ghost use Rattle.edd_name_meanings.specs.Copies.{Copies, Told};
 
+use edd_breaches::Breach;
 use edd_expression_names::exprs::copy_expr;
 use edd_name_meanings::directory::Names;
 use edd_name_meanings::references::Local;
-use edd_name_rules::fault::NameFault;
 use edd_syntax::expr::Expr;
 use edd_syntax::reference::{Path, Target};
 use edd_syntax::stmt::Declarator;
@@ -21,22 +21,22 @@ use std::alloc::AllocError;
 
 /// An expression that may be missing, with the meaning of its names.
 #[tactic(auto, using(edd_name_meanings::proofs::UseLaws::uses), unfolding(edd_name_meanings::specs::Meanings::Means, edd_name_meanings::specs::Copies::Meant))]
-pub fn copy_optional(
-    e: &Option<Expr<Path>>,
+pub fn copy_optional<'a>(
+    e: &'a Option<Expr<Path>>,
     names: &Names,
     scope: &[Local],
-    faults: &mut Vec<NameFault>,
+    told: &mut Vec<Breach<'a>>,
 ) -> Result<Option<Expr<Target>>, AllocError>
     ensures told { Told (description_of names.now)
         (optional_uses (scope_of scope.now) (option_map (expr_of path_of) e.now))
-        faults.old.items faults.new.items result }
+        told.old.items told.new.items result }
     ensures sound { Copies (description_of names.now)
         (optional_uses (scope_of scope.now) (option_map (expr_of path_of) e.now))
         (resolved_optional (at_scope (description_of names.now) (scope_of scope.now))
         (option_map (expr_of path_of) e.now)) (option_map numbered_expr) result }
 {
     match e {
-        Some(e) => Ok(Some(copy_expr(e, names, scope, faults)?)),
+        Some(e) => Ok(Some(copy_expr(e, names, scope, told)?)),
         None => Ok(None),
     }
 }
@@ -51,28 +51,29 @@ pub fn declare<'a>(scope: &mut Vec<Local<'a>>, place: &'a Path, slot: u8) -> Res
         Local {
             name: &place.base,
             slot,
+            at: place.at,
         },
     )?;
     Ok(())
 }
 
 #[tactic(auto, using(edd_name_meanings::proofs::UseLaws::uses), unfolding(edd_name_meanings::specs::Meanings::Means, edd_name_meanings::specs::Copies::Meant))]
-fn copy_declarator(
-    declarator: &Declarator<Path>,
+fn copy_declarator<'a>(
+    declarator: &'a Declarator<Path>,
     names: &Names,
     scope: &[Local],
     slot: u8,
-    faults: &mut Vec<NameFault>,
+    told: &mut Vec<Breach<'a>>,
 ) -> Result<Declarator<Target>, AllocError>
     ensures told { Told (description_of names.now)
         (optional_uses (scope_of scope.now) (declarator_of path_of declarator.now).value)
-        faults.old.items faults.new.items result }
+        told.old.items told.new.items result }
     ensures sound { Copies (description_of names.now)
         (optional_uses (scope_of scope.now) (declarator_of path_of declarator.now).value)
         (resolved_declarator (description_of names.now) (scope_of scope.now) slot
         (declarator_of path_of declarator.now)) numbered_declarator result }
 {
-    let value = copy_optional(&declarator.value, names, scope, faults)?;
+    let value = copy_optional(&declarator.value, names, scope, told)?;
     Ok(Declarator {
         place: Target::Local(slot),
         value,
@@ -87,12 +88,12 @@ fn copy_next<'a>(
     names: &Names,
     scope: &mut Vec<Local<'a>>,
     next: &mut u8,
-    faults: &mut Vec<NameFault>,
+    told: &mut Vec<Breach<'a>>,
 ) -> Result<Declarator<Target>, AllocError>
     requires { next.old < 64 }
     ensures told { Told (description_of names.now)
         (optional_uses (scope_of scope.old.items) (declarator_of path_of declarator.now).value)
-        faults.old.items faults.new.items result }
+        told.old.items told.new.items result }
     ensures sound { Copies (description_of names.now)
         (optional_uses (scope_of scope.old.items) (declarator_of path_of declarator.now).value)
         (resolved_declarator (description_of names.now) (scope_of scope.old.items) next.old
@@ -102,7 +103,7 @@ fn copy_next<'a>(
         (scope_of scope.old.items)) }
     ensures next { OnOk result (next.new ≡ next.old + 1) }
 {
-    let copy = copy_declarator(declarator, names, scope, *next, faults)?;
+    let copy = copy_declarator(declarator, names, scope, *next, told)?;
     declare(scope, &declarator.place, *next)?;
     *next += 1;
     Ok(copy)
@@ -116,12 +117,12 @@ pub fn copy_declarators<'a>(
     names: &Names,
     scope: &mut Vec<Local<'a>>,
     next: &mut u8,
-    faults: &mut Vec<NameFault>,
+    told: &mut Vec<Breach<'a>>,
 ) -> Result<Vec<Declarator<Target>>, AllocError>
     requires { next.old + length declarators.now ≤ 64 }
     ensures told { Told (description_of names.now)
         (declarator_uses (scope_of scope.old.items) next.old
-        (map (declarator_of path_of) declarators.now)) faults.old.items faults.new.items result }
+        (map (declarator_of path_of) declarators.now)) told.old.items told.new.items result }
     ensures sound { Copies (description_of names.now)
         (declarator_uses (scope_of scope.old.items) next.old
         (map (declarator_of path_of) declarators.now))
@@ -134,7 +135,7 @@ pub fn copy_declarators<'a>(
 {
     let mut copies = Vec::with_capacity(names.alloc, declarators.len())?;
     for declarator in declarators {
-        copies.push(copy_next(declarator, names, scope, next, faults)?)?;
+        copies.push(copy_next(declarator, names, scope, next, told)?)?;
     }
     Ok(copies)
 }

@@ -11,10 +11,10 @@ ghost use Rattle.edd_statement_names.specs.ResolvedParts.{part_uses, resolved_pa
 ghost use Rattle.edd_name_meanings.specs.Copies.{Copies, Told};
 
 use crate::declarators::{copy_declarators, copy_optional};
+use edd_breaches::Breach;
 use edd_expression_names::exprs::copy_expr;
 use edd_name_meanings::directory::Names;
 use edd_name_meanings::references::Local;
-use edd_name_rules::fault::NameFault;
 use edd_syntax::expr::Expr;
 use edd_syntax::reference::{Path, Target};
 use edd_syntax::stmt::{Part, Stmt};
@@ -35,12 +35,12 @@ fn copy_stmt<'a>(
     names: &Names,
     scope: &[Local<'a>],
     next: &mut u8,
-    faults: &mut Vec<NameFault>,
+    told: &mut Vec<Breach<'a>>,
 ) -> Result<Stmt<Target>, AllocError>
     requires { next.old + slots_of (stmt_of path_of s.now) ≤ 64 }
     ensures told { Told (description_of names.now)
         (stmt_uses (stmt_of path_of s.now) (scope_of scope.now) next.old)
-        faults.old.items faults.new.items result }
+        told.old.items told.new.items result }
     ensures sound { Copies (description_of names.now)
         (stmt_uses (stmt_of path_of s.now) (scope_of scope.now) next.old)
         (resolved_stmt (description_of names.now) (stmt_of path_of s.now) (scope_of scope.now)
@@ -49,24 +49,24 @@ fn copy_stmt<'a>(
 {
     match s {
         Stmt::Empty => Ok(Stmt::Empty),
-        Stmt::Evaluate(e) => Ok(Stmt::Evaluate(copy_expr(e, names, scope, faults)?)),
-        Stmt::Block(parts) => Ok(Stmt::Block(copy_body(parts, names, scope, next, faults)?)),
+        Stmt::Evaluate(e) => Ok(Stmt::Evaluate(copy_expr(e, names, scope, told)?)),
+        Stmt::Block(parts) => Ok(Stmt::Block(copy_body(parts, names, scope, next, told)?)),
         Stmt::If(condition, body) => {
-            let (condition, body) = copy_guarded(condition, body, names, scope, next, faults)?;
+            let (condition, body) = copy_guarded(condition, body, names, scope, next, told)?;
             Ok(Stmt::If(condition, body))
         }
         Stmt::IfElse(condition, first, otherwise) => {
             let (condition, first, otherwise) = copy_choice(
-                condition, first, otherwise, names, scope, next, faults,
+                condition, first, otherwise, names, scope, next, told,
             )?;
             Ok(Stmt::IfElse(condition, first, otherwise))
         }
         Stmt::While(condition, body) => {
-            let (condition, body) = copy_guarded(condition, body, names, scope, next, faults)?;
+            let (condition, body) = copy_guarded(condition, body, names, scope, next, told)?;
             Ok(Stmt::While(condition, body))
         }
         Stmt::Do(body, condition) => {
-            let (body, condition) = copy_repeated(body, condition, names, scope, next, faults)?;
+            let (body, condition) = copy_repeated(body, condition, names, scope, next, told)?;
             Ok(Stmt::Do(body, condition))
         }
         Stmt::For {
@@ -76,7 +76,7 @@ fn copy_stmt<'a>(
             body,
         } => {
             let (initial, condition, update, body) = copy_looped(
-                initial, condition, update, body, names, scope, next, faults,
+                initial, condition, update, body, names, scope, next, told,
             )?;
             Ok(Stmt::For {
                 initial,
@@ -86,7 +86,7 @@ fn copy_stmt<'a>(
             })
         }
         Stmt::Switch(on, parts) => {
-            let (on, parts) = copy_switched(parts, on, names, scope, next, faults)?;
+            let (on, parts) = copy_switched(parts, on, names, scope, next, told)?;
             Ok(Stmt::Switch(on, parts))
         }
         Stmt::Break { at } => Ok(Stmt::Break { at: *at }),
@@ -103,19 +103,19 @@ fn copy_boxed<'a>(
     names: &Names,
     scope: &[Local<'a>],
     next: &mut u8,
-    faults: &mut Vec<NameFault>,
+    told: &mut Vec<Breach<'a>>,
 ) -> Result<Box<Stmt<Target>>, AllocError>
     requires { next.old + slots_of (stmt_of path_of s.now) ≤ 64 }
     ensures told { Told (description_of names.now)
         (stmt_uses (stmt_of path_of s.now) (scope_of scope.now) next.old)
-        faults.old.items faults.new.items result }
+        told.old.items told.new.items result }
     ensures sound { Copies (description_of names.now)
         (stmt_uses (stmt_of path_of s.now) (scope_of scope.now) next.old)
         (resolved_stmt (description_of names.now) (stmt_of path_of s.now) (scope_of scope.now)
         next.old) (λ t. numbered_stmt t.value) result }
     ensures next { OnOk result (next.new ≡ next.old + slots_of (stmt_of path_of s.now)) }
 {
-    let copy = copy_stmt(s, names, scope, next, faults)?;
+    let copy = copy_stmt(s, names, scope, next, told)?;
     Ok(Box::new(names.alloc, copy)?)
 }
 
@@ -128,13 +128,13 @@ fn copy_guarded<'a>(
     names: &Names,
     scope: &[Local<'a>],
     next: &mut u8,
-    faults: &mut Vec<NameFault>,
+    told: &mut Vec<Breach<'a>>,
 ) -> Result<(Expr<Target>, Box<Stmt<Target>>), AllocError>
     requires { next.old + slots_of (stmt_of path_of body.now) ≤ 64 }
     ensures told { Told (description_of names.now)
         (expr_uses (scope_of scope.now) (expr_of path_of condition.now)
         ++ stmt_uses (stmt_of path_of body.now) (scope_of scope.now) next.old)
-        faults.old.items faults.new.items result }
+        told.old.items told.new.items result }
     ensures condition { Copies (description_of names.now)
         (expr_uses (scope_of scope.now) (expr_of path_of condition.now))
         (resolved_expr (at_scope (description_of names.now) (scope_of scope.now))
@@ -145,8 +145,8 @@ fn copy_guarded<'a>(
         next.old) (λ t. numbered_stmt t.1.value) result }
     ensures next { OnOk result (next.new ≡ next.old + slots_of (stmt_of path_of body.now)) }
 {
-    let condition = copy_expr(condition, names, scope, faults)?;
-    let body = copy_boxed(body, names, scope, next, faults)?;
+    let condition = copy_expr(condition, names, scope, told)?;
+    let body = copy_boxed(body, names, scope, next, told)?;
     Ok((condition, body))
 }
 
@@ -160,7 +160,7 @@ fn copy_choice<'a>(
     names: &Names,
     scope: &[Local<'a>],
     next: &mut u8,
-    faults: &mut Vec<NameFault>,
+    told: &mut Vec<Breach<'a>>,
 ) -> Result<(Expr<Target>, Box<Stmt<Target>>, Box<Stmt<Target>>), AllocError>
     requires { next.old + (slots_of (stmt_of path_of first.now)
         + slots_of (stmt_of path_of otherwise.now)) ≤ 64 }
@@ -169,7 +169,7 @@ fn copy_choice<'a>(
         ++ (stmt_uses (stmt_of path_of first.now) (scope_of scope.now) next.old
         ++ stmt_uses (stmt_of path_of otherwise.now) (scope_of scope.now)
         (next.old + slots_of (stmt_of path_of first.now))))
-        faults.old.items faults.new.items result }
+        told.old.items told.new.items result }
     ensures condition { Copies (description_of names.now)
         (expr_uses (scope_of scope.now) (expr_of path_of condition.now))
         (resolved_expr (at_scope (description_of names.now) (scope_of scope.now))
@@ -186,9 +186,9 @@ fn copy_choice<'a>(
     ensures next { OnOk result (next.new ≡ next.old
         + (slots_of (stmt_of path_of first.now) + slots_of (stmt_of path_of otherwise.now))) }
 {
-    let condition = copy_expr(condition, names, scope, faults)?;
-    let first = copy_boxed(first, names, scope, next, faults)?;
-    let otherwise = copy_boxed(otherwise, names, scope, next, faults)?;
+    let condition = copy_expr(condition, names, scope, told)?;
+    let first = copy_boxed(first, names, scope, next, told)?;
+    let otherwise = copy_boxed(otherwise, names, scope, next, told)?;
     Ok((condition, first, otherwise))
 }
 
@@ -201,13 +201,13 @@ fn copy_repeated<'a>(
     names: &Names,
     scope: &[Local<'a>],
     next: &mut u8,
-    faults: &mut Vec<NameFault>,
+    told: &mut Vec<Breach<'a>>,
 ) -> Result<(Box<Stmt<Target>>, Expr<Target>), AllocError>
     requires { next.old + slots_of (stmt_of path_of body.now) ≤ 64 }
     ensures told { Told (description_of names.now)
         (stmt_uses (stmt_of path_of body.now) (scope_of scope.now) next.old
         ++ expr_uses (scope_of scope.now) (expr_of path_of condition.now))
-        faults.old.items faults.new.items result }
+        told.old.items told.new.items result }
     ensures body { Copies (description_of names.now)
         (stmt_uses (stmt_of path_of body.now) (scope_of scope.now) next.old)
         (resolved_stmt (description_of names.now) (stmt_of path_of body.now) (scope_of scope.now)
@@ -218,8 +218,8 @@ fn copy_repeated<'a>(
         (expr_of path_of condition.now)) (λ t. numbered_expr t.1) result }
     ensures next { OnOk result (next.new ≡ next.old + slots_of (stmt_of path_of body.now)) }
 {
-    let body = copy_boxed(body, names, scope, next, faults)?;
-    let condition = copy_expr(condition, names, scope, faults)?;
+    let body = copy_boxed(body, names, scope, next, told)?;
+    let condition = copy_expr(condition, names, scope, told)?;
     Ok((body, condition))
 }
 
@@ -241,7 +241,7 @@ fn copy_looped<'a>(
     names: &Names,
     scope: &[Local<'a>],
     next: &mut u8,
-    faults: &mut Vec<NameFault>,
+    told: &mut Vec<Breach<'a>>,
 ) -> Result<Looped, AllocError>
     requires { next.old + slots_of (stmt_of path_of body.now) ≤ 64 }
     ensures told { Told (description_of names.now)
@@ -249,7 +249,7 @@ fn copy_looped<'a>(
         ++ (optional_uses (scope_of scope.now) (option_map (expr_of path_of) condition.now)
         ++ (optional_uses (scope_of scope.now) (option_map (expr_of path_of) update.now)
         ++ stmt_uses (stmt_of path_of body.now) (scope_of scope.now) next.old)))
-        faults.old.items faults.new.items result }
+        told.old.items told.new.items result }
     ensures initial { Copies (description_of names.now)
         (optional_uses (scope_of scope.now) (option_map (expr_of path_of) initial.now))
         (resolved_optional (at_scope (description_of names.now) (scope_of scope.now))
@@ -268,10 +268,10 @@ fn copy_looped<'a>(
         next.old) (λ t. numbered_stmt t.3.value) result }
     ensures next { OnOk result (next.new ≡ next.old + slots_of (stmt_of path_of body.now)) }
 {
-    let initial = copy_optional(initial, names, scope, faults)?;
-    let condition = copy_optional(condition, names, scope, faults)?;
-    let update = copy_optional(update, names, scope, faults)?;
-    let body = copy_boxed(body, names, scope, next, faults)?;
+    let initial = copy_optional(initial, names, scope, told)?;
+    let condition = copy_optional(condition, names, scope, told)?;
+    let update = copy_optional(update, names, scope, told)?;
+    let body = copy_boxed(body, names, scope, next, told)?;
     Ok((initial, condition, update, body))
 }
 
@@ -284,13 +284,13 @@ fn copy_switched<'a>(
     names: &Names,
     scope: &[Local<'a>],
     next: &mut u8,
-    faults: &mut Vec<NameFault>,
+    told: &mut Vec<Breach<'a>>,
 ) -> Result<(Expr<Target>, Vec<Part<Target>>), AllocError>
     requires { next.old + slots_in (body_from (map (part_of path_of) parts.now)) ≤ 64 }
     ensures told { Told (description_of names.now)
         (expr_uses (scope_of scope.now) (expr_of path_of on.now)
         ++ body_uses (body_from (map (part_of path_of) parts.now)) (scope_of scope.now) next.old)
-        faults.old.items faults.new.items result }
+        told.old.items told.new.items result }
     ensures on { Copies (description_of names.now)
         (expr_uses (scope_of scope.now) (expr_of path_of on.now))
         (resolved_expr (at_scope (description_of names.now) (scope_of scope.now))
@@ -302,8 +302,8 @@ fn copy_switched<'a>(
     ensures next { OnOk result (next.new ≡ next.old
         + slots_in (body_from (map (part_of path_of) parts.now))) }
 {
-    let on = copy_expr(on, names, scope, faults)?;
-    let parts = copy_body(parts, names, scope, next, faults)?;
+    let on = copy_expr(on, names, scope, told)?;
+    let parts = copy_body(parts, names, scope, next, told)?;
     Ok((on, parts))
 }
 
@@ -315,12 +315,12 @@ pub fn copy_body<'a>(
     names: &Names,
     scope: &[Local<'a>],
     next: &mut u8,
-    faults: &mut Vec<NameFault>,
+    told: &mut Vec<Breach<'a>>,
 ) -> Result<Vec<Part<Target>>, AllocError>
     requires { next.old + slots_in (body_from (map (part_of path_of) parts.now)) ≤ 64 }
     ensures told { Told (description_of names.now)
         (body_uses (body_from (map (part_of path_of) parts.now)) (scope_of scope.now) next.old)
-        faults.old.items faults.new.items result }
+        told.old.items told.new.items result }
     ensures sound { Copies (description_of names.now)
         (body_uses (body_from (map (part_of path_of) parts.now)) (scope_of scope.now) next.old)
         (resolved_body (description_of names.now) (body_from (map (part_of path_of) parts.now))
@@ -331,7 +331,7 @@ pub fn copy_body<'a>(
     let mut inner = inner_scope(scope, names.alloc)?;
     let mut copies = Vec::with_capacity(names.alloc, parts.len())?;
     for part in parts {
-        copies.push(copy_part(part, names, &mut inner, next, faults)?)?;
+        copies.push(copy_part(part, names, &mut inner, next, told)?)?;
     }
     Ok(copies)
 }
@@ -344,12 +344,12 @@ fn copy_part<'a>(
     names: &Names,
     scope: &mut Vec<Local<'a>>,
     next: &mut u8,
-    faults: &mut Vec<NameFault>,
+    told: &mut Vec<Breach<'a>>,
 ) -> Result<Part<Target>, AllocError>
     requires { next.old + slots_in (body_from (part_of path_of part.now ∷ [])) ≤ 64 }
     ensures told { Told (description_of names.now)
         (part_uses (scope_of scope.old.items) next.old (part_of path_of part.now))
-        faults.old.items faults.new.items result }
+        told.old.items told.new.items result }
     ensures sound { Copies (description_of names.now)
         (part_uses (scope_of scope.old.items) next.old (part_of path_of part.now))
         (resolved_part (description_of names.now) (scope_of scope.old.items) next.old
@@ -360,10 +360,10 @@ fn copy_part<'a>(
 {
     match part {
         Part::Declare(declarators) => {
-            let copies = copy_declarators(declarators, names, scope, next, faults)?;
+            let copies = copy_declarators(declarators, names, scope, next, told)?;
             Ok(Part::Declare(copies))
         }
-        Part::Statement(s) => Ok(Part::Statement(copy_stmt(s, names, scope, next, faults)?)),
+        Part::Statement(s) => Ok(Part::Statement(copy_stmt(s, names, scope, next, told)?)),
         Part::CaseLabel { at, label } => Ok(Part::CaseLabel {
             at: *at,
             label: *label,

@@ -1,16 +1,17 @@
 -- Arguments that are too many or too few.
-use Rattle.std.proofs.Common.{◌≡◌, refl, sym, ◌∙◌, ◌<◌, ◌≤◌, false, List, [], ◌∷◌, ◌++◌, length, map, arith}
-use Rattle.std.proofs.lemmas.Bool.{false≢true}
+use Rattle.std.proofs.Common.{◌≡◌, refl, sym, ap, ◌∙◌, ◌<◌, ◌≤◌, Bool, true, false, not, ◌&&◌, List, [], ◌∷◌, length, map, arith}
+use Rattle.edd_breaches.specs.Told.{told_at}
+use Rattle.edd_syntax.specs.declared.numbers.TokenNo.{TokenNo}
 use Rattle.edd_syntax.specs.declared.reference.Target.{Target}
 use Rattle.edd_syntax.specs.Expression.{Argument, Arguments, arguments_from}
 use Rattle.edd_syntax.specs.declared.operators.Builtin.{Builtin}
 use Rattle.edd_syntax.specs.declared.operators.Builtin.TheVariants as builtin
 use Rattle.edd_syntax.specs.declared.operators.Parameter.{Parameter}
-use Rattle.edd_syntax.specs.SubsetRules.{all_fit, parameters, call_breaches, argument_mismatches}
+use Rattle.edd_syntax.specs.SubsetRules.{all_fit, parameters, call_breaches}
 use Rattle.edd_syntax.specs.SubsetRules as rules
-use Rattle.edd_syntax.specs.Refusal.{Mismatch, first_of}
-use Rattle.edd_syntax.proofs.FirstLaws.{first_of-append_none, first_of-append_some}
-use Rattle.std.specs.Prelude.{◌&&◌, true, Bool, Some, None, if◌then◌else◌}
+use Rattle.edd_syntax.specs.Refusal.{Mismatch, refused_if}
+use Rattle.edd_types.specs.declared.sought.Sought.TheVariants as sought
+use Rattle.edd_types.specs.Expressions.{call_told}
 
 and_false : (b : Bool) → b && false ≡ false
 and_false true = refl
@@ -75,27 +76,18 @@ few_parameters builtin.Abort = omega arith
 few_parameters builtin.ProcessAbort = omega arith
 few_parameters builtin.AddAbortMethod = omega arith
 
--- ---- a call and its arguments
+-- ---- what is told of a call
 
-module _ (is_statement : Bool) (function : Target) (arguments : Arguments Target) (fits : Bool)
-    (first : first_of (call_breaches is_statement function arguments)
-    ≡ (if fits then None else Some Mismatch)) where
-  pub call_breaks : fits ≡ false
-      → Some Mismatch ≡ first_of (call_breaches is_statement function arguments
-      ++ argument_mismatches arguments)
-  call_breaks h = sym (first_of-append_some (call_breaches is_statement function arguments)
-      (argument_mismatches arguments) Mismatch (sym (first ∙ chosen fits h)))
-    where
-      chosen : (b : Bool) → b ≡ false → (if b then None else Some Mismatch) ≡ Some Mismatch
-      chosen true e = absurd (false≢true (sym e))
-      chosen false e = refl
+module _ (is_statement : Bool) (function : Target) (arguments : Arguments Target) (at : TokenNo)
+    (fits : Bool)
+    (breaches : call_breaches is_statement function arguments ≡ refused_if (not fits) Mismatch) where
+  pub call_fits : fits ≡ true → call_told sought.Call is_statement function arguments at ≡ []
+  call_fits is = ap (map (λ why. told_at why at)) breaches
+      ∙ ap (λ b. map (λ why. told_at why at) (refused_if (not b) Mismatch)) is
 
-  pub call_passes : fits ≡ true
-      → first_of (call_breaches is_statement function arguments ++ argument_mismatches arguments)
-      ≡ first_of (argument_mismatches arguments)
-  call_passes h = first_of-append_none (call_breaches is_statement function arguments)
-      (argument_mismatches arguments) (sym (first ∙ chosen fits h))
-    where
-      chosen : (b : Bool) → b ≡ true → (if b then None else Some Mismatch) ≡ None
-      chosen true e = refl
-      chosen false e = absurd (false≢true e)
+  pub call_differs : fits ≡ false → call_told sought.Call is_statement function arguments at
+      ≡ told_at Mismatch at ∷ []
+  call_differs is = ap (map (λ why. told_at why at)) breaches
+      ∙ ap (λ b. map (λ why. told_at why at) (refused_if (not b) Mismatch)) is
+
+pub ruleset calls = (call_fits, call_differs)

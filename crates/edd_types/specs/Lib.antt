@@ -1,7 +1,7 @@
-pub mod Breaches
-pub mod ElementNumbers
-pub mod Faults
-pub mod Found
+pub mod Attributes
+pub mod Breaks
+pub mod Conditionals
+pub mod Elements
+pub mod Expressions
+pub mod Labels
 pub mod Rules
-pub mod SwitchLabels
-pub mod WrongTypes

@@ -1,48 +1,110 @@
--- The rules of the profile that are broken at a token, one attribute after another.
-use Rattle.std.specs.Prelude.{Bool, true, false, List, ◌++◌}
+-- What is told of the rules of the profile, rule after rule.
+use Rattle.std.specs.Prelude.{false, List, [], ◌++◌, map, if◌then◌else◌}
 use Rattle.std.specs.List.{flat_map}
+use Rattle.edd_breaches.specs.Told.{Told, told_at, told_if}
+use Rattle.edd_breaches.specs.declared.breach.Rule.{Rule}
+use Rattle.edd_breaches.specs.declared.breach.Rule.TheVariants as rule
+use Rattle.edd_syntax.specs.declared.numbers.TokenNo.{TokenNo}
 use Rattle.edd_syntax.specs.declared.reference.Target.{Target}
-use Rattle.edd_syntax.specs.Item as item
-use Rattle.edd_syntax.specs.Item.{Attribute, Item}
-use Rattle.edd_syntax.specs.SubsetRules.{type_option_breaches, call_mismatches, decimals, attribute_expressions, breaks_outside_in, bodies_in, attribute_data_breaches, repeated_cases, repeated_elements}
-use Rattle.edd_syntax.specs.Refusal as refusal
-use Rattle.edd_syntax.specs.Refusal.{Refusal}
-use Rattle.edd_types.specs.declared.rules.Rule.{Rule}
-use Rattle.edd_types.specs.declared.rules.Rule.TheVariants as rule
-use Rattle.edd_types.specs.WrongTypes.{in_items}
+use Rattle.edd_syntax.specs.declared.types.VarType.{VarType}
+use Rattle.edd_syntax.specs.declared.item.Item.{Item}
+use Rattle.edd_syntax.specs.declared.item.Attribute.{Attribute}
+use Rattle.edd_syntax.specs.declared.item.Attribute.TheVariants as attribute
+use Rattle.edd_syntax.specs.declared.item.TypeWord.{TypeWord}
+use Rattle.edd_syntax.specs.declared.item.TypeWord.TheVariants as word
+use Rattle.edd_syntax.specs.declared.item.TypePart.{TypePart}
+use Rattle.edd_syntax.specs.declared.item.TypePart.TheVariants as part
+use Rattle.edd_syntax.specs.Text.{Name}
+use Rattle.edd_syntax.specs.ItemView.{type_word_of, name_of, attributes_of}
+use Rattle.edd_syntax.specs.Refusal.{Mismatch}
+use Rattle.edd_syntax.specs.SubsetRules.{type_breaches, is_enumerated, no_labels}
+use Rattle.edd_types.specs.declared.sought.Sought.TheVariants as sought
+use Rattle.edd_breaches.specs.Along.{told_along}
+use Rattle.edd_types.specs.Attributes.{type_part_told, transaction_part_told, conditions_told, method_told}
+use Rattle.edd_types.specs.Breaks.{breaks_told_of}
+use Rattle.edd_types.specs.Labels.{labels_told, labels_behind}
+use Rattle.edd_types.specs.Elements.{element_told, numbers_behind}
 
--- the refusal for a breach of the rule
-abbrev pub why : Rule → Refusal
-why rule.Mismatch = refusal.Mismatch
-why rule.FloatValue = refusal.FloatValue
-why rule.BreakOutside = refusal.BreakOutside
-why rule.ConstRange = refusal.ConstRange
-why rule.DuplicateCase = refusal.DuplicateCase
-why rule.DuplicateElement = refusal.DuplicateElement
+-- ---- types
 
--- the breaches in an attribute
-abbrev pub broken_in : Rule → Attribute Target → List Refusal
-broken_in rule.Mismatch a = type_option_breaches a
-    ++ flat_map (λ p. call_mismatches p.is_statement p.expression) (attribute_expressions a)
-broken_in rule.FloatValue a = flat_map (λ p. decimals p.expression) (attribute_expressions a)
-broken_in rule.BreakOutside a = flat_map (breaks_outside_in false false) (bodies_in a)
-broken_in rule.ConstRange a = attribute_data_breaches a
-broken_in rule.DuplicateCase a = repeated_cases a
-broken_in rule.DuplicateElement a = repeated_elements a
+-- of a type as it is written for a variable
+abbrev pub word_told : (variable : Name) → TypeWord → (at : TokenNo) → List Told
+word_told variable type at = map (λ why. told_at why at) (type_breaches variable (type_word_of type))
 
--- whether the attribute is the body of a method
-abbrev pub is_definition : Attribute Target → Bool
-is_definition (item.Definition body) = true
-is_definition _ = false
+-- of the type in an attribute of a variable
+abbrev pub type_told : (variable : Name) → Attribute Target → List Told
+type_told variable (attribute.TypeOf at type parts) = word_told variable type at
+type_told variable _ = []
 
--- the breaches in items
-abbrev pub broken : Rule → List (Item Target) → List Refusal
-broken r items = flat_map (λ i. flat_map (broken_in r) i.attributes) items
+-- ---- options and enumerators that a type does not have
 
--- all breaches, rule after rule
-unfoldable pub all_broken : List (Item Target) → List Refusal
-all_broken items =
-    in_items items ++ (broken rule.Mismatch items
-    ++ (broken rule.FloatValue items ++ (broken rule.BreakOutside items
-    ++ (broken rule.ConstRange items ++ (broken rule.DuplicateCase items
-    ++ broken rule.DuplicateElement items)))))
+-- of an option of such a type, or of an element of its list
+abbrev pub option_told : VarType → TypePart Target → List Told
+option_told type (part.DefaultValue at value) = []
+option_told type (part.MinValue at value) = told_if (is_enumerated type) Mismatch at
+option_told type (part.MaxValue at value) = told_if (is_enumerated type) Mismatch at
+option_told type (part.DisplayFormat at format) = told_if (is_enumerated type) Mismatch at
+option_told type (part.EditFormat at format) = told_if (is_enumerated type) Mismatch at
+option_told type (part.Element element) =
+    if is_enumerated type then [] else type_part_told sought.Enumerator (part.Element element)
+
+-- of the options in an attribute
+abbrev pub options_told : Attribute Target → List Told
+options_told (attribute.TypeOf at (word.Known type size) parts) =
+    flat_map (option_told type) parts.items
+options_told _ = []
+
+-- ---- the other rules
+
+-- of `break` and `continue` in an attribute
+abbrev pub breaks_told_in_method : Attribute Target → List Told
+breaks_told_in_method (attribute.Definition at parts) =
+    flat_map (breaks_told_of false false) parts.items
+breaks_told_in_method _ = []
+
+-- of constants and masks in an attribute
+abbrev pub constants_told : Attribute Target → List Told
+constants_told (attribute.Transaction at number parts) =
+    flat_map (transaction_part_told sought.Constant) parts.items
+constants_told _ = []
+
+-- of the labels in an attribute
+abbrev pub labels_told_in_method : Attribute Target → List Told
+labels_told_in_method (attribute.Definition at parts) =
+    told_along labels_told labels_behind no_labels parts.items
+labels_told_in_method _ = []
+
+-- of the elements in an attribute
+abbrev pub elements_told : Attribute Target → List Told
+elements_told (attribute.Elements at elements) =
+    told_along element_told numbers_behind [] elements.items
+elements_told _ = []
+
+-- ---- all rules
+
+-- of a rule in an attribute; types are told of by themselves, and the rules on names elsewhere
+abbrev pub attribute_told : Rule → Attribute Target → List Told
+attribute_told rule.Mismatch a = options_told a
+    ++ (method_told sought.Call a ++ conditions_told sought.Call a)
+attribute_told rule.FloatValue a = method_told sought.Decimal a ++ conditions_told sought.Decimal a
+attribute_told rule.BreakOutside a = breaks_told_in_method a
+attribute_told rule.ConstRange a = constants_told a
+attribute_told rule.DuplicateCase a = labels_told_in_method a ++ conditions_told sought.Default a
+attribute_told rule.DuplicateElement a = elements_told a
+attribute_told _ a = []
+
+-- of a rule in items
+abbrev pub rule_told : Rule → List (Item Target) → List Told
+rule_told r items = flat_map (λ i. flat_map (attribute_told r) (attributes_of i)) items
+
+-- of the types of variables
+abbrev pub types_told : List (Item Target) → List Told
+types_told items = flat_map (λ i. flat_map (type_told (name_of i)) (attributes_of i)) items
+
+-- all that is told, rule after rule
+unfoldable pub all_told : List (Item Target) → List Told
+all_told items =
+    types_told items ++ (rule_told rule.Mismatch items
+    ++ (rule_told rule.FloatValue items ++ (rule_told rule.BreakOutside items
+    ++ (rule_told rule.ConstRange items ++ (rule_told rule.DuplicateCase items
+    ++ rule_told rule.DuplicateElement items)))))

@@ -1,87 +1,121 @@
 //! Breaches in attributes, under conditions and in methods.
 
-ghost use Rattle.std.specs.Prelude.{◌≡◌, map};
+ghost use Rattle.std.specs.Prelude.{OnOk};
 ghost use Rattle.std.specs.List.{flat_map};
-ghost use Rattle.edd_syntax.specs.ItemView.{numbered_attribute, numbered_transaction_part, numbered_type_part};
-ghost use Rattle.edd_syntax.specs.Refusal.{first_of};
-ghost use Rattle.edd_types.specs.Breaches.{refusal_of, in_type_part, in_transaction_part, in_attribute};
-ghost use Rattle.edd_types.specs.Found.{found};
+ghost use Rattle.edd_breaches.specs.Told.{Tells};
+ghost use Rattle.edd_types.specs.Attributes.{type_part_told, transaction_part_told, conditions_told, method_told};
 
-use crate::breach::Breach;
-use crate::conditionals::{check_cond, check_conds};
-use crate::statements::check_parts;
+use crate::conditionals::{tell_cond, tell_conds};
+use crate::sought::Sought;
+use crate::statements::tell_parts;
+use edd_breaches::Breach;
 use edd_syntax::item::{Attribute, TransactionPart, TypePart};
-use edd_syntax::numbers::TokenNo;
 use edd_syntax::reference::Target;
+use std::alloc::AllocError;
 
-/// The place of the first such breach in an option or an enumerator of a type.
-#[tactic(auto, using(crate::proofs::BareViews::bare_values))]
-pub fn check_type_part(part: &TypePart<Target>, breach: Breach) -> Result<(), TokenNo>
-    ensures { found (refusal_of breach) result
-        ≡ first_of (in_type_part breach (numbered_type_part part.now)) }
+/// Tells of such breaches in an option or an enumerator of a type.
+pub fn tell_type_part<'a>(
+    part: &TypePart<Target>,
+    sought: Sought,
+    told: &mut Vec<Breach<'a>>,
+) -> Result<(), AllocError>
+    ensures told { OnOk result
+        (Tells (type_part_told sought part.now) told.old.items told.new.items) }
 {
     match part {
-        TypePart::DefaultValue { value, .. } => check_cond(value, breach),
-        TypePart::MinValue { value, .. } => check_cond(value, breach),
-        TypePart::MaxValue { value, .. } => check_cond(value, breach),
-        TypePart::DisplayFormat { format, .. } => check_cond(format, breach),
-        TypePart::EditFormat { format, .. } => check_cond(format, breach),
-        TypePart::Element(c) => check_cond(c, breach),
+        TypePart::DefaultValue { value, .. } => tell_cond(value, sought, told),
+        TypePart::MinValue { value, .. } => tell_cond(value, sought, told),
+        TypePart::MaxValue { value, .. } => tell_cond(value, sought, told),
+        TypePart::DisplayFormat { format, .. } => tell_cond(format, sought, told),
+        TypePart::EditFormat { format, .. } => tell_cond(format, sought, told),
+        TypePart::Element(c) => tell_cond(c, sought, told),
     }
 }
 
-fn check_type_parts(parts: &[TypePart<Target>], breach: Breach) -> Result<(), TokenNo>
-    ensures { found (refusal_of breach) result
-        ≡ first_of (flat_map (in_type_part breach) (map numbered_type_part parts.now)) }
+#[tactic(auto, using(edd_breaches::proofs::TellLaws::tells, edd_breaches::proofs::TellLaws::tells_more))]
+fn tell_type_parts<'a>(
+    parts: &[TypePart<Target>],
+    sought: Sought,
+    told: &mut Vec<Breach<'a>>,
+) -> Result<(), AllocError>
+    ensures told { OnOk result
+        (Tells (flat_map (type_part_told sought) parts.now) told.old.items told.new.items) }
 {
     for part in parts {
-        check_type_part(part, breach)?;
+        tell_type_part(part, sought, told)?;
     }
     Ok(())
 }
 
-#[tactic(auto, using(crate::proofs::BareViews::bare_values))]
-fn check_transaction_part(part: &TransactionPart<Target>, breach: Breach) -> Result<(), TokenNo>
-    ensures { found (refusal_of breach) result
-        ≡ first_of (in_transaction_part breach (numbered_transaction_part part.now)) }
+fn tell_transaction_part<'a>(
+    part: &TransactionPart<Target>,
+    sought: Sought,
+    told: &mut Vec<Breach<'a>>,
+) -> Result<(), AllocError>
+    ensures told { OnOk result
+        (Tells (transaction_part_told sought part.now) told.old.items told.new.items) }
 {
     match part {
-        TransactionPart::Request(_, all) => check_conds(all, breach),
-        TransactionPart::Reply(_, all) => check_conds(all, breach),
+        TransactionPart::Request(_, all) => tell_conds(all, sought, told),
+        TransactionPart::Reply(_, all) => tell_conds(all, sought, told),
     }
 }
 
-/// The place of the first such breach in a transaction.
-pub fn check_transaction(parts: &[TransactionPart<Target>], breach: Breach) -> Result<(), TokenNo>
-    ensures { found (refusal_of breach) result
-        ≡ first_of (flat_map (in_transaction_part breach)
-        (map numbered_transaction_part parts.now)) }
+/// Tells of such breaches in a transaction.
+#[tactic(auto, using(edd_breaches::proofs::TellLaws::tells, edd_breaches::proofs::TellLaws::tells_more))]
+pub fn tell_transaction<'a>(
+    parts: &[TransactionPart<Target>],
+    sought: Sought,
+    told: &mut Vec<Breach<'a>>,
+) -> Result<(), AllocError>
+    ensures told { OnOk result
+        (Tells (flat_map (transaction_part_told sought) parts.now) told.old.items told.new.items) }
 {
     for part in parts {
-        check_transaction_part(part, breach)?;
+        tell_transaction_part(part, sought, told)?;
     }
     Ok(())
 }
 
-/// The place of the first such breach in an attribute.
-#[tactic(auto, using(crate::proofs::BareViews::bare_values))]
-pub fn check_inside(attribute: &Attribute<Target>, breach: Breach) -> Result<(), TokenNo>
-    ensures { found (refusal_of breach) result
-        ≡ first_of (in_attribute breach (numbered_attribute attribute.now)) }
+/// Tells of such breaches in what an attribute has under conditions.
+#[tactic(auto, using(edd_breaches::proofs::TellLaws::tells))]
+pub fn tell_conditions<'a>(
+    attribute: &Attribute<Target>,
+    sought: Sought,
+    told: &mut Vec<Breach<'a>>,
+) -> Result<(), AllocError>
+    ensures told { OnOk result
+        (Tells (conditions_told sought attribute.now) told.old.items told.new.items) }
 {
     match attribute {
-        Attribute::OneText(_, _, c) => check_cond(c, breach),
-        Attribute::Handling(_, c) => check_cond(c, breach),
-        Attribute::Validity(_, c) => check_cond(c, breach),
-        Attribute::TypeOf { parts, .. } => check_type_parts(parts, breach),
-        Attribute::Transaction { parts, .. } => check_transaction(parts, breach),
-        Attribute::Items(_, entries) => check_conds(entries, breach),
-        Attribute::Definition(_, parts) => check_parts(parts, breach),
+        Attribute::OneText(_, _, c) => tell_cond(c, sought, told),
+        Attribute::Handling(_, c) => tell_cond(c, sought, told),
+        Attribute::Validity(_, c) => tell_cond(c, sought, told),
+        Attribute::TypeOf { parts, .. } => tell_type_parts(parts, sought, told),
+        Attribute::Transaction { parts, .. } => tell_transaction(parts, sought, told),
+        Attribute::Items(_, entries) => tell_conds(entries, sought, told),
         Attribute::Class(_, _)
         | Attribute::Number(_, _)
         | Attribute::Operation(_, _)
         | Attribute::ResponseCodes(_, _)
         | Attribute::Members(_, _)
-        | Attribute::Elements(_, _) => Ok(()),
+        | Attribute::Elements(_, _)
+        | Attribute::Definition(_, _) => Ok(()),
+    }
+}
+
+/// Tells of such breaches in the expressions of a method.
+#[tactic(auto, using(edd_breaches::proofs::TellLaws::tells))]
+pub fn tell_method<'a>(
+    attribute: &Attribute<Target>,
+    sought: Sought,
+    told: &mut Vec<Breach<'a>>,
+) -> Result<(), AllocError>
+    ensures told { OnOk result
+        (Tells (method_told sought attribute.now) told.old.items told.new.items) }
+{
+    match attribute {
+        Attribute::Definition(_, parts) => tell_parts(parts, sought, told),
+        _ => Ok(()),
     }
 }

@@ -1,66 +1,84 @@
 //! `break` and `continue` outside of what they leave.
 
-ghost use Rattle.std.specs.Prelude.{◌≡◌, [], ◌∷◌, map};
-ghost use Rattle.edd_syntax.specs.Statement.{body_from};
-ghost use Rattle.edd_syntax.specs.TreeView.{numbered_part, numbered_stmt};
-ghost use Rattle.edd_syntax.specs.SubsetRules.{breaks_outside, breaks_outside_in};
-ghost use Rattle.edd_syntax.specs.Refusal.{first_of, BreakOutside};
-ghost use Rattle.edd_types.specs.Found.{found};
+ghost use Rattle.std.specs.Prelude.{OnOk};
+ghost use Rattle.std.specs.List.{flat_map};
+ghost use Rattle.edd_breaches.specs.Told.{Tells};
+ghost use Rattle.edd_types.specs.Breaks.{breaks_told, breaks_told_of};
 
-use edd_syntax::numbers::TokenNo;
+use edd_breaches::{Breach, Rule, tell};
 use edd_syntax::reference::Target;
 use edd_syntax::stmt::{Part, Stmt};
+use std::alloc::AllocError;
 
-/// The place of the first `break` or `continue` that has nothing to leave.
 #[cycle(breaks)]
-#[tactic(auto, using(edd_syntax::proofs::FirstLaws::firsts))]
-pub fn check_breaks(s: &Stmt<Target>, in_loop: bool, in_switch: bool) -> Result<(), TokenNo>
-    ensures { found BreakOutside result
-        ≡ first_of (breaks_outside in_loop in_switch (numbered_stmt s.now)) }
+#[tactic(auto, using(edd_breaches::proofs::TellLaws::tells, edd_breaches::proofs::TellLaws::tells_more))]
+fn tell_statement<'a>(
+    s: &Stmt<Target>,
+    in_loop: bool,
+    in_switch: bool,
+    told: &mut Vec<Breach<'a>>,
+) -> Result<(), AllocError>
+    ensures told { OnOk result
+        (Tells (breaks_told in_loop in_switch s.now) told.old.items told.new.items) }
 {
     match s {
         Stmt::Empty | Stmt::Evaluate(_) | Stmt::Return => Ok(()),
-        Stmt::Block(parts) => check_parts(parts, in_loop, in_switch),
-        Stmt::If(_, first) => check_breaks(first, in_loop, in_switch),
+        Stmt::Block(parts) => tell_breaks(parts, in_loop, in_switch, told),
+        Stmt::If(_, first) => tell_statement(first, in_loop, in_switch, told),
         Stmt::IfElse(_, first, otherwise) => {
-            check_breaks(first, in_loop, in_switch)?;
-            check_breaks(otherwise, in_loop, in_switch)
+            tell_statement(first, in_loop, in_switch, told)?;
+            tell_statement(otherwise, in_loop, in_switch, told)
         }
         Stmt::While(_, body) | Stmt::Do(body, _) | Stmt::For { body, .. } => {
-            check_breaks(body, true, in_switch)
+            tell_statement(body, true, in_switch, told)
         }
-        Stmt::Switch(_, parts) => check_parts(parts, in_loop, true),
+        Stmt::Switch(_, parts) => tell_breaks(parts, in_loop, true, told),
         Stmt::Break { at } => {
             if in_loop || in_switch {
-                Ok(())
-            } else {
-                Err(*at)
+                return Ok(());
             }
+            tell(Rule::BreakOutside, *at, told)
         }
-        Stmt::Continue { at } => { if in_loop { Ok(()) } else { Err(*at) } }
+        Stmt::Continue { at } => {
+            if in_loop {
+                return Ok(());
+            }
+            tell(Rule::BreakOutside, *at, told)
+        }
     }
 }
 
+/// Tells of each `break` or `continue` that has nothing to leave.
 #[cycle(breaks)]
-#[tactic(auto, using(edd_syntax::proofs::FirstLaws::firsts))]
-pub fn check_parts(parts: &[Part<Target>], in_loop: bool, in_switch: bool) -> Result<(), TokenNo>
-    ensures { found BreakOutside result
-        ≡ first_of (breaks_outside_in in_loop in_switch (body_from (map numbered_part parts.now))) }
+#[tactic(auto, using(edd_breaches::proofs::TellLaws::tells, edd_breaches::proofs::TellLaws::tells_more))]
+pub fn tell_breaks<'a>(
+    parts: &[Part<Target>],
+    in_loop: bool,
+    in_switch: bool,
+    told: &mut Vec<Breach<'a>>,
+) -> Result<(), AllocError>
+    ensures told { OnOk result (Tells (flat_map (breaks_told_of in_loop in_switch) parts.now)
+        told.old.items told.new.items) }
 {
     for part in parts {
-        check_part(part, in_loop, in_switch)?;
+        tell_part(part, in_loop, in_switch, told)?;
     }
     Ok(())
 }
 
 #[cycle(breaks)]
-#[tactic(auto, using(edd_syntax::proofs::FirstLaws::firsts))]
-fn check_part(part: &Part<Target>, in_loop: bool, in_switch: bool) -> Result<(), TokenNo>
-    ensures { found BreakOutside result
-        ≡ first_of (breaks_outside_in in_loop in_switch (body_from (numbered_part part.now ∷ []))) }
+#[tactic(auto, using(edd_breaches::proofs::TellLaws::tells, edd_breaches::proofs::TellLaws::tells_more))]
+fn tell_part<'a>(
+    part: &Part<Target>,
+    in_loop: bool,
+    in_switch: bool,
+    told: &mut Vec<Breach<'a>>,
+) -> Result<(), AllocError>
+    ensures told { OnOk result
+        (Tells (breaks_told_of in_loop in_switch part.now) told.old.items told.new.items) }
 {
     match part {
         Part::Declare(_) | Part::CaseLabel { .. } | Part::DefaultLabel { .. } => Ok(()),
-        Part::Statement(s) => check_breaks(s, in_loop, in_switch),
+        Part::Statement(s) => tell_statement(s, in_loop, in_switch, told),
     }
 }

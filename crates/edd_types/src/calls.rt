@@ -1,17 +1,21 @@
 //! Calls of builtin functions.
 
-ghost use Rattle.std.specs.Prelude.{◌≡◌, ◌≤◌, [], ◌∷◌, map, length, if◌then◌else◌, Some, None};
+ghost use Rattle.std.specs.Prelude.{◌≡◌, ◌≤◌, [], ◌∷◌, map, length, not, OnOk};
+ghost use Rattle.edd_breaches.specs.Told.{Tells};
 ghost use Rattle.edd_syntax.specs.Expression.{arguments_from};
-ghost use Rattle.edd_syntax.specs.TreeView.{numbered_argument, numbered_expr};
+ghost use Rattle.edd_syntax.specs.TreeView.{numbered_argument};
 ghost use Rattle.edd_syntax.specs.SubsetRules as rules;
-ghost use Rattle.edd_syntax.specs.SubsetRules.{all_fit, is_abort, call_breaches, call_mismatches, argument_mismatches};
-ghost use Rattle.edd_syntax.specs.Refusal.{first_of, Mismatch};
-ghost use Rattle.edd_types.specs.Found.{found};
+ghost use Rattle.edd_syntax.specs.SubsetRules.{all_fit, call_breaches};
+ghost use Rattle.edd_syntax.specs.Refusal.{Mismatch, refused_if};
+ghost use Rattle.edd_types.specs.declared.sought.Sought.TheVariants as sought;
+ghost use Rattle.edd_types.specs.Expressions.{call_told};
 
+use edd_breaches::{Breach, Rule, tell};
 use edd_syntax::expr::{Argument, Expr};
 use edd_syntax::numbers::{ItemNo, TokenNo};
 use edd_syntax::operators::{Builtin, Parameter};
 use edd_syntax::reference::Target;
+use std::alloc::AllocError;
 
 fn is_text(argument: &Argument<Target>) -> bool
     ensures { result ≡ rules.is_text (numbered_argument argument.now) }
@@ -99,9 +103,8 @@ fn all_fit(parameters: &[Parameter], arguments: &[Argument<Target>]) -> bool
 // An abort is a statement of its own.
 #[tactic(auto, using(crate::proofs::Arguments::few_parameters))]
 fn is_call(function: Target, arguments: &[Argument<Target>], is_statement: bool) -> bool
-    ensures { first_of (call_breaches is_statement function
-        (arguments_from (map numbered_argument arguments.now)))
-        ≡ (if result then None else Some Mismatch) }
+    ensures { call_breaches is_statement function
+        (arguments_from (map numbered_argument arguments.now)) ≡ refused_if (not result) Mismatch }
 {
     match function {
         Target::Function(f) => {
@@ -112,68 +115,21 @@ fn is_call(function: Target, arguments: &[Argument<Target>], is_statement: bool)
     }
 }
 
-/// The place of the first call with arguments that its function does not take, or of an abort inside
-/// an expression.
-#[cycle(calls)]
-#[tactic(auto, using(edd_syntax::proofs::FirstLaws::firsts))]
-pub fn check_calls(e: &Expr<Target>, is_statement: bool) -> Result<(), TokenNo>
-    ensures { found Mismatch result
-        ≡ first_of (call_mismatches is_statement (numbered_expr e.now)) }
+/// Tells of a call with arguments that its function does not take, or of an abort inside an
+/// expression.
+#[tactic(auto, using(edd_breaches::proofs::TellLaws::tells, crate::proofs::Arguments::calls))]
+pub fn tell_call<'a>(
+    function: Target,
+    arguments: &[Argument<Target>],
+    is_statement: bool,
+    at: TokenNo,
+    told: &mut Vec<Breach<'a>>,
+) -> Result<(), AllocError>
+    ensures told { OnOk result (Tells (call_told sought.Call is_statement function
+        (arguments_from (map numbered_argument arguments.now)) at) told.old.items told.new.items) }
 {
-    match e {
-        Expr::Literal(_) | Expr::Decimal { .. } | Expr::Reference(_) | Expr::Increment(_, _) => {
-            Ok(())
-        }
-        Expr::Indexed(_, inner)
-        | Expr::Parentheses(inner)
-        | Expr::Unary(_, inner)
-        | Expr::Assign(_, inner)
-        | Expr::CompoundAssign(_, _, inner) => check_calls(inner, false),
-        Expr::Binary(_, a, b)
-        | Expr::Compare(_, a, b)
-        | Expr::LogicalAnd(a, b)
-        | Expr::LogicalOr(a, b) => {
-            check_calls(a, false)?;
-            check_calls(b, false)
-        }
-        Expr::Conditional(test, a, b) => {
-            check_calls(test, false)?;
-            check_calls(a, false)?;
-            check_calls(b, false)
-        }
-        Expr::Call {
-            at,
-            function,
-            arguments,
-        } => {
-            if !is_call(*function, arguments, is_statement) {
-                return Err(*at);
-            }
-            check_arguments(arguments)
-        }
+    if is_call(function, arguments, is_statement) {
+        return Ok(());
     }
-}
-
-#[cycle(calls)]
-#[tactic(auto, using(edd_syntax::proofs::FirstLaws::firsts))]
-fn check_arguments(arguments: &[Argument<Target>]) -> Result<(), TokenNo>
-    ensures { found Mismatch result
-        ≡ first_of (argument_mismatches (arguments_from (map numbered_argument arguments.now))) }
-{
-    for argument in arguments {
-        check_argument(argument)?;
-    }
-    Ok(())
-}
-
-#[cycle(calls)]
-#[tactic(auto, using(edd_syntax::proofs::FirstLaws::firsts))]
-fn check_argument(argument: &Argument<Target>) -> Result<(), TokenNo>
-    ensures { found Mismatch result
-        ≡ first_of (argument_mismatches (arguments_from (numbered_argument argument.now ∷ []))) }
-{
-    match argument {
-        Argument::Text(_) => Ok(()),
-        Argument::Value(e) => check_calls(e, false),
-    }
+    tell(Rule::Mismatch, at, told)
 }

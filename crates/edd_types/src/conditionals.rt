@@ -1,96 +1,134 @@
 //! Breaches under conditions.
 
-ghost use Rattle.std.specs.Prelude.{◌≡◌, ◌∷◌, [], map, false};
-ghost use Rattle.edd_syntax.specs.Conditional.{conds_from, arms_from};
-ghost use Rattle.edd_syntax.specs.ItemView.{numbered_arm, numbered_cond};
-ghost use Rattle.edd_syntax.specs.Refusal.{first_of};
-ghost use Rattle.edd_types.specs.Breaches.{refusal_of, in_cond, in_conds, in_arm, in_arms, has_default};
-ghost use Rattle.edd_types.specs.Found.{found};
+ghost use Rattle.std.specs.Prelude.{◌≡◌, false, is_some, OnOk};
+ghost use Rattle.std.specs.List.{flat_map};
+ghost use Rattle.edd_breaches.specs.Told.{Tells};
+ghost use Rattle.edd_breaches.specs.Along.{told_along};
+ghost use Rattle.edd_types.specs.Conditionals.{default_told, has_default, cond_told, arm_told};
 
-use crate::breach::{Breach, check_expression};
-use crate::values::CheckValue;
+use crate::expressions::tell_condition;
+use crate::sought::Sought;
+use crate::values::TellValue;
+use edd_breaches::{Breach, Rule, tell_clash};
 use edd_syntax::cond::{Arm, Cond};
 use edd_syntax::numbers::TokenNo;
 use edd_syntax::reference::Target;
+use std::alloc::AllocError;
 
-/// The place of the first such breach in a single value.
+/// Tells of such breaches in a single value.
 #[cycle(conditionals)]
-#[tactic(auto, using(crate::proofs::UnderConditions::walks))]
-pub fn check_cond<V: CheckValue>(c: &Cond<Target, V>, breach: Breach) -> Result<(), TokenNo>
-    ensures { found (refusal_of breach) result
-        ≡ first_of (in_cond breach (V.breaches breach) (numbered_cond (λ v. v) c.now)) }
+#[tactic(auto, using(crate::proofs::ConditionRows::walks))]
+pub fn tell_cond<'a, V: TellValue>(
+    c: &Cond<Target, V>,
+    sought: Sought,
+    told: &mut Vec<Breach<'a>>,
+) -> Result<(), AllocError>
+    ensures told { OnOk result
+        (Tells (cond_told sought (V.told_in sought) c.now) told.old.items told.new.items) }
 {
     match c {
-        Cond::Value(v) => v.check_value(breach),
+        Cond::Value(v) => v.tell_value(sought, told),
         Cond::If {
             condition,
             first,
             otherwise,
         } => {
-            check_expression(breach, condition, false)?;
-            check_conds(first, breach)?;
-            check_conds(otherwise, breach)
+            tell_condition(condition, sought, told)?;
+            tell_conds(first, sought, told)?;
+            tell_conds(otherwise, sought, told)
         }
         Cond::Select { on, arms } => {
-            check_expression(breach, on, false)?;
-            check_arms(arms, breach)
+            tell_condition(on, sought, told)?;
+            tell_arms(arms, sought, told)
         }
     }
 }
 
-/// The place of the first such breach in a list.
+/// Tells of such breaches in a list of values.
 #[cycle(conditionals)]
-#[tactic(auto, using(crate::proofs::UnderConditions::walks))]
-pub fn check_conds<V: CheckValue>(all: &[Cond<Target, V>], breach: Breach) -> Result<(), TokenNo>
-    ensures { found (refusal_of breach) result
-        ≡ first_of (in_conds breach (V.breaches breach)
-        (conds_from (map (numbered_cond (λ v. v)) all.now))) }
+#[tactic(auto, using(crate::proofs::ConditionRows::walks, edd_breaches::proofs::TellLaws::tells_more))]
+pub fn tell_conds<'a, V: TellValue>(
+    all: &[Cond<Target, V>],
+    sought: Sought,
+    told: &mut Vec<Breach<'a>>,
+) -> Result<(), AllocError>
+    ensures told { OnOk result (Tells (flat_map (cond_told sought (V.told_in sought)) all.now)
+        told.old.items told.new.items) }
 {
     for c in all {
-        check_cond(c, breach)?;
+        tell_cond(c, sought, told)?;
     }
     Ok(())
 }
 
 #[cycle(conditionals)]
-#[tactic(auto, using(crate::proofs::UnderConditions::walks))]
-fn check_arms<V: CheckValue>(arms: &[Arm<Target, V>], breach: Breach) -> Result<(), TokenNo>
-    ensures { found (refusal_of breach) result
-        ≡ first_of (in_arms breach (V.breaches breach) false
-        (arms_from (map (numbered_arm (λ v. v)) arms.now))) }
+#[tactic(auto, using(crate::proofs::ConditionRows::walks))]
+fn tell_arms<'a, V: TellValue>(
+    arms: &[Arm<Target, V>],
+    sought: Sought,
+    told: &mut Vec<Breach<'a>>,
+) -> Result<(), AllocError>
+    ensures told { OnOk result
+        (Tells (told_along (arm_told sought (V.told_in sought)) has_default false arms.now)
+        told.old.items told.new.items) }
 {
-    let mut had = false;
+    let mut default = None;
     for arm in arms {
-        check_arm(arm, breach, had)?;
-        had = has_default(arm, had);
+        tell_arm(arm, sought, default, told)?;
+        default = default_after(arm, default);
     }
     Ok(())
 }
 
+// `default` is the token of the first DEFAULT so far.
 #[cycle(conditionals)]
-#[tactic(auto, using(crate::proofs::UnderConditions::walks))]
-fn check_arm<V: CheckValue>(arm: &Arm<Target, V>, breach: Breach, had: bool) -> Result<(), TokenNo>
-    ensures { found (refusal_of breach) result
-        ≡ first_of (in_arm breach (V.breaches breach) had (numbered_arm (λ v. v) arm.now)) }
+#[tactic(auto, using(crate::proofs::ConditionRows::walks))]
+fn tell_arm<'a, V: TellValue>(
+    arm: &Arm<Target, V>,
+    sought: Sought,
+    default: Option<TokenNo>,
+    told: &mut Vec<Breach<'a>>,
+) -> Result<(), AllocError>
+    ensures told { OnOk result
+        (Tells (arm_told sought (V.told_in sought) (is_some default) arm.now)
+        told.old.items told.new.items) }
 {
     match arm {
-        Arm::Case { body, .. } => check_conds(body, breach),
+        Arm::Case { body, .. } => tell_conds(body, sought, told),
         Arm::Default { at, body } => {
-            if had && matches!(breach, Breach::Default) {
-                return Err(*at);
-            }
-            check_conds(body, breach)
+            tell_default(sought, *at, default, told)?;
+            tell_conds(body, sought, told)
         }
     }
 }
 
-// Whether the SELECT has its DEFAULT after this arm.
-#[tactic(auto, using(crate::proofs::UnderConditions::walks))]
-fn has_default<V>(arm: &Arm<Target, V>, had: bool) -> bool
-    ensures { result ≡ has_default had (numbered_arm (λ v. v) arm.now) }
+#[tactic(auto, using(edd_breaches::proofs::TellLaws::tells))]
+fn tell_default<'a>(
+    sought: Sought,
+    at: TokenNo,
+    earlier: Option<TokenNo>,
+    told: &mut Vec<Breach<'a>>,
+) -> Result<(), AllocError>
+    ensures told { OnOk result
+        (Tells (default_told sought (is_some earlier) at) told.old.items told.new.items) }
+{
+    match sought {
+        Sought::Default => {
+            if earlier.is_none() {
+                return Ok(());
+            }
+            tell_clash(Rule::DuplicateCase, at, earlier, told)
+        }
+        Sought::Enumerator | Sought::Call | Sought::Decimal | Sought::Constant => Ok(()),
+    }
+}
+
+// The token of the first DEFAULT after this arm.
+fn default_after<V>(arm: &Arm<Target, V>, default: Option<TokenNo>) -> Option<TokenNo>
+    ensures { is_some result ≡ has_default (is_some default) arm.now }
 {
     match arm {
-        Arm::Case { .. } => had,
-        Arm::Default { .. } => true,
+        Arm::Case { .. } => default,
+        Arm::Default { at, .. } => Some(default.unwrap_or(*at)),
     }
 }

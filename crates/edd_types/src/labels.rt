@@ -1,26 +1,25 @@
 //! Labels that one `switch` has twice.
 
-ghost use Rattle.std.specs.Prelude.{◌≡◌, ◌∷◌, [], map, not, IfOk, OnOk};
-ghost use Rattle.edd_syntax.specs.Statement.{body_from, CaseLabel, DefaultLabel};
-ghost use Rattle.edd_syntax.specs.TreeView.{numbered_part, numbered_stmt};
-ghost use Rattle.edd_syntax.specs.SubsetRules.{no_labels, repeated_labels, repeated_labels_inside};
+ghost use Rattle.std.specs.Prelude.{OnOk};
+ghost use Rattle.edd_breaches.specs.Told.{Tells};
 ghost use Rattle.edd_syntax.specs.SubsetRules as rules;
-ghost use Rattle.edd_syntax.specs.Refusal.{first_of, refused_if, DuplicateCase};
-ghost use Rattle.edd_types.specs.Found.{found_at};
-ghost use Rattle.edd_types.specs.SwitchLabels.{Holds, repeats, behind};
+ghost use Rattle.edd_syntax.specs.SubsetRules.{no_labels};
+ghost use Rattle.edd_breaches.specs.Along.{told_along};
+ghost use Rattle.edd_types.specs.Labels.{Holds, labels_told, labels_behind, labels_told_inside};
 
+use edd_breaches::{Breach, Rule, tell_clash};
 use edd_syntax::numbers::TokenNo;
 use edd_syntax::reference::Target;
 use edd_syntax::stmt::{Part, Stmt};
 use edd_syntax::wrap::wrap;
 use std::alloc::{AllocError, Global};
-use std::collections::BTreeSet;
+use std::collections::BTreeMap;
 
-// The labels of a `switch` so far, as numbers of 32 bits.
+// The labels of a `switch` so far, as numbers of 32 bits, each with the token of the first one.
 #[derive(Drop)]
 struct Labels {
-    cases: BTreeSet<i64>,
-    has_default: bool,
+    cases: BTreeMap<i64, TokenNo>,
+    default: Option<TokenNo>,
 }
 
 impl Labels {
@@ -28,76 +27,89 @@ impl Labels {
         ensures { Holds result no_labels }
     {
         Labels {
-            cases: BTreeSet::new(alloc),
-            has_default: false,
+            cases: BTreeMap::new(alloc),
+            default: None,
         }
     }
 }
 
-/// The place of the first label that its `switch` has already, in the body of a `switch` or in
-/// another block.
+/// Tells of each label that its `switch` has already, in the body of a `switch` or in another
+/// block.
 #[cycle(labels)]
-pub fn check_labels(parts: &[Part<Target>], alloc: Global) -> Result<Option<TokenNo>, AllocError>
-    ensures { IfOk result (λ at. found_at DuplicateCase at
-        ≡ first_of (repeated_labels no_labels (body_from (map numbered_part parts.now)))) }
+#[tactic(auto, using(edd_breaches::proofs::TellLaws::tells))]
+pub fn tell_labels<'a>(
+    parts: &[Part<Target>],
+    alloc: Global,
+    told: &mut Vec<Breach<'a>>,
+) -> Result<(), AllocError>
+    ensures told { OnOk result (Tells (told_along labels_told labels_behind no_labels parts.now)
+        told.old.items told.new.items) }
 {
     let mut labels = Labels::new(alloc);
     for part in parts {
-        if let Some(at) = add_part(part, &mut labels, alloc)? {
-            return Ok(Some(at));
-        }
+        tell_part(part, &mut labels, alloc, told)?;
     }
-    Ok(None)
+    Ok(())
 }
 
 #[cycle(labels)]
-fn add_part(
+#[tactic(auto, using(edd_breaches::proofs::TellLaws::tells))]
+fn tell_part<'a>(
     part: &Part<Target>,
     labels: &mut Labels,
     alloc: Global,
-) -> Result<Option<TokenNo>, AllocError>
-    ensures found { (so_far : rules.Labels) → Holds labels.old so_far
-        → IfOk result (λ at. found_at DuplicateCase at
-        ≡ first_of (repeats so_far (numbered_part part.now))) }
-    ensures adds { (so_far : rules.Labels) → Holds labels.old so_far
-        → OnOk result (Holds labels.new (behind so_far (numbered_part part.now))) }
+    told: &mut Vec<Breach<'a>>,
+) -> Result<(), AllocError>
+    ensures told { (so_far : rules.Labels) → Holds labels.old so_far → OnOk result
+        (Tells (labels_told so_far part.now) told.old.items told.new.items) }
+    ensures adds { (so_far : rules.Labels) → Holds labels.old so_far → OnOk result
+        (Holds labels.new (labels_behind so_far part.now)) }
 {
     match part {
-        Part::Declare(_) => Ok(None),
-        Part::Statement(s) => check_inside(s, alloc),
+        Part::Declare(_) => Ok(()),
+        Part::Statement(s) => tell_inside(s, alloc, told),
         Part::CaseLabel { at, label } => {
-            let is_new = labels.cases.insert(wrap(32, i128::from(*label)))?;
-            Ok(if is_new { None } else { Some(*at) })
+            let case = wrap(32, i128::from(*label));
+            let earlier = labels.cases.get(&case).copied();
+            labels.cases.insert(case, earlier.unwrap_or(*at))?;
+            match earlier {
+                None => Ok(()),
+                Some(_) => tell_clash(Rule::DuplicateCase, *at, earlier, told),
+            }
         }
-        Part::DefaultLabel { at } => {
-            let had = labels.has_default;
-            labels.has_default = true;
-            Ok(if had { Some(*at) } else { None })
-        }
+        Part::DefaultLabel { at } => match labels.default {
+            None => {
+                labels.default = Some(*at);
+                Ok(())
+            }
+            Some(_) => tell_clash(Rule::DuplicateCase, *at, labels.default, told),
+        },
     }
 }
 
 #[cycle(labels)]
-#[tactic(auto, using(edd_syntax::proofs::FirstLaws::firsts))]
-fn check_inside(s: &Stmt<Target>, alloc: Global) -> Result<Option<TokenNo>, AllocError>
-    ensures { IfOk result (λ at. found_at DuplicateCase at
-        ≡ first_of (repeated_labels_inside (numbered_stmt s.now))) }
+#[tactic(auto, using(edd_breaches::proofs::TellLaws::tells))]
+fn tell_inside<'a>(
+    s: &Stmt<Target>,
+    alloc: Global,
+    told: &mut Vec<Breach<'a>>,
+) -> Result<(), AllocError>
+    ensures told { OnOk result (Tells (labels_told_inside s.now) told.old.items told.new.items) }
 {
     match s {
-        Stmt::Block(parts) => check_labels(parts, alloc),
-        Stmt::Switch(_, parts) => check_labels(parts, alloc),
-        Stmt::If(_, body) | Stmt::While(_, body) | Stmt::Do(body, _) | Stmt::For { body, .. } =>
-            check_inside(body, alloc),
+        Stmt::Block(parts) => tell_labels(parts, alloc, told),
+        Stmt::Switch(_, parts) => tell_labels(parts, alloc, told),
+        Stmt::If(_, body) | Stmt::While(_, body) | Stmt::Do(body, _) | Stmt::For { body, .. } => {
+            tell_inside(body, alloc, told)
+        }
         Stmt::IfElse(_, first, otherwise) => {
-            if let Some(at) = check_inside(first, alloc)? {
-                return Ok(Some(at));
-            }
-            check_inside(otherwise, alloc)
+            tell_inside(first, alloc, told)?;
+            tell_inside(otherwise, alloc, told)
         }
         Stmt::Empty
         | Stmt::Evaluate(_)
         | Stmt::Break { .. }
         | Stmt::Continue { .. }
-        | Stmt::Return => Ok(None),
+        | Stmt::Return => Ok(()),
     }
 }

@@ -2,20 +2,19 @@
 #![tactic(auto)]
 
 mod attributes;
-mod breach;
 mod breaks;
 mod calls;
 mod checking;
 mod conditionals;
-mod constants;
-mod decimals;
 mod elements;
-pub mod fault;
+mod expressions;
 mod labels;
 mod options;
 mod rules;
+mod sought;
 mod statements;
 mod types;
 mod values;
 
 pub use checking::check;
+pub use rules::tell_profile;

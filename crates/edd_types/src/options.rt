@@ -1,19 +1,18 @@
 //! Options and enumerators that a type does not have.
 
-ghost use Rattle.std.specs.Prelude.{◌≡◌, map};
+ghost use Rattle.std.specs.Prelude.{◌≡◌, OnOk};
 ghost use Rattle.std.specs.List.{flat_map};
-ghost use Rattle.edd_syntax.specs.ItemView.{numbered_attribute, numbered_type_part};
+ghost use Rattle.edd_breaches.specs.Told.{Tells};
 ghost use Rattle.edd_syntax.specs.SubsetRules as rules;
-ghost use Rattle.edd_syntax.specs.SubsetRules.{part_breaches, type_option_breaches};
-ghost use Rattle.edd_syntax.specs.Refusal.{first_of, Mismatch};
-ghost use Rattle.edd_types.specs.Found.{found};
+ghost use Rattle.edd_types.specs.Rules.{option_told, options_told};
 
-use crate::attributes::check_type_part;
-use crate::breach::Breach;
+use crate::attributes::tell_type_part;
+use crate::sought::Sought;
+use edd_breaches::{Breach, Rule, tell};
 use edd_syntax::item::{Attribute, TypePart, TypeWord};
-use edd_syntax::numbers::TokenNo;
 use edd_syntax::reference::Target;
 use edd_syntax::types::VarType;
+use std::alloc::AllocError;
 
 fn is_enumerated(kind: VarType) -> bool
     ensures { result ≡ rules.is_enumerated kind }
@@ -24,45 +23,62 @@ fn is_enumerated(kind: VarType) -> bool
     }
 }
 
-#[tactic(auto, using(crate::proofs::RuleLaws::enumerators_in_cond))]
-fn check_option(part: &TypePart<Target>, kind: VarType) -> Result<(), TokenNo>
-    ensures { found Mismatch result ≡ first_of (part_breaches kind (numbered_type_part part.now)) }
+#[tactic(auto, using(edd_breaches::proofs::TellLaws::tells))]
+fn tell_option<'a>(
+    part: &TypePart<Target>,
+    kind: VarType,
+    told: &mut Vec<Breach<'a>>,
+) -> Result<(), AllocError>
+    ensures told { OnOk result (Tells (option_told kind part.now) told.old.items told.new.items) }
 {
     match (part, is_enumerated(kind)) {
         (TypePart::DefaultValue { .. }, _) => Ok(()),
         (TypePart::Element(_), true) => Ok(()),
-        (TypePart::Element(_), false) => check_type_part(part, Breach::Enumerator),
+        (TypePart::Element(_), false) => tell_type_part(part, Sought::Enumerator, told),
         (
             TypePart::MinValue { at, .. }
             | TypePart::MaxValue { at, .. }
             | TypePart::DisplayFormat { at, .. }
             | TypePart::EditFormat { at, .. },
             is_enumerated,
-        ) => { if is_enumerated { Err(*at) } else { Ok(()) } }
+        ) => {
+            if is_enumerated {
+                return tell(Rule::Mismatch, *at, told);
+            }
+            Ok(())
+        }
     }
 }
 
-fn check_options(parts: &[TypePart<Target>], kind: VarType) -> Result<(), TokenNo>
-    ensures { found Mismatch result
-        ≡ first_of (flat_map (part_breaches kind) (map numbered_type_part parts.now)) }
+#[tactic(auto, using(edd_breaches::proofs::TellLaws::tells, edd_breaches::proofs::TellLaws::tells_more))]
+fn tell_options_of<'a>(
+    parts: &[TypePart<Target>],
+    kind: VarType,
+    told: &mut Vec<Breach<'a>>,
+) -> Result<(), AllocError>
+    ensures told { OnOk result
+        (Tells (flat_map (option_told kind) parts.now) told.old.items told.new.items) }
 {
     for part in parts {
-        check_option(part, kind)?;
+        tell_option(part, kind, told)?;
     }
     Ok(())
 }
 
-/// The place of the first option or enumerator that the type in an attribute does not have.
-pub fn check_type(attribute: &Attribute<Target>) -> Result<(), TokenNo>
-    ensures { found Mismatch result
-        ≡ first_of (type_option_breaches (numbered_attribute attribute.now)) }
+/// Tells of the options and enumerators that the type in an attribute does not have.
+#[tactic(auto, using(edd_breaches::proofs::TellLaws::tells))]
+pub fn tell_options<'a>(
+    attribute: &Attribute<Target>,
+    told: &mut Vec<Breach<'a>>,
+) -> Result<(), AllocError>
+    ensures told { OnOk result (Tells (options_told attribute.now) told.old.items told.new.items) }
 {
     match attribute {
         Attribute::TypeOf {
             word: TypeWord::Known { kind, .. },
             parts,
             ..
-        } => check_options(parts, *kind),
+        } => tell_options_of(parts, *kind, told),
         _ => Ok(()),
     }
 }

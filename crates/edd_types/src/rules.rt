@@ -1,151 +1,164 @@
-//! The rules of the profile that are broken at a token.
+//! All rules of the profile, one after another.
 
-ghost use Rattle.std.specs.Prelude.{◌≡◌, false, map, IfOk};
-ghost use Rattle.edd_syntax.specs.ItemView.{numbered_attribute, numbered_item};
+ghost use Rattle.std.specs.Prelude.{◌≡◌, OnOk};
 ghost use Rattle.std.specs.List.{flat_map};
-ghost use Rattle.edd_syntax.specs.Refusal.{first_of, Mismatch, BreakOutside, ConstRange};
-ghost use Rattle.edd_types.specs.declared.rules.Rule.TheVariants as rule;
-ghost use Rattle.edd_types.specs.Found.{found, found_at};
-ghost use Rattle.edd_types.specs.Rules.{why, broken_in, is_definition, broken};
+ghost use Rattle.edd_breaches.specs.Told.{Tells, refusals};
+ghost use Rattle.edd_syntax.specs.Item.{Identification};
+ghost use Rattle.edd_syntax.specs.ItemView.{numbered_items};
+ghost use Rattle.edd_syntax.specs.Resolved.{description};
+ghost use Rattle.edd_syntax.specs.SubsetRules.{subset_breaches};
+ghost use Rattle.edd_types.specs.Rules.{breaks_told_in_method, constants_told, labels_told_in_method, elements_told, attribute_told, rule_told, all_told};
 
-use crate::attributes::{check_inside, check_transaction};
-use crate::breach::Breach;
-use crate::breaks::check_parts;
-use crate::elements::check_elements;
-use crate::labels::check_labels;
-use crate::options::check_type;
+use crate::attributes::{tell_conditions, tell_method, tell_transaction};
+use crate::breaks::tell_breaks;
+use crate::elements::tell_elements;
+use crate::labels::tell_labels;
+use crate::options::tell_options;
+use crate::sought::Sought;
+use crate::types::tell_types;
+use edd_breaches::{Breach, Rule};
 use edd_syntax::item::{Attribute, Item};
-use edd_syntax::numbers::TokenNo;
 use edd_syntax::reference::Target;
 use std::alloc::{AllocError, Global};
 
-/// A rule of the profile: arguments and options that fit, no decimals, `break` and `continue`
-/// inside something, constants and masks in their range, no label and no element of an array twice.
-#[derive(Clone, Copy)]
-pub enum Rule {
-    Mismatch,
-    FloatValue,
-    BreakOutside,
-    ConstRange,
-    DuplicateCase,
-    DuplicateElement,
-}
-
-#[tactic(auto, using(edd_syntax::proofs::FirstLaws::firsts, crate::proofs::RuleLaws::calls_in_attribute))]
-fn check_mismatches(attribute: &Attribute<Target>) -> Result<(), TokenNo>
-    ensures { found Mismatch result
-        ≡ first_of (broken_in rule.Mismatch (numbered_attribute attribute.now)) }
-{
-    check_type(attribute)?;
-    check_inside(attribute, Breach::Call)
-}
-
-#[tactic(auto, using(edd_syntax::proofs::FirstLaws::flat_one))]
-fn check_breaks_in(attribute: &Attribute<Target>) -> Result<(), TokenNo>
-    ensures { found BreakOutside result
-        ≡ first_of (broken_in rule.BreakOutside (numbered_attribute attribute.now)) }
+#[tactic(auto, using(edd_breaches::proofs::TellLaws::tells))]
+fn tell_breaks_in<'a>(
+    attribute: &Attribute<Target>,
+    told: &mut Vec<Breach<'a>>,
+) -> Result<(), AllocError>
+    ensures told { OnOk result
+        (Tells (breaks_told_in_method attribute.now) told.old.items told.new.items) }
 {
     match attribute {
-        Attribute::Definition(_, parts) => check_parts(parts, false, false),
+        Attribute::Definition(_, parts) => tell_breaks(parts, false, false, told),
         _ => Ok(()),
     }
 }
 
-#[tactic(auto, using(crate::proofs::RuleLaws::constants_in_parts))]
-fn check_constants(attribute: &Attribute<Target>) -> Result<(), TokenNo>
-    ensures { found ConstRange result
-        ≡ first_of (broken_in rule.ConstRange (numbered_attribute attribute.now)) }
+#[tactic(auto, using(edd_breaches::proofs::TellLaws::tells))]
+fn tell_constants_in<'a>(
+    attribute: &Attribute<Target>,
+    told: &mut Vec<Breach<'a>>,
+) -> Result<(), AllocError>
+    ensures told { OnOk result (Tells (constants_told attribute.now) told.old.items told.new.items) }
 {
     match attribute {
-        Attribute::Transaction { parts, .. } => check_transaction(parts, Breach::Constant),
+        Attribute::Transaction { parts, .. } => tell_transaction(parts, Sought::Constant, told),
         _ => Ok(()),
     }
 }
 
-#[tactic(auto, using(crate::proofs::RuleLaws::defaults_in_attribute))]
-fn check_defaults(attribute: &Attribute<Target>) -> Result<(), TokenNo>
-    requires { is_definition (numbered_attribute attribute.now) ≡ false }
-    ensures { found (why rule.DuplicateCase) result
-        ≡ first_of (broken_in rule.DuplicateCase (numbered_attribute attribute.now)) }
-{
-    check_inside(attribute, Breach::Default)
-}
-
-fn check_repeats(
+#[tactic(auto, using(edd_breaches::proofs::TellLaws::tells))]
+fn tell_labels_in<'a>(
     attribute: &Attribute<Target>,
     alloc: Global,
-) -> Result<Option<TokenNo>, AllocError>
-    ensures { IfOk result (λ at. found_at (why rule.DuplicateCase) at
-        ≡ first_of (broken_in rule.DuplicateCase (numbered_attribute attribute.now))) }
+    told: &mut Vec<Breach<'a>>,
+) -> Result<(), AllocError>
+    ensures told { OnOk result
+        (Tells (labels_told_in_method attribute.now) told.old.items told.new.items) }
 {
     match attribute {
-        Attribute::Definition(_, parts) => check_labels(parts, alloc),
-        _ => Ok(check_defaults(attribute).err()),
+        Attribute::Definition(_, parts) => tell_labels(parts, alloc, told),
+        _ => Ok(()),
     }
 }
 
-fn check_numbers(
+#[tactic(auto, using(edd_breaches::proofs::TellLaws::tells))]
+fn tell_elements_in<'a>(
     attribute: &Attribute<Target>,
     alloc: Global,
-) -> Result<Option<TokenNo>, AllocError>
-    ensures { IfOk result (λ at. found_at (why rule.DuplicateElement) at
-        ≡ first_of (broken_in rule.DuplicateElement (numbered_attribute attribute.now))) }
+    told: &mut Vec<Breach<'a>>,
+) -> Result<(), AllocError>
+    ensures told { OnOk result (Tells (elements_told attribute.now) told.old.items told.new.items) }
 {
     match attribute {
-        Attribute::Elements(_, elements) => check_elements(elements, alloc),
-        _ => Ok(None),
+        Attribute::Elements(_, elements) => tell_elements(elements, alloc, told),
+        _ => Ok(()),
     }
 }
 
-/// The place of the first breach of a rule in an attribute.
-#[tactic(auto, using(crate::proofs::RuleLaws::decimals_in_attribute))]
-fn check_attribute(
+// Tells of one of the rules that speak of single attributes.
+#[tactic(auto, using(edd_breaches::proofs::TellLaws::tells))]
+fn tell_attribute<'a>(
     attribute: &Attribute<Target>,
-    rule: Rule,
+    rule: Rule<'a>,
     alloc: Global,
-) -> Result<Option<TokenNo>, AllocError>
-    ensures { IfOk result (λ at. found_at (why rule) at
-        ≡ first_of (broken_in rule (numbered_attribute attribute.now))) }
+    told: &mut Vec<Breach<'a>>,
+) -> Result<(), AllocError>
+    ensures told { OnOk result
+        (Tells (attribute_told rule.entry attribute.now) told.old.items told.new.items) }
 {
     match rule {
-        Rule::Mismatch => Ok(check_mismatches(attribute).err()),
-        Rule::FloatValue => Ok(check_inside(attribute, Breach::Decimal).err()),
-        Rule::BreakOutside => Ok(check_breaks_in(attribute).err()),
-        Rule::ConstRange => Ok(check_constants(attribute).err()),
-        Rule::DuplicateCase => check_repeats(attribute, alloc),
-        Rule::DuplicateElement => check_numbers(attribute, alloc),
+        Rule::Mismatch => {
+            tell_options(attribute, told)?;
+            tell_method(attribute, Sought::Call, told)?;
+            tell_conditions(attribute, Sought::Call, told)
+        }
+        Rule::FloatValue => {
+            tell_method(attribute, Sought::Decimal, told)?;
+            tell_conditions(attribute, Sought::Decimal, told)
+        }
+        Rule::BreakOutside => tell_breaks_in(attribute, told),
+        Rule::ConstRange => tell_constants_in(attribute, told),
+        Rule::DuplicateCase => {
+            tell_labels_in(attribute, alloc, told)?;
+            tell_conditions(attribute, Sought::Default, told)
+        }
+        Rule::DuplicateElement => tell_elements_in(attribute, alloc, told),
+        _ => Ok(()),
     }
 }
 
-fn check_attributes(
+#[tactic(auto, using(edd_breaches::proofs::TellLaws::tells, edd_breaches::proofs::TellLaws::tells_more))]
+fn tell_attributes<'a>(
     attributes: &[Attribute<Target>],
-    rule: Rule,
+    rule: Rule<'a>,
     alloc: Global,
-) -> Result<Option<TokenNo>, AllocError>
-    ensures { IfOk result (λ at. found_at (why rule) at
-        ≡ first_of (flat_map (broken_in rule) (map numbered_attribute attributes.now))) }
+    told: &mut Vec<Breach<'a>>,
+) -> Result<(), AllocError>
+    ensures told { OnOk result
+        (Tells (flat_map (attribute_told rule.entry) attributes.now) told.old.items told.new.items) }
 {
     for attribute in attributes {
-        if let Some(at) = check_attribute(attribute, rule, alloc)? {
-            return Ok(Some(at));
-        }
+        tell_attribute(attribute, rule, alloc, told)?;
     }
-    Ok(None)
+    Ok(())
 }
 
-/// The place of the first breach of a rule in items.
-pub fn check_items(
+#[tactic(auto, using(edd_breaches::proofs::TellLaws::tells, edd_breaches::proofs::TellLaws::tells_more))]
+fn tell_rule<'a>(
     items: &[Item<Target>],
-    rule: Rule,
+    rule: Rule<'a>,
     alloc: Global,
-) -> Result<Option<TokenNo>, AllocError>
-    ensures { IfOk result (λ at. found_at (why rule) at
-        ≡ first_of (broken rule (map numbered_item items.now))) }
+    told: &mut Vec<Breach<'a>>,
+) -> Result<(), AllocError>
+    ensures told { OnOk result (Tells (rule_told rule.entry items.now) told.old.items told.new.items) }
 {
     for item in items {
-        if let Some(at) = check_attributes(item.attributes(), rule, alloc)? {
-            return Ok(Some(at));
-        }
+        tell_attributes(item.attributes(), rule, alloc, told)?;
     }
-    Ok(None)
+    Ok(())
+}
+
+/// Tells the breaches of the profile, rule by rule: the types and sizes of variables, then what
+/// functions and types take, decimals, `break` and `continue`, data constants and masks, labels,
+/// elements; each with its token, and where two clash with that of the first.
+#[tactic(auto, using(edd_breaches::proofs::TellLaws::tells), unfolding(crate::specs::Rules::all_told))]
+pub fn tell_profile<'a>(
+    items: &'a [Item<Target>],
+    alloc: Global,
+    told: &mut Vec<Breach<'a>>,
+) -> Result<(), AllocError>
+    ensures told { OnOk result (Tells (all_told items.now) told.old.items told.new.items) }
+    ensures rules { OnOk result ((i : Identification) → refusals (all_told items.now)
+        ≡ subset_breaches (description i (numbered_items items.now))) }
+{
+    tell_types(items, told)?;
+    tell_rule(items, Rule::Mismatch, alloc, told)?;
+    tell_rule(items, Rule::FloatValue, alloc, told)?;
+    tell_rule(items, Rule::BreakOutside, alloc, told)?;
+    tell_rule(items, Rule::ConstRange, alloc, told)?;
+    tell_rule(items, Rule::DuplicateCase, alloc, told)?;
+    tell_rule(items, Rule::DuplicateElement, alloc, told)?;
+    Ok(())
 }

@@ -1,73 +1,57 @@
-//! Breaches in the expressions of statements.
+//! Calls and decimals in the expressions of statements.
 
-ghost use Rattle.std.specs.Prelude.{◌≡◌, ◌∷◌, [], map, option_map};
-ghost use Rattle.edd_syntax.specs.Statement.{body_from};
-ghost use Rattle.edd_syntax.specs.TreeView.{numbered_declarator, numbered_expr, numbered_part, numbered_stmt};
-ghost use Rattle.edd_syntax.specs.Refusal.{first_of};
-ghost use Rattle.edd_types.specs.Breaches.{refusal_of, in_statement, in_body, in_optional, in_header, in_declarators};
-ghost use Rattle.edd_types.specs.Found.{found};
+ghost use Rattle.std.specs.Prelude.{OnOk};
+ghost use Rattle.std.specs.List.{flat_map};
+ghost use Rattle.edd_breaches.specs.Told.{Tells};
+ghost use Rattle.edd_types.specs.Expressions.{optional_told, stmt_told, part_told};
 
-use crate::breach::{Breach, check_expression};
+use crate::expressions::tell_expression;
+use crate::sought::Sought;
+use edd_breaches::Breach;
 use edd_syntax::expr::Expr;
-use edd_syntax::numbers::TokenNo;
 use edd_syntax::reference::Target;
 use edd_syntax::stmt::{Declarator, Part, Stmt};
+use std::alloc::AllocError;
 
-#[tactic(auto, using(crate::proofs::InStatements::walks))]
-fn check_optional(e: &Option<Expr<Target>>, breach: Breach) -> Result<(), TokenNo>
-    ensures { found (refusal_of breach) result
-        ≡ first_of (in_optional breach (option_map numbered_expr e.now)) }
+#[tactic(auto, using(edd_breaches::proofs::TellLaws::tells))]
+fn tell_optional<'a>(
+    e: &Option<Expr<Target>>,
+    sought: Sought,
+    told: &mut Vec<Breach<'a>>,
+) -> Result<(), AllocError>
+    ensures told { OnOk result (Tells (optional_told sought e.now) told.old.items told.new.items) }
 {
     match e {
         None => Ok(()),
-        Some(e) => check_expression(breach, e, false),
+        Some(e) => tell_expression(e, sought, false, told),
     }
 }
 
-// The three parts of `for`.
-#[tactic(auto, unfolding(crate::specs::Breaches::in_header), using(crate::proofs::InStatements::walks))]
-fn check_header(
-    initial: &Option<Expr<Target>>,
-    condition: &Option<Expr<Target>>,
-    update: &Option<Expr<Target>>,
-    breach: Breach,
-) -> Result<(), TokenNo>
-    ensures { found (refusal_of breach) result
-        ≡ first_of (in_header breach (option_map numbered_expr initial.now)
-        (option_map numbered_expr condition.now) (option_map numbered_expr update.now)) }
-{
-    check_optional(initial, breach)?;
-    check_optional(condition, breach)?;
-    check_optional(update, breach)
-}
-
-/// The place of the first such breach in a statement.
 #[cycle(statements)]
-#[tactic(auto, using(crate::proofs::InStatements::walks))]
-pub fn check_statement(s: &Stmt<Target>, breach: Breach) -> Result<(), TokenNo>
-    ensures { found (refusal_of breach) result
-        ≡ first_of (in_statement breach (numbered_stmt s.now)) }
+#[tactic(auto, using(edd_breaches::proofs::TellLaws::tells, edd_breaches::proofs::TellLaws::tells_more))]
+fn tell_statement<'a>(
+    s: &Stmt<Target>,
+    sought: Sought,
+    told: &mut Vec<Breach<'a>>,
+) -> Result<(), AllocError>
+    ensures told { OnOk result (Tells (stmt_told sought s.now) told.old.items told.new.items) }
 {
     match s {
         Stmt::Empty | Stmt::Break { .. } | Stmt::Continue { .. } | Stmt::Return => Ok(()),
-        Stmt::Evaluate(e) => check_expression(breach, e, true),
-        Stmt::Block(parts) => check_parts(parts, breach),
-        Stmt::If(condition, first) => {
-            check_expression(breach, condition, false)?;
-            check_statement(first, breach)
+        Stmt::Evaluate(e) => tell_expression(e, sought, true, told),
+        Stmt::Block(parts) => tell_parts(parts, sought, told),
+        Stmt::If(test, body) | Stmt::While(test, body) => {
+            tell_expression(test, sought, false, told)?;
+            tell_statement(body, sought, told)
         }
-        Stmt::IfElse(condition, first, otherwise) => {
-            check_expression(breach, condition, false)?;
-            check_statement(first, breach)?;
-            check_statement(otherwise, breach)
+        Stmt::IfElse(test, first, otherwise) => {
+            tell_expression(test, sought, false, told)?;
+            tell_statement(first, sought, told)?;
+            tell_statement(otherwise, sought, told)
         }
-        Stmt::While(condition, body) => {
-            check_expression(breach, condition, false)?;
-            check_statement(body, breach)
-        }
-        Stmt::Do(body, condition) => {
-            check_statement(body, breach)?;
-            check_expression(breach, condition, false)
+        Stmt::Do(body, test) => {
+            tell_statement(body, sought, told)?;
+            tell_expression(test, sought, false, told)
         }
         Stmt::For {
             initial,
@@ -75,49 +59,62 @@ pub fn check_statement(s: &Stmt<Target>, breach: Breach) -> Result<(), TokenNo>
             update,
             body,
         } => {
-            check_header(initial, condition, update, breach)?;
-            check_statement(body, breach)
+            tell_optional(initial, sought, told)?;
+            tell_optional(condition, sought, told)?;
+            tell_optional(update, sought, told)?;
+            tell_statement(body, sought, told)
         }
         Stmt::Switch(on, parts) => {
-            check_expression(breach, on, false)?;
-            check_parts(parts, breach)
+            tell_expression(on, sought, false, told)?;
+            tell_parts(parts, sought, told)
         }
     }
 }
 
-/// The place of the first such breach in a body.
+/// Tells of such breaches in a body.
 #[cycle(statements)]
-#[tactic(auto, using(crate::proofs::InStatements::walks))]
-pub fn check_parts(parts: &[Part<Target>], breach: Breach) -> Result<(), TokenNo>
-    ensures { found (refusal_of breach) result
-        ≡ first_of (in_body breach (body_from (map numbered_part parts.now))) }
+#[tactic(auto, using(edd_breaches::proofs::TellLaws::tells, edd_breaches::proofs::TellLaws::tells_more))]
+pub fn tell_parts<'a>(
+    parts: &[Part<Target>],
+    sought: Sought,
+    told: &mut Vec<Breach<'a>>,
+) -> Result<(), AllocError>
+    ensures told { OnOk result
+        (Tells (flat_map (part_told sought) parts.now) told.old.items told.new.items) }
 {
     for part in parts {
-        check_part(part, breach)?;
+        tell_part(part, sought, told)?;
     }
     Ok(())
 }
 
 #[cycle(statements)]
-#[tactic(auto, using(crate::proofs::InStatements::walks))]
-fn check_part(part: &Part<Target>, breach: Breach) -> Result<(), TokenNo>
-    ensures { found (refusal_of breach) result
-        ≡ first_of (in_body breach (body_from (numbered_part part.now ∷ []))) }
+#[tactic(auto, using(edd_breaches::proofs::TellLaws::tells, edd_breaches::proofs::TellLaws::tells_more))]
+fn tell_part<'a>(
+    part: &Part<Target>,
+    sought: Sought,
+    told: &mut Vec<Breach<'a>>,
+) -> Result<(), AllocError>
+    ensures told { OnOk result (Tells (part_told sought part.now) told.old.items told.new.items) }
 {
     match part {
-        Part::Declare(declarators) => check_declarators(declarators, breach),
-        Part::Statement(s) => check_statement(s, breach),
+        Part::Declare(declarators) => tell_declarators(declarators, sought, told),
+        Part::Statement(s) => tell_statement(s, sought, told),
         Part::CaseLabel { .. } | Part::DefaultLabel { .. } => Ok(()),
     }
 }
 
-#[tactic(auto, using(crate::proofs::InStatements::walks))]
-fn check_declarators(declarators: &[Declarator<Target>], breach: Breach) -> Result<(), TokenNo>
-    ensures { found (refusal_of breach) result
-        ≡ first_of (in_declarators breach (map numbered_declarator declarators.now)) }
+#[tactic(auto, using(edd_breaches::proofs::TellLaws::tells, edd_breaches::proofs::TellLaws::tells_more))]
+fn tell_declarators<'a>(
+    declarators: &[Declarator<Target>],
+    sought: Sought,
+    told: &mut Vec<Breach<'a>>,
+) -> Result<(), AllocError>
+    ensures told { OnOk result (Tells (flat_map (λ d. optional_told sought d.value) declarators.now)
+        told.old.items told.new.items) }
 {
     for d in declarators {
-        check_optional(&d.value, breach)?;
+        tell_optional(&d.value, sought, told)?;
     }
     Ok(())
 }

@@ -1,81 +1,83 @@
 //! The types of variables.
 
-ghost use Rattle.std.specs.Prelude.{◌≡◌, [], ◌∷◌, map, option_map};
-ghost use Rattle.edd_syntax.specs.ItemView.{type_word_of, numbered_attribute, numbered_item};
-ghost use Rattle.edd_syntax.specs.SubsetRules.{type_breaches};
-ghost use Rattle.edd_syntax.specs.Refusal.{first_of};
-ghost use Rattle.edd_types.specs.WrongTypes.{refusal_of_wrong, in_attributes, in_items};
+ghost use Rattle.std.specs.Prelude.{OnOk};
+ghost use Rattle.std.specs.List.{flat_map};
+ghost use Rattle.edd_breaches.specs.Told.{Tells};
+ghost use Rattle.edd_types.specs.Rules.{word_told, type_told, types_told};
 
+use edd_breaches::{Breach, Rule, tell};
 use edd_syntax::item::{Attribute, Item, TypeWord};
+use edd_syntax::numbers::TokenNo;
 use edd_syntax::reference::Target;
+use std::alloc::AllocError;
 
-/// A variable whose type the profile doesn't have.
-#[derive(Clone, Copy)]
-pub enum WrongType<'a> {
-    Float(&'a str),
-    Other(&'a str, &'a str),
-    Size(&'a str),
-}
-
-fn wrong_word<'a>(name: &'a str, word: &'a TypeWord) -> Option<WrongType<'a>>
-    ensures { option_map refusal_of_wrong result
-        ≡ first_of (type_breaches name.now (type_word_of word.now)) }
+#[tactic(auto, using(edd_breaches::proofs::TellLaws::tells))]
+fn tell_word<'a>(
+    name: &'a str,
+    word: &'a TypeWord,
+    at: TokenNo,
+    told: &mut Vec<Breach<'a>>,
+) -> Result<(), AllocError>
+    ensures told { OnOk result
+        (Tells (word_told name.now word.now at) told.old.items told.new.items) }
 {
     match word {
         TypeWord::Known {
             size: Some(size),
             ..
-        } if *size == 0 || *size > 4 => Some(WrongType::Size(name)),
-        TypeWord::Known { .. } => None,
+        } if *size == 0 || *size > 4 => tell(Rule::BadSize(name), at, told),
+        TypeWord::Known { .. } => Ok(()),
         TypeWord::Other(other) => {
             let word = other.as_str();
             if word == "FLOAT" || word == "DOUBLE" {
-                Some(WrongType::Float(name))
-            } else {
-                Some(WrongType::Other(name, word))
+                return tell(Rule::FloatVariable(name), at, told);
             }
+            let variable = name;
+            tell(Rule::OtherType { variable, word }, at, told)
         }
     }
 }
 
-fn wrong_attribute<'a>(name: &'a str, attribute: &'a Attribute<Target>) -> Option<WrongType<'a>>
-    ensures { option_map refusal_of_wrong result
-        ≡ first_of (in_attributes name.now (numbered_attribute attribute.now ∷ [])) }
+#[tactic(auto, using(edd_breaches::proofs::TellLaws::tells))]
+fn tell_type<'a>(
+    name: &'a str,
+    attribute: &'a Attribute<Target>,
+    told: &mut Vec<Breach<'a>>,
+) -> Result<(), AllocError>
+    ensures told { OnOk result
+        (Tells (type_told name.now attribute.now) told.old.items told.new.items) }
 {
     match attribute {
-        Attribute::TypeOf { word, .. } => wrong_word(name, word),
-        _ => None,
+        Attribute::TypeOf { at, word, .. } => tell_word(name, word, *at, told),
+        _ => Ok(()),
     }
 }
 
-fn wrong_attributes<'a>(name: &'a str, attributes: &'a [Attribute<Target>]) -> Option<WrongType<'a>>
-    ensures { option_map refusal_of_wrong result
-        ≡ first_of (in_attributes name.now (map numbered_attribute attributes.now)) }
+#[tactic(auto, using(edd_breaches::proofs::TellLaws::tells, edd_breaches::proofs::TellLaws::tells_more))]
+fn tell_types_of<'a>(
+    name: &'a str,
+    attributes: &'a [Attribute<Target>],
+    told: &mut Vec<Breach<'a>>,
+) -> Result<(), AllocError>
+    ensures told { OnOk result
+        (Tells (flat_map (type_told name.now) attributes.now) told.old.items told.new.items) }
 {
     for attribute in attributes {
-        if let Some(wrong) = wrong_attribute(name, attribute) {
-            return Some(wrong);
-        }
+        tell_type(name, attribute, told)?;
     }
-    None
+    Ok(())
 }
 
-fn wrong_item(item: &Item<Target>) -> Option<WrongType>
-    ensures { option_map refusal_of_wrong result
-        ≡ first_of (in_items (numbered_item item.now ∷ [])) }
-{
-    wrong_attributes(item.name(), item.attributes())
-}
-
-/// The first variable of a type that the profile doesn't have.
-pub fn wrong_type(items: &[Item<Target>]) -> Option<WrongType>
-    ensures { option_map refusal_of_wrong result
-        ≡ first_of (in_items (map numbered_item items.now)) }
+/// Tells of each variable of a type that the profile doesn't have.
+#[tactic(auto, using(edd_breaches::proofs::TellLaws::tells, edd_breaches::proofs::TellLaws::tells_more))]
+pub fn tell_types<'a>(
+    items: &'a [Item<Target>],
+    told: &mut Vec<Breach<'a>>,
+) -> Result<(), AllocError>
+    ensures told { OnOk result (Tells (types_told items.now) told.old.items told.new.items) }
 {
     for item in items {
-        if let Some(wrong) = wrong_item(item) {
-            return Some(wrong);
-        }
+        tell_types_of(item.name(), item.attributes(), told)?;
     }
-    None
+    Ok(())
 }

@@ -1,89 +1,130 @@
 //! The values under conditions.
 
-ghost use Rattle.std.specs.Prelude.{◌≡◌, List};
-ghost use Rattle.edd_syntax.specs.TreeView.{numbered_expr};
-ghost use Rattle.edd_syntax.specs.ItemView.{enumerator_of, numbered_data_item};
-ghost use Rattle.edd_syntax.specs.Refusal.{Refusal, first_of};
-ghost use Rattle.edd_types.specs.declared.breach.Breach.{Breach};
-ghost use Rattle.edd_types.specs.Breaches.{refusal_of, in_part, in_nothing, in_enumerator, in_data_item};
-ghost use Rattle.edd_types.specs.Found.{found};
+ghost use Rattle.std.specs.Prelude.{List, OnOk};
+ghost use Rattle.edd_breaches.specs.Told.{Told, Tells};
+ghost use Rattle.edd_types.specs.declared.sought.Sought.{Sought};
+ghost use Rattle.edd_types.specs.declared.sought.Sought.TheVariants as sought;
+ghost use Rattle.edd_types.specs.Expressions.{condition_told};
+ghost use Rattle.edd_types.specs.Conditionals.{nothing_told, enumerator_told, data_told};
 
-use crate::breach::{Breach, check_expression};
-use crate::constants::check_item;
+use crate::expressions::tell_condition;
+use crate::sought::Sought;
+use edd_breaches::{Breach, Rule, tell};
 use edd_syntax::expr::Expr;
 use edd_syntax::item::{DataItem, Enumerator, MenuEntry};
-use edd_syntax::numbers::TokenNo;
 use edd_syntax::reference::Target;
 use edd_syntax::text::Text;
 use edd_syntax::types::Handling;
+use std::alloc::AllocError;
 
 /// A value that may have a breach in it.
-pub trait CheckValue {
-    ghost breaches: { Breach → Self → List Refusal };
+pub trait TellValue {
+    ghost told_in: { Sought → Self → List Told };
 
-    /// The place of the first such breach.
-    fn check_value(&self, breach: Breach) -> Result<(), TokenNo>
-        ensures { found (refusal_of breach) result ≡ first_of (breaches breach self.now) };
+    /// Tells of such breaches.
+    fn tell_value<'a>(&self, sought: Sought, told: &mut Vec<Breach<'a>>) -> Result<(), AllocError>
+        ensures told { OnOk result
+            (Tells (told_in sought self.now) told.old.items told.new.items) };
 }
 
-impl CheckValue for Text {
-    ghost breaches = { in_nothing };
+impl TellValue for Text {
+    ghost told_in = { nothing_told };
 
-    fn check_value(&self, _breach: Breach) -> Result<(), TokenNo> {
+    #[tactic(auto, using(edd_breaches::proofs::TellLaws::tells))]
+    fn tell_value<'a>(
+        &self,
+        _sought: Sought,
+        _told: &mut Vec<Breach<'a>>,
+    ) -> Result<(), AllocError> {
         Ok(())
     }
 }
 
-impl CheckValue for Handling {
-    ghost breaches = { in_nothing };
+impl TellValue for Handling {
+    ghost told_in = { nothing_told };
 
-    fn check_value(&self, _breach: Breach) -> Result<(), TokenNo> {
+    #[tactic(auto, using(edd_breaches::proofs::TellLaws::tells))]
+    fn tell_value<'a>(
+        &self,
+        _sought: Sought,
+        _told: &mut Vec<Breach<'a>>,
+    ) -> Result<(), AllocError> {
         Ok(())
     }
 }
 
-impl CheckValue for bool {
-    ghost breaches = { in_nothing };
+impl TellValue for bool {
+    ghost told_in = { nothing_told };
 
-    fn check_value(&self, _breach: Breach) -> Result<(), TokenNo> {
+    #[tactic(auto, using(edd_breaches::proofs::TellLaws::tells))]
+    fn tell_value<'a>(
+        &self,
+        _sought: Sought,
+        _told: &mut Vec<Breach<'a>>,
+    ) -> Result<(), AllocError> {
         Ok(())
     }
 }
 
-impl CheckValue for MenuEntry<Target> {
-    ghost breaches = { in_nothing };
+impl TellValue for MenuEntry<Target> {
+    ghost told_in = { nothing_told };
 
-    fn check_value(&self, _breach: Breach) -> Result<(), TokenNo> {
+    #[tactic(auto, using(edd_breaches::proofs::TellLaws::tells))]
+    fn tell_value<'a>(
+        &self,
+        _sought: Sought,
+        _told: &mut Vec<Breach<'a>>,
+    ) -> Result<(), AllocError> {
         Ok(())
     }
 }
 
-impl CheckValue for Expr<Target> {
-    ghost breaches = { λ b e. in_part b (numbered_expr e) };
+impl TellValue for Expr<Target> {
+    ghost told_in = { condition_told };
 
-    fn check_value(&self, breach: Breach) -> Result<(), TokenNo> {
-        check_expression(breach, self, false)
+    #[tactic(auto, using(edd_breaches::proofs::TellLaws::tells))]
+    fn tell_value<'a>(&self, sought: Sought, told: &mut Vec<Breach<'a>>) -> Result<(), AllocError> {
+        tell_condition(self, sought, told)
     }
 }
 
-impl CheckValue for Enumerator {
-    ghost breaches = { λ b e. in_enumerator b (enumerator_of e) };
+impl TellValue for Enumerator {
+    ghost told_in = { enumerator_told };
 
-    fn check_value(&self, breach: Breach) -> Result<(), TokenNo> {
-        match breach {
-            Breach::Enumerator => Err(self.at),
-            Breach::Call | Breach::Decimal | Breach::Constant | Breach::Default => Ok(()),
+    #[tactic(auto, using(edd_breaches::proofs::TellLaws::tells))]
+    fn tell_value<'a>(&self, sought: Sought, told: &mut Vec<Breach<'a>>) -> Result<(), AllocError> {
+        match sought {
+            Sought::Enumerator => tell(Rule::Mismatch, self.at, told),
+            Sought::Call | Sought::Decimal | Sought::Constant | Sought::Default => Ok(()),
         }
     }
 }
 
-impl CheckValue for DataItem<Target> {
-    ghost breaches = { λ b d. in_data_item b (numbered_data_item d) };
+impl TellValue for DataItem<Target> {
+    ghost told_in = { data_told };
 
-    fn check_value(&self, breach: Breach) -> Result<(), TokenNo> {
-        match breach {
-            Breach::Constant => check_item(self),
-            Breach::Enumerator | Breach::Call | Breach::Decimal | Breach::Default => Ok(()),
+    #[tactic(auto, using(edd_breaches::proofs::TellLaws::tells))]
+    fn tell_value<'a>(&self, sought: Sought, told: &mut Vec<Breach<'a>>) -> Result<(), AllocError> {
+        match sought {
+            Sought::Constant => tell_constant(self, told),
+            Sought::Enumerator | Sought::Call | Sought::Decimal | Sought::Default => Ok(()),
         }
+    }
+}
+
+// Tells of a constant over 255 or of a mask of 0.
+#[tactic(auto, using(edd_breaches::proofs::TellLaws::tells))]
+fn tell_constant<'a>(item: &DataItem<Target>, told: &mut Vec<Breach<'a>>) -> Result<(), AllocError>
+    ensures told { OnOk result
+        (Tells (data_told sought.Constant item.now) told.old.items told.new.items) }
+{
+    match item {
+        DataItem::Constant { at, value } if *value > 255 => tell(Rule::ConstRange, *at, told),
+        DataItem::Variable {
+            at,
+            mask: Some(0),
+            ..
+        } => tell(Rule::ConstRange, *at, told),
+        DataItem::Constant { .. } | DataItem::Variable { .. } => Ok(()),
     }
 }

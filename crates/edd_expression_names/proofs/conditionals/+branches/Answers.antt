@@ -21,7 +21,7 @@ pub copy_cond-returns-in_ok-copy-in-Value-clause-told : goal.copy_cond-returns-i
 copy_cond-returns-in_ok-copy-in-Value-clause-told g t c =
     value_told (description_of c.args.names.now) g.V.ResolveValue.before g.V.ResolveValue.after
     g.V.ResolveValue.uses g.V.ResolveValue.meant c.args.c.now _ c.in-Value.is
-    c.args.faults.now.items c.copy.new.faults.items c.in_ok-copy-in-Value.ensures.told
+    c.args.told.now.items c.copy.new.told.items c.in_ok-copy-in-Value.ensures.told
 
 pub copy_cond-returns-in_ok-copy-in-Value-clause-sound : goal.copy_cond-returns-in_ok-copy-in-Value-clause-sound
 copy_cond-returns-in_ok-copy-in-Value-clause-sound g t c =
@@ -34,8 +34,8 @@ copy_cond-returns-in_ok-otherwise-in-If-clause-told g t c =
     if_told (description_of c.args.names.now) g.V.ResolveValue.before g.V.ResolveValue.after
     g.V.ResolveValue.uses g.V.ResolveValue.meant c.args.c.now _ _ _ c.deref.result.now
     c.deref-in-If.result.now c.in-If.is c.deref.ensures.value c.deref-in-If.ensures.value
-    c.args.faults.now.items c.copy_expr.new.faults.items c.copy_conds.new.faults.items
-    c.copy_conds-in-If.new.faults.items c.in_ok-condition-in-If.ensures.told
+    c.args.told.now.items c.copy_expr.new.told.items c.copy_conds.new.told.items
+    c.copy_conds-in-If.new.told.items c.in_ok-condition-in-If.ensures.told
     c.in_ok-first-in-If.ensures.told c.in_ok-otherwise-in-If.ensures.told
 
 pub copy_cond-returns-in_ok-otherwise-in-If-clause-sound : goal.copy_cond-returns-in_ok-otherwise-in-If-clause-sound
@@ -51,8 +51,8 @@ pub copy_cond-returns-in_ok-arms-in-Select-clause-told : goal.copy_cond-returns-
 copy_cond-returns-in_ok-arms-in-Select-clause-told g t c =
     select_told (description_of c.args.names.now) g.V.ResolveValue.before g.V.ResolveValue.after
     g.V.ResolveValue.uses g.V.ResolveValue.meant c.args.c.now _ _ c.deref-in-Select.result.now
-    c.in-Select.is c.deref-in-Select.ensures.value c.args.faults.now.items
-    c.copy_expr-in-Select.new.faults.items c.copy_arms.new.faults.items
+    c.in-Select.is c.deref-in-Select.ensures.value c.args.told.now.items
+    c.copy_expr-in-Select.new.told.items c.copy_arms.new.told.items
     c.in_ok-on-in-Select.ensures.told c.in_ok-arms-in-Select.ensures.told
 
 pub copy_cond-returns-in_ok-arms-in-Select-clause-sound : goal.copy_cond-returns-in_ok-arms-in-Select-clause-sound
@@ -67,7 +67,7 @@ pub copy_arm-returns-in_ok-body-in-Case-clause-told : goal.copy_arm-returns-in_o
 copy_arm-returns-in_ok-body-in-Case-clause-told g t c =
     case_told (description_of c.args.names.now) g.V.ResolveValue.before g.V.ResolveValue.after
     g.V.ResolveValue.uses g.V.ResolveValue.meant c.args.arm.now c.deref.result.now _ _ c.in-Case.is
-    c.deref.ensures.value c.args.faults.now.items c.copy_conds.new.faults.items
+    c.deref.ensures.value c.args.told.now.items c.copy_conds.new.told.items
     c.in_ok-body-in-Case.ensures.told
 
 pub copy_arm-returns-in_ok-body-in-Case-clause-sound : goal.copy_arm-returns-in_ok-body-in-Case-clause-sound
@@ -88,8 +88,8 @@ pub copy_arm-returns-in_ok-body-in-Default-clause-told : goal.copy_arm-returns-i
 copy_arm-returns-in_ok-body-in-Default-clause-told g t c =
     default_told (description_of c.args.names.now) g.V.ResolveValue.before g.V.ResolveValue.after
     g.V.ResolveValue.uses g.V.ResolveValue.meant c.args.arm.now c.deref-in-Default.result.now _ _
-    c.in-Default.is c.deref-in-Default.ensures.value c.args.faults.now.items
-    c.copy_conds-in-Default.new.faults.items c.in_ok-body-in-Default.ensures.told
+    c.in-Default.is c.deref-in-Default.ensures.value c.args.told.now.items
+    c.copy_conds-in-Default.new.told.items c.in_ok-body-in-Default.ensures.told
 
 pub copy_arm-returns-in_ok-body-in-Default-clause-sound : goal.copy_arm-returns-in_ok-body-in-Default-clause-sound
 copy_arm-returns-in_ok-body-in-Default-clause-sound g t c =
@@ -107,11 +107,11 @@ copy_conds-loop-c-preserved g t c =
     (λ xs. resolved_conds (at_attribute (description_of c.args.names.now)) (g.V.ResolveValue.meant (description_of c.args.names.now))
     (conds_from xs)) conds_from
     (conds_joined (at_attribute (description_of c.args.names.now)) (g.V.ResolveValue.meant (description_of c.args.names.now)))
-    c.args.faults.now.items c.loop-c.c-index c.args.all.now
+    c.args.told.now.items c.loop-c.c-index c.args.all.now
     c.c-item.result c.loop-c.copies.items c.push.new.self.items c.in_ok-copy_cond.field-0
-    c.loop-c.faults.items c.copy_cond.new.faults.items (omega arith) c.c-item.is
-    (subst (λ us. Tells (description_of c.args.names.now) us c.loop-c.faults.items
-    c.copy_cond.new.faults.items)
+    c.loop-c.told.items c.copy_cond.new.told.items (omega arith) c.c-item.is
+    (subst (λ us. Tells (description_of c.args.names.now) us c.loop-c.told.items
+    c.copy_cond.new.told.items)
     (one_cond g.V.ResolveValue.uses (cond_of path_of g.V.ResolveValue.before c.c-item.result)) c.in_ok-copy_cond.ensures.told)
     (subst (λ us. Meant (description_of c.args.names.now) us
     (resolved_cond (at_attribute (description_of c.args.names.now)) (g.V.ResolveValue.meant (description_of c.args.names.now))
@@ -128,8 +128,8 @@ copy_conds-returns-clause-told g t c =
     (λ xs. resolved_conds (at_attribute (description_of c.args.names.now)) (g.V.ResolveValue.meant (description_of c.args.names.now))
     (conds_from xs)) conds_from
     (conds_joined (at_attribute (description_of c.args.names.now)) (g.V.ResolveValue.meant (description_of c.args.names.now)))
-    c.args.faults.now.items refl c.loop-c.c-index c.args.all.now
-    c.loop-c.copies.items c.loop-c.faults.items
+    c.args.told.now.items refl c.loop-c.c-index c.args.all.now
+    c.loop-c.copies.items c.loop-c.told.items
     (drop_of_length-le c.args.all.now (omega arith)) c.loop-c.invariant
 
 pub copy_conds-returns-clause-sound : goal.copy_conds-returns-clause-sound
@@ -141,9 +141,9 @@ copy_conds-returns-clause-sound g t c =
     (λ xs. resolved_conds (at_attribute (description_of c.args.names.now)) (g.V.ResolveValue.meant (description_of c.args.names.now))
     (conds_from xs)) conds_from
     (conds_joined (at_attribute (description_of c.args.names.now)) (g.V.ResolveValue.meant (description_of c.args.names.now)))
-    c.args.faults.now.items
+    c.args.told.now.items
     (no_conds (at_attribute (description_of c.args.names.now)) (g.V.ResolveValue.meant (description_of c.args.names.now)))
-    c.loop-c.c-index c.args.all.now c.loop-c.copies.items c.loop-c.faults.items
+    c.loop-c.c-index c.args.all.now c.loop-c.copies.items c.loop-c.told.items
     (drop_of_length-le c.args.all.now (omega arith)) c.loop-c.invariant
 
 pub copy_arms-loop-arm-preserved : goal.copy_arms-loop-arm-preserved
@@ -155,9 +155,9 @@ copy_arms-loop-arm-preserved g t c =
     (λ xs. resolved_arms (at_attribute (description_of c.args.names.now)) (g.V.ResolveValue.meant (description_of c.args.names.now))
     (arms_from xs)) arms_from
     (arms_joined (at_attribute (description_of c.args.names.now)) (g.V.ResolveValue.meant (description_of c.args.names.now)))
-    c.args.faults.now.items c.loop-arm.arm-index c.args.arms.now
+    c.args.told.now.items c.loop-arm.arm-index c.args.arms.now
     c.arm-item.result c.loop-arm.copies.items c.push.new.self.items c.in_ok-copy_arm.field-0
-    c.loop-arm.faults.items c.copy_arm.new.faults.items (omega arith) c.arm-item.is
+    c.loop-arm.told.items c.copy_arm.new.told.items (omega arith) c.arm-item.is
     c.in_ok-copy_arm.ensures.told c.in_ok-copy_arm.ensures.sound
     c.in_ok-push.ensures.items c.loop-arm.invariant
 
@@ -170,8 +170,8 @@ copy_arms-returns-clause-told g t c =
     (λ xs. resolved_arms (at_attribute (description_of c.args.names.now)) (g.V.ResolveValue.meant (description_of c.args.names.now))
     (arms_from xs)) arms_from
     (arms_joined (at_attribute (description_of c.args.names.now)) (g.V.ResolveValue.meant (description_of c.args.names.now)))
-    c.args.faults.now.items refl c.loop-arm.arm-index c.args.arms.now
-    c.loop-arm.copies.items c.loop-arm.faults.items
+    c.args.told.now.items refl c.loop-arm.arm-index c.args.arms.now
+    c.loop-arm.copies.items c.loop-arm.told.items
     (drop_of_length-le c.args.arms.now (omega arith)) c.loop-arm.invariant
 
 pub copy_arms-returns-clause-sound : goal.copy_arms-returns-clause-sound
@@ -183,9 +183,9 @@ copy_arms-returns-clause-sound g t c =
     (λ xs. resolved_arms (at_attribute (description_of c.args.names.now)) (g.V.ResolveValue.meant (description_of c.args.names.now))
     (arms_from xs)) arms_from
     (arms_joined (at_attribute (description_of c.args.names.now)) (g.V.ResolveValue.meant (description_of c.args.names.now)))
-    c.args.faults.now.items
+    c.args.told.now.items
     (no_arms (at_attribute (description_of c.args.names.now)) (g.V.ResolveValue.meant (description_of c.args.names.now)))
-    c.loop-arm.arm-index c.args.arms.now c.loop-arm.copies.items c.loop-arm.faults.items
+    c.loop-arm.arm-index c.args.arms.now c.loop-arm.copies.items c.loop-arm.told.items
     (drop_of_length-le c.args.arms.now (omega arith)) c.loop-arm.invariant
 
 pub copy_cond-copy_conds-requires : goal.copy_cond-copy_conds-requires

@@ -37,7 +37,7 @@ invariant-copy_conds-loop-c g l = Copied (description_of l.fn.names)
     (conds_from xs)) conds_from
     (conds_joined (at_attribute (description_of l.fn.names))
     (g.V.ResolveValue.meant (description_of l.fn.names)))
-    l.fn.faults.items l.c-index l.all l.copies.items l.faults.items
+    l.fn.told.items l.c-index l.all l.copies.items l.told.items
 
 abbrev pub invariant-copy_arms-loop-arm : goal.invariant-copy_arms-loop-arm
 invariant-copy_arms-loop-arm g l = Copied (description_of l.fn.names)
@@ -51,4 +51,4 @@ invariant-copy_arms-loop-arm g l = Copied (description_of l.fn.names)
     (arms_from xs)) arms_from
     (arms_joined (at_attribute (description_of l.fn.names))
     (g.V.ResolveValue.meant (description_of l.fn.names)))
-    l.fn.faults.items l.arm-index l.arms l.copies.items l.faults.items
+    l.fn.told.items l.arm-index l.arms l.copies.items l.told.items

@@ -25,9 +25,9 @@ copy_arguments-loop-argument-preserved t c =
     (arguments_from xs)) arguments_from
     (arguments_joined (at_scope (description_of c.args.names.now) (scope_of c.args.scope.now))
     (meaning (description_of c.args.names.now) (scope_of c.args.scope.now) c.args.kinds.now))
-    c.args.faults.now.items c.loop-argument.argument-index c.args.arguments.now
+    c.args.told.now.items c.loop-argument.argument-index c.args.arguments.now
     c.argument-item.result c.loop-argument.all.items c.push.new.self.items
-    c.in_ok-copy_argument.field-0 c.loop-argument.faults.items c.copy_argument.new.faults.items
+    c.in_ok-copy_argument.field-0 c.loop-argument.told.items c.copy_argument.new.told.items
     (omega arith) c.argument-item.is c.in_ok-copy_argument.ensures.told
     c.in_ok-copy_argument.ensures.sound c.in_ok-push.ensures.items c.loop-argument.invariant
 
@@ -44,8 +44,8 @@ copy_arguments-returns-clause-told t c =
     (arguments_from xs)) arguments_from
     (arguments_joined (at_scope (description_of c.args.names.now) (scope_of c.args.scope.now))
     (meaning (description_of c.args.names.now) (scope_of c.args.scope.now) c.args.kinds.now))
-    c.args.faults.now.items refl c.loop-argument.argument-index c.args.arguments.now
-    c.loop-argument.all.items c.loop-argument.faults.items
+    c.args.told.now.items refl c.loop-argument.argument-index c.args.arguments.now
+    c.loop-argument.all.items c.loop-argument.told.items
     (drop_of_length-le c.args.arguments.now (omega arith)) c.loop-argument.invariant
 
 pub copy_arguments-returns-clause-sound : goal.copy_arguments-returns-clause-sound
@@ -61,12 +61,12 @@ copy_arguments-returns-clause-sound t c =
     (arguments_from xs)) arguments_from
     (arguments_joined (at_scope (description_of c.args.names.now) (scope_of c.args.scope.now))
     (meaning (description_of c.args.names.now) (scope_of c.args.scope.now) c.args.kinds.now))
-    c.args.faults.now.items
+    c.args.told.now.items
     (no_arguments
     (at_scope (description_of c.args.names.now) (scope_of c.args.scope.now))
     (meaning (description_of c.args.names.now) (scope_of c.args.scope.now) c.args.kinds.now))
     c.loop-argument.argument-index c.args.arguments.now c.loop-argument.all.items
-    c.loop-argument.faults.items
+    c.loop-argument.told.items
     (drop_of_length-le c.args.arguments.now (omega arith)) c.loop-argument.invariant
 
 pub copy_among-returns-in_ok-function-in-Call-clause-told :
@@ -75,7 +75,7 @@ copy_among-returns-in_ok-function-in-Call-clause-told t c =
     call_told (description_of c.args.names.now) c.args.e.now _ _ _ c.deref-in-Call.result.now
     c.in-Call.is
     c.deref-in-Call.ensures.value (scope_of c.args.scope.now) c.args.kinds.now
-    c.args.faults.now.items c.copy_call.new.faults.items
+    c.args.told.now.items c.copy_call.new.told.items
     c.in_ok-function-in-Call.ensures.told
 
 pub copy_among-returns-in_ok-function-in-Call-clause-sound :

@@ -47,4 +47,4 @@ invariant-copy_arguments-loop-argument l = Copied (description_of l.fn.names) (a
     (arguments_from xs)) arguments_from
     (arguments_joined (at_scope (description_of l.fn.names) (scope_of l.fn.scope))
     (meaning (description_of l.fn.names) (scope_of l.fn.scope) l.fn.kinds))
-    l.fn.faults.items l.argument-index l.arguments l.all.items l.faults.items
+    l.fn.told.items l.argument-index l.arguments l.all.items l.told.items

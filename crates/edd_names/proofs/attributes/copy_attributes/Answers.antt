@@ -20,11 +20,11 @@ loop-attribute-preserved c =
     (resolved_attribute (description_of c.args.names.now) (item_of path_of c.args.item.now).sort)
     (each (resolved_attribute (description_of c.args.names.now) (item_of path_of c.args.item.now).sort)) (λ ws. ws)
     (each_joined (resolved_attribute (description_of c.args.names.now) (item_of path_of c.args.item.now).sort))
-    c.args.faults.now.items c.loop-attribute.attribute-index
+    c.args.told.now.items c.loop-attribute.attribute-index
     c.args.attributes.now c.attribute-item.result c.loop-attribute.copies.items
-    c.push.new.self.items c.in_ok-copy_attribute.field-0 c.loop-attribute.faults.items c.copy_attribute.new.faults.items
+    c.push.new.self.items c.in_ok-copy_attribute.field-0 c.loop-attribute.told.items c.copy_attribute.new.told.items
     (omega arith) c.attribute-item.is
-    (subst (λ us. Tells (description_of c.args.names.now) us c.loop-attribute.faults.items c.copy_attribute.new.faults.items)
+    (subst (λ us. Tells (description_of c.args.names.now) us c.loop-attribute.told.items c.copy_attribute.new.told.items)
     (sym (flat_one (attribute_uses (item_of path_of c.args.item.now).sort) (attribute_of path_of c.attribute-item.result))) c.in_ok-copy_attribute.ensures.told)
     (subst (λ us. Meant (description_of c.args.names.now) us
     (resolved_attribute (description_of c.args.names.now) (item_of path_of c.args.item.now).sort (attribute_of path_of c.attribute-item.result))
@@ -39,8 +39,8 @@ returns-clause-told c =
     (resolved_attribute (description_of c.args.names.now) (item_of path_of c.args.item.now).sort)
     (each (resolved_attribute (description_of c.args.names.now) (item_of path_of c.args.item.now).sort)) (λ ws. ws)
     (each_joined (resolved_attribute (description_of c.args.names.now) (item_of path_of c.args.item.now).sort))
-    c.args.faults.now.items refl c.loop-attribute.attribute-index
-    c.args.attributes.now c.loop-attribute.copies.items c.loop-attribute.faults.items
+    c.args.told.now.items refl c.loop-attribute.attribute-index
+    c.args.attributes.now c.loop-attribute.copies.items c.loop-attribute.told.items
     (drop_of_length-le c.args.attributes.now (omega arith)) c.loop-attribute.invariant
 
 pub returns-clause-sound : goal.returns-clause-sound
@@ -50,8 +50,8 @@ returns-clause-sound c =
     (resolved_attribute (description_of c.args.names.now) (item_of path_of c.args.item.now).sort)
     (each (resolved_attribute (description_of c.args.names.now) (item_of path_of c.args.item.now).sort)) (λ ws. ws)
     (each_joined (resolved_attribute (description_of c.args.names.now) (item_of path_of c.args.item.now).sort))
-    c.args.faults.now.items refl c.loop-attribute.attribute-index
-    c.args.attributes.now c.loop-attribute.copies.items c.loop-attribute.faults.items
+    c.args.told.now.items refl c.loop-attribute.attribute-index
+    c.args.attributes.now c.loop-attribute.copies.items c.loop-attribute.told.items
     (drop_of_length-le c.args.attributes.now (omega arith)) c.loop-attribute.invariant
 
 pub copy_attribute-requires : goal.copy_attribute-requires

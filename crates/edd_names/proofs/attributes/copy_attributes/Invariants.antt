@@ -16,5 +16,5 @@ invariant-loop-attribute l = Copied (description_of l.fn.names) (attribute_of pa
     (resolved_attribute (description_of l.fn.names) (item_of path_of l.fn.item).sort)
     (each (resolved_attribute (description_of l.fn.names) (item_of path_of l.fn.item).sort)) (λ ws. ws)
     (each_joined (resolved_attribute (description_of l.fn.names) (item_of path_of l.fn.item).sort))
-    l.fn.faults.items
-    l.attribute-index l.attributes l.copies.items l.faults.items
+    l.fn.told.items
+    l.attribute-index l.attributes l.copies.items l.told.items

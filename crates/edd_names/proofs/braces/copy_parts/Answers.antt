@@ -18,11 +18,11 @@ loop-part-preserved g c =
     (g.P.ResolvePart.meant (description_of c.args.names.now) (item_of path_of c.args.item.now).sort)
     (each (g.P.ResolvePart.meant (description_of c.args.names.now) (item_of path_of c.args.item.now).sort)) (λ ws. ws)
     (each_joined (g.P.ResolvePart.meant (description_of c.args.names.now) (item_of path_of c.args.item.now).sort))
-    c.args.faults.now.items c.loop-part.part-index
+    c.args.told.now.items c.loop-part.part-index
     c.args.parts.now c.part-item.result c.loop-part.copies.items
-    c.push.new.self.items c.in_ok-copy.field-0 c.loop-part.faults.items c.copy.new.faults.items
+    c.push.new.self.items c.in_ok-copy.field-0 c.loop-part.told.items c.copy.new.told.items
     (omega arith) c.part-item.is
-    (subst (λ us. Tells (description_of c.args.names.now) us c.loop-part.faults.items c.copy.new.faults.items)
+    (subst (λ us. Tells (description_of c.args.names.now) us c.loop-part.told.items c.copy.new.told.items)
     (sym (flat_one (g.P.ResolvePart.uses (item_of path_of c.args.item.now).sort) (g.P.ResolvePart.before c.part-item.result))) c.in_ok-copy.ensures.told)
     (subst (λ us. Meant (description_of c.args.names.now) us
     (g.P.ResolvePart.meant (description_of c.args.names.now) (item_of path_of c.args.item.now).sort (g.P.ResolvePart.before c.part-item.result))
@@ -37,8 +37,8 @@ returns-clause-told g c =
     (g.P.ResolvePart.meant (description_of c.args.names.now) (item_of path_of c.args.item.now).sort)
     (each (g.P.ResolvePart.meant (description_of c.args.names.now) (item_of path_of c.args.item.now).sort)) (λ ws. ws)
     (each_joined (g.P.ResolvePart.meant (description_of c.args.names.now) (item_of path_of c.args.item.now).sort))
-    c.args.faults.now.items refl c.loop-part.part-index
-    c.args.parts.now c.loop-part.copies.items c.loop-part.faults.items
+    c.args.told.now.items refl c.loop-part.part-index
+    c.args.parts.now c.loop-part.copies.items c.loop-part.told.items
     (drop_of_length-le c.args.parts.now (omega arith)) c.loop-part.invariant
 
 pub returns-clause-sound : goal.returns-clause-sound
@@ -48,6 +48,6 @@ returns-clause-sound g c =
     (g.P.ResolvePart.meant (description_of c.args.names.now) (item_of path_of c.args.item.now).sort)
     (each (g.P.ResolvePart.meant (description_of c.args.names.now) (item_of path_of c.args.item.now).sort)) (λ ws. ws)
     (each_joined (g.P.ResolvePart.meant (description_of c.args.names.now) (item_of path_of c.args.item.now).sort))
-    c.args.faults.now.items refl c.loop-part.part-index
-    c.args.parts.now c.loop-part.copies.items c.loop-part.faults.items
+    c.args.told.now.items refl c.loop-part.part-index
+    c.args.parts.now c.loop-part.copies.items c.loop-part.told.items
     (drop_of_length-le c.args.parts.now (omega arith)) c.loop-part.invariant

@@ -15,5 +15,5 @@ invariant-loop-part g l = Copied (description_of l.fn.names) g.P.ResolvePart.bef
     (g.P.ResolvePart.meant (description_of l.fn.names) (item_of path_of l.fn.item).sort)
     (each (g.P.ResolvePart.meant (description_of l.fn.names) (item_of path_of l.fn.item).sort)) (λ ws. ws)
     (each_joined (g.P.ResolvePart.meant (description_of l.fn.names) (item_of path_of l.fn.item).sort))
-    l.fn.faults.items
-    l.part-index l.parts l.copies.items l.faults.items
+    l.fn.told.items
+    l.part-index l.parts l.copies.items l.told.items

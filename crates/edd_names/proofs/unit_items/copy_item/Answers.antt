@@ -8,8 +8,8 @@ use Rattle.edd_names.proofs.unit_items.copy_item.Goals as goal
 pub returns-clause-told : goal.returns-clause-told
 returns-clause-told c =
     item_told (description_of c.args.names.now) (item_of path_of c.args.item.now)
-    (map (attribute_of path_of) c.attributes.result.now) c.args.faults.now.items
-    c.copy_attributes.new.faults.items
+    (map (attribute_of path_of) c.attributes.result.now) c.args.told.now.items
+    c.copy_attributes.new.told.items
     (ap (map (attribute_of path_of)) c.attributes.ensures) c.in_ok-attributes.ensures.told
 
 pub returns-clause-sound : goal.returns-clause-sound

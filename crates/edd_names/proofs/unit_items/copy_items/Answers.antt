@@ -22,11 +22,11 @@ loop-item-preserved c =
     (resolved_item (description_of c.args.names.now))
     (each (resolved_item (description_of c.args.names.now))) (λ ws. ws)
     (each_joined (resolved_item (description_of c.args.names.now)))
-    c.args.faults.now.items c.loop-item.item-index
+    c.args.told.now.items c.loop-item.item-index
     c.args.items.now c.item-item.result c.loop-item.copies.items
-    c.push.new.self.items c.in_ok-copy_item.field-0 c.loop-item.faults.items c.copy_item.new.faults.items
+    c.push.new.self.items c.in_ok-copy_item.field-0 c.loop-item.told.items c.copy_item.new.told.items
     (omega arith) c.item-item.is
-    (subst (λ us. Tells (description_of c.args.names.now) us c.loop-item.faults.items c.copy_item.new.faults.items)
+    (subst (λ us. Tells (description_of c.args.names.now) us c.loop-item.told.items c.copy_item.new.told.items)
     (sym (flat_one item_uses (item_of path_of c.item-item.result))) c.in_ok-copy_item.ensures.told)
     (subst (λ us. Meant (description_of c.args.names.now) us
     (resolved_item (description_of c.args.names.now) (item_of path_of c.item-item.result))
@@ -41,8 +41,8 @@ returns-clause-told c =
     (resolved_item (description_of c.args.names.now))
     (each (resolved_item (description_of c.args.names.now))) (λ ws. ws)
     (each_joined (resolved_item (description_of c.args.names.now)))
-    c.args.faults.now.items refl c.loop-item.item-index
-    c.args.items.now c.loop-item.copies.items c.loop-item.faults.items
+    c.args.told.now.items refl c.loop-item.item-index
+    c.args.items.now c.loop-item.copies.items c.loop-item.told.items
     (drop_of_length-le c.args.items.now (omega arith)) c.loop-item.invariant
 
 pub returns-clause-sound : goal.returns-clause-sound
@@ -52,8 +52,8 @@ returns-clause-sound c =
     (resolved_item (description_of c.args.names.now))
     (each (resolved_item (description_of c.args.names.now))) (λ ws. ws)
     (each_joined (resolved_item (description_of c.args.names.now)))
-    c.args.faults.now.items refl c.loop-item.item-index
-    c.args.items.now c.loop-item.copies.items c.loop-item.faults.items
+    c.args.told.now.items refl c.loop-item.item-index
+    c.args.items.now c.loop-item.copies.items c.loop-item.told.items
     (drop_of_length-le c.args.items.now (omega arith)) c.loop-item.invariant
 
 pub copy_item-requires : goal.copy_item-requires

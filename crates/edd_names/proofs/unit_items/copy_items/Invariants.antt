@@ -16,5 +16,5 @@ invariant-loop-item l = Copied (description_of l.fn.names) (item_of path_of) num
     (resolved_item (description_of l.fn.names))
     (each (resolved_item (description_of l.fn.names))) (λ ws. ws)
     (each_joined (resolved_item (description_of l.fn.names)))
-    l.fn.faults.items
-    l.item-index l.items l.copies.items l.faults.items
+    l.fn.told.items
+    l.item-index l.items l.copies.items l.told.items

@@ -16,9 +16,9 @@ loop-declarator-init c = (
       (declarators_joined (description_of c.args.names.now)) (
         scope_of c.args.scope.now.items,
         c.args.next.now,
-      ) c.args.faults.now.items
+      ) c.args.told.now.items
       (scope_of c.args.scope.now.items, c.args.next.now) c.args.declarators.now
-      _ c.args.faults.now.items refl c.in_ok-copies.ensures.items refl,
+      _ c.args.told.now.items refl c.in_ok-copies.ensures.items refl,
   refl,
   omega arith,
 )
@@ -35,12 +35,12 @@ loop-declarator-preserved c = (
       (declarators_joined (description_of c.args.names.now)) (
         scope_of c.args.scope.now.items,
         c.args.next.now,
-      ) c.args.faults.now.items
+      ) c.args.told.now.items
       (scope_of c.loop-declarator.scope.items, c.loop-declarator.next)
       (scope_of c.copy_next.new.scope.items, c.copy_next.new.next)
       c.loop-declarator.declarator-index c.args.declarators.now c.declarator-item.result
       c.loop-declarator.copies.items c.push.new.self.items c.in_ok-copy_next.field-0
-      c.loop-declarator.faults.items c.copy_next.new.faults.items (omega arith) c.declarator-item.is
+      c.loop-declarator.told.items c.copy_next.new.told.items (omega arith) c.declarator-item.is
       (ap (λ p. (p, c.copy_next.new.next)) c.in_ok-copy_next.ensures.scope
       ∙ ap (λ n. (
         declared (declarator_of path_of c.declarator-item.result).place
@@ -69,9 +69,9 @@ returns-clause-told c = told_at_end (description_of c.args.names.now) (declarato
     (declarators_joined (description_of c.args.names.now)) (
       scope_of c.args.scope.now.items,
       c.args.next.now,
-    ) c.args.faults.now.items (λ s. refl)
+    ) c.args.told.now.items (λ s. refl)
     (scope_of c.loop-declarator.scope.items, c.loop-declarator.next)
-    c.loop-declarator.declarator-index c.args.declarators.now c.loop-declarator.copies.items c.loop-declarator.faults.items
+    c.loop-declarator.declarator-index c.args.declarators.now c.loop-declarator.copies.items c.loop-declarator.told.items
     (drop_of_length-le c.args.declarators.now (omega arith)) c.loop-declarator.invariant.0
 
 pub returns-clause-sound : goal.returns-clause-sound
@@ -81,9 +81,9 @@ returns-clause-sound c = meant_at_end (description_of c.args.names.now) (declara
     (declarators_joined (description_of c.args.names.now)) (
       scope_of c.args.scope.now.items,
       c.args.next.now,
-    ) c.args.faults.now.items (λ s. refl)
+    ) c.args.told.now.items (λ s. refl)
     (scope_of c.loop-declarator.scope.items, c.loop-declarator.next)
-    c.loop-declarator.declarator-index c.args.declarators.now c.loop-declarator.copies.items c.loop-declarator.faults.items
+    c.loop-declarator.declarator-index c.args.declarators.now c.loop-declarator.copies.items c.loop-declarator.told.items
     (drop_of_length-le c.args.declarators.now (omega arith)) c.loop-declarator.invariant.0
 
 pub returns-clause-scope : goal.returns-clause-scope

@@ -16,8 +16,8 @@ invariant-loop-declarator l =
     (λ ws. ws) (declarators_joined (description_of l.fn.names)) (
       scope_of l.fn.scope.items,
       l.fn.next,
-    ) l.fn.faults.items
-    (scope_of l.scope.items, l.next) l.declarator-index l.declarators l.copies.items l.faults.items
+    ) l.fn.told.items
+    (scope_of l.scope.items, l.next) l.declarator-index l.declarators l.copies.items l.told.items
     × (all_declared (scope_of l.scope.items) l.next
     (map (declarator_of path_of) (drop l.declarator-index l.declarators))
     ≡ all_declared (scope_of l.fn.scope.items) l.fn.next

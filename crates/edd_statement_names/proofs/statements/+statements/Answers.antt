@@ -18,9 +18,9 @@ copy_body-loop-part-init t c = (
       body_from (parts_joined (description_of c.args.names.now)) (
         scope_of c.args.scope.now,
         c.args.next.now,
-      ) c.args.faults.now.items
+      ) c.args.told.now.items
       (scope_of c.in_ok-inner.inner.items, c.args.next.now) c.args.parts.now
-      _ c.args.faults.now.items
+      _ c.args.told.now.items
       (ap (λ ls. (scope_of ls, c.args.next.now)) c.in_ok-inner.ensures.sound) c.in_ok-copies.ensures.items
       refl,
   refl,
@@ -35,11 +35,11 @@ copy_body-loop-part-preserved t c = (
       body_from (parts_joined (description_of c.args.names.now)) (
         scope_of c.args.scope.now,
         c.args.next.now,
-      ) c.args.faults.now.items
+      ) c.args.told.now.items
       (scope_of c.loop-part.inner.items, c.loop-part.next)
       (scope_of c.copy_part.new.scope.items, c.copy_part.new.next) c.loop-part.part-index
       c.args.parts.now c.part-item.result c.loop-part.copies.items c.push.new.self.items
-      c.in_ok-copy_part.field-0 c.loop-part.faults.items c.copy_part.new.faults.items
+      c.in_ok-copy_part.field-0 c.loop-part.told.items c.copy_part.new.told.items
       (omega arith) c.part-item.is
       (ap (λ p. (p, c.copy_part.new.next)) c.in_ok-copy_part.ensures.scope
       ∙ ap (λ n. (
@@ -62,9 +62,9 @@ copy_body-returns-clause-told t c = told_at_end (description_of c.args.names.now
     body_from (parts_joined (description_of c.args.names.now)) (
       scope_of c.args.scope.now,
       c.args.next.now,
-    ) c.args.faults.now.items (λ s. refl)
+    ) c.args.told.now.items (λ s. refl)
     (scope_of c.loop-part.inner.items, c.loop-part.next) c.loop-part.part-index c.args.parts.now
-    c.loop-part.copies.items c.loop-part.faults.items (drop_of_length-le c.args.parts.now (omega arith))
+    c.loop-part.copies.items c.loop-part.told.items (drop_of_length-le c.args.parts.now (omega arith))
     c.loop-part.invariant.0
 
 pub copy_body-returns-clause-sound : goal.copy_body-returns-clause-sound
@@ -75,10 +75,10 @@ copy_body-returns-clause-sound t c = meant_at_end (description_of c.args.names.n
     body_from (parts_joined (description_of c.args.names.now)) (
       scope_of c.args.scope.now,
       c.args.next.now,
-    ) c.args.faults.now.items
+    ) c.args.told.now.items
     (no_parts (description_of c.args.names.now))
     (scope_of c.loop-part.inner.items, c.loop-part.next) c.loop-part.part-index c.args.parts.now
-    c.loop-part.copies.items c.loop-part.faults.items (drop_of_length-le c.args.parts.now (omega arith))
+    c.loop-part.copies.items c.loop-part.told.items (drop_of_length-le c.args.parts.now (omega arith))
     c.loop-part.invariant.0
 
 pub copy_body-returns-clause-next : goal.copy_body-returns-clause-next
@@ -93,7 +93,7 @@ copy_stmt-returns-in_ok-copy_body-in-Block-clause-told t c =
     block_told (description_of c.args.names.now) c.args.s.now _ c.deref.result.now
     c.deref.ensures.value
     c.in-Block.is (scope_of c.args.scope.now) c.args.next.now
-    c.args.faults.now.items c.copy_body.new.faults.items
+    c.args.told.now.items c.copy_body.new.told.items
     c.in_ok-copy_body-in-Block.ensures.told
 
 pub copy_stmt-returns-in_ok-copy_body-in-Block-clause-sound :
@@ -116,8 +116,8 @@ pub copy_stmt-returns-in_ok-on-in-Switch-clause-told :
 copy_stmt-returns-in_ok-on-in-Switch-clause-told t c =
     switch_told (description_of c.args.names.now)
     c.args.s.now _ c.deref-in-Switch.result.now c.deref-in-Switch.ensures.value _ c.in-Switch.is
-    (scope_of c.args.scope.now) c.args.next.now c.args.faults.now.items
-    c.copy_switched.new.faults.items c.in_ok-on-in-Switch.ensures.told
+    (scope_of c.args.scope.now) c.args.next.now c.args.told.now.items
+    c.copy_switched.new.told.items c.in_ok-on-in-Switch.ensures.told
 
 pub copy_stmt-returns-in_ok-on-in-Switch-clause-sound :
     goal.copy_stmt-returns-in_ok-on-in-Switch-clause-sound

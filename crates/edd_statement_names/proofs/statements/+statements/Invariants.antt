@@ -13,8 +13,8 @@ invariant-copy_body-loop-part l =
     Copied (description_of l.fn.names) (part_of path_of) numbered_part behind uses_here uses_from
     uses_split (meant_here (description_of l.fn.names)) (meant_from (description_of l.fn.names))
     body_from
-    (parts_joined (description_of l.fn.names)) (scope_of l.fn.scope, l.fn.next) l.fn.faults.items
-    (scope_of l.inner.items, l.next) l.part-index l.parts l.copies.items l.faults.items
+    (parts_joined (description_of l.fn.names)) (scope_of l.fn.scope, l.fn.next) l.fn.told.items
+    (scope_of l.inner.items, l.next) l.part-index l.parts l.copies.items l.told.items
     × (l.next + slots_in (body_from (map (part_of path_of) (drop l.part-index l.parts))) ≡ l.fn.next
     + slots_in (body_from (map (part_of path_of) l.parts)))
 

@@ -1,15 +1,10 @@
-use Rattle.std.proofs.Common.{◌≡◌}
-use Rattle.edd_syntax.specs.Statement.{body_from}
-use Rattle.edd_syntax.specs.TreeView.{numbered_part}
-use Rattle.edd_syntax.specs.SubsetRules.{breaks_outside_in}
-use Rattle.edd_syntax.proofs.FirstLaws.{first_from}
-use Rattle.edd_types.proofs.Splits.{breaks_split}
+use Rattle.std.proofs.Common.{take}
+use Rattle.std.specs.List.{flat_map}
+use Rattle.edd_breaches.specs.Told.{Tells}
+use Rattle.edd_types.specs.Breaks.{breaks_told_of}
 use Rattle.edd_types.proofs.breaks.+breaks.Given as goal
 
--- the parts so far have no breach
-abbrev pub invariant-check_parts-loop-part : goal.invariant-check_parts-loop-part
-invariant-check_parts-loop-part l =
-    first_from (λ xs. breaks_outside_in l.in_loop l.in_switch (body_from xs)) numbered_part
-    (breaks_split l.in_loop l.in_switch) l.part-index l.parts
-    ≡ first_from (λ xs. breaks_outside_in l.in_loop l.in_switch (body_from xs)) numbered_part
-    (breaks_split l.in_loop l.in_switch) 0 l.parts
+abbrev pub invariant-tell_breaks-loop-part : goal.invariant-tell_breaks-loop-part
+invariant-tell_breaks-loop-part l =
+    Tells (flat_map (breaks_told_of l.in_loop l.in_switch) (take l.part-index l.parts))
+    l.fn.told.items l.told.items

@@ -1,35 +1,40 @@
-use Rattle.std.proofs.Common.{◌∙◌, ap, sym, subst, map}
-use Rattle.std.proofs.lemmas.Result.{err_from_is_err_and}
-use Rattle.edd_syntax.specs.ItemView.{identification_of, numbered_items, numbered_item}
-use Rattle.edd_syntax.specs.Refusal.{first_of}
-use Rattle.edd_types.specs.Faults.{IsFirstOf}
-use Rattle.edd_types.specs.Rules.{all_broken}
-use Rattle.edd_types.proofs.RuleLaws.{all_rules, nothing_is_first}
+use Rattle.std.proofs.Common.{◌∙◌, ap}
+use Rattle.std.specs.Prelude.{option_copied}
+use Rattle.edd_syntax.specs.ItemView.{identification_of, numbered_items}
+use Rattle.edd_syntax.specs.Resolved.{description}
+use Rattle.edd_syntax.specs.SubsetRules.{subset_breaches}
+use Rattle.edd_breaches.proofs.BrokenLaws.{broken_all, nothing_broken, first_is}
 use Rattle.edd_types.proofs.checking.check.Goals as goal
 
 pub new-requires : goal.new-requires
-new-requires c = record {
-  no_breach = sym (all_rules (identification_of c.args.resolved.now.identification)
-      (numbered_items c.args.resolved.now.items.value.items))
-      ∙ nothing_is_first _ (c.in_ok-check_all.ensures.sound
-      ∙ ap (λ xs. first_of (all_broken (map numbered_item xs))) (c.deref-2.ensures.value
-      ∙ ap (λ v. v.items) c.deref.ensures));
-}
+new-requires c =
+    let i = identification_of c.args.resolved.now.identification in
+    let are = c.in_ok-tell_profile.ensures.rules i
+    ∙ ap (λ xs. subset_breaches (description i (numbered_items xs)))
+    (c.deref-2.ensures.value ∙ ap (λ v. v.items) c.deref.ensures) in
+    record {
+      no_breach = nothing_broken _ _ _ _ c.deref-3.ensures.value
+          (broken_all _ _ _ _ c.new-told.ensures.items c.in_ok-tell_profile.ensures.told are)
+          c.first.ensures.value (ap option_copied c.in-None.is);
+    }
 
-pub returns-clause-accepted : goal.returns-clause-accepted
-returns-clause-accepted c =
-    sym (all_rules (identification_of c.args.resolved.now.identification)
-    (numbered_items c.args.resolved.now.items.value.items))
-    ∙ nothing_is_first _ (c.in_ok-check_all.ensures.sound
-    ∙ ap (λ xs. first_of (all_broken (map numbered_item xs))) (c.deref-2.ensures.value
-    ∙ ap (λ v. v.items) c.deref.ensures))
+pub returns-in-None-clause-accepted : goal.returns-in-None-clause-accepted
+returns-in-None-clause-accepted c =
+    let i = identification_of c.args.resolved.now.identification in
+    let are = c.in_ok-tell_profile.ensures.rules i
+    ∙ ap (λ xs. subset_breaches (description i (numbered_items xs)))
+    (c.deref-2.ensures.value ∙ ap (λ v. v.items) c.deref.ensures) in
+    nothing_broken _ _ _ _ c.deref-3.ensures.value
+    (broken_all _ _ _ _ c.new-told.ensures.items c.in_ok-tell_profile.ensures.told are)
+    c.first.ensures.value (ap option_copied c.in-None.is)
 
-pub returns-in_err-check_all-clause-refused : goal.returns-in_err-check_all-clause-refused
-returns-in_err-check_all-clause-refused c =
-    let p = err_from_is_err_and c.from_residual.result c.from_residual.ensures.1 in rw (p.1, p.2)
-    (subst (λ breaches. IsFirstOf breaches c.in_err-check_all.field-0.0)
-    (ap (λ xs. all_broken (map numbered_item xs)) (c.deref-2.ensures.value
-    ∙ ap (λ v. v.items) c.deref.ensures)
-    ∙ all_rules (identification_of c.args.resolved.now.identification)
-    (numbered_items c.args.resolved.now.items.value.items))
-    c.in_err-check_all.ensures.refused)
+pub returns-clause-refused : goal.returns-clause-refused
+returns-clause-refused c =
+    let i = identification_of c.args.resolved.now.identification in
+    let are = c.in_ok-tell_profile.ensures.rules i
+    ∙ ap (λ xs. subset_breaches (description i (numbered_items xs)))
+    (c.deref-2.ensures.value ∙ ap (λ v. v.items) c.deref.ensures) in
+    first_is _ _ _ _ c.deref-3.ensures.value
+    (broken_all _ _ _ _ c.new-told.ensures.items c.in_ok-tell_profile.ensures.told are)
+    c.first.ensures.value c.in-Some.first.now _ (ap option_copied c.in-Some.is)
+    c.in_ok-of-in-Some.ensures.sound

@@ -1,15 +1,10 @@
-use Rattle.std.proofs.Common.{◌≡◌}
-use Rattle.edd_syntax.specs.Statement.{body_from}
-use Rattle.edd_syntax.specs.TreeView.{numbered_part}
-use Rattle.edd_types.specs.Breaches.{in_body}
-use Rattle.edd_syntax.proofs.FirstLaws.{first_from}
-use Rattle.edd_types.proofs.InStatements.{parts_split}
+use Rattle.std.proofs.Common.{take}
+use Rattle.std.specs.List.{flat_map}
+use Rattle.edd_breaches.specs.Told.{Tells}
+use Rattle.edd_types.specs.Expressions.{part_told}
 use Rattle.edd_types.proofs.statements.+statements.Given as goal
 
--- the parts so far have no breach
-abbrev pub invariant-check_parts-loop-part : goal.invariant-check_parts-loop-part
-invariant-check_parts-loop-part l =
-    first_from (λ xs. in_body l.breach (body_from xs)) numbered_part (parts_split l.breach)
-    l.part-index l.parts
-    ≡ first_from (λ xs. in_body l.breach (body_from xs)) numbered_part (parts_split l.breach) 0
-    l.parts
+-- what was told of the parts so far
+abbrev pub invariant-tell_parts-loop-part : goal.invariant-tell_parts-loop-part
+invariant-tell_parts-loop-part l =
+    Tells (flat_map (part_told l.sought) (take l.part-index l.parts)) l.fn.told.items l.told.items

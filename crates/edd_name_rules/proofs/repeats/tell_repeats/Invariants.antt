@@ -1,0 +1,10 @@
+use Rattle.std.proofs.Common.{take}
+use Rattle.std.specs.List.{flat_map}
+use Rattle.edd_breaches.specs.Told.{Tells}
+use Rattle.edd_name_rules.specs.WordsTold.{words_told_in}
+use Rattle.edd_name_rules.proofs.repeats.tell_repeats.Given as goal
+
+-- what is broken in the items so far is told
+abbrev pub invariant-loop-item : goal.invariant-loop-item
+invariant-loop-item l = Tells (flat_map words_told_in (take l.item-index l.items)) l.fn.told.items
+    l.told.items
