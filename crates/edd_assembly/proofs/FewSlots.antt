@@ -20,10 +20,10 @@ use Rattle.edd_syntax.specs.Item as item
 use Rattle.edd_syntax.specs.Item.{ItemKind, kind_of_item, Attribute, Item, Description}
 use Rattle.edd_syntax.specs.Device.{item_at}
 use Rattle.edd_syntax.specs.Execution.{body_in, body_of}
-use Rattle.edd_syntax.specs.NameRules.{locals_of, transaction_count, kinds, too_many}
+use Rattle.edd_syntax.specs.NameRules.{locals_of, transaction_count, too_many}
 use Rattle.edd_syntax.specs.Numbers.{same_kind}
 use Rattle.edd_syntax.specs.Refusal.{TooMany, refused_if}
-use Rattle.edd_syntax.specs.Resolution.{Scope, member_kinds, declared, all_declared, count_of}
+use Rattle.edd_syntax.specs.Resolution.{Scope, member_kinds, declared, all_declared, count_of, kinds}
 use Rattle.edd_syntax.specs.ResolvedTrees.{◌>>=◌, each, unchanged, resolved_expr, resolved_optional, resolved_cond, resolved_conds, at_scope, resolved_declarators, resolved_stmt, resolved_body, at_attribute, resolved_entry, resolved_member, resolved_element, resolved_type_part, resolved_transaction_part, resolved_attribute, resolved_item, resolved_unit}
 use Rattle.edd_syntax.specs.Resolved.{IsChecked}
 use Rattle.edd_syntax.proofs.WithinLimits.{each_keeps, no_front, no_rest, no_refusal}

@@ -12,7 +12,7 @@ use Rattle.edd_syntax.specs.declared.numbers.Attr.{Attr}
 use Rattle.edd_syntax.specs.declared.numbers.AttrRef.{AttrRef}
 use Rattle.edd_syntax.specs.declared.reference.Target.{Target}
 use Rattle.edd_syntax.specs.Item.{Attribute, Item}
-use Rattle.edd_syntax.specs.NameRules.{kinds}
+use Rattle.edd_syntax.specs.Resolution.{kinds}
 use Rattle.edd_syntax.specs.Numbers.{kind_number, kind_of, index_of, item_number, attr_number, same_kind, same_attr}
 use Rattle.edd_syntax.specs.Rows.{positions, rows_at, item_rows, rows_from, of_kind, rows_of_attr, rows_of_kind, attributes_in_order, rows}
 use Rattle.edd_syntax.proofs.EveryAttribute.{every_attr}

@@ -1,9 +1,8 @@
 -- Each row of a description is of an item that there is, which may have the attribute.
-use Rattle.std.proofs.Common.{◌≡◌, refl, sym, ap, ◌∙◌, ℕ, suc, ◌+◌, ◌<◌, ◌≤◌, Bool, true, false, List, [], ◌∷◌, length, map, arith}
-use Rattle.std.specs.Prelude.{◌==◌, ◌&&◌, ◌||◌, if◌then◌else◌}
-use Rattle.std.specs.List.{AllByRecursion, flat_map, list_all, list_any}
-use Rattle.std.proofs.Math.Logic.{⊎_elim}
-use Rattle.std.proofs.lemmas.Bool.{false≢true, and_parts, and_from, or_left, or_right, or_cases, lt-ltb}
+use Rattle.std.proofs.Common.{◌≡◌, refl, ap, ◌∙◌, ℕ, suc, ◌+◌, ◌<◌, ◌≤◌, Bool, true, List, [], ◌∷◌, length, arith}
+use Rattle.std.specs.Prelude.{◌==◌, ◌&&◌, ◌||◌}
+use Rattle.std.specs.List.{flat_map, list_all}
+use Rattle.std.proofs.lemmas.Bool.{and_from, lt-ltb}
 use Rattle.std.proofs.lemmas.List.Folds.{list_all-append, list_all-map}
 use Rattle.edd_syntax.specs.declared.numbers.Kind.{Kind}
 use Rattle.edd_syntax.specs.declared.numbers.Kind.TheVariants as kind
@@ -12,20 +11,18 @@ use Rattle.edd_syntax.specs.declared.numbers.Attr.TheVariants as attr
 use Rattle.edd_syntax.specs.declared.numbers.AttrRef.{AttrRef}
 use Rattle.edd_syntax.specs.declared.reference.Target.{Target}
 use Rattle.edd_syntax.specs.Item as item
-use Rattle.edd_syntax.specs.Item.{kind_of_item, TypePart, Attribute, Item, Identification}
-use Rattle.edd_syntax.specs.NameRules.{kinds}
-use Rattle.edd_syntax.specs.Names.{is_name}
-use Rattle.edd_syntax.specs.Numbers.{kind_of, item_number, has_attr, same_kind, same_attr, text_attr}
-use Rattle.edd_syntax.specs.Resolution.{count_of}
+use Rattle.edd_syntax.specs.Item.{Attribute, Item, Identification}
+use Rattle.edd_syntax.specs.Numbers.{kind_of, item_number, has_attr}
+use Rattle.edd_syntax.specs.Resolution.{count_of, kinds}
 use Rattle.edd_syntax.specs.Attributes.{is_of_transaction}
-use Rattle.edd_syntax.specs.Rows.{part_attr, stands_for, is_written, transaction_positions, positions, rows_at, item_rows, rows_from, of_kind, rows_of_attr, rows_of_kind, attributes_in_order, rows}
+use Rattle.edd_syntax.specs.Rows.{positions, rows_at, item_rows, rows_from, of_kind, rows_of_attr, rows_of_kind, attributes_in_order, rows}
 use Rattle.edd_syntax.specs.WellFormed.{belongs_to}
 use Rattle.edd_image.specs.declared.parts.Counts.{Counts}
 use Rattle.edd_image.specs.Existing.{item_exists}
 use Rattle.edd_instructions.specs.Agreement.{counts_of}
 use Rattle.edd_syntax.proofs.Belonging.{Belong, all_belong, fits_at, positions_fit}
 use Rattle.edd_syntax.proofs.ItemForms.{is_formed, all_weaker, own_when_formed}
-use Rattle.edd_syntax.proofs.KnownByNumber.{same_kinds, same_attrs, numbered_kind}
+use Rattle.edd_syntax.proofs.KnownByNumber.{numbered_kind}
 
 -- the item exists and may have the attribute, which is at 0 where it is not of a transaction
 abbrev pub is_placed : Counts → AttrRef → Bool

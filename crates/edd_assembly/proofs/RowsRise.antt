@@ -14,7 +14,7 @@ use Rattle.edd_syntax.specs.declared.numbers.AttrRef.{AttrRef}
 use Rattle.edd_syntax.specs.declared.reference.Target.{Target}
 use Rattle.edd_syntax.specs.Item as item
 use Rattle.edd_syntax.specs.Item.{Attribute, Item}
-use Rattle.edd_syntax.specs.NameRules.{kinds}
+use Rattle.edd_syntax.specs.Resolution.{kinds}
 use Rattle.edd_syntax.specs.Numbers.{kind_number, kind_of, index_of, item_number, attr_number, same_attr}
 use Rattle.edd_syntax.specs.Attributes.{is_of_transaction}
 use Rattle.edd_syntax.specs.Rows.{is_written, transaction_positions, positions, rows_at, item_rows, rows_from, of_kind, rows_of_attr, rows_of_kind, attributes_in_order, rows}

@@ -8,7 +8,7 @@ use Rattle.edd_syntax.specs.declared.numbers.Kind.{Kind}
 use Rattle.edd_syntax.specs.declared.reference.Target.{Target}
 use Rattle.edd_syntax.specs.Item.{kind_of_item, Item}
 use Rattle.edd_syntax.specs.Names.{is_name}
-use Rattle.edd_syntax.specs.NameRules.{kinds}
+use Rattle.edd_syntax.specs.Resolution.{kinds}
 use Rattle.edd_syntax.specs.Numbers.{same_kind}
 use Rattle.edd_syntax.specs.Rows.{of_kind}
 use Rattle.edd_syntax.specs.WellFormed.{belongs_to}

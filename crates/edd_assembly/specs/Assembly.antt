@@ -13,7 +13,7 @@ use Rattle.edd_syntax.specs.declared.reference.Target.{Target}
 use Rattle.edd_syntax.specs.Text.{Name}
 use Rattle.edd_syntax.specs.Words.{Words}
 use Rattle.edd_syntax.specs.Item.{Attribute, TypeOf, Known, kind_of_item, Item, Description}
-use Rattle.edd_syntax.specs.NameRules.{kinds}
+use Rattle.edd_syntax.specs.Resolution.{kinds}
 use Rattle.edd_syntax.specs.Device.{written_type, environment}
 use Rattle.edd_syntax.specs.DeviceValues.{VariableType}
 use Rattle.edd_syntax.specs.Rows.{of_kind}

@@ -1,17 +1,17 @@
 //! The tree of a row in its item.
 
-ghost use Rattle.std.specs.Prelude.{◌≡◌, ◌∷◌, map, option_map, slice_get};
-ghost use Rattle.edd_syntax.specs.ItemView.{identification_of, numbered_attribute, numbered_item, numbered_transaction_part};
-ghost use Rattle.edd_syntax.specs.Resolved.{description};
-ghost use Rattle.edd_code.specs.Places.{IsIndexOf};
+ghost use Rattle.std.specs.Prelude.{◌≡◌, map, option_map, slice_get};
+ghost use Rattle.edd_syntax.specs.declared.reference.Target.{Target};
+ghost use Rattle.edd_syntax.specs.Item.{Description};
+ghost use Rattle.edd_syntax.specs.ItemView.{numbered_attribute, numbered_transaction_part};
+ghost use Rattle.edd_syntax.specs.Rows.{attributes_of_row};
 ghost use Rattle.edd_attrs.specs.Rows as rows;
 ghost use Rattle.edd_attrs.specs.Trees as trees;
 ghost use Rattle.edd_attrs.specs.Views as views;
 
 use crate::trees::{Tree, tree_among};
-use edd_code::{ItemIndex, attributes_at, attributes_by};
-use edd_syntax::item::{Attribute, Identification, Item, TransactionPart};
-use edd_syntax::numbers::{Attr, AttrRef, ItemNo};
+use edd_syntax::item::{Attribute, TransactionPart};
+use edd_syntax::numbers::{Attr, AttrRef};
 use edd_syntax::reference::Target;
 
 type Transaction<'a> = (Option<u32>, &'a [TransactionPart<Target>]);
@@ -95,34 +95,11 @@ pub fn tree_in<'a>(attributes: &'a [Attribute<Target>], attr: Attr, sub: u16) ->
     }
 }
 
-/// The tree of a row, if it is written.
-#[tactic(auto, unfolding(crate::specs::Trees::tree_at), using(crate::proofs::ItemTrees::tree_of_row))]
-pub fn tree_at<'a>(
-    identification: Identification,
-    items: &'a [Item<Target>],
-    row: AttrRef,
-) -> Option<Tree<'a>>
-    ensures { option_map views.tree_of result
-        ≡ trees.tree_at (description (identification_of identification)
-        (map numbered_item items.now)) row }
+/// The tree of a row whose item has these attributes, if it is written.
+pub fn tree_found<'a>(attributes: Option<&'a [Attribute<Target>]>, row: AttrRef) -> Option<Tree<'a>>
+    ensures { (unit : Description Target) → option_map (λ a. map numbered_attribute a.now)
+        attributes.entry ≡ attributes_of_row unit.items row → option_map views.tree_of result
+        ≡ trees.tree_at unit row }
 {
-    let attributes = attributes_at(items, row.item.kind(), row.item.index())?;
-    tree_in(attributes, row.attr, row.sub)
-}
-
-/// The tree of a row, if it is written, found by the index of the items.
-#[tactic(auto, unfolding(crate::specs::Trees::tree_at), using(crate::proofs::ItemTrees::tree_of_row))]
-pub fn tree_by<'a>(
-    index: &ItemIndex,
-    identification: Identification,
-    items: &'a [Item<Target>],
-    row: AttrRef,
-) -> Option<Tree<'a>>
-    requires { IsIndexOf (map numbered_item items.now) index.now }
-    ensures { option_map views.tree_of result
-        ≡ trees.tree_at (description (identification_of identification)
-        (map numbered_item items.now)) row }
-{
-    let attributes = attributes_by(index, items, row.item.kind(), row.item.index())?;
-    tree_in(attributes, row.attr, row.sub)
+    tree_in(attributes?, row.attr, row.sub)
 }

@@ -10,5 +10,5 @@ mod lists;
 mod lowering;
 mod trees;
 
-pub use attribute::{lower_attribute, lower_indexed};
+pub use attribute::{lower_attribute, lower_found};
 pub use laws::strings_are_the_descriptions;

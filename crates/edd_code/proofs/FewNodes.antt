@@ -9,9 +9,9 @@ use Rattle.edd_syntax.specs.declared.limits.Limit.TheVariants as limit
 use Rattle.edd_syntax.specs.Reference.{Path}
 use Rattle.edd_syntax.specs.declared.reference.Target.{Target}
 use Rattle.edd_syntax.specs.Item.{Description}
-use Rattle.edd_syntax.specs.NameRules.{item_limit, transaction_limit, local_limit, node_limit, locals_of, transaction_count, kinds, too_many}
+use Rattle.edd_syntax.specs.NameRules.{item_limit, transaction_limit, local_limit, node_limit, locals_of, transaction_count, too_many}
 use Rattle.edd_syntax.specs.Refusal.{Refusal, TooMany, refused_if}
-use Rattle.edd_syntax.specs.Resolution.{count_of}
+use Rattle.edd_syntax.specs.Resolution.{count_of, kinds}
 use Rattle.edd_syntax.specs.Resolved.{IsChecked}
 use Rattle.edd_syntax.specs.Size.{unit_nodes}
 use Rattle.edd_code.proofs.Fitting.{front_none}

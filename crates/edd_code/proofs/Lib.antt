@@ -30,7 +30,6 @@ pub mod SameBlocks
 pub mod AbortBlocks
 pub mod CheckedCalls
 pub mod Growing
-pub mod Places
 pub mod Different
 pub mod BothTests
 pub mod Picking

@@ -1,14 +1,14 @@
 -- A loop that looks for the n-th of the elements that have something.
-use Rattle.std.proofs.Common.{◌≡◌, refl, sym, ap, ◌∙◌, ℕ, suc, ◌+◌, ◌<◌, ◌≤◌, Bool, true, false, List, [], ◌∷◌, ◌++◌, length, get_or, drop, map, Option, Some, None}
+use Rattle.std.proofs.Common.{◌≡◌, refl, sym, ap, ◌∙◌, ℕ, suc, ◌+◌, ◌<◌, ◌≤◌, Bool, true, false, List, [], ◌∷◌, ◌++◌, length, get_or, drop, map, Option, Some, None, if◌then◌else◌}
 use Rattle.std.proofs.lemmas.List.{at_drop_more}
 use Rattle.std.proofs.Math.ListN.{drop_of_length-le}
 use Rattle.std.specs.Option.{option_to_list}
 use Rattle.std.specs.List.{slice_get}
 use Rattle.edd_syntax.specs.declared.numbers.Kind.{Kind}
 use Rattle.edd_syntax.specs.declared.reference.Target.{Target}
-use Rattle.edd_syntax.specs.Item.{kind_of_item, Item}
+use Rattle.edd_syntax.specs.Item.{kind_of_item, Attribute, Item}
 use Rattle.edd_syntax.specs.Numbers.{same_kind}
-use Rattle.edd_code.specs.Places.{attributes_of_items, attributes_of_kind}
+use Rattle.edd_syntax.specs.Rows.{attributes_of_items}
 
 module _ {X Y Z : Type 0} (view : X → Y) (pick : Y → Option Z) (all : List Y → List Z)
     (splits : (y : Y) (ys : List Y) → all (y ∷ ys) ≡ option_to_list (pick y) ++ all ys) where
@@ -52,6 +52,10 @@ module _ {X Y Z : Type 0} (view : X → Y) (pick : Y → Option Z) (all : List Y
       → picked_from n i xs ≡ o → None ≡ o
   none_picked n i xs o h none invariant = sym (ap (λ zs. slice_get zs n) none)
       ∙ ap (λ zs. slice_get (all (map view zs)) n) (sym (drop_of_length-le xs h)) ∙ invariant
+
+-- the attributes of an item of this kind
+abbrev pub attributes_of_kind : Kind → Item Target → Option (List (Attribute Target))
+attributes_of_kind k i = if same_kind (kind_of_item i.sort) k then Some i.attributes else None
 
 pub items_split : (k : Kind) (y : Item Target) (ys : List (Item Target))
     → attributes_of_items k (y ∷ ys) ≡ option_to_list (attributes_of_kind k y)

@@ -15,6 +15,5 @@ pub mod Numbered
 pub mod MethodReads
 pub mod Tables
 pub mod Written
-pub mod Places
 pub mod Faults
 pub mod Units

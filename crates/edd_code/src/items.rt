@@ -1,10 +1,10 @@
 //! The kind of an item and its attributes.
 
-ghost use Rattle.std.specs.Prelude.{◌≡◌, map, option_map, slice_get};
+ghost use Rattle.std.specs.Prelude.{◌≡◌, if◌then◌else◌, map, option_map, slice_get, None, Some};
 ghost use Rattle.edd_syntax.specs.Item.{kind_of_item};
 ghost use Rattle.edd_syntax.specs.ItemView.{numbered_attribute, numbered_item};
-ghost use Rattle.edd_syntax.specs.Numbers as numbers;
-ghost use Rattle.edd_code.specs.Places.{attributes_of_items, attributes_of_kind};
+ghost use Rattle.edd_syntax.specs.Numbers.{same_kind};
+ghost use Rattle.edd_syntax.specs.Rows.{attributes_of_items};
 
 use edd_syntax::item::{Attribute, Item};
 use edd_syntax::numbers::Kind;
@@ -13,7 +13,8 @@ use edd_syntax::reference::Target;
 // The attributes of an item of this kind.
 fn attributes_of_kind<'a>(item: &'a Item<Target>, kind: Kind) -> Option<&'a [Attribute<Target>]>
     ensures { option_map (λ a. map numbered_attribute a.now) result
-        ≡ attributes_of_kind kind (numbered_item item.now) }
+        ≡ (if same_kind (kind_of_item (numbered_item item.now).sort) kind
+        then Some (numbered_item item.now).attributes else None) }
 {
     if item.kind() == kind {
         Some(item.attributes())

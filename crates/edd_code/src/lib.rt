@@ -7,7 +7,6 @@ mod emit;
 mod expression;
 mod expression_laws;
 mod fault;
-mod index;
 mod items;
 mod laws;
 mod method_laws;
@@ -23,7 +22,6 @@ pub use expression_laws::{
     expressions_are_short, expressions_are_spelled, expressions_flow, expressions_mean_their_values,
 };
 pub use fault::LowerFault;
-pub use index::{ItemIndex, attributes_by};
 pub use items::attributes_at;
 pub use laws::{
     attributes_are_a_case, blocks_are_followed, blocks_are_valid, blocks_come_to_their_outcomes,

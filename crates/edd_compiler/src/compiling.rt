@@ -75,7 +75,7 @@ fn lower(alloc: Global, checked: &Checked) -> Result<Lowering, Fault>
 {
     different_strings_count();
     strings_stand_in_rows();
-    let rows = checked.rows(alloc)?;
+    let rows = checked.listed(alloc)?;
     lower_rows(alloc, checked, &rows)
 }
 

@@ -11,7 +11,7 @@ use Rattle.edd_syntax.specs.declared.reference.Target.{Target}
 use Rattle.edd_syntax.specs.Execution.{body_in, body_of}
 use Rattle.edd_syntax.specs.Item.{Description, Item}
 use Rattle.edd_syntax.specs.Resolved.{IsChecked}
-use Rattle.edd_syntax.specs.Rows.{of_kind}
+use Rattle.edd_syntax.specs.Rows.{attributes_of_items, of_kind}
 use Rattle.edd_syntax.specs.Size.{body_nodes}
 use Rattle.edd_syntax.specs.Statement.{Body, Nil, slots_in}
 use Rattle.edd_syntax.specs.Strings.{different}
@@ -25,7 +25,6 @@ use Rattle.edd_instructions.specs.Spelling.{spelling}
 use Rattle.edd_code.specs.MethodExpressions.{method_block}
 use Rattle.edd_code.specs.MethodReads.{uses_existing}
 use Rattle.edd_code.specs.Numbered.{HasNumbers}
-use Rattle.edd_code.specs.Places.{attributes_of_items}
 use Rattle.edd_code.specs.Tables.{AreDifferent, Overflows, number_in}
 use Rattle.edd_code.proofs.Different.{fewer_different}
 use Rattle.edd_methods.specs.LoweredMethods.{LowersBody, found_body, strings_of_method}

@@ -9,9 +9,9 @@ use Rattle.edd_syntax.specs.Reference.{Path}
 use Rattle.edd_syntax.specs.Execution.{body_of}
 use Rattle.edd_syntax.specs.Item as item
 use Rattle.edd_syntax.specs.Item.{ItemKind, Attribute, Item, Description}
-use Rattle.edd_syntax.specs.NameRules.{item_limit, transaction_limit, local_limit, node_limit, kinds, locals_of, transaction_count, too_many}
+use Rattle.edd_syntax.specs.NameRules.{item_limit, transaction_limit, local_limit, node_limit, locals_of, transaction_count, too_many}
 use Rattle.edd_syntax.specs.Refusal.{Refusal, TooMany, refused_if}
-use Rattle.edd_syntax.specs.Resolution.{count_of}
+use Rattle.edd_syntax.specs.Resolution.{count_of, kinds}
 use Rattle.edd_syntax.specs.Resolved.{IsResolved}
 use Rattle.edd_syntax.specs.ResolvedTrees.{resolved_body}
 use Rattle.edd_syntax.specs.Size.{unit_nodes}

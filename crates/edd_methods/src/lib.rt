@@ -19,4 +19,4 @@ pub use laws::{
     statements_do_what_they_say, units_follow_their_code, valid_answers_can_be_taken,
     valid_code_is_the_methods,
 };
-pub use method::{MethodCode, lower_indexed, lower_method};
+pub use method::{MethodCode, lower_found, lower_method};

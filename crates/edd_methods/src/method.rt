@@ -6,6 +6,7 @@ ghost use Rattle.std.specs.Option.{option_to_list};
 ghost use Rattle.edd_syntax.specs.declared.numbers.Kind.TheVariants as kinds;
 ghost use Rattle.edd_syntax.specs.Execution as source;
 ghost use Rattle.edd_syntax.specs.ItemView.{numbered_attribute};
+ghost use Rattle.edd_syntax.specs.Rows.{attributes_of_items};
 ghost use Rattle.edd_syntax.specs.Size.{body_nodes};
 ghost use Rattle.edd_syntax.specs.Statement.{body_from};
 ghost use Rattle.edd_syntax.specs.Strings.{different, strings_of_texts};
@@ -14,7 +15,6 @@ ghost use Rattle.edd_syntax.specs.TreeView.{numbered_part};
 ghost use Rattle.edd_syntax.specs.WellFormed.{is_text};
 ghost use Rattle.edd_syntax.specs.Words.{Words};
 ghost use Rattle.edd_instructions.specs.MethodAgreement.{IsMethodCode};
-ghost use Rattle.edd_code.specs.Places.{IsIndexOf, attributes_of_items};
 ghost use Rattle.edd_code.specs.Tables.{Grows, Overflows};
 ghost use Rattle.edd_code.specs.Units.{description_of};
 ghost use Rattle.edd_methods.specs.LoweredMethods.{LowersBody, found_body, strings_of_method};
@@ -22,7 +22,7 @@ ghost use Rattle.edd_methods.specs.Writing.{body_texts};
 
 use crate::slots::slots_in;
 use crate::statements::{Leads, write_body};
-use edd_code::{ItemIndex, LowerFault, attributes_at, attributes_by, put};
+use edd_code::{LowerFault, attributes_at, put};
 use edd_instructions::{Emitter, Instruction};
 use edd_strings::Table;
 use edd_syntax::checked::Checked;
@@ -100,8 +100,35 @@ fn body_found(attributes: Option<&[Attribute<Target>]>) -> &[Part<Target>]
     }
 }
 
-// The code of the method with these attributes.
-fn lower_found(
+/// The code of a method, with its strings by their numbers in the table, which gets those that it
+/// doesn't hold yet. After a refusal the table is as before.
+pub fn lower_method(
+    alloc: Global,
+    checked: &Checked,
+    method: MethNo,
+    table: &mut Table,
+) -> Result<MethodCode, LowerFault>
+    ensures sound { IfOk result (λ made. (more : List Words) → length (table.new ++ more) ≤ 65535
+        → IsMethodCode (description_of checked.now) (table.new ++ more) method made.slots
+        made.code.items) }
+    ensures begins { OnOk result (Grows table.old table.new) }
+    ensures strings { OnOk result
+        ((w : Words) → Contains table.new w
+        ↔ (Contains table.old w ⊎ Contains (strings_of_method (description_of checked.now) method)
+        w)) }
+    ensures refused { IsErrOf result LowerFault.TooMany
+        → 65535 < length (different (table.old ++ strings_of_method (description_of checked.now)
+        method)) }
+    ensures kept { OnErr result (table.new ≡ table.old) }
+    ensures size { IfOk result (λ made. length made.code.items
+        ≤ 32 * (1 + body_nodes (source.body_of (description_of checked.now) method))) }
+{
+    let attributes = attributes_at(&checked.items, Kind::Method, method.0);
+    lower_found(alloc, checked, method, attributes, table)
+}
+
+/// The same where the method's attributes are at hand.
+pub fn lower_found(
     alloc: Global,
     checked: &Checked,
     method: MethNo,
@@ -135,59 +162,4 @@ fn lower_found(
             Err(fault)
         }
     }
-}
-
-/// The code of a method, with its strings by their numbers in the table, which gets those that it
-/// doesn't hold yet. After a refusal the table is as before.
-pub fn lower_method(
-    alloc: Global,
-    checked: &Checked,
-    method: MethNo,
-    table: &mut Table,
-) -> Result<MethodCode, LowerFault>
-    ensures sound { IfOk result (λ made. (more : List Words) → length (table.new ++ more) ≤ 65535
-        → IsMethodCode (description_of checked.now) (table.new ++ more) method made.slots
-        made.code.items) }
-    ensures begins { OnOk result (Grows table.old table.new) }
-    ensures strings { OnOk result
-        ((w : Words) → Contains table.new w
-        ↔ (Contains table.old w ⊎ Contains (strings_of_method (description_of checked.now) method)
-        w)) }
-    ensures refused { IsErrOf result LowerFault.TooMany
-        → 65535 < length (different (table.old ++ strings_of_method (description_of checked.now)
-        method)) }
-    ensures kept { OnErr result (table.new ≡ table.old) }
-    ensures size { IfOk result (λ made. length made.code.items
-        ≤ 32 * (1 + body_nodes (source.body_of (description_of checked.now) method))) }
-{
-    let attributes = attributes_at(&checked.items, Kind::Method, method.0);
-    lower_found(alloc, checked, method, attributes, table)
-}
-
-/// The same with an index of the items, by which the method is found at once.
-pub fn lower_indexed(
-    alloc: Global,
-    checked: &Checked,
-    index: &ItemIndex,
-    method: MethNo,
-    table: &mut Table,
-) -> Result<MethodCode, LowerFault>
-    requires index_of_its_items { IsIndexOf (description_of checked.now).items index.now }
-    ensures sound { IfOk result (λ made. (more : List Words) → length (table.new ++ more) ≤ 65535
-        → IsMethodCode (description_of checked.now) (table.new ++ more) method made.slots
-        made.code.items) }
-    ensures begins { OnOk result (Grows table.old table.new) }
-    ensures strings { OnOk result
-        ((w : Words) → Contains table.new w
-        ↔ (Contains table.old w ⊎ Contains (strings_of_method (description_of checked.now) method)
-        w)) }
-    ensures refused { IsErrOf result LowerFault.TooMany
-        → 65535 < length (different (table.old ++ strings_of_method (description_of checked.now)
-        method)) }
-    ensures kept { OnErr result (table.new ≡ table.old) }
-    ensures size { IfOk result (λ made. length made.code.items
-        ≤ 32 * (1 + body_nodes (source.body_of (description_of checked.now) method))) }
-{
-    let attributes = attributes_by(index, &checked.items, Kind::Method, method.0);
-    lower_found(alloc, checked, method, attributes, table)
 }

@@ -11,6 +11,7 @@ pub mod FirstLaws
 pub mod ItemForms
 pub mod KeptItems
 pub mod KnownByNumber
+pub mod ListedRows
 pub mod Made
 pub mod Marking
 pub mod VersionLaws

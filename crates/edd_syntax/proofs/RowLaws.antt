@@ -6,11 +6,10 @@ use Rattle.std.proofs.Math.Bool.{or_assoc, or-false}
 use Rattle.std.specs.Prelude.{◌||◌}
 use Rattle.std.specs.List.{list_any, flat_map}
 use Rattle.edd_syntax.specs.declared.numbers.Attr.{Attr}
-use Rattle.edd_syntax.specs.declared.numbers.Kind.{Kind}
-use Rattle.edd_syntax.specs.Item.{TypePart, Item}
+use Rattle.edd_syntax.specs.Item.{TypePart}
 use Rattle.edd_syntax.specs.declared.reference.Target.{Target}
 use Rattle.edd_syntax.specs.Numbers.{same_attr}
-use Rattle.edd_syntax.specs.Rows.{part_attr, part_stands_for, attributes_in_order, rows_of_attr, rows_of_kind}
+use Rattle.edd_syntax.specs.Rows.{part_attr, part_stands_for}
 
 pub any_part : (a : Attr) (parts : List (TypePart Target)) → list_any (part_stands_for a) parts
     ≡ list_any (same_attr a) (map part_attr parts)
@@ -72,8 +71,3 @@ module _ {Y Z : Type 0} (f : Y → List Z) where
       ≡ total → zs ≡ total
   each_done zs total i ys h invariant = sym (append-nil zs) ∙ ap (λ xs. zs ++ flat_map f xs)
       (sym (drop_of_length-le ys h)) ∙ invariant
-
-pub kind_rows : (items : List (Item Target)) (k : Kind)
-    → flat_map (rows_of_attr items k) attributes_in_order ≡ rows_of_kind items k
-unfolding rows_of_kind
-kind_rows items k = refl

@@ -1,25 +1,25 @@
 -- The rows of transactions, one attribute after another.
-use Rattle.std.proofs.Common.{◌≡◌, refl, ap, ℕ, suc, Bool, true, false, arith, List, [], ◌∷◌, ◌++◌, filter, if◌then◌else◌, IsTrue}
+use Rattle.std.proofs.Common.{◌≡◌, refl, ℕ, suc, Bool, true, false, arith, List, [], ◌∷◌, ◌++◌, map, filter, if◌then◌else◌, IsTrue}
 use Rattle.std.specs.List.{list_all}
 use Rattle.std.proofs.lemmas.Bool.{and_parts, and_from}
 use Rattle.std.proofs.lemmas.Grind.{common_steps}
 use Rattle.edd_syntax.specs.declared.numbers.Kind.{Kind}
 use Rattle.edd_syntax.specs.declared.numbers.Attr.{Attr}
 use Rattle.edd_syntax.specs.declared.numbers.ItemNo.{ItemNo}
-use Rattle.edd_syntax.specs.declared.numbers.AttrRef.{AttrRef}
 use Rattle.edd_syntax.specs.declared.reference.Target.{Target}
 use Rattle.edd_syntax.specs.Item as item
 use Rattle.edd_syntax.specs.Item.{kind_of_item, Attribute, Item}
-use Rattle.edd_syntax.specs.Numbers.{same_kind, item_number}
+use Rattle.edd_syntax.specs.Numbers.{same_kind}
 use Rattle.edd_syntax.specs.NameRules.{is_transaction}
-use Rattle.edd_syntax.specs.Rows.{rows_at, transaction_positions, item_rows, rows_from, of_kind}
+use Rattle.edd_syntax.specs.Rows.{rows_at, transaction_positions, of_kind, Listing, with_these}
 
-module _ (number : ItemNo) (a : Attr) where
-  abbrev pub positions_from : ℕ → List (Attribute Target) → List AttrRef
-  positions_from next attributes = rows_at number a (transaction_positions next attributes)
+module _ (number : ItemNo) (a : Attr) (all : List (Attribute Target)) where
+  abbrev pub positions_from : ℕ → List (Attribute Target) → List (Listing Target)
+  positions_from next attributes =
+      map (with_these all) (rows_at number a (transaction_positions next attributes))
 
-  abbrev pub row_of : ℕ → Attribute Target → List AttrRef
-  row_of sub x = (record { item = number; attr = a; sub = sub }) ∷ []
+  abbrev pub row_of : ℕ → Attribute Target → List (Listing Target)
+  row_of sub x = with_these all (record { item = number; attr = a; sub = sub }) ∷ []
 
   pub positions_split : (next : ℕ) (x : Attribute Target) (xs : List (Attribute Target))
       → positions_from next (x ∷ xs) ≡ (if is_transaction x then row_of next x else [])
@@ -74,15 +74,3 @@ all_kept f test (x ∷ xs) all =
         → IsTrue (list_all f (if b then x ∷ filter test xs else filter test xs))
     by_test true here rest = and_from (f x) (list_all f (filter test xs)) here rest
     by_test false here rest = rest
-
-module _ (k : Kind) (a : Attr) where
-  abbrev pub rows_of_item : ℕ → Item Target → List AttrRef
-  rows_of_item next i = item_rows (item_number k next) a i.attributes
-
-  pub rows_split : (next : ℕ) (x : Item Target) (xs : List (Item Target))
-      → rows_from k a next (x ∷ xs) ≡ rows_of_item next x ++ rows_from k a (suc next) xs
-  rows_split next x xs = refl
-
-  pub same_rows : (zs : List AttrRef) (xs ys : List (Item Target)) → xs ≡ ys
-      → zs ++ rows_from k a 0 xs ≡ zs ++ rows_from k a 0 ys
-  same_rows zs xs ys is = ap (λ items. zs ++ rows_from k a 0 items) is

@@ -11,9 +11,9 @@ use Rattle.edd_syntax.specs.declared.numbers.Kind.TheVariants as kind
 use Rattle.edd_syntax.specs.Item as item
 use Rattle.edd_syntax.specs.Item.{ItemKind, kind_of_item, Attribute, Item, Description}
 use Rattle.edd_syntax.specs.Numbers.{same_kind}
-use Rattle.edd_syntax.specs.Resolution.{count_of, member_kinds}
+use Rattle.edd_syntax.specs.Resolution.{count_of, kinds, member_kinds}
 use Rattle.edd_syntax.specs.ResolvedTrees.{◌>>=◌, each, unchanged, resolved_cond, resolved_conds, resolved_body, at_attribute, resolved_entry, resolved_member, resolved_element, resolved_type_part, resolved_transaction_part, resolved_attribute, resolved_item, resolved_unit}
-use Rattle.edd_syntax.specs.NameRules.{is_transaction, transaction_count, kinds}
+use Rattle.edd_syntax.specs.NameRules.{is_transaction, transaction_count}
 use Rattle.edd_syntax.specs.NameRules.{too_many}
 use Rattle.edd_syntax.specs.Resolved.{IsResolved, IsChecked}
 use Rattle.edd_syntax.proofs.Made.{bind_some}

@@ -24,6 +24,7 @@ pub mod NameUses
 pub mod Names
 pub mod Numbers
 pub mod Reference
+pub mod ReferenceOrder
 pub mod Refusal
 pub mod Resolution
 pub mod Resolved

@@ -17,7 +17,7 @@ use Rattle.edd_syntax.specs.Statement.{Declarator, Stmt, Body, Nil, Cons, Declar
 use Rattle.edd_syntax.specs.Item as item
 use Rattle.edd_syntax.specs.Item.{kind_of_item, TypePart, TransactionPart, Attribute, Item, Description}
 use Rattle.edd_syntax.specs.Size.{unit_nodes}
-use Rattle.edd_syntax.specs.Resolution.{look_up, count_of, item_named, member_at, item_of_member, array_kinds, builtins}
+use Rattle.edd_syntax.specs.Resolution.{look_up, count_of, item_named, member_at, item_of_member, array_kinds, builtins, kinds}
 use Rattle.edd_syntax.specs.NameUses.{Use, OfItem, OfArray, OfFunction, unit_uses}
 use Rattle.edd_syntax.specs.Refusal.{Refusal, TooMany, DuplicateName, DuplicateAttribute, MissingAttribute, UnknownName, WrongKind, is_name_in, refused_if, repeated}
 
@@ -56,11 +56,6 @@ locals_of i = sum (map locals_of_attribute i.attributes)
 -- how many transactions an item has
 abbrev pub transaction_count : {R : Type 0} → Item R → ℕ
 transaction_count i = length (filter is_transaction i.attributes)
-
--- all kinds, by their numbers
-abbrev pub kinds : List Kind
-kinds = kind.Variable ∷ kind.Command ∷ kind.Menu ∷ kind.Collection ∷ kind.Method
-    ∷ kind.Array ∷ []
 
 -- a breach for each limit that is exceeded
 abbrev pub too_many : {R : Type 0} → Description R → List Refusal

@@ -174,6 +174,11 @@ function_meant path = option_map Function (look_up path.base builtins)
 
 -- ---- where items of which kinds may be
 
+-- all kinds, by their numbers
+abbrev pub kinds : List Kind
+kinds = kind.Variable ∷ kind.Command ∷ kind.Menu ∷ kind.Collection ∷ kind.Method
+    ∷ kind.Array ∷ []
+
 -- expressions and data items refer to variables
 abbrev pub variable_kinds : List Kind
 variable_kinds = kind.Variable ∷ []
@@ -182,11 +187,15 @@ variable_kinds = kind.Variable ∷ []
 abbrev pub method_kinds : List Kind
 method_kinds = kind.Method ∷ []
 
--- what a plain reference may name as an argument of a function
+-- what a plain reference may name as an argument of this function
+abbrev pub kinds_taken : Builtin → List Kind
+kinds_taken builtin.AddAbortMethod = method_kinds
+kinds_taken _ = variable_kinds
+
+-- the same of a function by its name; one that does not exist might take any item
 abbrev pub argument_kinds : (function : Path) → List Kind
 argument_kinds function =
-    if bytes_eq (builtin_name builtin.AddAbortMethod) function.base then method_kinds
-    else variable_kinds
+    elim (look_up function.base builtins) [ Some f ↦ kinds_taken f | None ↦ kinds ]
 
 -- a menu shows variables, menus, collections and methods
 abbrev pub entry_kinds : List Kind

@@ -1,15 +1,18 @@
 -- The written attributes of a description, in the order in which an image has them.
-use Rattle.std.specs.Prelude.{ℕ, suc, Bool, List, [], ◌∷◌, ◌++◌, map, filter, if◌then◌else◌}
+use Rattle.std.specs.Prelude.{◌≡◌, ℕ, suc, Bool, List, [], ◌∷◌, ◌++◌, map, filter, if◌then◌else◌, slice_get, Option, Some}
 use Rattle.std.specs.List.{list_any, flat_map}
 use Rattle.edd_syntax.specs.declared.numbers.Kind.{Kind}
 use Rattle.edd_syntax.specs.declared.numbers.Attr.{Attr}
 use Rattle.edd_syntax.specs.declared.numbers.Attr.TheVariants as attr
 use Rattle.edd_syntax.specs.declared.numbers.ItemNo.{ItemNo}
 use Rattle.edd_syntax.specs.declared.numbers.AttrRef.{AttrRef}
+use Rattle.edd_syntax.specs.declared.reference.Target.{Target}
+use Rattle.edd_syntax.specs.declared.rows.Listed.{Listed}
 use Rattle.edd_syntax.specs.Item as item
 use Rattle.edd_syntax.specs.Item.{kind_of_item, TypePart, Attribute, Item}
-use Rattle.edd_syntax.specs.Numbers.{same_kind, same_attr, item_number, text_attr}
-use Rattle.edd_syntax.specs.NameRules.{kinds}
+use Rattle.edd_syntax.specs.ItemView.{numbered_attribute}
+use Rattle.edd_syntax.specs.Numbers.{same_kind, same_attr, item_number, kind_of, index_of, text_attr}
+use Rattle.edd_syntax.specs.Resolution.{kinds}
 use Rattle.edd_syntax.specs.Attributes.{is_of_transaction}
 
 -- ---- what is written
@@ -108,3 +111,46 @@ rows_of_kind items k = flat_map (rows_of_attr items k) attributes_in_order
 -- the rows by kind, attribute, item and position
 abbrev pub rows : {R : Type 0} → List (Item R) → List AttrRef
 rows items = flat_map (rows_of_kind items) kinds
+
+-- ---- rows with the attributes of their items
+
+-- the attributes of each item of a kind
+abbrev pub attributes_of_items : {R : Type 0} → Kind → List (Item R) → List (List (Attribute R))
+attributes_of_items k items = map (λ i. i.attributes) (of_kind k items)
+
+-- the attributes of the item of a row
+abbrev pub attributes_of_row : {R : Type 0} → List (Item R) → AttrRef
+    → Option (List (Attribute R))
+attributes_of_row items row = slice_get (attributes_of_items (kind_of row.item) items)
+    (index_of row.item)
+
+-- a listed row has the attributes of its item
+abbrev pub HasItsAttributes : List (Item Target) → Listed → Type 0
+HasItsAttributes items l = attributes_of_row items l.row
+    ≡ Some (map numbered_attribute l.attributes.now)
+
+-- a row and the attributes of its item, if there is such an item
+abbrev pub Listing : Type 0 → Type 0
+Listing R = AttrRef × Option (List (Attribute R))
+
+-- a row with these attributes
+abbrev pub with_these : {R : Type 0} → List (Attribute R) → AttrRef → Listing R
+with_these attributes row = (row, Some attributes)
+
+-- a row with those of its item
+abbrev pub with_its : {R : Type 0} → List (Item R) → AttrRef → Listing R
+with_its items row = (row, attributes_of_row items row)
+
+-- a listed row
+abbrev pub listed_of : Listed → Listing Target
+listed_of l = with_these (map numbered_attribute l.attributes.now) l.row
+
+-- the rows of an attribute of an item, which has this number, with its attributes
+abbrev pub listed_item : {R : Type 0} → Kind → Attr → ℕ → Item R → List (Listing R)
+listed_item k a number i =
+    map (with_these i.attributes) (item_rows (item_number k number) a i.attributes)
+
+-- of items of a kind, as `rows_from` has them
+abbrev pub listed_from : {R : Type 0} → Kind → Attr → (next : ℕ) → List (Item R) → List (Listing R)
+listed_from k a next [] = []
+listed_from k a next (i ∷ rest) = listed_item k a next i ++ listed_from k a (suc next) rest

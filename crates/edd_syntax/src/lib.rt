@@ -13,7 +13,7 @@ pub mod numbers;
 pub mod operators;
 pub mod reference;
 pub mod resolved;
-mod rows;
+pub mod rows;
 pub mod stmt;
 pub mod symbols;
 mod tables;

@@ -1,7 +1,7 @@
 //! The written attributes, in the order in which an image has them.
 
 ghost use Rattle.std.specs.Prelude.{◌≡◌, ◌++◌, ◌||◌, ◌≤◌, map, filter, length, nat_le, IsTrue, IfOk, OnOk};
-ghost use Rattle.std.specs.List.{list_any, list_all, flat_map};
+ghost use Rattle.std.specs.List.{All, list_any, list_all, flat_map};
 ghost use Rattle.edd_syntax.specs.declared.numbers.Attr.{Attr};
 ghost use Rattle.edd_syntax.specs.declared.numbers.Kind.{Kind};
 ghost use Rattle.edd_syntax.specs.Item.{kind_of_item};
@@ -18,6 +18,13 @@ use crate::item::{Attribute, Item, TypePart};
 use crate::numbers::{ATTRIBUTES, Attr, AttrRef, ItemNo, KINDS, Kind};
 use crate::reference::Target;
 use std::alloc::{AllocError, Global};
+
+/// A row, and all attributes of the item of which it is one.
+#[derive(Clone, Copy)]
+pub struct Listed<'a> {
+    pub row: AttrRef,
+    pub attributes: &'a [Attribute<Target>],
+}
 
 fn part_attr(part: &TypePart<Target>) -> Attr
     ensures { result ≡ order.part_attr (numbered_type_part part.now) }
@@ -135,21 +142,24 @@ fn is_transaction(attribute: &Attribute<Target>) -> bool
 }
 
 // The rows of an attribute of transactions.
-fn push_transactions(
-    rows: &mut Vec<AttrRef>,
-    attributes: &[Attribute<Target>],
+fn push_transactions<'a>(
+    rows: &mut Vec<Listed<'a>>,
+    attributes: &'a [Attribute<Target>],
     item: ItemNo,
     attr: Attr,
 ) -> Result<(), AllocError>
     requires { length (filter rules.is_transaction (map numbered_attribute attributes.now)) ≤ 4096 }
-    ensures { OnOk result (rows.new.items
-        ≡ rows.old.items ++ order.rows_at item attr
-        (order.transaction_positions 0 (map numbered_attribute attributes.now))) }
+    ensures { OnOk result (map order.listed_of rows.new.items ≡ map order.listed_of rows.old.items
+        ++ map (order.with_these (map numbered_attribute attributes.now)) (order.rows_at item attr
+        (order.transaction_positions 0 (map numbered_attribute attributes.now)))) }
 {
     let mut sub = 0;
     for attribute in attributes {
         if is_transaction(attribute) {
-            rows.push(AttrRef { item, attr, sub })?;
+            rows.push(Listed {
+                row: AttrRef { item, attr, sub },
+                attributes,
+            })?;
             sub += 1;
         }
     }
@@ -158,38 +168,43 @@ fn push_transactions(
 
 // The rows of an attribute of an item.
 #[tactic(auto, unfolding(crate::specs::Rows::rows_at))]
-fn push_item(
-    rows: &mut Vec<AttrRef>,
-    marked: &Marked,
+fn push_item<'a>(
+    rows: &mut Vec<Listed<'a>>,
+    marked: &Marked<'a>,
     item: ItemNo,
     attr: Attr,
 ) -> Result<(), AllocError>
     requires { length
         (filter rules.is_transaction (numbered_item marked.now.item.now).attributes) ≤ 4096 }
-    ensures { OnOk result (rows.new.items ≡ rows.old.items
-        ++ order.item_rows item attr (numbered_item marked.now.item.now).attributes) }
+    ensures { OnOk result (map order.listed_of rows.new.items ≡ map order.listed_of rows.old.items
+        ++ map (order.with_these (numbered_item marked.now.item.now).attributes)
+        (order.item_rows item attr (numbered_item marked.now.item.now).attributes)) }
 {
+    let attributes = marked.item.attributes();
     if attr.is_of_transaction() {
-        return push_transactions(rows, marked.item.attributes(), item, attr);
+        return push_transactions(rows, attributes, item, attr);
     }
     if is_marked(marked.marks, attr) {
-        rows.push(AttrRef { item, attr, sub: 0 })?;
+        rows.push(Listed {
+            row: AttrRef { item, attr, sub: 0 },
+            attributes,
+        })?;
     }
     Ok(())
 }
 
 // The rows of an attribute of the items of a kind.
-fn push_items(
-    rows: &mut Vec<AttrRef>,
-    marked: &[Marked],
+fn push_items<'a>(
+    rows: &mut Vec<Listed<'a>>,
+    marked: &[Marked<'a>],
     kind: Kind,
     attr: Attr,
 ) -> Result<(), AllocError>
     requires few { length marked.now ≤ 4096 }
     requires transactions { IsTrue (list_all (λ i. nat_le (rules.transaction_count i) 4096)
         (map (λ m. numbered_item m.item.now) marked.now)) }
-    ensures { OnOk result (rows.new.items ≡ rows.old.items
-        ++ order.rows_from kind attr 0 (map (λ m. numbered_item m.item.now) marked.now)) }
+    ensures { OnOk result (map order.listed_of rows.new.items ≡ map order.listed_of rows.old.items
+        ++ order.listed_from kind attr 0 (map (λ m. numbered_item m.item.now) marked.now)) }
 {
     let mut number = 0;
     for one in marked {
@@ -200,9 +215,9 @@ fn push_items(
 }
 
 // The rows of these attributes of the items of a kind.
-fn push_attributes(
-    rows: &mut Vec<AttrRef>,
-    items: &[Item<Target>],
+fn push_attributes<'a>(
+    rows: &mut Vec<Listed<'a>>,
+    items: &'a [Item<Target>],
     kind: Kind,
     attrs: &[Attr],
     alloc: Global,
@@ -211,9 +226,9 @@ fn push_attributes(
     requires transactions { IsTrue (list_all (λ i. nat_le (rules.transaction_count i) 4096)
         (map numbered_item items.now)) }
     requires own { IsTrue (list_all has_own_attributes (map numbered_item items.now)) }
-    ensures { OnOk result (rows.new.items
-        ≡ rows.old.items ++ flat_map (order.rows_of_attr (map numbered_item items.now) kind)
-        attrs.now) }
+    ensures { OnOk result (map order.listed_of rows.new.items ≡ map order.listed_of rows.old.items
+        ++ flat_map (λ a. map (order.with_its (map numbered_item items.now))
+        (order.rows_of_attr (map numbered_item items.now) kind a)) attrs.now) }
 {
     let marked = mark_items(items, kind, alloc)?;
     for attr in attrs {
@@ -225,9 +240,9 @@ fn push_attributes(
 }
 
 // The rows of the items of these kinds.
-fn push_kinds(
-    rows: &mut Vec<AttrRef>,
-    items: &[Item<Target>],
+fn push_kinds<'a>(
+    rows: &mut Vec<Listed<'a>>,
+    items: &'a [Item<Target>],
     kinds: &[Kind],
     alloc: Global,
 ) -> Result<(), AllocError>
@@ -235,8 +250,9 @@ fn push_kinds(
     requires transactions { IsTrue (list_all (λ i. nat_le (rules.transaction_count i) 4096)
         (map numbered_item items.now)) }
     requires own { IsTrue (list_all has_own_attributes (map numbered_item items.now)) }
-    ensures { OnOk result (rows.new.items
-        ≡ rows.old.items ++ flat_map (order.rows_of_kind (map numbered_item items.now)) kinds.now) }
+    ensures { OnOk result (map order.listed_of rows.new.items ≡ map order.listed_of rows.old.items
+        ++ flat_map (λ k. map (order.with_its (map numbered_item items.now))
+        (order.rows_of_kind (map numbered_item items.now) k)) kinds.now) }
 {
     for kind in kinds {
         push_attributes(rows, items, *kind, &ATTRIBUTES, alloc)?;
@@ -251,6 +267,21 @@ impl Checked {
     pub fn rows(&self, alloc: Global) -> Result<Vec<AttrRef>, AllocError>
         ensures { IfOk result (λ rows. rows.items
             ≡ order.rows (numbered_items self.now.items.value.items)) }
+    {
+        let listed = self.listed(alloc)?;
+        let mut rows = Vec::with_capacity(alloc, listed.len())?;
+        for one in &listed {
+            rows.push(one.row)?;
+        }
+        Ok(rows)
+    }
+
+    /// The same rows, each with all attributes of its item.
+    pub fn listed(&self, alloc: Global) -> Result<Vec<Listed<'_>>, AllocError>
+        ensures rows { IfOk result (λ listed. map (λ l. l.row) listed.items
+            ≡ order.rows (numbered_items self.now.items.value.items)) }
+        ensures attributes { IfOk result (λ listed.
+            All (order.HasItsAttributes (numbered_items self.now.items.value.items)) listed.items) }
     {
         let mut rows = Vec::new(alloc);
         push_kinds(&mut rows, &self.items, &KINDS, alloc)?;

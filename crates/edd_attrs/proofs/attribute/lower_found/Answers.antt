@@ -10,7 +10,8 @@ use Rattle.edd_attrs.proofs.attribute.lower_found.Goals as goal
 
 pub lower_tree-result-requires : goal.lower_tree-result-requires
 lower_tree-result-requires c =
-    subst (λ t. IsTrue (is_kept_row t)) (sym c.requires)
+    subst (λ t. IsTrue (is_kept_row t)) (sym (c.tree_found-tree.ensures
+    (description_of c.args.checked.now) c.requires))
     (kept_when_checked (description_of c.args.checked.now) c.args.row c.args.checked.now.checked)
 
 pub returns-then-is_err-clause-refused : goal.returns-then-is_err-clause-refused
@@ -18,7 +19,9 @@ returns-then-is_err-clause-refused c h =
     overflowing (description_of c.args.checked.now) c.args.checked.now.checked c.args.row
     c.args.table.now
     c.words.ensures.different
-    (subst (OverflowsTree c.args.table.now) c.requires (c.lower_tree-result.ensures.refused h))
+    (subst (OverflowsTree c.args.table.now) (c.tree_found-tree.ensures
+    (description_of c.args.checked.now) c.requires)
+    (c.lower_tree-result.ensures.refused h))
 
 -- what the call ensures, of the description
 abbrev lowered_here : (c : goal.Else-is_err)
@@ -27,7 +30,8 @@ abbrev lowered_here : (c : goal.Else-is_err)
     c.lower_tree-result.new.table code.items)
 lowered_here c =
     subst (λ t. IfOk c.lower_tree-result.result
-    (λ code. LowersTree c.args.table.now t c.lower_tree-result.new.table code.items)) c.requires
+    (λ code. LowersTree c.args.table.now t c.lower_tree-result.new.table code.items))
+    (c.tree_found-tree.ensures (description_of c.args.checked.now) c.requires)
     c.lower_tree-result.ensures.sound
 
 pub returns-else-is_err-clause-sound : goal.returns-else-is_err-clause-sound

@@ -1,7 +1,7 @@
 use Rattle.std.proofs.Common.{◌≡◌}
 use Rattle.edd_syntax.specs.ItemView.{numbered_item}
-use Rattle.edd_code.specs.Places.{attributes_of_items, attributes_of_kind}
-use Rattle.edd_code.proofs.Picking.{picked_from, items_split}
+use Rattle.edd_syntax.specs.Rows.{attributes_of_items}
+use Rattle.edd_code.proofs.Picking.{attributes_of_kind, picked_from, items_split}
 use Rattle.edd_code.proofs.items.attributes_at.Given as goal
 
 -- the item is the one that is left to count to

@@ -1,5 +1,6 @@
-use Rattle.std.proofs.Common.{subst, sym, ◌∙◌}
+use Rattle.std.proofs.Common.{subst, sym, ap, ◌∙◌, map}
 use Rattle.std.specs.List.{All}
+use Rattle.edd_syntax.specs.Rows.{HasItsAttributes}
 use Rattle.edd_code.specs.Units.{description_of}
 use Rattle.edd_compiler.specs.Lowering.{IsPlain}
 use Rattle.edd_compiler.proofs.CompiledTexts.{of_bad}
@@ -15,6 +16,10 @@ returns-clause-refused c = of_bad c.lower_rows.result c.lower_rows.ensures.refus
     (c.strings_stand_in_rows.ensures.of_rows (description_of c.args.checked.now))) is)
 
 pub lower_rows-requires : goal.lower_rows-requires
-lower_rows-requires c =
-    subst (All IsPlain) (sym (c.deref.ensures.value ∙ c.in_ok-rows.ensures))
-    (rows_plain (description_of c.args.checked.now) c.args.checked.now.checked)
+lower_rows-requires c = record {
+  plain = subst (All IsPlain)
+      (sym (ap (map (λ r. r.row)) c.deref.ensures.value ∙ c.in_ok-rows.ensures.rows))
+      (rows_plain (description_of c.args.checked.now) c.args.checked.now.checked);
+  attributes = subst (All (HasItsAttributes (description_of c.args.checked.now).items))
+      (sym c.deref.ensures.value) c.in_ok-rows.ensures.attributes;
+}

@@ -6,6 +6,6 @@ use Rattle.edd_compiler.proofs.lowering.lower_rows.Given as goal
 
 -- the rows so far have their units
 abbrev pub invariant-loop-row : goal.invariant-loop-row
-invariant-loop-row l = HasLowered (description_of l.checked) (take l.row-index l.rows)
-    l.lowering.table
+invariant-loop-row l = HasLowered (description_of l.checked)
+    (take l.row-index (map (λ r. r.row) l.rows)) l.lowering.table
     (map lowered_of l.lowering.units.items)

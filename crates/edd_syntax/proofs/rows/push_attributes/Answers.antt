@@ -5,10 +5,11 @@ use Rattle.edd_syntax.specs.Item.{kind_of_item}
 use Rattle.edd_syntax.specs.ItemView.{numbered_item}
 use Rattle.edd_syntax.specs.NameRules.{transaction_count}
 use Rattle.edd_syntax.specs.Numbers.{same_kind}
-use Rattle.edd_syntax.specs.Rows.{rows_of_attr}
+use Rattle.edd_syntax.specs.Rows.{listed_of, with_its}
 use Rattle.edd_syntax.proofs.Belonging.{no_rows}
+use Rattle.edd_syntax.proofs.ListedRows.{of_attr, of_these}
 use Rattle.edd_syntax.proofs.RowLaws.{each_appended, each_done}
-use Rattle.edd_syntax.proofs.TransactionRows.{all_kept, same_rows}
+use Rattle.edd_syntax.proofs.TransactionRows.{all_kept}
 use Rattle.edd_syntax.proofs.rows.push_attributes.Goals as goal
 use Rattle.edd_syntax.proofs.rows.push_attributes.Goals.{then-may_belong_to+in_ok-push_items, else-may_belong_to}
 
@@ -24,26 +25,28 @@ push_items-requires-clause-transactions c =
 pub loop-attr-preserved : goal.loop-attr-preserved
 loop-attr-preserved c = elim c.if-may_belong_to.branch [
   | then-may_belong_to+in_ok-push_items w ↦ each_appended
-      (rows_of_attr (map numbered_item c.args.items.now) c.args.kind)
-      c.loop-attr.rows.items c.if-may_belong_to.rows.items _ c.loop-attr.attr-index
+      (of_attr (map numbered_item c.args.items.now) c.args.kind)
+      (map listed_of c.loop-attr.rows.items) (map listed_of c.if-may_belong_to.rows.items) _ c.loop-attr.attr-index
       c.args.attrs.now _ (omega arith)
       (get_or_default c.args.attrs.now c.loop-attr.attr-index _ _ (omega arith))
-      (ap (λ v. v.items) w.rows-is ∙ w.in_ok-push_items.ensures
-      ∙ same_rows c.args.kind _ c.loop-attr.rows.items _ _
+      (ap (λ v. map listed_of v.items) w.rows-is ∙ w.in_ok-push_items.ensures
+      ∙ of_these (map numbered_item c.args.items.now) c.args.kind _
+      (map listed_of c.loop-attr.rows.items) _
       (ap (map (λ m. numbered_item m.item.now)) w.deref.ensures.value
       ∙ c.in_ok-marked.ensures)) c.loop-attr.invariant
   | else-may_belong_to w ↦ each_appended
-      (rows_of_attr (map numbered_item c.args.items.now) c.args.kind)
-      c.loop-attr.rows.items c.if-may_belong_to.rows.items _ c.loop-attr.attr-index
+      (of_attr (map numbered_item c.args.items.now) c.args.kind)
+      (map listed_of c.loop-attr.rows.items) (map listed_of c.if-may_belong_to.rows.items) _ c.loop-attr.attr-index
       c.args.attrs.now _ (omega arith)
       (get_or_default c.args.attrs.now c.loop-attr.attr-index _ _ (omega arith))
-      (ap (λ v. v.items) w.rows-is ∙ sym (append-nil c.loop-attr.rows.items)
-      ∙ ap (λ xs. c.loop-attr.rows.items ++ xs) (sym (no_rows c.args.kind _
+      (ap (λ v. map listed_of v.items) w.rows-is ∙ sym (append-nil (map listed_of c.loop-attr.rows.items))
+      ∙ ap (λ rs. map listed_of c.loop-attr.rows.items
+      ++ map (with_its (map numbered_item c.args.items.now)) rs) (sym (no_rows c.args.kind _
       (sym c.may_belong_to.ensures ∙ w.if-may_belong_to.false) (map numbered_item c.args.items.now)
       c.requires.own))) c.loop-attr.invariant
 ]
 
 pub returns : goal.returns
-returns c = each_done (rows_of_attr (map numbered_item c.args.items.now) c.args.kind)
-    c.loop-attr.rows.items _ c.loop-attr.attr-index c.args.attrs.now (omega arith)
+returns c = each_done (of_attr (map numbered_item c.args.items.now) c.args.kind)
+    (map listed_of c.loop-attr.rows.items) _ c.loop-attr.attr-index c.args.attrs.now (omega arith)
     c.loop-attr.invariant

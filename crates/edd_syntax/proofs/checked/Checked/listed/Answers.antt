@@ -1,4 +1,4 @@
-use Rattle.std.proofs.Common.{◌∙◌, ap, sym, subst, ◌≤◌, List, map, nat_le, IsTrue}
+use Rattle.std.proofs.Common.{◌≡◌, ◌∙◌, ap, sym, subst, ◌++◌, ◌≤◌, List, map, nat_le, IsTrue}
 use Rattle.std.specs.List.{list_all}
 use Rattle.edd_syntax.specs.declared.item.Item.{Item}
 use Rattle.edd_syntax.specs.declared.reference.Target.{Target}
@@ -6,10 +6,12 @@ use Rattle.edd_syntax.specs.ItemView.{identification_of, numbered_items, numbere
 use Rattle.edd_syntax.specs.NameRules.{transaction_count}
 use Rattle.edd_syntax.specs.Resolution.{count_of}
 use Rattle.edd_syntax.specs.Resolved.{description}
+use Rattle.edd_syntax.specs.Rows.{listed_of}
 use Rattle.edd_syntax.specs.WellFormed.{has_own_attributes}
 use Rattle.edd_syntax.proofs.ItemForms.{formed_when_checked, own_when_formed}
+use Rattle.edd_syntax.proofs.ListedRows.{all_listed, each_listed}
 use Rattle.edd_syntax.proofs.WithinLimits.{few_when_checked, few_transactions_when_checked}
-use Rattle.edd_syntax.proofs.checked.Checked.rows.Goals as goal
+use Rattle.edd_syntax.proofs.checked.Checked.listed.Goals as goal
 
 pub push_kinds-requires-clause-few : goal.push_kinds-requires-clause-few
 push_kinds-requires-clause-few c k =
@@ -34,3 +36,20 @@ push_kinds-requires-clause-own c =
     (own_when_formed (numbered_items c.args.self.now.items.value.items)
     (formed_when_checked (description (identification_of c.args.self.now.identification)
     (numbered_items c.args.self.now.items.value.items)) c.args.self.now.checked))
+
+-- what was pushed, as the description has it
+all_pushed : (c : goal.In_ok-push_kinds) → map listed_of c.push_kinds.new.rows.items
+    ≡ all_listed (numbered_items c.args.self.now.items.value.items)
+all_pushed c = c.in_ok-push_kinds.ensures
+    ∙ ap (λ xs. map listed_of xs ++ all_listed (map numbered_item c.deref-2.result.now))
+    c.new-rows.ensures.items
+    ∙ ap (λ items. all_listed (map numbered_item items))
+    (c.deref-2.ensures.value ∙ ap (λ v. v.items) c.deref.ensures)
+
+pub returns-clause-rows : goal.returns-clause-rows
+returns-clause-rows c = (each_listed (numbered_items c.args.self.now.items.value.items)
+    c.push_kinds.new.rows.items (all_pushed c)).0
+
+pub returns-clause-attributes : goal.returns-clause-attributes
+returns-clause-attributes c = (each_listed (numbered_items c.args.self.now.items.value.items)
+    c.push_kinds.new.rows.items (all_pushed c)).1
