@@ -1,30 +1,32 @@
-//! The line that says where the fault is.
+//! The line that says where the fault is: the place of the first byte that is wrong, and what should
+//! be there.
 
 use crate::elements::push_element_fields;
 use crate::excerpts::Excerpts;
 use crate::instructions::Page;
 use edd_display::{ShowFault, print};
+use edd_fault_places::depths::depth_at;
 use edd_fault_places::fields::{FIELDS, Section, bounds};
+use edd_fault_places::header::FieldSpot;
 use edd_fault_places::sections::{Sections, part};
-use edd_fault_places::spots::Spot;
 use edd_image::{ATTRIBUTE_ROW, ELEMENT_ROW, NAME_ROW, STRING_ROW, VARIABLE_ROW};
 use edd_instructions::decode;
+use edd_loader::{Site, Spot};
 use std::alloc::Global;
 use std::fmt::Write as _;
 use std::io::Write;
 
-// The name of a field, or where the bytes end too early.
-fn print_field<W: Write>(
+/// Prints that the fault is in a field, or that the bytes end too early.
+pub fn print_field<W: Write>(
     alloc: Global,
     bytes: &[u8],
-    number: usize,
-    readable: usize,
+    spot: FieldSpot,
     out: &mut W,
 ) -> Result<(), ShowFault> {
-    if readable <= number {
+    if spot.readable <= spot.number {
         return print(alloc, out, format_args!("fault {} header", bytes.len()));
     }
-    match FIELDS.get(number) {
+    match FIELDS.get(spot.number) {
         Some(field) => {
             let (place, name) = (field.place, field.name);
             print(alloc, out, format_args!("fault {place} header {name}"))
@@ -36,7 +38,7 @@ fn print_field<W: Write>(
 // The fields of a row, as they are. After the last row there are none.
 fn push_fields(sections: &Sections<'_>, line: &mut String, spot: Spot) -> Result<(), ShowFault> {
     match spot {
-        Spot::Variable(number) => {
+        Spot::VariableRow(number) => {
             if let Some(row) = sections.variable_row(number) {
                 let (kind, size, zero) = (row.kind, row.size, row.zero);
                 write!(line, " type {kind} size {size} zero {zero}")?;
@@ -47,7 +49,7 @@ fn push_fields(sections: &Sections<'_>, line: &mut String, spot: Spot) -> Result
                 write!(line, " start {} length {}", span.start, span.length)?;
             }
         }
-        Spot::Row(number) => {
+        Spot::AttributeRow(number) => {
             if let Some(row) = sections.row(number) {
                 let (kind, attribute, item, sub) = (row.kind, row.attribute, row.item, row.sub);
                 write!(
@@ -67,7 +69,7 @@ fn push_fields(sections: &Sections<'_>, line: &mut String, spot: Spot) -> Result
                 write!(line, " start {} length {}", span.start, span.length)?;
             }
         }
-        Spot::Field { .. } | Spot::Instruction { .. } => {}
+        _ => {}
     }
     Ok(())
 }
@@ -85,11 +87,11 @@ fn row_place(bytes: &[u8], section: Section, width: usize, number: usize) -> u64
 // The section of a row, how many bytes one has, its word and its number.
 fn row_of(spot: Spot) -> Option<(Section, usize, &'static str, usize)> {
     match spot {
-        Spot::Variable(number) => {
+        Spot::VariableRow(number) => {
             Some((Section::VariableRows, VARIABLE_ROW, "variable_row", number))
         }
         Spot::NameRow(number) => Some((Section::NameRows, NAME_ROW, "name_row", number)),
-        Spot::Row(number) => {
+        Spot::AttributeRow(number) => {
             Some((
                 Section::AttributeRows,
                 ATTRIBUTE_ROW,
@@ -121,10 +123,10 @@ fn place_of(bytes: &[u8], sections: &Sections<'_>, spot: Spot) -> (u64, &'static
             let place = start_of(bytes, Section::StringBytes).saturating_add(start as u64);
             (place, "string", number)
         }
-        Spot::Instruction { row, place, .. } => {
-            let start = sections.row(row).map_or(0, |row| row.unit.start);
+        Spot::Instruction(site) => {
+            let start = sections.row(site.row).map_or(0, |row| row.unit.start);
             let unit = start_of(bytes, Section::Code).saturating_add(start as u64);
-            (unit.saturating_add(place as u64), "row", row)
+            (unit.saturating_add(site.place as u64), "row", site.row)
         }
         _ => (0, "header", 0),
     }
@@ -135,20 +137,20 @@ fn push_instruction(
     alloc: Global,
     sections: &Sections<'_>,
     line: &mut String,
-    row: usize,
-    place: usize,
-    depth: u8,
+    site: Site,
 ) -> Result<(), ShowFault> {
+    let unit = sections
+        .row(site.row)
+        .and_then(|row| part(sections.code, row.unit));
+    let code = unit.unwrap_or(b"");
+    let place = site.place;
+    let depth = depth_at(alloc, code, place)?;
     write!(line, " place {place} depth {depth} ")?;
     let excerpts = Excerpts::of(alloc, sections)?;
     let page = Page {
         sections,
         excerpts: &excerpts,
     };
-    let unit = sections
-        .row(row)
-        .and_then(|row| part(sections.code, row.unit));
-    let code = unit.unwrap_or(b"");
     if code.len() < place {
         line.push_str("none")?;
         return Ok(());
@@ -159,26 +161,19 @@ fn push_instruction(
     }
 }
 
-/// Prints where the fault is: the place of the first byte that is wrong, and what should be there.
+/// Prints that the fault is in a row, a name, a string or an instruction.
 pub fn print_spot<W: Write>(
     alloc: Global,
     bytes: &[u8],
+    sections: &Sections<'_>,
     spot: Spot,
     out: &mut W,
 ) -> Result<(), ShowFault> {
-    if let Spot::Field { number, readable } = spot {
-        return print_field(alloc, bytes, number, readable, out);
-    }
-    let Some(sections) = Sections::of(bytes) else {
-        return Ok(());
-    };
-    let (place, word, number) = place_of(bytes, &sections, spot);
+    let (place, word, number) = place_of(bytes, sections, spot);
     let mut line = format!(in alloc; "fault {place} {word} {number}")?;
     match spot {
-        Spot::Instruction { row, place, depth } => {
-            push_instruction(alloc, &sections, &mut line, row, place, depth)?;
-        }
-        other => push_fields(&sections, &mut line, other)?,
+        Spot::Instruction(site) => push_instruction(alloc, sections, &mut line, site)?,
+        other => push_fields(sections, &mut line, other)?,
     }
     print(alloc, out, line.as_str())
 }

@@ -18,7 +18,7 @@ ghost use Rattle.edd_instructions.specs.Validity.{BreaksFirst, IsValid};
 ghost use Rattle.edd_loader.specs.Faults.{rule_of};
 
 use edd_display::ShowFault;
-use edd_loader::{LoadFault, load};
+use edd_loader::{LoadFault, fault_in};
 use pages::{print_refused, print_whole};
 use std::alloc::Global;
 use std::io::Write;
@@ -33,15 +33,14 @@ pub fn dump<W: Write>(
     ensures sound { IfOk result (λ fault. MatchOption fault (IsValid bytes.now)
         (λ why. IfSome (rule_of why) (BreaksFirst bytes.now))) }
 {
-    match load(alloc, bytes) {
-        Ok(_) => {
+    match fault_in(alloc, bytes)? {
+        Some((fault, spot)) => {
+            print_refused(alloc, bytes, fault, spot, out)?;
+            Ok(Some(fault))
+        }
+        None => {
             print_whole(alloc, bytes, out)?;
             Ok(None)
-        }
-        Err(LoadFault::Memory) => Err(ShowFault::Memory),
-        Err(fault) => {
-            print_refused(alloc, bytes, fault, out)?;
-            Ok(Some(fault))
         }
     }
 }

@@ -1,10 +1,8 @@
-//! What bytes hold that may be no image, read as far as they go, and where they break a rule.
+//! What bytes hold that may be no image, read as far as they go.
 #![tactic(auto)]
 
-mod broken_rows;
-mod broken_strings;
-mod broken_units;
+pub mod depths;
 pub mod fields;
+pub mod header;
 pub mod sections;
-pub mod spots;
 pub mod variants;

@@ -1,17 +1,17 @@
 //! The sections of bytes whose lengths add up.
 
-ghost use Rattle.std.specs.Prelude.{◌≡◌, ◌≤◌, IfSome, length};
+ghost use Rattle.std.specs.Prelude.{◌≤◌, IfSome, length};
 
 use edd_image::{
     ATTRIBUTE_ROW, Counts, ELEMENT_ROW, HEADER_LENGTH, NAME_ROW, STRING_ROW, VARIABLE_ROW, VarKind,
-    Version, attribute_item, attribute_kind, attribute_length, attribute_number, attribute_padding,
+    Version, attribute_item, attribute_kind, attribute_length, attribute_number,
     attribute_rows_start, attribute_start, attribute_sub, code_start, counts, element_array,
     element_number, element_rows_start, element_variable, name_bytes_start, name_length,
-    name_padding, name_rows_start, name_start, sections_end, string_bytes_start, string_length,
+    name_rows_start, name_start, sections_end, string_bytes_start, string_length,
     string_rows_start, string_start, type_of, variable_padding, variable_rows_start, variable_size,
     variable_type, version,
 };
-use edd_syntax::numbers::{ArrNo, Attr, Element, ItemNo, Kind, MethNo, VarNo};
+use edd_syntax::numbers::{ArrNo, Attr, Element, ItemNo, VarNo};
 
 /// How many bytes a name has at most.
 const LONGEST_NAME: usize = 255;
@@ -31,12 +31,11 @@ pub struct Sections<'a> {
     pub strings: &'a [u8],
 }
 
-/// A part of a section, and whether the zero beside it is 0.
+/// A part of a section.
 #[derive(Clone, Copy)]
 pub struct Span {
     pub start: usize,
     pub length: usize,
-    pub has_zero: bool,
 }
 
 /// The fields of a variable row, as they are.
@@ -83,7 +82,6 @@ fn name_span(row: &[u8]) -> Span
     Span {
         start: name_start(row, 0) as usize,
         length: usize::from(name_length(row, 0)),
-        has_zero: name_padding(row, 0) == 0,
     }
 }
 
@@ -93,7 +91,6 @@ fn string_span(row: &[u8]) -> Span
     Span {
         start: string_start(row, 0) as usize,
         length: string_length(row, 0) as usize,
-        has_zero: true,
     }
 }
 
@@ -108,14 +105,8 @@ fn fields(row: &[u8]) -> RowFields
         unit: Span {
             start: attribute_start(row, 0) as usize,
             length: attribute_length(row, 0) as usize,
-            has_zero: attribute_padding(row, 0) == 0,
         },
     }
-}
-
-// The numbers by which rows rise, but the last, as one.
-fn rank(kind: u8, attribute: u8, item: u16) -> u32 {
-    (u32::from(kind) * 256 + u32::from(attribute)) * 65_536 + u32::from(item)
 }
 
 fn element(row: &[u8]) -> Element
@@ -249,29 +240,6 @@ impl<'a> Sections<'a> {
     /// The fields of an attribute row.
     pub fn row(&self, number: usize) -> Option<RowFields> {
         Some(fields(row_at(self.attribute_rows, ATTRIBUTE_ROW, number)?))
-    }
-
-    /// Whether the method has a body, where the rows rise.
-    pub fn has_body(&self, method: MethNo) -> bool {
-        let sought = rank(Kind::Method.number(), Attr::Definition.number(), method.0);
-        let mut low = 0;
-        let mut high = self.row_count();
-        while low < high {
-            let middle = low + (high - low) / 2;
-            let Some(row) = self.row(middle) else {
-                return false;
-            };
-            let here = rank(row.kind, row.attribute, row.item);
-            if here == sought {
-                return true;
-            }
-            if here < sought {
-                low = middle + 1;
-            } else {
-                high = middle;
-            }
-        }
-        false
     }
 
     /// The fields of an element row, whether or not there are such an array and such a variable.

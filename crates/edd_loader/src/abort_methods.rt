@@ -2,6 +2,7 @@
 
 ghost use Rattle.std.specs.Prelude.{◌≡◌, ◌+◌, ◌*◌, ◌≤◌, IsTrue, false, length};
 ghost use Rattle.std.specs.List.{list_all};
+ghost use Rattle.std.specs.Option.{is_none};
 ghost use Rattle.edd_image.specs.Contents.{attribute_fields, contents_in, rows_from};
 ghost use Rattle.edd_image.specs.Fields.{attribute_rows_start, header_length};
 ghost use Rattle.edd_instructions.specs.Validity.{EachUnitKeeps, adds_with_body, all_add_with_body, are_rows};
@@ -13,6 +14,7 @@ ghost use Rattle.edd_loader.specs.Sections.{AreSectionsOf, lies_within};
 use crate::attributes::DEFINITION;
 use crate::ranks::body_row;
 use crate::spans::{part, place_in};
+use crate::spot::Site;
 use edd_image::{
     ATTRIBUTE_ROW, Version, attribute_count, attribute_length, attribute_number,
     attribute_rows_start, attribute_start, code_length, code_start, version,
@@ -33,25 +35,25 @@ fn adds_with_body(bytes: &[u8], start: usize, instruction: Instruction) -> bool
     }
 }
 
-// Whether each method that a unit adds has a body.
-fn unit_adds_with_body(bytes: &[u8], start: usize, unit: &[u8]) -> bool
+// The first place of a unit that adds a method without a body.
+fn bodiless_in_unit(bytes: &[u8], start: usize, unit: &[u8]) -> Option<usize>
     requires sections { AreSectionsOf bytes.now }
     requires rows { IsTrue (are_rows (contents_in bytes.now)) }
     requires start { start ≡ attribute_rows_start bytes.now }
-    ensures { result ≡ unit_adds_with_body (contents_in bytes.now) unit.now }
+    ensures { is_none result ≡ unit_adds_with_body (contents_in bytes.now) unit.now }
 {
     let mut place = 0;
     while let Some((instruction, next)) = decode(unit, place) {
         if !adds_with_body(bytes, start, instruction) {
-            return false;
+            return Some(place);
         }
         place = next;
     }
-    true
+    None
 }
 
 // The same of the unit of a row, which adds none if it is no method's body.
-fn row_adds_with_body(bytes: &[u8], start: usize, code: &[u8], row: usize) -> bool
+fn bodiless_in_row(bytes: &[u8], start: usize, code: &[u8], row: usize) -> Option<usize>
     requires sections { AreSectionsOf bytes.now }
     requires rows { IsTrue (are_rows (contents_in bytes.now)) }
     requires start { start ≡ attribute_rows_start bytes.now }
@@ -60,19 +62,19 @@ fn row_adds_with_body(bytes: &[u8], start: usize, code: &[u8], row: usize) -> bo
         (attribute_fields bytes.now row).span) }
     requires others { IsTrue (is_body_or_adds (contents_in bytes.now) code.now
         (attribute_fields bytes.now row)) }
-    ensures { result ≡ row_adds_with_body (contents_in bytes.now) code.now
+    ensures { is_none result ≡ row_adds_with_body (contents_in bytes.now) code.now
         (attribute_fields bytes.now row) }
 {
     if attribute_number(bytes, row) != DEFINITION {
-        return true;
+        return None;
     }
     let place = attribute_start(bytes, row) as usize;
     let size = attribute_length(bytes, row) as usize;
-    unit_adds_with_body(bytes, start, part(code, place, size))
+    bodiless_in_unit(bytes, start, part(code, place, size))
 }
 
 // The same of `count` rows, which are all that there are.
-fn rows_add_with_body(bytes: &[u8], start: usize, code: &[u8], count: usize) -> bool
+fn bodiless_in_rows(bytes: &[u8], start: usize, code: &[u8], count: usize) -> Option<Site>
     requires sections { AreSectionsOf bytes.now }
     requires rows { IsTrue (are_rows (contents_in bytes.now)) }
     requires start { start ≡ attribute_rows_start bytes.now }
@@ -81,15 +83,15 @@ fn rows_add_with_body(bytes: &[u8], start: usize, code: &[u8], count: usize) -> 
         (rows_from (attribute_fields bytes.now) 16 count start)) }
     requires others { IsTrue (list_all (is_body_or_adds (contents_in bytes.now) code.now)
         (rows_from (attribute_fields bytes.now) 16 count start)) }
-    ensures { result ≡ list_all (row_adds_with_body (contents_in bytes.now) code.now)
+    ensures { is_none result ≡ list_all (row_adds_with_body (contents_in bytes.now) code.now)
         (rows_from (attribute_fields bytes.now) 16 count start) }
 {
-    for index in 0..count {
-        if !row_adds_with_body(bytes, start, code, start + ATTRIBUTE_ROW * index) {
-            return false;
+    for row in 0..count {
+        if let Some(place) = bodiless_in_row(bytes, start, code, start + ATTRIBUTE_ROW * row) {
+            return Some(Site { row, place });
         }
     }
-    true
+    None
 }
 
 // Whether the version is the second one, if it is known. The first has no abort methods.
@@ -104,20 +106,20 @@ fn is_of_version_two(bytes: &[u8]) -> bool
     }
 }
 
-/// Whether each abort method that a unit adds has a body. It takes no memory: for each the rows are
-/// searched by halving.
-pub fn all_add_with_body(bytes: &[u8]) -> bool
+/// The first instruction that adds an abort method without a body. It takes no memory: for each the
+/// rows are searched by halving.
+pub fn first_bodiless(bytes: &[u8]) -> Option<Site>
     requires sections { AreSectionsOf bytes.now }
     requires rows { IsTrue (are_rows (contents_in bytes.now)) }
     requires chains { EachUnitKeeps (contents_in bytes.now) Chain }
-    ensures { result ≡ all_add_with_body (contents_in bytes.now) }
+    ensures { is_none result ≡ all_add_with_body (contents_in bytes.now) }
 {
     if !is_of_version_two(bytes) {
-        return true;
+        return None;
     }
     let start = attribute_rows_start(bytes);
     let count = attribute_count(bytes) as usize;
     let place = place_in(bytes, code_start(bytes));
     let size = code_length(bytes) as usize;
-    rows_add_with_body(bytes, start, part(bytes, place, size), count)
+    bodiless_in_rows(bytes, start, part(bytes, place, size), count)
 }

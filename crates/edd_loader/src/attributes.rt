@@ -1,11 +1,13 @@
 //! The rules on attribute rows. What rows say adds up in 64 bits, since it may be more than a
 //! length holds on a machine of 32.
 
-ghost use Rattle.std.specs.Prelude.{◌≡◌, ◌+◌, ◌*◌, ◌≤◌, ◌&&◌, length, map};
+ghost use Rattle.std.specs.Prelude.{◌≡◌, ◌+◌, ◌*◌, ◌≤◌, ◌&&◌, IfSome, length, map};
 ghost use Rattle.std.specs.List.{list_all};
+ghost use Rattle.std.specs.Option.{is_none};
 ghost use Rattle.edd_image.specs.Contents.{rows_from, attribute_fields};
 ghost use Rattle.edd_instructions.specs.Validity.{fills, rise, rises, sub_fits, has_attribute, is_attribute_row};
 ghost use Rattle.edd_loader.specs.Rows.{rises_next};
+ghost use Rattle.edd_loader.specs.Spots.{IsFirstBroken, attribute_rows_follow};
 
 use edd_image::{
     ATTRIBUTE_ROW, Counts, attribute_item, attribute_kind, attribute_length, attribute_number,
@@ -88,35 +90,41 @@ fn rises_next(bytes: &[u8], row: usize, left: usize) -> bool
     left == 0 || rises(bytes, row, row + ATTRIBUTE_ROW)
 }
 
-/// Whether `count` attribute rows, the first of which is at `start`, hold what they may hold
-/// and rise, and their units are one after the other and fill `end` bytes.
-pub fn are_attribute_rows(
+/// The first of `count` attribute rows from `start` on that holds what it may not hold, whose unit
+/// doesn't begin where the one before it ends, or to which the row before it doesn't rise. `count`
+/// where the units don't fill `end` bytes.
+pub fn broken_attribute_row(
     bytes: &[u8],
     counts: Counts,
     start: usize,
     count: usize,
     end: usize,
-) -> bool
+) -> Option<usize>
     requires { start + ATTRIBUTE_ROW * count ≤ length bytes.now }
-    ensures { result ≡ (list_all (is_attribute_row counts)
+    ensures whether { is_none result ≡ (list_all (is_attribute_row counts)
         (rows_from (attribute_fields bytes.now) 16 count start)
         && (rise (rows_from (attribute_fields bytes.now) 16 count start)
         && fills 0 (map (λ r. r.span) (rows_from (attribute_fields bytes.now) 16 count start))
         end)) }
+    ensures first { IfSome result (IsFirstBroken (attribute_rows_follow counts)
+        (λ n. rows_from (attribute_fields bytes.now) 16 n start) count) }
 {
     let mut place: u64 = 0;
     for index in 0..count {
         let row = start + ATTRIBUTE_ROW * index;
         if !is_attribute_row(bytes, counts, row) {
-            return false;
-        }
-        if !rises_next(bytes, row, count - index - 1) {
-            return false;
+            return Some(index);
         }
         if attribute_start(bytes, row) as u64 != place {
-            return false;
+            return Some(index);
+        }
+        if !rises_next(bytes, row, count - index - 1) {
+            return Some(index + 1);
         }
         place += attribute_length(bytes, row) as u64;
     }
-    place == end as u64
+    if place != end as u64 {
+        return Some(count);
+    }
+    None
 }

@@ -2,11 +2,13 @@
 
 ghost use Rattle.std.specs.Prelude.{◌≡◌, ◌≢◌, ℕ, ◌+◌, ◌*◌, ◌<◌, ◌≤◌, ◌&&◌, IfNone, IfSome, length, pos};
 ghost use Rattle.std.specs.List.{list_all};
+ghost use Rattle.std.specs.Option.{is_none};
 ghost use Rattle.edd_image.specs.Contents.{rows_from, element_fields, contents_in};
 ghost use Rattle.edd_syntax.specs.Elements.{element_variable};
 ghost use Rattle.edd_instructions.specs.Validity.{IsValid, elements_rise, is_element_before, is_element_row};
 ghost use Rattle.edd_loader.specs.Elements.{element_key, key_of};
 ghost use Rattle.edd_loader.specs.Rows.{is_before_next};
+ghost use Rattle.edd_loader.specs.Spots.{IsFirstBroken, element_rows_follow};
 ghost use Rattle.edd_loader.specs.Starts.{starts_in};
 
 use crate::starts::Starts;
@@ -47,24 +49,26 @@ fn is_before_next(bytes: &[u8], row: usize, left: usize) -> bool
     left == 0 || is_element_before(bytes, row, row + ELEMENT_ROW)
 }
 
-/// Whether `count` element rows, the first of which is at `start`, name arrays and variables
-/// that exist, and rise.
-pub fn are_element_rows(bytes: &[u8], counts: Counts, start: usize, count: usize) -> bool
+/// The first of `count` element rows from `start` on whose array or variable doesn't exist, or to
+/// which the row before it doesn't rise.
+pub fn broken_element_row(bytes: &[u8], counts: Counts, start: usize, count: usize) -> Option<usize>
     requires { start + ELEMENT_ROW * count ≤ length bytes.now }
-    ensures { result ≡ (list_all (is_element_row counts)
+    ensures whether { is_none result ≡ (list_all (is_element_row counts)
         (rows_from (element_fields bytes.now) 8 count start)
         && elements_rise (rows_from (element_fields bytes.now) 8 count start)) }
+    ensures first { IfSome result (IsFirstBroken (element_rows_follow counts)
+        (λ n. rows_from (element_fields bytes.now) 8 n start) count) }
 {
     for index in 0..count {
         let row = start + ELEMENT_ROW * index;
         if !is_element_row(bytes, counts, row) {
-            return false;
+            return Some(index);
         }
         if !is_before_next(bytes, row, count - index - 1) {
-            return false;
+            return Some(index + 1);
         }
     }
-    true
+    None
 }
 
 // The two numbers by which rows rise, as one.

@@ -1,6 +1,6 @@
 //! Images that were loaded.
 
-ghost use Rattle.std.specs.Prelude.{◌≡◌, ◌≢◌, IfErr, IfOk, IfNone, IfSome, IsTrue, OnOk, Some, is_some, option_map};
+ghost use Rattle.std.specs.Prelude.{◌≡◌, ◌≢◌, IfErr, IfOk, IfNone, IfSome, IsTrue, MatchOption, OnOk, Some, is_some, option_map};
 ghost use Rattle.std.specs.List.{slice_get};
 ghost use Rattle.edd_image.specs.Contents.{contents_in, fields_of_variable};
 ghost use Rattle.edd_image.specs.Existing.{item_exists, string_exists, variable_exists};
@@ -12,17 +12,19 @@ ghost use Rattle.edd_image.specs.Fields.{counts_in};
 ghost use Rattle.edd_instructions.specs.Validity.{BreaksFirst, IsValid};
 ghost use Rattle.edd_loader.specs.Texts.{given, seen};
 ghost use Rattle.edd_loader.specs.Faults.{rule_of};
+ghost use Rattle.edd_loader.specs.Spots.{IsSpotOf};
 ghost use Rattle.edd_loader.specs.Starts.{starts_in};
 
 use crate::checks::first_broken;
 use crate::elements::element_at;
 use crate::fault::{LoadFault, fault_of};
 use crate::lookups::{as_text, find, name_at, place_of_item, string_at, variable_at};
+use crate::spot::Spot;
 use crate::starts::{Starts, starts_in};
 use crate::texts::{Text, text_of};
 use edd_image::{Counts, VarKind, counts};
 use edd_syntax::numbers::{ArrNo, ItemNo, StrNo, VarNo};
-use std::alloc::Global;
+use std::alloc::{AllocError, Global};
 use std::marker::Model;
 
 /// A valid image in the bytes that it was lent, and where their sections start. Contracts see it as
@@ -56,13 +58,28 @@ pub fn load<'b>(alloc: Global, bytes: &'b [u8]) -> Result<Image<'b>, LoadFault>
     ensures accepted { OnOk result (IsValid bytes.now) }
     ensures refused { IfErr result (λ fault. IfSome (rule_of fault) (BreaksFirst bytes.now)) }
 {
-    if let Some(rule) = first_broken(alloc, bytes)? {
+    if let Some((rule, _)) = first_broken(alloc, bytes)? {
         return Err(fault_of(rule));
     }
     Ok(Image {
         bytes,
         starts: starts_in(bytes),
     })
+}
+
+/// The fault for which `load` refuses the bytes, if it does, and the first spot where they break its
+/// rule. That is never `Memory`.
+pub fn fault_in(alloc: Global, bytes: &[u8]) -> Result<Option<(LoadFault, Spot)>, AllocError>
+    ensures fault { IfOk result (λ found. MatchOption found (IsValid bytes.now)
+        (λ first. IfSome (rule_of first.0) (BreaksFirst bytes.now))) }
+    ensures known { IfOk result (λ found. IfSome found
+        (λ first. IsTrue (is_some (rule_of first.0)))) }
+    ensures spot { IfOk result (λ found. IfSome found (λ first. IsSpotOf bytes.now first.1)) }
+{
+    match first_broken(alloc, bytes)? {
+        Some((rule, spot)) => Ok(Some((fault_of(rule), spot))),
+        None => Ok(None),
+    }
 }
 
 /// The image in bytes that `load` has accepted, and that have not changed since: it reads the header

@@ -16,6 +16,7 @@ mod ranks;
 mod rows;
 mod sections;
 mod spans;
+mod spot;
 mod starts;
 mod survey;
 mod texts;
@@ -25,7 +26,9 @@ mod whole_unit;
 mod words;
 
 pub use fault::LoadFault;
-pub use image::{Image, load, reopen};
+pub use image::{Image, fault_in, load, reopen};
 pub use ranks::{attribute_row, body_row};
+pub use spot::{Site, Spot};
 pub use starts::Starts;
 pub use texts::Text;
+pub use words::{Piece, variant_from};

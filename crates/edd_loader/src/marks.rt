@@ -57,9 +57,9 @@ pub fn note(marks: &mut Vec<Mark>, place: usize, depth: u8) -> bool
 }
 
 impl Mark {
-    // Whether no jump leads here, or there is an instruction.
+    /// Whether no jump leads here, or there is an instruction.
     #[inline(always)]
-    fn is_settled(self) -> bool
+    pub fn is_settled(self) -> bool
         ensures { result ≡ is_settled self }
     {
         !matches!(self, Mark::Awaited(_))

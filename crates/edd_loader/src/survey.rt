@@ -29,6 +29,10 @@ pub struct Survey {
     pub agrees: bool,
     /// Whether all that is named exists.
     pub names: bool,
+    /// The first place where the numbers of operands don't agree or fit.
+    pub misfit: Option<usize>,
+    /// The first place where something is named that doesn't exist.
+    pub unnamed: Option<usize>,
 }
 
 impl Survey {
@@ -41,6 +45,8 @@ impl Survey {
           leads = true;
           agrees = true;
           names = true;
+          misfit = None;
+          unnamed = None;
         } }
     {
         Survey {
@@ -50,6 +56,8 @@ impl Survey {
             leads: true,
             agrees: true,
             names: true,
+            misfit: None,
+            unnamed: None,
         }
     }
 
@@ -137,6 +145,19 @@ impl Survey {
         }
     }
 
+    // Keeps the place where a rule is first seen broken.
+    fn keep_place(&mut self, place: usize)
+        ensures { self.new
+            ≡ record self.old { misfit = self.new.misfit; unnamed = self.new.unnamed } }
+    {
+        if !self.agrees && self.misfit.is_none() {
+            self.misfit = Some(place);
+        }
+        if !self.names && self.unnamed.is_none() {
+            self.unnamed = Some(place);
+        }
+    }
+
     /// Takes on the instruction at a place where so many operands are. False where it isn't
     /// allowed.
     pub fn take_on(
@@ -183,6 +204,7 @@ impl Survey {
         self.marks[place] = Mark::Stands(depth);
         self.bring(rest, instruction.onward(next));
         self.jump(context.sort, place, rest, instruction.jump());
+        self.keep_place(place);
         true
     }
 }

@@ -1,6 +1,7 @@
 use Rattle.std.proofs.Common.{arith, ◌∙◌}
 use Rattle.std.proofs.lemmas.Result.{MatchResult-weaker}
 use Rattle.edd_instructions.specs.Units.{UnitKeeps}
+use Rattle.edd_loader.specs.UnitRows.{rule_in}
 use Rattle.edd_loader.proofs.BrokenUnits.{broken_of_more}
 use Rattle.edd_loader.proofs.Spaces.{rooms, units_lie}
 use Rattle.edd_loader.proofs.UnitTurns.{are_units_of, to_units, from_units}
@@ -49,7 +50,7 @@ returns-clause-broken c =
     c.code_length-size.ensures c.known_version.ensures c.counts.ensures
     c.attribute_rows_start-start.ensures.start c.attribute_count-count.ensures in
     MatchResult-weaker c.broken_in_rows.result c.broken_in_rows.ensures.broken
-    (λ broken breaks. broken_of_more broken _ _
+    (λ broken breaks. broken_of_more (rule_in broken) _ _
     (λ which kept. from_units (λ context unit. UnitKeeps context unit which) _ _ _ _ _ same
     kept) breaks)
     (λ _ t. t)

@@ -4,7 +4,7 @@ use Rattle.edd_instructions.specs.declared.rules.UnitRule.{UnitRule}
 use Rattle.edd_image.specs.Contents.{attribute_fields, rows_from, AttributeFields}
 use Rattle.edd_instructions.specs.Units.{UnitKeeps}
 use Rattle.edd_loader.specs.Sections.{lies_within}
-use Rattle.edd_loader.specs.UnitRows.{RowKeeps}
+use Rattle.edd_loader.specs.UnitRows.{RowKeeps, rule_in}
 use Rattle.edd_loader.proofs.BrokenUnits.{keeps_before, breaks_all, before_both, one_of}
 use Rattle.edd_loader.proofs.RowTurns.{row_at, no_row, first_passes, rest_passes, span_inside}
 use Rattle.edd_loader.proofs.UnitTurns.{first_holds, rest_holds, both_hold, none_hold, holds_here, kept_here}
@@ -32,7 +32,7 @@ loop-index-preserved c =
       within = rest_passes (λ (r : AttributeFields). lies_within (length c.args.code.now) r.span) _
           _ _ here before.within;
       kept = λ earlier lt others.
-          let both = before_both c.loop-index.broken c.in_ok-found.found _
+          let both = before_both (rule_in c.loop-index.broken) (rule_in c.in_ok-found.found) _
           (rw c.first_of-broken.ensures at lt) in
           let first = holds_here (λ context unit. UnitKeeps context unit earlier) _ _ _ _ row _ _ _
           c.context_of-context.ensures c.part-unit.ensures c.attribute_start-place.ensures
@@ -40,8 +40,8 @@ loop-index-preserved c =
           before.kept earlier both.0 (both_hold (keeps earlier) _ _ _ here first others);
       back = λ which every. rest_holds (keeps which) _ _ _ here (before.back which every);
       broken = rw c.first_of-broken.ensures (one_of (λ which. ¬ AllByRecursion (keeps which) all)
-          c.loop-index.broken c.in_ok-found.found before.broken
-          (breaks_all _ _ c.in_ok-found.found (λ which. AllByRecursion (keeps which) all) found
+          (rule_in c.loop-index.broken) (rule_in c.in_ok-found.found) before.broken
+          (breaks_all _ _ (rule_in c.in_ok-found.found) (λ which. AllByRecursion (keeps which) all) found
           (λ which every. kept_here _ _ _ _ row _ _ _ which c.context_of-context.ensures
           c.part-unit.ensures c.attribute_start-place.ensures c.attribute_length-size.ensures
           (first_holds (keeps which) _ _ _ here (before.back which every)))));

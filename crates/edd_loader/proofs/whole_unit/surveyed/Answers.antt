@@ -10,12 +10,12 @@ pub loop-place-init : goal.loop-place-init
 loop-place-init c = rw c.of-survey.ensures
     (record { walk = c.requires.walk; room = c.requires.room; nothing = c.requires.nothing })
 
-pub returns-in_default : goal.returns-in_default
-returns-in_default c = stops_short _ _ _ _ _ _ _ _ c.loop-place.invariant.walk
+pub returns-in_default-clause-refused : goal.returns-in_default-clause-refused
+returns-in_default-clause-refused c = stops_short _ _ _ _ _ _ _ _ c.loop-place.invariant.walk
     c.loop-place-test.true (sym c.decode.ensures.value ∙ c.in_default.is)
 
-pub returns-then-not-take_on : goal.returns-then-not-take_on
-returns-then-not-take_on c = not_allowed _ _ _ _ _ (c.in-Some.instruction, c.in-Some.next) _ _ _
+pub returns-then-not-take_on-clause-refused : goal.returns-then-not-take_on-clause-refused
+returns-then-not-take_on-clause-refused c = not_allowed _ _ _ _ _ (c.in-Some.instruction, c.in-Some.next) _ _ _
     c.loop-place.invariant.walk (sym c.decode.ensures.value ∙ c.in-Some.is)
     (sym c.take_on.ensures.allowed ∙ c.if-not-take_on.true)
 
@@ -53,8 +53,8 @@ loop-place-preserved c =
       nothing = taken.nothing refl;
     }
 
-pub returns : goal.returns
-returns c = record {
+pub returns-clause-whole : goal.returns-clause-whole
+returns-clause-whole c = record {
   some = some_bytes _ (sym c.is_empty.ensures ∙ c.if-is_empty.false);
   place = c.loop-place.place;
   past = c.loop-place-test.false;

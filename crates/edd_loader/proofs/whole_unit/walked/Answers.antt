@@ -3,7 +3,7 @@ use Rattle.edd_instructions.specs.Units.{leaves}
 use Rattle.edd_loader.specs.Marks.{brought, mark_at}
 use Rattle.edd_loader.proofs.MarkLaws.{mark_there}
 use Rattle.edd_loader.proofs.WalkGoes.{walk_goes_on, walk_again}
-use Rattle.edd_loader.proofs.WalkStarts.{stops_short, walk_starts, brings_room, as_many}
+use Rattle.edd_loader.proofs.WalkStarts.{walk_starts, brings_room, as_many}
 use Rattle.edd_loader.proofs.whole_unit.walked.Goals as goal
 
 pub loop-place-init : goal.loop-place-init
@@ -39,10 +39,6 @@ loop-place-preserved c =
       room = taken.room refl;
       nothing = taken.nothing refl;
     }
-
-pub returns-in_default-decode : goal.returns-in_default-decode
-returns-in_default-decode c = stops_short _ _ _ _ _ _ _ _ c.loop-place.invariant.walk
-    c.loop-place-test.true (sym c.decode.ensures.value ∙ c.in_default-decode.is)
 
 pub returns-then-not-take_on : goal.returns-then-not-take_on
 returns-then-not-take_on c =
