@@ -2,8 +2,11 @@
 use Rattle.std.specs.Prelude.{◌≡◌, List, Option, Some, None, IfSome, codes, string_bytes}
 use Rattle.edd_breaches.specs.declared.fault.RuleFault.{RuleFault}
 use Rattle.edd_breaches.specs.declared.fault.RuleFault.TheVariants as fault
+use Rattle.edd_breaches.specs.declared.breach.Rule.{Rule}
+use Rattle.edd_breaches.specs.declared.breach.Rule.TheVariants as rule
 use Rattle.edd_syntax.specs.declared.limits.Limit.{Limit}
 use Rattle.edd_syntax.specs.declared.limits.Limit.TheVariants as limit
+use Rattle.edd_syntax.specs.declared.numbers.TokenNo.{TokenNo}
 use Rattle.edd_syntax.specs.Refusal as refusal
 use Rattle.edd_syntax.specs.Refusal.{Refusal, first_of}
 use Rattle.edd_syntax.specs.Text.{Name}
@@ -41,3 +44,25 @@ refusal_of_fault fault.Memory = None
 -- the fault is the first of the breaches, unless memory was refused
 abbrev pub IsFirstOf : List Refusal → RuleFault → Type 0
 IsFirstOf breaches f = IfSome (refusal_of_fault f) (λ why. first_of breaches ≡ Some why)
+
+-- ---- the token at fault, which a fault has whose refusal says no name
+
+-- of a fault
+abbrev pub place_of_fault : RuleFault → Option TokenNo
+place_of_fault (fault.Mismatch at) = at
+place_of_fault (fault.FloatValue at) = at
+place_of_fault (fault.BreakOutside at) = at
+place_of_fault (fault.ConstRange at) = at
+place_of_fault (fault.DuplicateCase at) = at
+place_of_fault (fault.DuplicateElement at) = at
+place_of_fault _ = None
+
+-- what a fault has of the place of a breach of this rule
+abbrev pub place_kept : Rule → (place : Option TokenNo) → Option TokenNo
+place_kept rule.Mismatch place = place
+place_kept rule.FloatValue place = place
+place_kept rule.BreakOutside place = place
+place_kept rule.ConstRange place = place
+place_kept rule.DuplicateCase place = place
+place_kept rule.DuplicateElement place = place
+place_kept _ place = None

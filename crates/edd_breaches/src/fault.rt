@@ -1,7 +1,7 @@
 //! Why a description is refused: the first rule that it breaks.
 
 ghost use Rattle.std.specs.Prelude.{◌≡◌, Some, IfOk};
-ghost use Rattle.edd_breaches.specs.Faults.{limit_word, refusal_of_fault};
+ghost use Rattle.edd_breaches.specs.Faults.{limit_word, place_kept, place_of_fault, refusal_of_fault};
 ghost use Rattle.edd_breaches.specs.Told.{refusal_of};
 
 use crate::breach::{Breach, Rule};
@@ -81,6 +81,8 @@ impl RuleFault {
     /// The fault of a rule that is broken, with copies of its names.
     pub fn of(alloc: Global, breach: &Breach<'_>) -> Result<RuleFault, AllocError>
         ensures sound { IfOk result (λ f. refusal_of_fault f ≡ Some (refusal_of breach.now.rule)) }
+        ensures placed { IfOk result
+            (λ f. place_of_fault f ≡ place_kept breach.now.rule breach.now.place) }
     {
         let at = breach.place;
         match breach.rule {
@@ -114,7 +116,9 @@ impl RuleFault {
     }
 
     /// The token at fault, unless the fault has names or is out of memory.
-    pub fn place(&self) -> Option<TokenNo> {
+    pub fn place(&self) -> Option<TokenNo>
+        ensures { result ≡ place_of_fault self.now }
+    {
         match self {
             RuleFault::Mismatch { at }
             | RuleFault::FloatValue { at }

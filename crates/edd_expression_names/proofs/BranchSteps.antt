@@ -6,9 +6,10 @@ use Rattle.std.proofs.lemmas.List.{append-nil}
 use Rattle.edd_breaches.specs.declared.breach.Breach.{Breach}
 use Rattle.edd_name_meanings.specs.Meanings.{Means, NoFault}
 use Rattle.edd_name_meanings.specs.Copies.{Meant, Tells}
+use Rattle.edd_name_meanings.specs.PathsIn.{paths_in_arms, paths_in_cond, paths_in_conds, paths_in_expr}
 use Rattle.edd_expression_names.specs.ResolvedParts.{resolved_arm}
 use Rattle.edd_expression_names.proofs.ExprSteps.{bound, regroup}
-use Rattle.edd_name_meanings.proofs.UseLaws.{tells_append, none_left, none_right}
+use Rattle.edd_name_meanings.proofs.UseLaws.{tells_append, retold, none_left, none_right}
 use Rattle.edd_syntax.specs.declared.numbers.TokenNo.{TokenNo}
 use Rattle.edd_syntax.specs.declared.cond.Cond as code
 use Rattle.edd_syntax.specs.declared.cond.Cond.TheVariants as c
@@ -20,8 +21,9 @@ use Rattle.edd_syntax.specs.declared.reference.Target.{Target}
 use Rattle.edd_syntax.specs.Reference.{Path}
 use Rattle.edd_syntax.specs.Item.{Description}
 use Rattle.edd_syntax.specs.Conditional.{Cond, Value, If, Select, Conds, Cons, Arm, Case, Default, Arms, ConsArm, conds_from, arms_from}
-use Rattle.edd_syntax.specs.ItemView.{cond_of, arm_of, numbered_arm, numbered_cond}
+use Rattle.edd_syntax.specs.ItemView.{cond_of, conds_of, arm_of, numbered_arm, numbered_cond}
 use Rattle.edd_syntax.specs.NameUses.{Use, attribute_expr_uses, cond_uses, conds_uses, arms_uses}
+use Rattle.edd_syntax.specs.ReferenceOrder.{cond_references, conds_references, arms_references}
 use Rattle.edd_syntax.specs.ResolvedTrees.{◌>>=◌, Meanings, at_attribute, resolved_expr, resolved_cond, resolved_conds, resolved_arms}
 use Rattle.edd_syntax.specs.TreeView.{path_of, expr_of, numbered_expr}
 use Rattle.edd_syntax.proofs.CondRows.{of_value, of_if, of_select, of_case, of_default}
@@ -44,6 +46,31 @@ module _ {V : Type 0} (of : V → List Use) where
 
   pub one_cond : (x : Cond Path V) → cond_uses of x ≡ conds_uses of (conds_from (x ∷ []))
   one_cond x = sym (append-nil (cond_uses of x))
+
+-- the paths of the elements, in the same way
+module _ {V W : Type 0} (seen : V → W) (of : W → List code_path.Path) where
+  pub conds_paths_split : (x : code.Cond code_path.Path V) (xs : List (code.Cond code_path.Path V))
+      → paths_in_conds seen of (x ∷ xs) ≡ paths_in_conds seen of (x ∷ [])
+      ++ paths_in_conds seen of xs
+  conds_paths_split x xs = ap (λ ps. ps ++ paths_in_conds seen of xs)
+      (sym (append-nil (paths_in_cond seen of x)))
+
+  references_split : (y : Arm code_path.Path W) (ys : List (Arm code_path.Path W))
+      → arms_references of (arms_from (y ∷ ys)) ≡ arms_references of (arms_from (y ∷ []))
+      ++ arms_references of (arms_from ys)
+  references_split (Case label body) ys = ap (λ ps. ps ++ arms_references of (arms_from ys))
+      (sym (append-nil (conds_references of body)))
+  references_split (Default body) ys = ap (λ ps. ps ++ arms_references of (arms_from ys))
+      (sym (append-nil (conds_references of body)))
+
+  pub arms_paths_split : (x : code_arm.Arm code_path.Path V)
+      (xs : List (code_arm.Arm code_path.Path V)) → paths_in_arms seen of (x ∷ xs)
+      ≡ paths_in_arms seen of (x ∷ []) ++ paths_in_arms seen of xs
+  arms_paths_split x xs = references_split (arm_of (λ p. p) seen x) (map (arm_of (λ p. p) seen) xs)
+
+  pub one_path : (x : code.Cond code_path.Path V) → paths_in_cond seen of x
+      ≡ paths_in_conds seen of (x ∷ [])
+  one_path x = sym (append-nil (paths_in_cond seen of x))
 
 module _ {V W : Type 0} (at : Meanings) (of : V → Option W) where
   pub conds_joined : (y : Cond Path V) (ys : List (Cond Path V)) (w : Cond Target W)
@@ -112,8 +139,9 @@ module _ {V W : Type 0} (at : Meanings) (of : V → Option W) where
 
 -- ---- the variants of the code
 
-module _ {V W X Y : Type 0} (unit : Description Path) (before : V → W) (after : X → Y) (uses : W
-    → List Use) (meant : Description Path → W → Option Y) where
+module _ {V W X Y P : Type 0} (unit : Description Path) (before : V → W) (after : X → Y) (uses : W
+    → List Use) (meant : Description Path → W → Option Y) (placed : V → P)
+    (paths : P → List code_path.Path) where
   abbrev pub listed : List (code.Cond code_path.Path V) → Conds Path W
   listed xs = conds_from (map (cond_of path_of before) xs)
 
@@ -121,12 +149,17 @@ module _ {V W X Y : Type 0} (unit : Description Path) (before : V → W) (after 
   armed xs = arms_from (map (arm_of path_of before) xs)
 
   module _ (x : code.Cond code_path.Path V) (v : V) (is : x ≡ c.Value v) where
-    value : cond_of path_of before x ≡ Value (before v)
-    value = ap (cond_of path_of before) is ∙ of_value path_of before v
+    valued : {S U : Type 0} (f : code_path.Path → S) (g : V → U) → cond_of f g x ≡ Value (g v)
+    valued f g = ap (cond_of f g) is ∙ of_value f g v
 
-    pub value_told : (old new : List Breach) → Tells unit (uses (before v)) old new
-        → Tells unit (cond_uses uses (cond_of path_of before x)) old new
-    value_told old new h = subst (λ t. Tells unit (cond_uses uses t) old new) (sym value) h
+    value : cond_of path_of before x ≡ Value (before v)
+    value = valued path_of before
+
+    pub value_told : (old new : List Breach) → Tells unit (uses (before v)) (paths (placed v)) old new
+        → Tells unit (cond_uses uses (cond_of path_of before x)) (paths_in_cond placed paths x) old
+        new
+    value_told old new h = retold unit _ _ _ _ old new (ap (cond_uses uses) (sym value))
+        (ap (cond_references paths) (sym (valued (λ r. r) placed))) h
 
     pub value_means : (w : X) → Meant unit (uses (before v)) (meant unit (before v)) (after w)
         → Meant unit (cond_uses uses (cond_of path_of before x))
@@ -142,20 +175,26 @@ module _ {V W X Y : Type 0} (unit : Description Path) (before : V → W) (after 
       (v w : Vec (code.Cond code_path.Path V) alloc.Global)
       (xs ys : List (code.Cond code_path.Path V)) (is : x ≡ c.If test v w) (same : xs ≡ v.items)
       (same' : ys ≡ w.items) where
+    chosen : {S U : Type 0} (f : code_path.Path → S) (g : V → U) → cond_of f g x
+        ≡ If (expr_of f test) (conds_of f g xs) (conds_of f g ys)
+    chosen f g = ap (cond_of f g) is ∙ of_if f g test v w
+        ∙ ap (λ zs. If (expr_of f test) (conds_of f g zs) (conds_of f g w.items)) (sym same)
+        ∙ ap (λ zs. If (expr_of f test) (conds_of f g xs) (conds_of f g zs)) (sym same')
+
     if_is : cond_of path_of before x ≡ If (expr_of path_of test) (listed xs) (listed ys)
-    if_is = ap (cond_of path_of before) is ∙ of_if path_of before test v w
-        ∙ ap (λ zs. If (expr_of path_of test) (listed zs) (listed w.items)) (sym same)
-        ∙ ap (λ zs. If (expr_of path_of test) (listed xs) (listed zs)) (sym same')
+    if_is = chosen path_of before
 
     pub if_told : (old first otherwise new : List Breach)
-        → Tells unit (attribute_expr_uses (expr_of path_of test)) old first
-        → Tells unit (conds_uses uses (listed xs)) first otherwise
-        → Tells unit (conds_uses uses (listed ys)) otherwise new
-        → Tells unit (cond_uses uses (cond_of path_of before x)) old new
+        → Tells unit (attribute_expr_uses (expr_of path_of test)) (paths_in_expr test) old first
+        → Tells unit (conds_uses uses (listed xs)) (paths_in_conds placed paths xs) first otherwise
+        → Tells unit (conds_uses uses (listed ys)) (paths_in_conds placed paths ys) otherwise new
+        → Tells unit (cond_uses uses (cond_of path_of before x)) (paths_in_cond placed paths x) old
+        new
     if_told old first otherwise new h k m =
-        subst (λ t. Tells unit (cond_uses uses t) old new) (sym if_is)
-        (tells_append unit (attribute_expr_uses (expr_of path_of test)) _ old first new h
-        (tells_append unit (conds_uses uses (listed xs)) _ first otherwise new k m))
+        retold unit _ _ _ _ old new (ap (cond_uses uses) (sym if_is))
+        (ap (cond_references paths) (sym (chosen (λ r. r) placed)))
+        (tells_append unit _ _ (paths_in_expr test) _ old first new h
+        (tells_append unit _ _ (paths_in_conds placed paths xs) _ first otherwise new k m))
 
     pub if_means : (test' : code_expr.Expr Target) (v' w' : Vec (code.Cond Target X) alloc.Global)
         → Meant unit (attribute_expr_uses (expr_of path_of test))
@@ -185,17 +224,23 @@ module _ {V W X Y : Type 0} (unit : Description Path) (before : V → W) (after 
       (v : Vec (code_arm.Arm code_path.Path V) alloc.Global)
       (xs : List (code_arm.Arm code_path.Path V)) (is : x ≡ c.Select on v) (same : xs ≡ v.items)
     where
+      selected : {S U : Type 0} (f : code_path.Path → S) (g : V → U) → cond_of f g x
+          ≡ Select (expr_of f on) (arms_from (map (arm_of f g) xs))
+      selected f g = ap (cond_of f g) is ∙ of_select f g on v
+          ∙ ap (λ zs. Select (expr_of f on) (arms_from (map (arm_of f g) zs))) (sym same)
+
       select_is : cond_of path_of before x ≡ Select (expr_of path_of on) (armed xs)
-      select_is = ap (cond_of path_of before) is ∙ of_select path_of before on v
-          ∙ ap (λ zs. Select (expr_of path_of on) (armed zs)) (sym same)
+      select_is = selected path_of before
 
       pub select_told : (old mid new : List Breach)
-          → Tells unit (attribute_expr_uses (expr_of path_of on)) old mid
-          → Tells unit (arms_uses uses (armed xs)) mid new
-          → Tells unit (cond_uses uses (cond_of path_of before x)) old new
+          → Tells unit (attribute_expr_uses (expr_of path_of on)) (paths_in_expr on) old mid
+          → Tells unit (arms_uses uses (armed xs)) (paths_in_arms placed paths xs) mid new
+          → Tells unit (cond_uses uses (cond_of path_of before x)) (paths_in_cond placed paths x) old
+          new
       select_told old mid new h k =
-          subst (λ t. Tells unit (cond_uses uses t) old new) (sym select_is)
-          (tells_append unit (attribute_expr_uses (expr_of path_of on)) _ old mid new h k)
+          retold unit _ _ _ _ old new (ap (cond_uses uses) (sym select_is))
+          (ap (cond_references paths) (sym (selected (λ r. r) placed)))
+          (tells_append unit _ _ (paths_in_expr on) _ old mid new h k)
 
       pub select_means : (on' : code_expr.Expr Target)
           (v' : Vec (code_arm.Arm Target X) alloc.Global)
@@ -225,17 +270,29 @@ module _ {V W X Y : Type 0} (unit : Description Path) (before : V → W) (after 
     same_uses y e same = sym (append-nil (conds_uses uses (listed xs))) ∙ same
         ∙ ap (λ z. arms_uses uses (arms_from (z ∷ []))) (sym e)
 
+    same_paths : (y : Arm code_path.Path P) → arm_of (λ r. r) placed x ≡ y
+        → paths_in_conds placed paths xs ++ [] ≡ arms_references paths (arms_from (y ∷ []))
+        → paths_in_conds placed paths xs ≡ paths_in_arms placed paths (x ∷ [])
+    same_paths y e same = sym (append-nil (paths_in_conds placed paths xs)) ∙ same
+        ∙ ap (λ z. arms_references paths (arms_from (z ∷ []))) (sym e)
+
     module _ (label : ℤ) (v : Vec (code.Cond code_path.Path V) alloc.Global)
         (is : x ≡ a.Case label v) (same : xs ≡ v.items) where
+      labelled : {S U : Type 0} (f : code_path.Path → S) (g : V → U) → arm_of f g x
+          ≡ Case label (conds_of f g xs)
+      labelled f g = ap (arm_of f g) is ∙ of_case f g label v
+          ∙ ap (λ zs. Case label (conds_of f g zs)) (sym same)
+
       case_is : arm_of path_of before x ≡ Case label (listed xs)
-      case_is = ap (arm_of path_of before) is ∙ of_case path_of before label v
-          ∙ ap (λ zs. Case label (listed zs)) (sym same)
+      case_is = labelled path_of before
 
       pub case_told : (old new : List Breach)
-          → Tells unit (conds_uses uses (listed xs)) old new
-          → Tells unit (arms_uses uses (arms_from (arm_of path_of before x ∷ []))) old new
-      case_told old new h = subst (λ us. Tells unit us old new)
-          (same_uses (Case label (listed xs)) case_is refl) h
+          → Tells unit (conds_uses uses (listed xs)) (paths_in_conds placed paths xs) old new
+          → Tells unit (arms_uses uses (arms_from (arm_of path_of before x ∷ [])))
+          (paths_in_arms placed paths (x ∷ [])) old new
+      case_told old new h = retold unit _ _ _ _ old new
+          (same_uses (Case label (listed xs)) case_is refl)
+          (same_paths (Case label (conds_of (λ r. r) placed xs)) (labelled (λ r. r) placed) refl) h
 
       pub case_means : (w : Vec (code.Cond Target X) alloc.Global)
           → Meant unit (conds_uses uses (listed xs))
@@ -254,15 +311,21 @@ module _ {V W X Y : Type 0} (unit : Description Path) (before : V → W) (after 
 
     module _ (token : TokenNo) (v : Vec (code.Cond code_path.Path V) alloc.Global)
         (is : x ≡ a.Default token v) (same : xs ≡ v.items) where
+      unlabelled : {S U : Type 0} (f : code_path.Path → S) (g : V → U) → arm_of f g x
+          ≡ Default (conds_of f g xs)
+      unlabelled f g = ap (arm_of f g) is ∙ of_default f g token v
+          ∙ ap (λ zs. Default (conds_of f g zs)) (sym same)
+
       default_is : arm_of path_of before x ≡ Default (listed xs)
-      default_is = ap (arm_of path_of before) is ∙ of_default path_of before token v
-          ∙ ap (λ zs. Default (listed zs)) (sym same)
+      default_is = unlabelled path_of before
 
       pub default_told : (old new : List Breach)
-          → Tells unit (conds_uses uses (listed xs)) old new
-          → Tells unit (arms_uses uses (arms_from (arm_of path_of before x ∷ []))) old new
-      default_told old new h = subst (λ us. Tells unit us old new)
-          (same_uses (Default (listed xs)) default_is refl) h
+          → Tells unit (conds_uses uses (listed xs)) (paths_in_conds placed paths xs) old new
+          → Tells unit (arms_uses uses (arms_from (arm_of path_of before x ∷ [])))
+          (paths_in_arms placed paths (x ∷ [])) old new
+      default_told old new h = retold unit _ _ _ _ old new
+          (same_uses (Default (listed xs)) default_is refl)
+          (same_paths (Default (conds_of (λ r. r) placed xs)) (unlabelled (λ r. r) placed) refl) h
 
       pub default_means : (w : Vec (code.Cond Target X) alloc.Global)
           → Meant unit (conds_uses uses (listed xs))

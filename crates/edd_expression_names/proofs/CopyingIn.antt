@@ -6,7 +6,8 @@ use Rattle.edd_breaches.specs.declared.breach.Breach.{Breach}
 use Rattle.edd_name_meanings.specs.Meanings.{Means, NoFault}
 use Rattle.edd_name_meanings.specs.Copies.{Meant, Tells}
 use Rattle.edd_name_rules.proofs.Repeating.{map_append}
-use Rattle.edd_name_meanings.proofs.UseLaws.{tells_none, tells_append, none_left, none_right}
+use Rattle.edd_name_meanings.proofs.UseLaws.{tells_none, tells_append, retold, none_left, none_right}
+use Rattle.edd_syntax.specs.declared.reference.Path as code
 use Rattle.edd_syntax.specs.Reference.{Path}
 use Rattle.edd_syntax.specs.Item.{Description}
 use Rattle.edd_syntax.specs.NameUses.{Use}
@@ -14,6 +15,8 @@ use Rattle.edd_syntax.specs.NameUses.{Use}
 module _ {S X Y Z W C : Type 0} (unit : Description Path) (view : X → Y) (shown : Z → W) (next : S
     → Y → S) (here : S → Y → List Use) (uses : S → List Y → List Use)
     (split : (s : S) (y : Y) (ys : List Y) → uses s (y ∷ ys) ≡ here s y ++ uses (next s y) ys)
+    (at : X → List code.Path) (paths : List X → List code.Path)
+    (paths_split : (x : X) (xs : List X) → paths (x ∷ xs) ≡ at x ++ paths xs)
     (one : S → Y → Option W) (resolved : S → List Y → Option C) (join : List W → C)
     (joined : (s : S) (y : Y) (ys : List Y) (w : W) (ws : List W) → one s y ≡ Some w
     → resolved (next s y) ys ≡ Some (join ws) → resolved s (y ∷ ys) ≡ Some (join (w ∷ ws)))
@@ -22,8 +25,9 @@ module _ {S X Y Z W C : Type 0} (unit : Description Path) (view : X → Y) (show
   -- were told
   pub record Copied (s : S) (i : ℕ) (xs : List X) (zs : List Z) (mid : List Breach)
       : Type 0 where
-    pub told : (new : List Breach) → Tells unit (uses s (map view (drop i xs))) mid new
-        → Tells unit (uses start (map view xs)) old new
+    pub told : (new : List Breach)
+        → Tells unit (uses s (map view (drop i xs))) (paths (drop i xs)) mid new
+        → Tells unit (uses start (map view xs)) (paths xs) old new
     pub fine : NoFault unit (uses start (map view xs))
         → NoFault unit (uses s (map view (drop i xs)))
     pub meant : NoFault unit (uses start (map view xs)) → (ws : List W)
@@ -33,8 +37,8 @@ module _ {S X Y Z W C : Type 0} (unit : Description Path) (view : X → Y) (show
   pub at_start : (s : S) (xs : List X) (zs : List Z) (mid : List Breach) → s ≡ start → zs ≡ []
       → mid ≡ old → Copied s 0 xs zs mid
   at_start s xs zs mid same is before = record {
-    told = λ new h. subst (λ m. Tells unit (uses start (map view xs)) m new) before
-        (subst (λ t. Tells unit (uses t (map view xs)) mid new) same h);
+    told = λ new h. subst (λ m. Tells unit (uses start (map view xs)) (paths xs) m new) before
+        (subst (λ t. Tells unit (uses t (map view xs)) (paths xs) mid new) same h);
     fine = λ h. subst (λ t. NoFault unit (uses t (map view xs))) (sym same) h;
     meant = λ none ws h.
         subst (λ ys. Means unit (resolved start (map view xs)) (join (map shown ys ++ ws))) (sym is)
@@ -49,6 +53,11 @@ module _ {S X Y Z W C : Type 0} (unit : Description Path) (view : X → Y) (show
       ∙ ap (λ y. here s (view y) ++ uses (next s (view y)) (map view (drop (i + 1) xs)))
       (sym is)
 
+  next_paths : (i : ℕ) (xs : List X) (x : X) → i < length xs → x ≡ get_or xs i x
+      → paths (drop i xs) ≡ at x ++ paths (drop (i + 1) xs)
+  next_paths i xs x h is = at_drop_more paths xs i x h ∙ paths_split _ _
+      ∙ ap (λ y. at y ++ paths (drop (i + 1) xs)) (sym is)
+
   next_meant : (s : S) (i : ℕ) (xs : List X) (x : X) (w : W) (ws : List W) → i < length xs
       → x ≡ get_or xs i x → Means unit (one s (view x)) w
       → Means unit (resolved (next s (view x)) (map view (drop (i + 1) xs))) (join ws)
@@ -61,14 +70,16 @@ module _ {S X Y Z W C : Type 0} (unit : Description Path) (view : X → Y) (show
 
   pub one_more : (s t : S) (i : ℕ) (xs : List X) (x : X) (zs ys : List Z) (z : Z)
       (mid after : List Breach) → i < length xs → x ≡ get_or xs i x → t ≡ next s (view x)
-      → Tells unit (here s (view x)) mid after
+      → Tells unit (here s (view x)) (at x) mid after
       → Meant unit (here s (view x)) (one s (view x)) (shown z) → ys ≡ zs ++ z ∷ []
       → Copied s i xs zs mid → Copied t (i + 1) xs ys after
   unfolding Meant
   one_more s t i xs x zs ys z mid after h is follows tells m grown c = record {
-    told = λ new k. c.told new (subst (λ us. Tells unit us mid new) (sym (next_uses s i xs x h is))
-        (tells_append unit (here s (view x)) _ mid after new tells
-        (subst (λ u. Tells unit (uses u (map view (drop (i + 1) xs))) after new) follows k)));
+    told = λ new k. c.told new (retold unit _ _ _ _ mid new (sym (next_uses s i xs x h is))
+        (sym (next_paths i xs x h is))
+        (tells_append unit (here s (view x)) _ (at x) _ mid after new tells
+        (subst (λ u. Tells unit (uses u (map view (drop (i + 1) xs))) (paths (drop (i + 1) xs))
+        after new) follows k)));
     fine = λ none. subst (λ u. NoFault unit (uses u (map view (drop (i + 1) xs)))) (sym follows)
         (none_right unit (here s (view x)) _
         (subst (NoFault unit) (next_uses s i xs x h is) (c.fine none)));
@@ -83,12 +94,12 @@ module _ {S X Y Z W C : Type 0} (unit : Description Path) (view : X → Y) (show
         k)));
   }
 
-  pub told_at_end : ((s : S) → uses s [] ≡ []) → (s : S) (i : ℕ) (xs : List X) (zs : List Z)
-      (mid : List Breach) → drop i xs ≡ [] → Copied s i xs zs mid
-      → Tells unit (uses start (map view xs)) old mid
-  told_at_end empty s i xs zs mid over c = c.told mid
-      (subst (λ us. Tells unit us mid mid) (sym (ap (λ ys. uses s (map view ys)) over ∙ empty s))
-      (tells_none unit mid))
+  pub told_at_end : ((s : S) → uses s [] ≡ []) → paths [] ≡ [] → (s : S) (i : ℕ) (xs : List X)
+      (zs : List Z) (mid : List Breach) → drop i xs ≡ [] → Copied s i xs zs mid
+      → Tells unit (uses start (map view xs)) (paths xs) old mid
+  told_at_end empty no_paths s i xs zs mid over c = c.told mid
+      (retold unit [] _ [] _ mid mid (sym (ap (λ ys. uses s (map view ys)) over ∙ empty s))
+      (sym (ap paths over ∙ no_paths)) (tells_none unit mid))
 
   means_empty : {A : Type 0} (o : Option A) (x : A) → o ≡ Some x → Means unit o x
   unfolding Means

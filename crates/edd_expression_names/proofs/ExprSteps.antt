@@ -6,7 +6,8 @@ use Rattle.std.proofs.lemmas.List.{append-nil}
 use Rattle.edd_breaches.specs.declared.breach.Breach.{Breach}
 use Rattle.edd_name_meanings.specs.Meanings.{Means, NoFault}
 use Rattle.edd_name_meanings.specs.Copies.{Meant, Tells}
-use Rattle.edd_name_meanings.proofs.UseLaws.{none_head, none_tail}
+use Rattle.edd_name_meanings.specs.PathsIn.{paths_in_arguments, paths_in_expr}
+use Rattle.edd_name_meanings.proofs.UseLaws.{none_head, none_tail, retold}
 use Rattle.edd_expression_names.specs.ResolvedParts.{resolved_argument}
 use Rattle.edd_syntax.specs.declared.numbers.TokenNo.{TokenNo}
 use Rattle.edd_syntax.specs.declared.expr.Expr as code
@@ -19,6 +20,7 @@ use Rattle.edd_syntax.specs.Reference.{Path}
 use Rattle.edd_syntax.specs.Item.{Description}
 use Rattle.edd_syntax.specs.Expression.{Argument, Text, Value, Arguments, Cons, Call, arguments_from}
 use Rattle.edd_syntax.specs.NameUses.{OfFunction, uses_among, argument_uses}
+use Rattle.edd_syntax.specs.ReferenceOrder.{argument_references, expr_references}
 use Rattle.edd_syntax.specs.Resolution.{Scope, argument_kinds, function_meant}
 use Rattle.edd_syntax.specs.ResolvedTrees.{◌>>=◌, Meanings, each, resolved_by, resolved_arguments}
 use Rattle.edd_syntax.specs.Size.{nodes, argument_nodes}
@@ -49,6 +51,18 @@ argument_uses_split scope kinds (Value e) xs =
     ap (λ us. us ++ argument_uses scope kinds (arguments_from xs))
     (sym (append-nil (uses_among scope kinds e)))
 
+references_split : {R : Type 0} (x : Argument R) (xs : List (Argument R))
+    → argument_references (arguments_from (x ∷ xs)) ≡ argument_references (arguments_from (x ∷ []))
+    ++ argument_references (arguments_from xs)
+references_split (Text text) xs = refl
+references_split (Value e) xs = ap (λ rs. rs ++ argument_references (arguments_from xs))
+    (sym (append-nil (expr_references e)))
+
+pub paths_split : (x : code_argument.Argument code_path.Path)
+    (xs : List (code_argument.Argument code_path.Path))
+    → paths_in_arguments (x ∷ xs) ≡ paths_in_arguments (x ∷ []) ++ paths_in_arguments xs
+paths_split x xs = references_split (argument_of (λ p. p) x) (map (argument_of (λ p. p)) xs)
+
 module _ (at : Meanings) (plain : Path → Option Target) where
   first_then : (y : Argument Path) (rest : Arguments Path)
       → resolved_arguments at plain (Cons y rest)
@@ -75,17 +89,22 @@ module _ (unit : Description Path) (x : code.Expr code_path.Path) (token : Token
     (v : Vec (code_argument.Argument code_path.Path) alloc.Global)
     (items : List (code_argument.Argument code_path.Path)) (is : x ≡ e.Call token p v)
     (same : items ≡ v.items) where
+  called : {S : Type 0} (f : code_path.Path → S)
+      → expr_of f x ≡ Call (f p) (arguments_from (map (argument_of f) items))
+  called f = call_is f x token p v is
+      ∙ ap (λ xs. Call (f p) (arguments_from (map (argument_of f) xs))) (sym same)
+
   call : expr_of path_of x ≡ Call (path_of p) (arguments_from (map (argument_of path_of) items))
-  call = call_is path_of x token p v is
-      ∙ ap (λ xs. Call (path_of p) (arguments_from (map (argument_of path_of) xs))) (sym same)
+  call = called path_of
 
   pub call_told : (scope : Scope) (kinds : List Kind) (old new : List Breach)
       → Tells unit (OfFunction (path_of p)
       ∷ argument_uses scope (argument_kinds (path_of p))
-      (arguments_from (map (argument_of path_of) items))) old new
-      → Tells unit (uses_among scope kinds (expr_of path_of x)) old new
+      (arguments_from (map (argument_of path_of) items))) (p ∷ paths_in_arguments items) old new
+      → Tells unit (uses_among scope kinds (expr_of path_of x)) (paths_in_expr x) old new
   call_told scope kinds old new h =
-      subst (λ t. Tells unit (uses_among scope kinds t) old new) (sym call) h
+      retold unit _ _ _ _ old new (ap (uses_among scope kinds) (sym call))
+      (ap expr_references (sym (called (λ r. r)))) h
 
   pub call_means : (scope : Scope) (kinds : List Kind) (at : Meanings)
       (plain : Path → Option Target) (t : Target)

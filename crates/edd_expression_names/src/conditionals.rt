@@ -1,6 +1,7 @@
 //! Conditionals with the meaning of their names.
 
 ghost use Rattle.std.specs.Prelude.{[], ◌∷◌, List, Option, map};
+ghost use Rattle.edd_syntax.specs.declared.reference.Path as path;
 ghost use Rattle.edd_syntax.specs.Conditional.{conds_from, arms_from};
 ghost use Rattle.edd_syntax.specs.Item.{Description};
 ghost use Rattle.edd_syntax.specs.ItemView.{cond_of, arm_of, numbered_arm, numbered_cond};
@@ -11,6 +12,7 @@ ghost use Rattle.edd_syntax.specs.TreeView.{path_of};
 ghost use Rattle.edd_name_meanings.specs.Directory.{description_of};
 ghost use Rattle.edd_expression_names.specs.ResolvedParts.{resolved_arm};
 ghost use Rattle.edd_name_meanings.specs.Copies.{Copies, Told};
+ghost use Rattle.edd_name_meanings.specs.PathsIn.{paths_in_arms, paths_in_cond, paths_in_conds};
 
 use crate::exprs::copy_expr;
 use edd_breaches::Breach;
@@ -32,6 +34,13 @@ pub trait ResolveValue {
 
     ghost after: { Self.Out → After };
 
+    /// What the value stands for where references are the paths of the code, and these paths.
+    ghost Placed: { Type 0 };
+
+    ghost placed: { Self → Placed };
+
+    ghost paths: { Placed → List path.Path };
+
     /// The uses of names in a value, and what it means.
     ghost uses: { Before → List Use };
 
@@ -43,8 +52,8 @@ pub trait ResolveValue {
         names: &Names,
         told: &mut Vec<Breach<'a>>,
     ) -> Result<Self::Out, AllocError>
-        ensures told { Told (description_of names.now) (uses (before self.now)) told.old.items
-            told.new.items result }
+        ensures told { Told (description_of names.now) (uses (before self.now))
+            (paths (placed self.now)) told.old.items told.new.items result }
         ensures sound { Copies (description_of names.now) (uses (before self.now))
             (meant (description_of names.now) (before self.now)) after result };
 }
@@ -58,7 +67,7 @@ pub fn copy_cond<'a, V: ResolveValue>(
 ) -> Result<Cond<Target, V::Out>, AllocError>
     ensures told { Told (description_of names.now)
         (cond_uses V.uses (cond_of path_of V.before c.now))
-        told.old.items told.new.items result }
+        (paths_in_cond V.placed V.paths c.now) told.old.items told.new.items result }
     ensures sound { Copies (description_of names.now)
         (cond_uses V.uses (cond_of path_of V.before c.now))
         (resolved_cond (at_attribute (description_of names.now))
@@ -98,7 +107,7 @@ pub fn copy_conds<'a, V: ResolveValue>(
 ) -> Result<Vec<Cond<Target, V::Out>>, AllocError>
     ensures told { Told (description_of names.now)
         (conds_uses V.uses (conds_from (map (cond_of path_of V.before) all.now)))
-        told.old.items told.new.items result }
+        (paths_in_conds V.placed V.paths all.now) told.old.items told.new.items result }
     ensures sound { Copies (description_of names.now)
         (conds_uses V.uses (conds_from (map (cond_of path_of V.before) all.now)))
         (resolved_conds (at_attribute (description_of names.now))
@@ -120,7 +129,7 @@ fn copy_arms<'a, V: ResolveValue>(
 ) -> Result<Vec<Arm<Target, V::Out>>, AllocError>
     ensures told { Told (description_of names.now)
         (arms_uses V.uses (arms_from (map (arm_of path_of V.before) arms.now)))
-        told.old.items told.new.items result }
+        (paths_in_arms V.placed V.paths arms.now) told.old.items told.new.items result }
     ensures sound { Copies (description_of names.now)
         (arms_uses V.uses (arms_from (map (arm_of path_of V.before) arms.now)))
         (resolved_arms (at_attribute (description_of names.now))
@@ -142,7 +151,7 @@ fn copy_arm<'a, V: ResolveValue>(
 ) -> Result<Arm<Target, V::Out>, AllocError>
     ensures told { Told (description_of names.now)
         (arms_uses V.uses (arms_from (arm_of path_of V.before arm.now ∷ [])))
-        told.old.items told.new.items result }
+        (paths_in_arms V.placed V.paths (arm.now ∷ [])) told.old.items told.new.items result }
     ensures sound { Copies (description_of names.now)
         (arms_uses V.uses (arms_from (arm_of path_of V.before arm.now ∷ [])))
         (resolved_arm (at_attribute (description_of names.now)) (V.meant (description_of names.now))

@@ -13,6 +13,7 @@ ghost use Rattle.edd_name_meanings.specs.Directory.{description_of};
 ghost use Rattle.edd_expression_names.specs.ResolvedParts.{resolved_argument};
 ghost use Rattle.edd_name_meanings.specs.Meanings.{scope_of};
 ghost use Rattle.edd_name_meanings.specs.Copies.{Copies, Told};
+ghost use Rattle.edd_name_meanings.specs.PathsIn.{paths_in_arguments, paths_in_expr};
 
 use crate::texts::copy_text;
 use edd_breaches::Breach;
@@ -32,7 +33,7 @@ pub fn refer_variable<'a>(
 ) -> Result<Target, AllocError>
     ensures told { Told (description_of names.now)
         (OfItem (scope_of scope.now) variable_kinds (path_of path.now) ∷ [])
-        told.old.items told.new.items result }
+        (path.now ∷ []) told.old.items told.new.items result }
     ensures sound { Copies (description_of names.now)
         (OfItem (scope_of scope.now) variable_kinds (path_of path.now) ∷ [])
         (meaning (description_of names.now) (scope_of scope.now) variable_kinds (path_of path.now))
@@ -50,7 +51,7 @@ pub fn copy_expr<'a>(
 ) -> Result<Expr<Target>, AllocError>
     ensures told { Told (description_of names.now)
         (expr_uses (scope_of scope.now) (expr_of path_of e.now))
-        told.old.items told.new.items result }
+        (paths_in_expr e.now) told.old.items told.new.items result }
     ensures sound { Copies (description_of names.now)
         (expr_uses (scope_of scope.now) (expr_of path_of e.now))
         (resolved_expr (at_scope (description_of names.now) (scope_of scope.now))
@@ -71,7 +72,7 @@ fn copy_among<'a>(
 ) -> Result<Expr<Target>, AllocError>
     ensures told { Told (description_of names.now)
         (uses_among (scope_of scope.now) kinds.now (expr_of path_of e.now))
-        told.old.items told.new.items result }
+        (paths_in_expr e.now) told.old.items told.new.items result }
     ensures sound { Copies (description_of names.now)
         (uses_among (scope_of scope.now) kinds.now (expr_of path_of e.now))
         (resolved_by (at_scope (description_of names.now) (scope_of scope.now))
@@ -150,7 +151,7 @@ fn copy_boxed<'a>(
 ) -> Result<Box<Expr<Target>>, AllocError>
     ensures told { Told (description_of names.now)
         (expr_uses (scope_of scope.now) (expr_of path_of e.now))
-        told.old.items told.new.items result }
+        (paths_in_expr e.now) told.old.items told.new.items result }
     ensures sound { Copies (description_of names.now)
         (expr_uses (scope_of scope.now) (expr_of path_of e.now))
         (resolved_expr (at_scope (description_of names.now) (scope_of scope.now))
@@ -172,7 +173,7 @@ fn copy_pair<'a>(
 ) -> Result<(Box<Expr<Target>>, Box<Expr<Target>>), AllocError>
     ensures told { Told (description_of names.now)
         (expr_uses (scope_of scope.now) (expr_of path_of left.now) ++ expr_uses (scope_of scope.now)
-        (expr_of path_of right.now)) told.old.items told.new.items result }
+        (expr_of path_of right.now)) (paths_in_expr left.now ++ paths_in_expr right.now) told.old.items told.new.items result }
     ensures left { Copies (description_of names.now)
         (expr_uses (scope_of scope.now) (expr_of path_of left.now))
         (resolved_expr (at_scope (description_of names.now) (scope_of scope.now))
@@ -200,7 +201,7 @@ fn copy_assigned<'a>(
     ensures told { Told (description_of names.now)
         (OfItem (scope_of scope.now) variable_kinds (path_of to.now)
         ∷ expr_uses (scope_of scope.now) (expr_of path_of value.now))
-        told.old.items told.new.items result }
+        (to.now ∷ paths_in_expr value.now) told.old.items told.new.items result }
     ensures to { Copies (description_of names.now)
         (OfItem (scope_of scope.now) variable_kinds (path_of to.now) ∷ [])
         (meaning (description_of names.now) (scope_of scope.now) variable_kinds (path_of to.now))
@@ -228,7 +229,7 @@ fn copy_indexed<'a>(
     ensures told { Told (description_of names.now)
         (OfArray (scope_of scope.now) (path_of array.now)
         ∷ expr_uses (scope_of scope.now) (expr_of path_of index.now))
-        told.old.items told.new.items result }
+        (array.now ∷ paths_in_expr index.now) told.old.items told.new.items result }
     ensures array { Copies (description_of names.now)
         (OfArray (scope_of scope.now) (path_of array.now) ∷ [])
         (array_meant (description_of names.now) (scope_of scope.now) (path_of array.now))
@@ -256,7 +257,7 @@ fn copy_call<'a>(
     ensures told { Told (description_of names.now) (OfFunction (path_of function.now)
         ∷ argument_uses (scope_of scope.now) (resolution.argument_kinds (path_of function.now))
         (arguments_from (map (argument_of path_of) arguments.now)))
-        told.old.items told.new.items result }
+        (function.now ∷ paths_in_arguments arguments.now) told.old.items told.new.items result }
     ensures function { Copies (description_of names.now) (OfFunction (path_of function.now) ∷ [])
         (function_meant (path_of function.now)) (λ t. t.0) result }
     ensures arguments { Copies (description_of names.now) (argument_uses (scope_of scope.now) (resolution.argument_kinds (path_of function.now))
@@ -284,7 +285,7 @@ fn copy_arguments<'a>(
     ensures told { Told (description_of names.now)
         (argument_uses (scope_of scope.now) kinds.now
         (arguments_from (map (argument_of path_of) arguments.now)))
-        told.old.items told.new.items result }
+        (paths_in_arguments arguments.now) told.old.items told.new.items result }
     ensures sound { Copies (description_of names.now)
         (argument_uses (scope_of scope.now) kinds.now
         (arguments_from (map (argument_of path_of) arguments.now)))
@@ -312,7 +313,7 @@ fn copy_argument<'a>(
     ensures told { Told (description_of names.now)
         (argument_uses (scope_of scope.now) kinds.now
         (arguments_from (argument_of path_of argument.now ∷ [])))
-        told.old.items told.new.items result }
+        (paths_in_arguments (argument.now ∷ [])) told.old.items told.new.items result }
     ensures sound { Copies (description_of names.now)
         (argument_uses (scope_of scope.now) kinds.now
         (arguments_from (argument_of path_of argument.now ∷ [])))

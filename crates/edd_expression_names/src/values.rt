@@ -1,6 +1,7 @@
 //! What is under conditions, with the meaning of its names.
 
 ghost use Rattle.std.specs.Prelude.{Bool};
+ghost use Rattle.edd_syntax.specs.declared.reference.Path as path;
 ghost use Rattle.edd_syntax.specs.declared.reference.Target.{Target};
 ghost use Rattle.edd_syntax.specs.declared.types.Handling as handling;
 ghost use Rattle.edd_syntax.specs.Expression as expression;
@@ -8,6 +9,7 @@ ghost use Rattle.edd_syntax.specs.Item as item;
 ghost use Rattle.edd_syntax.specs.ItemView.{enumerator_of, entry_of, data_item_of, numbered_data_item, numbered_entry};
 ghost use Rattle.edd_syntax.specs.NameUses.{attribute_expr_uses, entry_uses, data_uses, no_uses};
 ghost use Rattle.edd_syntax.specs.Reference as pure;
+ghost use Rattle.edd_syntax.specs.ReferenceOrder.{data_references, entry_references, expr_references, no_references};
 ghost use Rattle.edd_syntax.specs.ResolvedTrees.{at_attribute, resolved_data, resolved_entry, resolved_expr, unchanged};
 ghost use Rattle.edd_syntax.specs.Text as texts;
 ghost use Rattle.edd_syntax.specs.TreeView.{path_of, expr_of, numbered_expr};
@@ -38,6 +40,12 @@ impl ResolveValue for Text {
 
     ghost after = { text_of };
 
+    ghost Placed = { texts.Text };
+
+    ghost placed = { text_of };
+
+    ghost paths = { no_references };
+
     ghost uses = { no_uses };
 
     ghost meant = { λ unit. unchanged };
@@ -58,6 +66,12 @@ impl ResolveValue for Handling {
     ghost before = { λ h. h };
 
     ghost after = { λ h. h };
+
+    ghost Placed = { handling.Handling };
+
+    ghost placed = { λ h. h };
+
+    ghost paths = { no_references };
 
     ghost uses = { no_uses };
 
@@ -84,6 +98,12 @@ impl ResolveValue for bool {
 
     ghost after = { λ b. b };
 
+    ghost Placed = { Bool };
+
+    ghost placed = { λ b. b };
+
+    ghost paths = { no_references };
+
     ghost uses = { no_uses };
 
     ghost meant = { λ unit. unchanged };
@@ -104,6 +124,12 @@ impl ResolveValue for Enumerator {
     ghost before = { enumerator_of };
 
     ghost after = { enumerator_of };
+
+    ghost Placed = { item.Enumerator };
+
+    ghost placed = { enumerator_of };
+
+    ghost paths = { no_references };
 
     ghost uses = { no_uses };
 
@@ -137,6 +163,12 @@ impl ResolveValue for Expr<Path> {
 
     ghost after = { numbered_expr };
 
+    ghost Placed = { expression.Expr path.Path };
+
+    ghost placed = { expr_of (λ p. p) };
+
+    ghost paths = { expr_references };
+
     ghost uses = { attribute_expr_uses };
 
     ghost meant = { λ unit. resolved_expr (at_attribute unit) };
@@ -161,6 +193,12 @@ impl ResolveValue for MenuEntry<Path> {
     ghost before = { entry_of path_of };
 
     ghost after = { numbered_entry };
+
+    ghost Placed = { item.MenuEntry path.Path };
+
+    ghost placed = { entry_of (λ p. p) };
+
+    ghost paths = { entry_references };
 
     ghost uses = { entry_uses };
 
@@ -196,6 +234,12 @@ impl ResolveValue for DataItem<Path> {
     ghost before = { data_item_of path_of };
 
     ghost after = { numbered_data_item };
+
+    ghost Placed = { item.DataItem path.Path };
+
+    ghost placed = { data_item_of (λ p. p) };
+
+    ghost paths = { data_references };
 
     ghost uses = { data_uses };
 

@@ -18,9 +18,9 @@ use Rattle.edd_syntax.specs.declared.numbers.Kind.{Kind}
 use Rattle.edd_syntax.specs.declared.numbers.Kind.TheVariants as kind
 use Rattle.edd_syntax.specs.Text.{Name}
 use Rattle.edd_syntax.specs.Item.{Item, kind_of_item}
-use Rattle.edd_syntax.specs.NameRules.{item_limit, kinds}
+use Rattle.edd_syntax.specs.NameRules.{item_limit}
 use Rattle.edd_syntax.specs.Numbers.{item_number, same_kind}
-use Rattle.edd_syntax.specs.Resolution.{count_of, look_up, numbered_names}
+use Rattle.edd_syntax.specs.Resolution.{count_of, kinds, look_up, numbered_names}
 use Rattle.edd_name_meanings.specs.Numbering.{at, if_named}
 use Rattle.edd_name_rules.proofs.Counting.{one_item, items_split}
 use Rattle.edd_name_rules.proofs.Repeating.{map_append}

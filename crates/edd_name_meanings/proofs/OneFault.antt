@@ -1,14 +1,18 @@
 -- A use has one fault at most.
-use Rattle.std.proofs.Common.{◌≡◌, sym, ap, ◌∙◌, Bool, true, false, not, List, [], ◌∷◌, ◌++◌, Option, Some, None}
+use Rattle.std.proofs.Common.{◌≡◌, refl, sym, ap, ◌∙◌, Bool, true, false, not, List, [], ◌∷◌, ◌++◌, map, Option, Some, None, subst}
 use Rattle.std.specs.Prelude.{if◌then◌else◌}
-use Rattle.std.proofs.lemmas.List.{append-nil, map-append}
+use Rattle.std.proofs.lemmas.List.{append-nil}
 use Rattle.edd_breaches.specs.declared.breach.Breach.{Breach}
-use Rattle.edd_breaches.specs.Told.{broken, refusal_of}
-use Rattle.edd_name_meanings.specs.Meanings.{faults_in, FirstFault, NoFault}
-use Rattle.edd_name_meanings.specs.Copies.{Meant, Tells}
+use Rattle.edd_breaches.specs.Told as breaches
+use Rattle.edd_breaches.specs.Told.{refusal_of, told_at, told_of}
+use Rattle.edd_breaches.proofs.TellLaws.{tells_one}
+use Rattle.edd_name_meanings.specs.Meanings.{faults_in, IsFaultOf, NoFault}
+use Rattle.edd_name_meanings.specs.Copies.{Meant, Tells, told_in}
+use Rattle.edd_name_meanings.specs.Places.{place_of_use}
 use Rattle.edd_syntax.specs.declared.numbers.Kind.{Kind}
 use Rattle.edd_syntax.specs.declared.numbers.Kind.TheVariants as kind
 use Rattle.edd_syntax.specs.declared.numbers.ItemNo.{ItemNo}
+use Rattle.edd_syntax.specs.declared.reference.Path as code
 use Rattle.edd_syntax.specs.declared.reference.Target.{Target}
 use Rattle.edd_syntax.specs.Item.{Description}
 use Rattle.edd_syntax.specs.NameRules.{faults_along, faults_of_item, faults_of_local, faults_of_use, is_kind_among}
@@ -84,23 +88,31 @@ module _ (unit : Description Path) where
       (λ f. few_of_none) (few_of_one (UnknownName path.base))
 
   -- the fault of a use is all that is told of it
-  is_all : (b : Breach) (u : Use) → FirstFault b unit (u ∷ [])
-      → faults_in unit (u ∷ []) ≡ refusal_of b.rule ∷ []
-  unfolding FirstFault faults_in
-  is_all b u first =
-      append-nil (faults_of_use unit u) ∙ few_of_use u (refusal_of b.rule)
-      (ap first_of (sym (append-nil (faults_of_use unit u))) ∙ first)
+  is_all : (b : Breach) (u : Use) (p : code.Path) → IsFaultOf b unit u p
+      → faults_of_use unit u ≡ refusal_of b.rule ∷ []
+  unfolding IsFaultOf faults_in
+  is_all b u p fault = few_of_use u (refusal_of b.rule)
+      (ap first_of (sym (append-nil (faults_of_use unit u))) ∙ fault.0)
 
-  pub tells_fault : (b : Breach) (u : Use) (old new : List Breach) → FirstFault b unit (u ∷ [])
-      → new ≡ old ++ b ∷ [] → Tells unit (u ∷ []) old new
+  told : (b : Breach) (u : Use) (p : code.Path) → IsFaultOf b unit u p
+      → told_of b ∷ [] ≡ told_in unit (u ∷ []) (p ∷ [])
+  unfolding IsFaultOf
+  told b u p fault =
+      ap (λ place. (record { refusal = refusal_of b.rule; place = place }) ∷ []) fault.1
+      ∙ ap (λ rs. map (λ why. told_at why (place_of_use unit u p)) rs ++ [])
+      (sym (is_all b u p fault))
+
+  pub tells_fault : (b : Breach) (u : Use) (p : code.Path) (old new : List Breach)
+      → IsFaultOf b unit u p → new ≡ old ++ b ∷ [] → Tells unit (u ∷ []) (p ∷ []) old new
   unfolding Tells
-  tells_fault b u old new first grown =
-      ap broken grown ∙ map-append (λ c. refusal_of c.rule) old (b ∷ [])
-      ∙ ap (λ rs. broken old ++ rs) (sym (is_all b u first))
+  tells_fault b u p old new fault grown = (
+    refl,
+    subst (λ all. breaches.Tells all old new) (told b u p fault) (tells_one b old new grown),
+  )
 
-  pub meant_at_fault : (b : Breach) (u : Use) (meant : Option Target) (t : Target)
-      → FirstFault b unit (u ∷ []) → Meant unit (u ∷ []) meant t
-  unfolding Meant NoFault
-  meant_at_fault b u meant t first = λ none.
-      let clash : None ≡ Some (refusal_of b.rule) = none ∙ ap first_of (is_all b u first) in
+  pub meant_at_fault : (b : Breach) (u : Use) (p : code.Path) (meant : Option Target) (t : Target)
+      → IsFaultOf b unit u p → Meant unit (u ∷ []) meant t
+  unfolding Meant NoFault IsFaultOf
+  meant_at_fault b u p meant t fault = λ none.
+      let clash : None ≡ Some (refusal_of b.rule) = none ∙ fault.0 in
       absurd cc

@@ -1,6 +1,6 @@
 -- Along a path, from one member to the next.
 use Rattle.std.proofs.Common.{◌≡◌, sym, ap, ◌∙◌, ℕ, ◌+◌, ◌<◌, List, [], ◌∷◌, length, get_or, drop, map, Option, Some, None, subst}
-use Rattle.std.specs.Prelude.{true, not, is_some, MatchOption, option_and_then, if◌then◌else◌}
+use Rattle.std.specs.Prelude.{true, not, is_some, IfOk, MatchOption, Result, Ok, Err, option_and_then, if◌then◌else◌}
 use Rattle.std.proofs.lemmas.Bool.{false≢true}
 use Rattle.std.proofs.lemmas.List.{at_drop_more}
 use Rattle.edd_name_meanings.specs.declared.path_steps.PathStep.{PathStep}
@@ -8,6 +8,7 @@ use Rattle.edd_name_meanings.specs.Meanings.{AllMembersNamed, Means, item_among}
 use Rattle.edd_name_meanings.specs.Paths.{Reaches}
 use Rattle.edd_syntax.specs.declared.numbers.Kind.{Kind}
 use Rattle.edd_syntax.specs.declared.numbers.ItemNo.{ItemNo}
+use Rattle.edd_syntax.specs.declared.numbers.TokenNo.{TokenNo}
 use Rattle.edd_syntax.specs.declared.reference.Target.{Target}
 use Rattle.edd_syntax.specs.declared.reference.Target.TheVariants.{Item}
 use Rattle.edd_syntax.specs.Text.{Name}
@@ -17,7 +18,7 @@ use Rattle.edd_syntax.specs.NameRules.{faults_along, is_kind_among}
 use Rattle.edd_syntax.specs.Refusal.{Refusal, WrongKind, refused_if, first_of}
 use Rattle.edd_syntax.specs.Resolution.{along}
 
-module _ (unit : Description Path) (allowed : List Kind) (all : List Refusal)
+module _ (unit : Description Path) (allowed : List Kind) (all : List Refusal) (at : TokenNo)
     (meant : Option ItemNo) (p : PathStep) where
   -- after the last member nothing is found where the kind is allowed
   no_fault : (i : Option ItemNo) → is_kind_among allowed p.kind ≡ true
@@ -28,7 +29,7 @@ module _ (unit : Description Path) (allowed : List Kind) (all : List Refusal)
       ∙ ap first_of faults
 
   pub arrives : (item : ItemNo) → p.item ≡ Some item → is_kind_among allowed p.kind ≡ true
-      → Reaches unit allowed all meant p [] → (None ≡ first_of all)
+      → Reaches unit allowed all at meant p [] → (None ≡ first_of all)
       × Means unit (item_among allowed meant) (Item item)
   unfolding Means
   arrives item is among r = (
@@ -39,7 +40,7 @@ module _ (unit : Description Path) (allowed : List Kind) (all : List Refusal)
   )
 
   pub unknown : (t : Target) → p.item ≡ None → is_kind_among allowed p.kind ≡ true
-      → Reaches unit allowed all meant p [] → (None ≡ first_of all)
+      → Reaches unit allowed all at meant p [] → (None ≡ first_of all)
       × Means unit (item_among allowed meant) t
   unfolding Means
   unknown t is among r = (
@@ -54,12 +55,12 @@ never_known unit meant x none = λ known. absurd (none known)
 
 -- the next member of a path
 pub at_member : {X : Type 0} (name : X → Name) (unit : Description Path) (allowed : List Kind)
-    (all : List Refusal) (meant : Option ItemNo) (p : PathStep) (xs ys : List X) (i : ℕ) (x : X)
-    (n : Name) → ys ≡ xs → i < length xs → x ≡ get_or ys i x → n ≡ name x
-    → Reaches unit allowed all meant p (map name (drop i xs))
-    → Reaches unit allowed all meant p (n ∷ map name (drop (i + 1) xs))
-at_member name unit allowed all meant p xs ys i x n same h is named r =
-    subst (Reaches unit allowed all meant p)
+    (all : List Refusal) (at : TokenNo) (meant : Option ItemNo) (p : PathStep) (xs ys : List X)
+    (i : ℕ) (x : X) (n : Name) → ys ≡ xs → i < length xs → x ≡ get_or ys i x → n ≡ name x
+    → Reaches unit allowed all at meant p (map name (drop i xs))
+    → Reaches unit allowed all at meant p (n ∷ map name (drop (i + 1) xs))
+at_member name unit allowed all at meant p xs ys i x n same h is named r =
+    subst (Reaches unit allowed all at meant p)
     (at_drop_more (map name) xs i x h ∙ ap (λ y. name y ∷ map name (drop (i + 1) xs))
     (sym (is ∙ ap (λ zs. get_or zs i x) same)) ∙ ap (λ m. m ∷ map name (drop (i + 1) xs))
     (sym named))
@@ -72,3 +73,8 @@ at_none o P Q is h = subst (λ o. MatchOption o P Q) is h
 pub at_some : {X : Type 0} (o : Option X) (x : X) (P : Type 0) (Q : X → Type 0) → o ≡ Some x
     → MatchOption o P Q → Q x
 at_some o x P Q is h = subst (λ o. MatchOption o P Q) is h
+
+pub weaker_ok : {T E : Type 0} (r : Result T E) (P Q : T → Type 0) → ((t : T) → P t → Q t)
+    → IfOk r P → IfOk r Q
+weaker_ok (Ok t) P Q w h = w t h
+weaker_ok (Err e) P Q w h = tt

@@ -1,11 +1,15 @@
 -- Faults in uses that are one after the other.
-use Rattle.std.proofs.Common.{◌≡◌, refl, sym, ap, ◌∙◌, List, [], ◌∷◌, ◌++◌, Some, None, append_assoc}
+use Rattle.std.proofs.Common.{◌≡◌, refl, sym, ap, ◌∙◌, ◌+◌, List, [], ◌∷◌, ◌++◌, length, length-append, map, Some, None, append_assoc, arith, subst}
 use Rattle.std.proofs.lemmas.Grind.{flat_map-append}
 use Rattle.std.proofs.lemmas.List.{append-nil}
 use Rattle.edd_breaches.specs.declared.breach.Breach.{Breach}
-use Rattle.edd_breaches.specs.Told.{broken}
+use Rattle.edd_breaches.specs.Told as breaches
+use Rattle.edd_breaches.specs.Told.{told_at}
+use Rattle.edd_breaches.proofs.TellLaws as told
 use Rattle.edd_name_meanings.specs.Meanings.{faults_in, NoFault}
-use Rattle.edd_name_meanings.specs.Copies.{Tells}
+use Rattle.edd_name_meanings.specs.Copies.{Tells, told_in}
+use Rattle.edd_name_meanings.specs.Places.{place_of_use}
+use Rattle.edd_syntax.specs.declared.reference.Path as code
 use Rattle.edd_syntax.specs.Reference.{Path}
 use Rattle.edd_syntax.specs.Item.{Description}
 use Rattle.edd_syntax.specs.NameRules.{faults_of_use}
@@ -32,27 +36,54 @@ module _ (unit : Description Path) where
 
   -- ---- what is told
 
-  pub tells_none : (old : List Breach) → Tells unit [] old old
-  unfolding Tells faults_in
-  tells_none old = sym (append-nil (broken old))
+  told_append : (us vs : List Use) (ps qs : List code.Path) → length us ≡ length ps
+      → told_in unit (us ++ vs) (ps ++ qs) ≡ told_in unit us ps ++ told_in unit vs qs
+  told_append [] vs [] qs same = refl
+  told_append [] vs (p ∷ ps) qs same = absurd (omega (arith, same))
+  told_append (u ∷ us) vs [] qs same = absurd (omega (arith, same))
+  told_append (u ∷ us) vs (p ∷ ps) qs same =
+      ap (λ all. map (λ why. told_at why (place_of_use unit u p)) (faults_of_use unit u) ++ all)
+      (told_append us vs ps qs (omega (arith, same)))
+      ∙ sym (append_assoc (map (λ why. told_at why (place_of_use unit u p)) (faults_of_use unit u))
+      (told_in unit us ps) (told_in unit vs qs))
 
-  pub tells_fine : (us : List Use) (old : List Breach) → NoFault unit us
-      → Tells unit us old old
-  unfolding Tells NoFault
-  tells_fine us old none = sym (append-nil (broken old))
-      ∙ ap (λ rs. broken old ++ rs) (sym (nothing (faults_in unit us) none))
-
-  pub tells_append : (us vs : List Use) (old mid new : List Breach) → Tells unit us old mid
-      → Tells unit vs mid new → Tells unit (us ++ vs) old new
+  pub tells_none : (old : List Breach) → Tells unit [] [] old old
   unfolding Tells
-  tells_append us vs old mid new h k =
-      k ∙ ap (λ rs. rs ++ faults_in unit vs) h
-      ∙ append_assoc (broken old) (faults_in unit us) (faults_in unit vs)
-      ∙ ap (λ rs. broken old ++ rs) (sym (faults_append us vs))
+  tells_none old = (refl, told.tells_none old)
 
-  pub tells_cons : (u : Use) (vs : List Use) (old mid new : List Breach)
-      → Tells unit (u ∷ []) old mid → Tells unit vs mid new → Tells unit (u ∷ vs) old new
-  tells_cons u vs old mid new h k = tells_append (u ∷ []) vs old mid new h k
+  pub tells_fine : (u : Use) (p : code.Path) (old : List Breach) → NoFault unit (u ∷ [])
+      → Tells unit (u ∷ []) (p ∷ []) old old
+  unfolding Tells NoFault faults_in
+  tells_fine u p old none = (
+    refl,
+    subst (λ rs. breaches.Tells (map (λ why. told_at why (place_of_use unit u p)) rs ++ []) old old)
+        (sym (nothing (faults_of_use unit u)
+        (none ∙ ap first_of (append-nil (faults_of_use unit u)))))
+        (told.tells_none old),
+  )
+
+  pub tells_append : (us vs : List Use) (ps qs : List code.Path) (old mid new : List Breach)
+      → Tells unit us ps old mid → Tells unit vs qs mid new
+      → Tells unit (us ++ vs) (ps ++ qs) old new
+  unfolding Tells
+  tells_append us vs ps qs old mid new h k = (
+    length-append us vs ∙ ap (λ n. n + length vs) h.0 ∙ ap (λ n. length ps + n) k.0
+        ∙ sym (length-append ps qs),
+    subst (λ all. breaches.Tells all old new) (sym (told_append us vs ps qs h.0))
+        (told.tells_append (told_in unit us ps) (told_in unit vs qs) old mid new h.1 k.1),
+  )
+
+  pub tells_cons : (u : Use) (vs : List Use) (p : code.Path) (qs : List code.Path)
+      (old mid new : List Breach) → Tells unit (u ∷ []) (p ∷ []) old mid → Tells unit vs qs mid new
+      → Tells unit (u ∷ vs) (p ∷ qs) old new
+  tells_cons u vs p qs old mid new h k = tells_append (u ∷ []) vs (p ∷ []) qs old mid new h k
+
+  -- the same uses at the same paths
+  pub retold : (us vs : List Use) (ps qs : List code.Path) (old new : List Breach) → us ≡ vs
+      → ps ≡ qs → Tells unit us ps old new → Tells unit vs qs old new
+  retold us vs ps qs old new same same' h =
+      subst (λ all. Tells unit vs all old new) same'
+      (subst (λ all. Tells unit all ps old new) same h)
 
   -- ---- uses without a fault
 

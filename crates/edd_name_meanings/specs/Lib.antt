@@ -4,3 +4,5 @@ pub mod Meanings
 pub mod Members
 pub mod Numbering
 pub mod Paths
+pub mod PathsIn
+pub mod Places

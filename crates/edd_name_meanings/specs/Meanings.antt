@@ -1,11 +1,14 @@
 -- What is found about uses of names, and what they mean.
-use Rattle.std.specs.Prelude.{◌≡◌, true, List, map, Option, Some, None, is_some, if◌then◌else◌}
+use Rattle.std.specs.Prelude.{◌≡◌, true, List, [], ◌∷◌, map, Option, Some, None, is_some, if◌then◌else◌}
 use Rattle.std.specs.List.{flat_map}
 use Rattle.edd_breaches.specs.declared.breach.Breach.{Breach}
 use Rattle.edd_breaches.specs.Told.{refusal_of}
 use Rattle.edd_name_meanings.specs.declared.references.Local.{Local}
+use Rattle.edd_name_meanings.specs.Places.{place_of_use}
 use Rattle.edd_syntax.specs.declared.numbers.Kind.{Kind}
 use Rattle.edd_syntax.specs.declared.numbers.ItemNo.{ItemNo}
+use Rattle.edd_syntax.specs.declared.numbers.TokenNo.{TokenNo}
+use Rattle.edd_syntax.specs.declared.reference.Path as code
 use Rattle.edd_syntax.specs.Text.{Name}
 use Rattle.edd_syntax.specs.Reference.{Path}
 use Rattle.edd_syntax.specs.declared.reference.Target.{Target}
@@ -38,13 +41,13 @@ faults_in unit uses = flat_map (faults_of_use unit) uses
 unfoldable pub NoFault : Description Path → List Use → Type 0
 NoFault unit uses = None ≡ first_of (faults_in unit uses)
 
--- the breach is the first of these
-abbrev pub IsFirst : Breach → List Refusal → Type 0
-IsFirst b all = first_of all ≡ Some (refusal_of b.rule)
+-- the breach is the first of these, at this token
+abbrev pub IsFirst : Breach → List Refusal → TokenNo → Type 0
+IsFirst b all at = (first_of all ≡ Some (refusal_of b.rule)) × (b.place ≡ Some at)
 
--- the breach is the first of those of uses
-unfoldable pub FirstFault : Breach → Description Path → List Use → Type 0
-FirstFault b unit uses = IsFirst b (faults_in unit uses)
+-- the breach is the fault of a use, which is at this path
+unfoldable pub IsFaultOf : Breach → Description Path → Use → code.Path → Type 0
+IsFaultOf b unit u path = IsFirst b (faults_in unit (u ∷ [])) (place_of_use unit u path)
 
 -- the locals that can be used, the innermost first
 abbrev pub scope_of : List Local → Scope

@@ -3,6 +3,7 @@
 ghost use Rattle.std.specs.Prelude.{◌≡◌, [], ◌∷◌, List, Option, None, Some, IfErr, IfOk, MatchOption, map, string_bytes};
 ghost use Rattle.edd_syntax.specs.declared.numbers.ItemNo.{ItemNo};
 ghost use Rattle.edd_syntax.specs.declared.numbers.Kind.{Kind};
+ghost use Rattle.edd_syntax.specs.declared.numbers.TokenNo as token;
 ghost use Rattle.edd_syntax.specs.NameRules.{faults_along};
 ghost use Rattle.edd_syntax.specs.Numbers.{kind_of};
 ghost use Rattle.edd_syntax.specs.Refusal.{Refusal, first_of};
@@ -11,6 +12,7 @@ ghost use Rattle.edd_syntax.specs.Text.{Name};
 ghost use Rattle.edd_name_meanings.specs.Directory.{description_of};
 ghost use Rattle.edd_name_meanings.specs.Meanings.{AllMembersNamed, IsFirst, Means, item_among};
 ghost use Rattle.edd_name_meanings.specs.Paths.{Reaches};
+ghost use Rattle.edd_name_meanings.specs.Places.{place_along};
 
 use crate::directory::Names;
 use crate::path_steps::{PathStep, is_among, step_to_member, wrong_kind};
@@ -28,15 +30,16 @@ fn step<'b>(
 ) -> Result<Option<PathStep<'b>>, Breach<'b>>
     requires { (j : ItemNo) → here.item ≡ Some j → kind_of j ≡ here.kind }
     ensures sound { IfOk result (λ next. (allowed : List Kind) (all : List Refusal)
-        (meant : Option ItemNo) (rest : List Name)
-        → Reaches (description_of names.now) allowed all meant here.entry (member.now ∷ rest)
+        (at : token.TokenNo) (meant : Option ItemNo) (rest : List Name)
+        → Reaches (description_of names.now) allowed all at meant here.entry (member.now ∷ rest)
         → MatchOption next ((None ≡ first_of all) × (AllMembersNamed (description_of names.now)
         → ⊥))
-        (λ p. Reaches (description_of names.now) allowed all meant p rest)) }
+        (λ p. Reaches (description_of names.now) allowed all at meant p rest)) }
     ensures refused { IfErr result
-        (λ b. (allowed : List Kind) (all : List Refusal) (meant : Option ItemNo) (rest : List Name)
-        → Reaches (description_of names.now) allowed all meant here.entry (member.now ∷ rest)
-        → IsFirst b all) }
+        (λ b. (allowed : List Kind) (all : List Refusal) (at : token.TokenNo)
+        (meant : Option ItemNo) (rest : List Name)
+        → Reaches (description_of names.now) allowed all at meant here.entry (member.now ∷ rest)
+        → IsFirst b all at) }
 {
     if here.kind != Kind::Collection {
         return Err(wrong_kind(here.name, here.at, None));
@@ -51,12 +54,15 @@ fn step<'b>(
 
 // The end of a path.
 fn arrive<'b>(names: &Names, allowed: &[Kind], here: PathStep<'b>) -> Result<Target, Breach<'b>>
-    ensures sound { IfOk result (λ t. (all : List Refusal) (meant : Option ItemNo)
-        → Reaches (description_of names.now) allowed.now all meant here.entry []
+    ensures sound { IfOk result (λ t. (all : List Refusal) (at : token.TokenNo)
+        (meant : Option ItemNo)
+        → Reaches (description_of names.now) allowed.now all at meant here.entry []
         → (None ≡ first_of all) × Means (description_of names.now) (item_among allowed.now meant)
         t) }
-    ensures refused { IfErr result (λ b. (all : List Refusal) (meant : Option ItemNo)
-        → Reaches (description_of names.now) allowed.now all meant here.entry [] → IsFirst b all) }
+    ensures refused { IfErr result (λ b. (all : List Refusal) (at : token.TokenNo)
+        (meant : Option ItemNo)
+        → Reaches (description_of names.now) allowed.now all at meant here.entry []
+        → IsFirst b all at) }
 {
     if !is_among(allowed, here.kind) {
         return Err(wrong_kind(here.name, here.at, None));
@@ -84,7 +90,9 @@ pub fn follow<'b>(
     ensures refused { IfErr result
         (λ b. IsFirst b (faults_along (description_of names.now) allowed.now
         (string_bytes path.now.base)
-        (kind_of from) (Some from) (map string_bytes path.now.members.items))) }
+        (kind_of from) (Some from) (map string_bytes path.now.members.items))
+        (place_along (description_of names.now) path.now.at (kind_of from) (Some from)
+        (map string_bytes path.now.members.items))) }
 {
     let mut here = PathStep {
         name: &path.base,

@@ -4,8 +4,8 @@ ghost use Rattle.std.specs.Prelude.{◌≡◌, false, IfOk, nat_lt, option_map};
 ghost use Rattle.std.specs.List.{list_any};
 ghost use Rattle.edd_syntax.specs.declared.numbers.ItemNo.TheVariants as item_no;
 ghost use Rattle.edd_syntax.specs.ItemView.{named_items, member_of};
-ghost use Rattle.edd_syntax.specs.NameRules.{item_limit, kinds};
-ghost use Rattle.edd_syntax.specs.Resolution.{count_of, item_named, member_at};
+ghost use Rattle.edd_syntax.specs.NameRules.{item_limit};
+ghost use Rattle.edd_syntax.specs.Resolution.{count_of, item_named, kinds, member_at};
 ghost use Rattle.edd_syntax.specs.TreeView.{path_of};
 ghost use Rattle.edd_name_meanings.specs.Directory.{description_of};
 

@@ -19,7 +19,8 @@ use edd_syntax::reference::Path;
 
 /// Nothing has the name at a token.
 pub fn unknown_name<'a>(name: &'a str, at: TokenNo) -> Breach<'a>
-    ensures { refusal_of result.rule ≡ UnknownName name.now }
+    ensures refusal { refusal_of result.rule ≡ UnknownName name.now }
+    ensures placed { result.place ≡ Some at }
 {
     Breach {
         rule: Rule::UnknownName(name),
@@ -30,7 +31,8 @@ pub fn unknown_name<'a>(name: &'a str, at: TokenNo) -> Breach<'a>
 
 /// What has the name at a token may not be there; a local is declared at the earlier token.
 pub fn wrong_kind<'a>(name: &'a str, at: TokenNo, earlier: Option<TokenNo>) -> Breach<'a>
-    ensures { refusal_of result.rule ≡ WrongKind name.now }
+    ensures refusal { refusal_of result.rule ≡ WrongKind name.now }
+    ensures placed { result.place ≡ Some at }
 {
     Breach {
         rule: Rule::WrongKind(name),
@@ -98,11 +100,11 @@ pub fn step_to_member<'b>(
     requires { kind_of item ≡ kind.Collection }
     ensures sound { IfOk result (λ p. (found : FoundMember)
         × (member_at (description_of names.now) item member.now ≡ Some found)
-        × (p.name.now ≡ member.now) × (p.kind ≡ found.1)
+        × (p.name.now ≡ member.now) × (p.at ≡ at) × (p.kind ≡ found.1)
         × (p.item ≡ item_of_member (description_of names.now) found)) }
     ensures refused { IfErr result
         (λ b. (member_at (description_of names.now) item member.now ≡ None)
-        × (refusal_of b.rule ≡ UnknownName member.now)) }
+        × (refusal_of b.rule ≡ UnknownName member.now) × (b.place ≡ Some at)) }
 {
     match member_of_item(names, item, member) {
         Some((found, of)) => Ok(PathStep {

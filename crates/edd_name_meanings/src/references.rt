@@ -12,14 +12,15 @@ ghost use Rattle.edd_syntax.specs.Refusal.{first_of};
 ghost use Rattle.edd_syntax.specs.TreeView.{path_of};
 ghost use Rattle.edd_name_meanings.specs.Copies.{Copies, Told};
 ghost use Rattle.edd_name_meanings.specs.Directory.{description_of};
-ghost use Rattle.edd_name_meanings.specs.Meanings.{IsFirst, Means, NoFault, FirstFault, scope_of};
+ghost use Rattle.edd_name_meanings.specs.Places.{place_of_item};
+ghost use Rattle.edd_name_meanings.specs.Meanings.{IsFaultOf, IsFirst, Means, NoFault, scope_of};
 
 use crate::directory::Names;
 use crate::follow::follow;
 use crate::path_steps::{unknown_name, wrong_kind};
 use crate::telling::{stand_in, tell};
 use edd_breaches::Breach;
-use edd_syntax::numbers::{Kind, TokenNo};
+use edd_syntax::numbers::{KINDS, Kind, TokenNo};
 use edd_syntax::operators::Builtin;
 use edd_syntax::reference::{Path, Target};
 use std::alloc::AllocError;
@@ -50,7 +51,8 @@ fn refer_local<'b>(local: Local, path: &'b Path) -> Result<Target, Breach<'b>>
         (λ t. (None ≡ first_of (faults_of_local (path_of path.now) (path_of path.now).members))
         × (local_meant local.entry.slot (path_of path.now).members ≡ Some t)) }
     ensures refused { IfErr result
-        (λ b. IsFirst b (faults_of_local (path_of path.now) (path_of path.now).members)) }
+        (λ b. IsFirst b (faults_of_local (path_of path.now) (path_of path.now).members)
+        path.now.at) }
 {
     if path.members.is_empty() {
         Ok(Target::Local(local.slot))
@@ -67,7 +69,8 @@ fn refer_item<'b>(names: &Names, kinds: &[Kind], path: &'b Path) -> Result<Targe
         (item_meant (description_of names.now) kinds.now (path_of path.now))
         t) }
     ensures refused { IfErr result
-        (λ b. IsFirst b (faults_of_item (description_of names.now) kinds.now (path_of path.now))) }
+        (λ b. IsFirst b (faults_of_item (description_of names.now) kinds.now (path_of path.now))
+        (place_of_item (description_of names.now) (path_of path.now) path.now.at)) }
 {
     match names.item(&path.base) {
         Some(item) => follow(names, kinds, path, item),
@@ -76,7 +79,7 @@ fn refer_item<'b>(names: &Names, kinds: &[Kind], path: &'b Path) -> Result<Targe
 }
 
 // What a reference means at a place where items of some kinds may be.
-#[tactic(auto, unfolding(crate::specs::Meanings::Means, crate::specs::Meanings::NoFault, crate::specs::Meanings::FirstFault, crate::specs::Meanings::faults_in))]
+#[tactic(auto, unfolding(crate::specs::Meanings::Means, crate::specs::Meanings::NoFault, crate::specs::Meanings::IsFaultOf, crate::specs::Meanings::faults_in))]
 fn find<'b>(
     names: &Names,
     scope: &[Local],
@@ -92,8 +95,8 @@ fn find<'b>(
         (meaning (description_of names.now) (scope_of scope.now) kinds.now
         (path_of path.now)) t) }
     ensures refused { IfErr result
-        (λ b. FirstFault b (description_of names.now)
-        (OfItem (scope_of scope.now) kinds.now (path_of path.now) ∷ [])) }
+        (λ b. IsFaultOf b (description_of names.now)
+        (OfItem (scope_of scope.now) kinds.now (path_of path.now)) path.now) }
 {
     match find_local(scope, &path.base) {
         Some(local) => refer_local(local, path),
@@ -102,7 +105,7 @@ fn find<'b>(
 }
 
 // The array that is meant before an index; a local of the name is no array.
-#[tactic(auto, unfolding(crate::specs::Meanings::Means, crate::specs::Meanings::NoFault, crate::specs::Meanings::FirstFault, crate::specs::Meanings::faults_in))]
+#[tactic(auto, unfolding(crate::specs::Meanings::Means, crate::specs::Meanings::NoFault, crate::specs::Meanings::IsFaultOf, crate::specs::Meanings::faults_in))]
 fn find_array<'b>(names: &Names, scope: &[Local], path: &'b Path) -> Result<Target, Breach<'b>>
     ensures accepted { IfOk result
         (λ t. NoFault (description_of names.now)
@@ -111,8 +114,8 @@ fn find_array<'b>(names: &Names, scope: &[Local], path: &'b Path) -> Result<Targ
         (λ t. Means (description_of names.now)
         (array_meant (description_of names.now) (scope_of scope.now) (path_of path.now)) t) }
     ensures refused { IfErr result
-        (λ b. FirstFault b (description_of names.now)
-        (OfArray (scope_of scope.now) (path_of path.now) ∷ [])) }
+        (λ b. IsFaultOf b (description_of names.now)
+        (OfArray (scope_of scope.now) (path_of path.now)) path.now) }
 {
     match find_local(scope, &path.base) {
         Some(local) => Err(wrong_kind(&path.base, path.at, Some(local.at))),
@@ -153,27 +156,27 @@ pub fn builtin(name: &str) -> Option<Builtin>
     if_named(name, Builtin::PutMessage, found)
 }
 
-/// The kinds of items that a plain reference may name as an argument of a function.
+/// The kinds of items that a plain reference may name as an argument of a function: all for one that
+/// does not exist.
 pub fn argument_kinds(function: &Path) -> &'static [Kind]
     ensures { result.now ≡ resolution.argument_kinds (path_of function.now) }
 {
-    let name: &str = &function.base;
-    if Builtin::AddAbortMethod.name() == name {
-        &[Kind::Method]
-    } else {
-        &[Kind::Variable]
+    match builtin(&function.base) {
+        Some(Builtin::AddAbortMethod) => &[Kind::Method],
+        Some(_) => &[Kind::Variable],
+        None => &KINDS,
     }
 }
 
 // What the name of a call means.
-#[tactic(auto, unfolding(crate::specs::Meanings::Means, crate::specs::Meanings::NoFault, crate::specs::Meanings::FirstFault, crate::specs::Meanings::faults_in))]
+#[tactic(auto, unfolding(crate::specs::Meanings::Means, crate::specs::Meanings::NoFault, crate::specs::Meanings::IsFaultOf, crate::specs::Meanings::faults_in))]
 fn find_function<'b>(path: &'b Path) -> Result<Target, Breach<'b>>
     ensures accepted { IfOk result
         (λ t. (unit : Description pure.Path) → NoFault unit (OfFunction (path_of path.now) ∷ [])) }
     ensures sound { IfOk result (λ t. (unit : Description pure.Path)
         → Means unit (function_meant (path_of path.now)) t) }
     ensures refused { IfErr result (λ b. (unit : Description pure.Path)
-        → FirstFault b unit (OfFunction (path_of path.now) ∷ [])) }
+        → IsFaultOf b unit (OfFunction (path_of path.now)) path.now) }
 {
     match builtin(&path.base) {
         Some(function) => Ok(Target::Function(function)),
@@ -191,7 +194,7 @@ pub fn refer<'a>(
     path: &'a Path,
     told: &mut Vec<Breach<'a>>,
 ) -> Result<Target, AllocError>
-    ensures told { Told (description_of names.now) (OfItem (scope_of scope.now) kinds.now (path_of path.now) ∷ []) told.old.items told.new.items
+    ensures told { Told (description_of names.now) (OfItem (scope_of scope.now) kinds.now (path_of path.now) ∷ []) (path.now ∷ []) told.old.items told.new.items
         result }
     ensures sound { Copies (description_of names.now) (OfItem (scope_of scope.now) kinds.now (path_of path.now) ∷ [])
         (meaning (description_of names.now) (scope_of scope.now) kinds.now (path_of path.now)) (λ t. t) result }
@@ -211,7 +214,7 @@ pub fn refer_array<'a>(
     path: &'a Path,
     told: &mut Vec<Breach<'a>>,
 ) -> Result<Target, AllocError>
-    ensures told { Told (description_of names.now) (OfArray (scope_of scope.now) (path_of path.now) ∷ []) told.old.items told.new.items
+    ensures told { Told (description_of names.now) (OfArray (scope_of scope.now) (path_of path.now) ∷ []) (path.now ∷ []) told.old.items told.new.items
         result }
     ensures sound { Copies (description_of names.now) (OfArray (scope_of scope.now) (path_of path.now) ∷ [])
         (array_meant (description_of names.now) (scope_of scope.now) (path_of path.now)) (λ t. t) result }
@@ -229,7 +232,7 @@ pub fn refer_function<'a>(
     path: &'a Path,
     told: &mut Vec<Breach<'a>>,
 ) -> Result<Target, AllocError>
-    ensures told { Told (description_of names.now) (OfFunction (path_of path.now) ∷ []) told.old.items told.new.items
+    ensures told { Told (description_of names.now) (OfFunction (path_of path.now) ∷ []) (path.now ∷ []) told.old.items told.new.items
         result }
     ensures sound { Copies (description_of names.now) (OfFunction (path_of path.now) ∷ [])
         (function_meant (path_of path.now)) (λ t. t) result }

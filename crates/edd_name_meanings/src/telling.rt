@@ -1,12 +1,13 @@
 //! Faults that are told, after which a walk goes on.
 
 ghost use Rattle.std.specs.Prelude.{[], ◌∷◌, Option, IfOk, OnOk};
+ghost use Rattle.edd_syntax.specs.declared.reference.Path as path;
 ghost use Rattle.edd_syntax.specs.declared.reference.Target as target;
 ghost use Rattle.edd_syntax.specs.Item.{Description};
 ghost use Rattle.edd_syntax.specs.NameUses.{Use};
 ghost use Rattle.edd_syntax.specs.Reference as pure;
 ghost use Rattle.edd_name_meanings.specs.Copies.{Meant, Tells};
-ghost use Rattle.edd_name_meanings.specs.Meanings.{FirstFault};
+ghost use Rattle.edd_name_meanings.specs.Meanings.{IsFaultOf};
 
 use edd_breaches::Breach;
 use edd_syntax::numbers::{ItemNo, Kind, VarNo};
@@ -28,11 +29,11 @@ pub fn tell<'a>(
     instead: Target,
     told: &mut Vec<Breach<'a>>,
 ) -> Result<Target, AllocError>
-    ensures told { OnOk result ((unit : Description pure.Path) (u : Use)
-        → FirstFault fault.entry unit (u ∷ [])
-        → Tells unit (u ∷ []) told.old.items told.new.items) }
-    ensures sound { IfOk result (λ t. (unit : Description pure.Path) (u : Use)
-        (meant : Option target.Target) → FirstFault fault.entry unit (u ∷ [])
+    ensures told { OnOk result ((unit : Description pure.Path) (u : Use) (p : path.Path)
+        → IsFaultOf fault.entry unit u p
+        → Tells unit (u ∷ []) (p ∷ []) told.old.items told.new.items) }
+    ensures sound { IfOk result (λ t. (unit : Description pure.Path) (u : Use) (p : path.Path)
+        (meant : Option target.Target) → IsFaultOf fault.entry unit u p
         → Meant unit (u ∷ []) meant t) }
 {
     told.push(fault)?;

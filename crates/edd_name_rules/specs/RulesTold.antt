@@ -9,10 +9,10 @@ use Rattle.edd_syntax.specs.declared.reference.Path.{Path}
 use Rattle.edd_syntax.specs.Item as item
 use Rattle.edd_syntax.specs.Item.{kind_of_item}
 use Rattle.edd_syntax.specs.ItemView.{attribute_of, attributes_of, name_of, named_items, sort_of}
-use Rattle.edd_syntax.specs.NameRules.{attribute_word, item_limit, kinds, local_limit, locals_of, node_limit, required_words, transaction_count, transaction_limit}
+use Rattle.edd_syntax.specs.NameRules.{attribute_word, item_limit, local_limit, locals_of, node_limit, required_words, transaction_count, transaction_limit}
 use Rattle.edd_syntax.specs.Reference as pure
 use Rattle.edd_syntax.specs.Refusal.{MissingAttribute, TooMany, is_name_in}
-use Rattle.edd_syntax.specs.Resolution.{count_of}
+use Rattle.edd_syntax.specs.Resolution.{count_of, kinds}
 use Rattle.edd_syntax.specs.Size.{unit_nodes}
 use Rattle.edd_syntax.specs.Text.{Name}
 use Rattle.edd_syntax.specs.TreeView.{path_of}

@@ -3,8 +3,8 @@
 ghost use Rattle.std.specs.Prelude.{◌≡◌, [], ◌∷◌, map, nat_lt};
 ghost use Rattle.std.specs.List.{list_any};
 ghost use Rattle.edd_syntax.specs.ItemView.{item_of, attribute_of};
-ghost use Rattle.edd_syntax.specs.NameRules.{item_limit, kinds};
-ghost use Rattle.edd_syntax.specs.Resolution.{count_of};
+ghost use Rattle.edd_syntax.specs.NameRules.{item_limit};
+ghost use Rattle.edd_syntax.specs.Resolution.{count_of, kinds};
 ghost use Rattle.edd_syntax.specs.TreeView.{path_of};
 ghost use Rattle.edd_name_rules.specs.Spending.{spent, transactions_in};
 

@@ -4,6 +4,8 @@ use Rattle.std.specs.List.{flat_map}
 use Rattle.edd_name_meanings.specs.Copies.{Meant, Tells}
 use Rattle.edd_breaches.specs.declared.breach.Breach.{Breach}
 use Rattle.edd_name_meanings.specs.Meanings.{Means, NoFault}
+use Rattle.edd_name_meanings.proofs.UseLaws.{retold}
+use Rattle.edd_syntax.specs.declared.reference.Path as code_path
 use Rattle.edd_syntax.specs.declared.reference.Target.{Target}
 use Rattle.edd_syntax.specs.Item.{Attribute, Description, Item, ItemKind}
 use Rattle.edd_syntax.specs.NameUses.{attribute_uses, item_uses}
@@ -15,10 +17,10 @@ abbrev made : ItemKind → Name → List (Attribute Target) → Item Target
 made sort name attributes = record { sort = sort; name = name; attributes = attributes }
 
 pub item_told : (unit : Description Path) (i : Item Path) (xs : List (Attribute Path))
-    (old new : List Breach) → xs ≡ i.attributes
-    → Tells unit (flat_map (attribute_uses i.sort) xs) old new → Tells unit (item_uses i) old new
-item_told unit i xs old new same h =
-    subst (λ ys. Tells unit (flat_map (attribute_uses i.sort) ys) old new) same h
+    (ps qs : List code_path.Path) (old new : List Breach) → xs ≡ i.attributes → ps ≡ qs
+    → Tells unit (flat_map (attribute_uses i.sort) xs) ps old new → Tells unit (item_uses i) qs old new
+item_told unit i xs ps qs old new same same' h =
+    retold unit _ _ ps qs old new (ap (flat_map (attribute_uses i.sort)) same) same' h
 
 pub item_means : (unit : Description Path) (i : Item Path) (j : Item Target)
     (xs : List (Attribute Path)) (bs : List (Attribute Target)) → xs ≡ i.attributes

@@ -1,15 +1,20 @@
 -- What is told of the names of a unit, and what its items mean where no rule on names is broken.
-use Rattle.std.proofs.Common.{◌≡◌, sym, ap, ◌∙◌, List, [], ◌∷◌, ◌++◌, Some, append_assoc}
+use Rattle.std.proofs.Common.{◌≡◌, refl, sym, ap, ◌∙◌, List, [], ◌∷◌, ◌++◌, length, map, Some, append_assoc, arith}
 use Rattle.std.specs.Prelude.{IsTrue}
+use Rattle.std.specs.List.{flat_map}
 use Rattle.edd_name_meanings.specs.declared.directory.Names.{Names}
 use Rattle.edd_name_meanings.specs.Directory.{description_of}
 use Rattle.edd_breaches.specs.declared.breach.Breach.{Breach}
-use Rattle.edd_breaches.specs.Told.{broken}
+use Rattle.edd_breaches.specs.Told as breaches
+use Rattle.edd_breaches.specs.Told.{Told, told_at, refusals}
+use Rattle.edd_breaches.proofs.TellLaws.{tells_append, refusals_append}
 use Rattle.edd_name_meanings.specs.Meanings.{Means, NoFault, faults_in}
 use Rattle.edd_names.specs.Told.{IsMeant, rules_before}
 use Rattle.edd_names.specs.Units.{unit_view}
 use Rattle.edd_names.proofs.MemberLaws.{all_named}
-use Rattle.edd_name_meanings.specs.Copies.{Meant, Tells}
+use Rattle.edd_name_meanings.specs.Copies.{Meant, Tells, told_in}
+use Rattle.edd_name_meanings.specs.Places.{place_of_use}
+use Rattle.edd_syntax.specs.declared.numbers.TokenNo.{TokenNo}
 use Rattle.edd_syntax.specs.declared.item.Item as code_item
 use Rattle.edd_syntax.specs.declared.reference.Path as code_path
 use Rattle.edd_syntax.specs.declared.reference.Target.{Target}
@@ -17,10 +22,10 @@ use Rattle.edd_syntax.specs.declared.unit.Unit.{Unit}
 use Rattle.edd_syntax.specs.Accepted.{name_breaches}
 use Rattle.edd_syntax.specs.Item.{Description, Item}
 use Rattle.edd_syntax.specs.ItemView.{identification_of, named_items}
-use Rattle.edd_syntax.specs.NameRules.{too_many, duplicate_names, duplicate_attributes, missing_attributes, wrong_uses}
-use Rattle.edd_syntax.specs.NameUses.{unit_uses}
+use Rattle.edd_syntax.specs.NameRules.{too_many, duplicate_names, duplicate_attributes, missing_attributes, faults_of_use, wrong_uses}
+use Rattle.edd_syntax.specs.NameUses.{Use, unit_uses}
 use Rattle.edd_syntax.specs.Reference.{Path}
-use Rattle.edd_syntax.specs.Refusal.{first_of}
+use Rattle.edd_syntax.specs.Refusal.{Refusal, first_of}
 use Rattle.edd_syntax.specs.Resolved.{description}
 use Rattle.edd_syntax.specs.ResolvedTrees.{◌>>=◌, each, resolved_item, resolved_unit}
 use Rattle.edd_syntax.specs.WellFormed.{are_items}
@@ -44,12 +49,38 @@ module _ (unit : Description Path) where
 
   -- ---- what was told
 
-  pub told_in_order : (old mid new : List Breach) → broken mid ≡ broken old ++ rules_before unit
-      → Tells unit (unit_uses unit) mid new → broken new ≡ broken old ++ name_breaches unit
-  unfolding Tells faults_in
-  told_in_order old mid new h k = k ∙ ap (λ xs. xs ++ wrong_uses unit) h
-      ∙ append_assoc (broken old) (rules_before unit) (wrong_uses unit)
-      ∙ ap (λ xs. broken old ++ xs) (sym in_order)
+  pub tells_in_order : (rules : List Told) (paths : List code_path.Path) (old mid new : List Breach)
+      → breaches.Tells rules old mid → Tells unit (unit_uses unit) paths mid new
+      → breaches.Tells (rules ++ told_in unit (unit_uses unit) paths) old new
+  unfolding Tells
+  tells_in_order rules paths old mid new h k =
+      tells_append rules (told_in unit (unit_uses unit) paths) old mid new h k.1
+
+  of_use : (rs : List Refusal) (at : TokenNo) → refusals (map (λ why. told_at why at) rs) ≡ rs
+  of_use [] at = refl
+  of_use (r ∷ rs) at = ap (λ all. r ∷ all) (of_use rs at)
+
+  -- the faults of uses, without their places
+  of_uses : (us : List Use) (ps : List code_path.Path) → length us ≡ length ps
+      → refusals (told_in unit us ps) ≡ flat_map (faults_of_use unit) us
+  of_uses [] ps same = refl
+  of_uses (u ∷ us) [] same = absurd (omega (arith, same))
+  of_uses (u ∷ us) (p ∷ ps) same =
+      refusals_append (map (λ why. told_at why (place_of_use unit u p)) (faults_of_use unit u))
+      (told_in unit us ps)
+      ∙ ap (λ all. all ++ refusals (told_in unit us ps))
+      (of_use (faults_of_use unit u) (place_of_use unit u p))
+      ∙ ap (λ all. faults_of_use unit u ++ all) (of_uses us ps (omega (arith, same)))
+
+  pub rules_in_order : (rules : List Told) (paths : List code_path.Path) (mid new : List Breach)
+      → refusals rules ≡ rules_before unit → Tells unit (unit_uses unit) paths mid new
+      → refusals (rules ++ told_in unit (unit_uses unit) paths) ≡ name_breaches unit
+  unfolding Tells
+  rules_in_order rules paths mid new are k =
+      refusals_append rules (told_in unit (unit_uses unit) paths)
+      ∙ ap (λ all. all ++ refusals (told_in unit (unit_uses unit) paths)) are
+      ∙ ap (λ all. rules_before unit ++ all) (of_uses (unit_uses unit) paths k.0)
+      ∙ sym in_order
 
   no_fault : name_breaches unit ≡ [] → NoFault unit (unit_uses unit)
   unfolding NoFault faults_in

@@ -1,13 +1,20 @@
 -- What is told of the names of a unit.
 use Rattle.std.specs.Prelude.{◌≡◌, Bool, true, false, List, [], ◌++◌, Some}
 use Rattle.edd_syntax.specs.declared.reference.Target.{Target}
+use Rattle.edd_syntax.specs.declared.unit.Unit.{Unit}
 use Rattle.edd_syntax.specs.Accepted.{name_breaches}
 use Rattle.edd_syntax.specs.Item.{Description, Item}
 use Rattle.edd_syntax.specs.NameRules.{too_many, duplicate_names, duplicate_attributes, missing_attributes}
+use Rattle.edd_syntax.specs.NameUses.{unit_uses}
 use Rattle.edd_syntax.specs.Reference.{Path}
 use Rattle.edd_syntax.specs.Refusal.{Refusal}
 use Rattle.edd_syntax.specs.Resolved.{description}
 use Rattle.edd_syntax.specs.ResolvedTrees.{resolved_unit}
+use Rattle.edd_breaches.specs.Told.{Told}
+use Rattle.edd_name_rules.specs.RulesTold.{rules_told}
+use Rattle.edd_name_meanings.specs.Copies.{told_in}
+use Rattle.edd_name_meanings.specs.PathsIn.{paths_in_items}
+use Rattle.edd_names.specs.Units.{unit_view}
 
 -- the breaches of the rules that come before those on uses of names
 abbrev pub rules_before : Description Path → List Refusal
@@ -18,6 +25,12 @@ rules_before unit = too_many unit
 abbrev pub told_of_names : Description Path → (was_asked : Bool) → List Refusal
 told_of_names unit true = name_breaches unit
 told_of_names unit false = rules_before unit
+
+-- the same, each at its token: those of the other rules, and of each use at its path
+abbrev pub names_told : Unit → (was_asked : Bool) → List Told
+names_told u true = rules_told u.items.items
+    ++ told_in (unit_view u) (unit_uses (unit_view u)) (paths_in_items u.items.items)
+names_told u false = rules_told u.items.items
 
 -- the items are what the unit means, where no rule on names is broken
 abbrev pub IsMeant : Description Path → List (Item Target) → Type 0

@@ -10,6 +10,7 @@ ghost use Rattle.edd_syntax.specs.TreeView.{path_of, part_of, numbered_part};
 ghost use Rattle.edd_name_meanings.specs.Directory.{description_of};
 ghost use Rattle.edd_name_rules.specs.Spending.{locals_in};
 ghost use Rattle.edd_name_meanings.specs.Copies.{Copies, Told};
+ghost use Rattle.edd_name_meanings.specs.PathsIn.{paths_in_attribute, paths_in_attributes, paths_in_parts};
 
 use crate::braces::copy_parts;
 use crate::texts::{copy_responses, copy_words};
@@ -44,7 +45,7 @@ fn copy_definition<'a>(
     requires { slots_in (body_from (map (part_of path_of) parts.now)) ≤ 64 }
     ensures told { Told (description_of names.now)
         (body_uses (body_from (map (part_of path_of) parts.now)) [] 0)
-        told.old.items told.new.items result }
+        (paths_in_parts parts.now) told.old.items told.new.items result }
     ensures sound { Copies (description_of names.now)
         (body_uses (body_from (map (part_of path_of) parts.now)) [] 0)
         (resolved_body (description_of names.now) (body_from (map (part_of path_of) parts.now)) []
@@ -64,7 +65,7 @@ fn copy_attribute<'a>(
     requires { locals_in (attribute_of path_of attribute.now ∷ []) ≤ 64 }
     ensures told { Told (description_of names.now)
         (attribute_uses (item_of path_of item.now).sort (attribute_of path_of attribute.now))
-        told.old.items told.new.items result }
+        (paths_in_attribute attribute.now) told.old.items told.new.items result }
     ensures sound { Copies (description_of names.now)
         (attribute_uses (item_of path_of item.now).sort (attribute_of path_of attribute.now))
         (resolved_attribute (description_of names.now) (item_of path_of item.now).sort
@@ -119,7 +120,7 @@ pub fn copy_attributes<'a>(
     requires { locals_in (map (attribute_of path_of) attributes.now) ≤ 64 }
     ensures told { Told (description_of names.now)
         (flat_map (attribute_uses (item_of path_of item.now).sort)
-        (map (attribute_of path_of) attributes.now)) told.old.items told.new.items result }
+        (map (attribute_of path_of) attributes.now)) (paths_in_attributes attributes.now) told.old.items told.new.items result }
     ensures sound { Copies (description_of names.now)
         (flat_map (attribute_uses (item_of path_of item.now).sort)
         (map (attribute_of path_of) attributes.now))

@@ -3,12 +3,14 @@
 
 ghost use Rattle.std.specs.Prelude.{[], ◌∷◌, List, Option, map};
 ghost use Rattle.std.specs.List.{flat_map};
+ghost use Rattle.edd_syntax.specs.declared.reference.Path as path;
 ghost use Rattle.edd_syntax.specs.declared.reference.Target as target;
 ghost use Rattle.edd_syntax.specs.Item as pure;
 ghost use Rattle.edd_syntax.specs.Item.{Description, ItemKind};
 ghost use Rattle.edd_syntax.specs.ItemView.{item_of, type_part_of, transaction_part_of, array_element_of, member_of, numbered_array_element, numbered_member, numbered_transaction_part, numbered_type_part};
 ghost use Rattle.edd_syntax.specs.NameUses.{Use, OfItem, type_part_uses, transaction_part_uses};
 ghost use Rattle.edd_syntax.specs.Reference as reference;
+ghost use Rattle.edd_syntax.specs.ReferenceOrder.{element_references, member_references, transaction_part_references, type_part_references};
 ghost use Rattle.edd_syntax.specs.Resolution.{meaning, member_kinds};
 ghost use Rattle.edd_syntax.specs.ResolvedTrees.{each, resolved_type_part, resolved_transaction_part, resolved_member, resolved_element};
 ghost use Rattle.edd_syntax.specs.TreeView.{path_of};
@@ -39,6 +41,13 @@ pub trait ResolvePart {
 
     ghost after: { Self.Out → After };
 
+    /// What the part stands for where references are the paths of the code, and these paths.
+    ghost Placed: { Type 0 };
+
+    ghost placed: { Self → Placed };
+
+    ghost paths: { Placed → List path.Path };
+
     /// The uses of names in a part of an item of this kind, and what it means.
     ghost uses: { ItemKind → Before → List Use };
 
@@ -52,8 +61,8 @@ pub trait ResolvePart {
         told: &mut Vec<Breach<'a>>,
     ) -> Result<Self::Out, AllocError>
         ensures told { Told (description_of names.now)
-            (uses (item_of path_of item.now).sort (before self.now)) told.old.items
-            told.new.items result }
+            (uses (item_of path_of item.now).sort (before self.now)) (paths (placed self.now))
+            told.old.items told.new.items result }
         ensures sound { Copies (description_of names.now)
             (uses (item_of path_of item.now).sort (before self.now))
             (meant (description_of names.now) (item_of path_of item.now).sort (before self.now))
@@ -69,7 +78,7 @@ pub fn copy_parts<'a, P: ResolvePart>(
 ) -> Result<Vec<P::Out>, AllocError>
     ensures told { Told (description_of names.now)
         (flat_map (P.uses (item_of path_of item.now).sort) (map P.before parts.now))
-        told.old.items told.new.items result }
+        (flat_map P.paths (map P.placed parts.now)) told.old.items told.new.items result }
     ensures sound { Copies (description_of names.now)
         (flat_map (P.uses (item_of path_of item.now).sort) (map P.before parts.now))
         (each (P.meant (description_of names.now) (item_of path_of item.now).sort)
@@ -92,6 +101,12 @@ impl ResolvePart for TypePart<Path> {
     ghost before = { type_part_of path_of };
 
     ghost after = { numbered_type_part };
+
+    ghost Placed = { pure.TypePart path.Path };
+
+    ghost placed = { type_part_of (λ p. p) };
+
+    ghost paths = { type_part_references };
 
     ghost uses = { λ sort. type_part_uses };
 
@@ -143,6 +158,12 @@ impl ResolvePart for TransactionPart<Path> {
 
     ghost after = { numbered_transaction_part };
 
+    ghost Placed = { pure.TransactionPart path.Path };
+
+    ghost placed = { transaction_part_of (λ p. p) };
+
+    ghost paths = { transaction_part_references };
+
     ghost uses = { λ sort. transaction_part_uses };
 
     ghost meant = { λ unit sort. resolved_transaction_part unit };
@@ -174,7 +195,7 @@ fn refer_member<'a>(
 ) -> Result<Target, AllocError>
     ensures told { Told (description_of names.now)
         (OfItem [] (member_kinds (item_of path_of item.now).sort) (path_of path.now) ∷ [])
-        told.old.items told.new.items result }
+        (path.now ∷ []) told.old.items told.new.items result }
     ensures sound { Copies (description_of names.now)
         (OfItem [] (member_kinds (item_of path_of item.now).sort) (path_of path.now) ∷ [])
         (meaning (description_of names.now) [] (member_kinds (item_of path_of item.now).sort)
@@ -197,6 +218,12 @@ impl ResolvePart for Member<Path> {
     ghost before = { member_of path_of };
 
     ghost after = { numbered_member };
+
+    ghost Placed = { pure.Member path.Path };
+
+    ghost placed = { member_of (λ p. p) };
+
+    ghost paths = { member_references };
 
     ghost uses = { λ sort. member_uses (member_kinds sort) };
 
@@ -229,6 +256,12 @@ impl ResolvePart for ArrayElement<Path> {
     ghost before = { array_element_of path_of };
 
     ghost after = { numbered_array_element };
+
+    ghost Placed = { pure.ArrayElement path.Path };
+
+    ghost placed = { array_element_of (λ p. p) };
+
+    ghost paths = { element_references };
 
     ghost uses = { λ sort. element_uses };
 

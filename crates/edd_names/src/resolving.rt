@@ -2,13 +2,13 @@
 
 ghost use Rattle.std.specs.Prelude.{◌≡◌, ◌++◌, [], false, Some, IfErr, IfOk, IfSome, is_some};
 ghost use Rattle.edd_breaches.specs.Faults.{IsFirstOf};
-ghost use Rattle.edd_breaches.specs.Told.{broken};
+ghost use Rattle.edd_breaches.specs.Told.{Tells, broken};
 ghost use Rattle.edd_syntax.specs.Accepted.{name_breaches};
 ghost use Rattle.edd_syntax.specs.ItemView.{identification_of, numbered_items};
 ghost use Rattle.edd_syntax.specs.NameRules.{too_many};
 ghost use Rattle.edd_syntax.specs.Resolved.{description};
 ghost use Rattle.edd_syntax.specs.ResolvedTrees.{resolved_unit};
-ghost use Rattle.edd_names.specs.Told.{IsMeant, told_of_names};
+ghost use Rattle.edd_names.specs.Told.{IsMeant, names_told, told_of_names};
 ghost use Rattle.edd_names.specs.Units.{unit_view};
 
 use crate::unit_items::copy_items;
@@ -30,7 +30,9 @@ pub fn tell_names<'a>(
     unit: &'a Unit,
     told: &mut Vec<Breach<'a>>,
 ) -> Result<Option<Vec<Item<Target>>>, AllocError>
-    ensures told { IfOk result (λ items. broken told.new.items ≡ broken told.old.items
+    ensures told { IfOk result (λ items. Tells (names_told unit.now (is_some items)) told.old.items
+        told.new.items) }
+    ensures rules { IfOk result (λ items. broken told.new.items ≡ broken told.old.items
         ++ told_of_names (unit_view unit.now) (is_some items)) }
     ensures counted { IfOk result (λ items. is_some items ≡ false
         → too_many (unit_view unit.now) ≡ [] → ⊥) }

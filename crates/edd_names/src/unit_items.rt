@@ -9,6 +9,7 @@ ghost use Rattle.edd_syntax.specs.ResolvedTrees.{each, resolved_item};
 ghost use Rattle.edd_syntax.specs.TreeView.{path_of};
 ghost use Rattle.edd_name_meanings.specs.Directory.{description_of};
 ghost use Rattle.edd_name_meanings.specs.Copies.{Copies, Told};
+ghost use Rattle.edd_name_meanings.specs.PathsIn.{paths_in_item, paths_in_items};
 
 use crate::attributes::copy_attributes;
 use edd_breaches::Breach;
@@ -69,7 +70,7 @@ fn copy_item<'a>(
 ) -> Result<Item<Target>, AllocError>
     requires { nat_lt local_limit (locals_of (item_of path_of item.now)) ≡ false }
     ensures told { Told (description_of names.now) (item_uses (item_of path_of item.now))
-        told.old.items told.new.items result }
+        (paths_in_item item.now) told.old.items told.new.items result }
     ensures sound { Copies (description_of names.now) (item_uses (item_of path_of item.now))
         (resolved_item (description_of names.now) (item_of path_of item.now)) numbered_item result }
 {
@@ -88,7 +89,7 @@ pub fn copy_items<'a>(
         ≡ false }
     ensures told { Told (description_of names.now)
         (flat_map item_uses (map (item_of path_of) items.now))
-        told.old.items told.new.items result }
+        (paths_in_items items.now) told.old.items told.new.items result }
     ensures sound { Copies (description_of names.now)
         (flat_map item_uses (map (item_of path_of) items.now))
         (each (resolved_item (description_of names.now)) (map (item_of path_of) items.now))

@@ -3,7 +3,10 @@ use Rattle.std.proofs.Common.{◌≡◌, refl, sym, ap, ◌∙◌, ℕ, ◌+◌,
 use Rattle.std.proofs.lemmas.List.{at_drop_more}
 use Rattle.edd_statement_names.specs.ResolvedParts.{resolved_declarator}
 use Rattle.edd_expression_names.proofs.ExprSteps.{bound, regroup}
+use Rattle.edd_syntax.specs.declared.reference.Path as code_path
 use Rattle.edd_syntax.specs.declared.reference.Target.{Target}
+use Rattle.edd_syntax.specs.declared.stmt.Declarator as code
+use Rattle.edd_name_meanings.specs.PathsIn.{paths_in_declarators, paths_in_optional}
 use Rattle.edd_syntax.specs.declared.reference.Target.TheVariants.{Local}
 use Rattle.edd_syntax.specs.Reference.{Path}
 use Rattle.edd_syntax.specs.Item.{Description}
@@ -28,6 +31,13 @@ uses_from s ds = declarator_uses s.0 s.1 ds
 pub uses_split : (s : State) (d : Declarator Path) (ds : List (Declarator Path))
     → uses_from s (d ∷ ds) ≡ uses_here s d ++ uses_from (behind s d) ds
 uses_split s d ds = refl
+
+abbrev pub paths_here : code.Declarator code_path.Path → List code_path.Path
+paths_here d = paths_in_optional d.value
+
+pub paths_split : (d : code.Declarator code_path.Path) (ds : List (code.Declarator code_path.Path))
+    → paths_in_declarators (d ∷ ds) ≡ paths_here d ++ paths_in_declarators ds
+paths_split d ds = refl
 
 module _ (unit : Description Path) where
   abbrev pub meant_here : State → Declarator Path → Option (Declarator Target)

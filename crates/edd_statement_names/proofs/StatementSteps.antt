@@ -6,8 +6,9 @@ use Rattle.std.proofs.lemmas.List.{at_drop_more}
 use Rattle.edd_breaches.specs.declared.breach.Breach.{Breach}
 use Rattle.edd_name_meanings.specs.Meanings.{Means, NoFault}
 use Rattle.edd_name_meanings.specs.Copies.{Meant, Tells}
-use Rattle.edd_name_meanings.proofs.UseLaws.{none_left, none_right}
-use Rattle.edd_statement_names.specs.ResolvedParts.{part_uses, resolved_part, scope_behind, next_behind}
+use Rattle.edd_name_meanings.specs.PathsIn.{paths_in_expr, paths_in_parts, paths_in_stmt}
+use Rattle.edd_name_meanings.proofs.UseLaws.{none_left, none_right, retold}
+use Rattle.edd_statement_names.specs.ResolvedParts.{part_uses, paths_in_part, resolved_part, scope_behind, next_behind}
 use Rattle.edd_statement_names.proofs.DeclaratorSteps.{State}
 use Rattle.edd_expression_names.proofs.ExprSteps.{bound, regroup}
 use Rattle.edd_name_rules.proofs.SlotLaws.{slots_split}
@@ -16,11 +17,13 @@ use Rattle.edd_syntax.specs.declared.expr.Expr as code_expr
 use Rattle.edd_syntax.specs.declared.stmt.Stmt as code
 use Rattle.edd_syntax.specs.declared.stmt.Stmt.TheVariants as s
 use Rattle.edd_syntax.specs.declared.stmt.Part as code_part
+use Rattle.edd_syntax.specs.declared.stmt.Part.TheVariants as part
 use Rattle.edd_syntax.specs.declared.reference.Path as code_path
 use Rattle.edd_syntax.specs.declared.reference.Target.{Target}
 use Rattle.edd_syntax.specs.Reference.{Path}
 use Rattle.edd_syntax.specs.Item.{Description}
 use Rattle.edd_syntax.specs.NameUses.{Use, expr_uses, stmt_uses, body_uses}
+use Rattle.edd_syntax.specs.ReferenceOrder.{stmt_references}
 use Rattle.edd_syntax.specs.Resolution.{Scope}
 use Rattle.edd_syntax.specs.ResolvedTrees.{◌>>=◌, at_scope, resolved_expr, resolved_declarators, resolved_stmt, resolved_body}
 use Rattle.edd_syntax.specs.Size.{statement_nodes, body_nodes}
@@ -43,6 +46,13 @@ uses_split s (Declare declarators) ps = refl
 uses_split s (Statement t) ps = refl
 uses_split s (CaseLabel label) ps = refl
 uses_split s DefaultLabel ps = refl
+
+pub paths_split : (p : code_part.Part code_path.Path) (ps : List (code_part.Part code_path.Path))
+    → paths_in_parts (p ∷ ps) ≡ paths_in_part p ++ paths_in_parts ps
+paths_split (part.Declare declarators) ps = refl
+paths_split (part.Statement t) ps = refl
+paths_split (part.CaseLabel at label) ps = refl
+paths_split (part.DefaultLabel at) ps = refl
 
 module _ (unit : Description Path) where
   abbrev pub meant_here : State → Part Path → Option (Part Target)
@@ -111,19 +121,23 @@ module _ (unit : Description Path) (x : code.Stmt code_path.Path)
   listed = body_from (map (part_of path_of) items)
 
   module _ (is : x ≡ s.Block v) where
+    blocked : {S : Type 0} (f : code_path.Path → S)
+        → stmt_of f x ≡ Block (body_from (map (part_of f) items))
+    blocked f = block_is f x v is ∙ ap (λ xs. Block (body_from (map (part_of f) xs))) (sym same)
+
     block : stmt_of path_of x ≡ Block listed
-    block = block_is path_of x v is ∙ ap (λ xs. Block (body_from (map (part_of path_of) xs)))
-        (sym same)
+    block = blocked path_of
 
     pub block_slots : slots_of (stmt_of path_of x) ≡ slots_in listed
     unfolding slots_of
     block_slots = ap slots_of block
 
     pub block_told : (scope : Scope) (n : ℕ) (old new : List Breach)
-        → Tells unit (body_uses listed scope n) old new
-        → Tells unit (stmt_uses (stmt_of path_of x) scope n) old new
+        → Tells unit (body_uses listed scope n) (paths_in_parts items) old new
+        → Tells unit (stmt_uses (stmt_of path_of x) scope n) (paths_in_stmt x) old new
     block_told scope n old new h =
-        subst (λ t. Tells unit (stmt_uses t scope n) old new) (sym block) h
+        retold unit _ _ _ _ old new (ap (λ t. stmt_uses t scope n) (sym block))
+        (ap stmt_references (sym (blocked (λ r. r)))) h
 
     pub block_means : (scope : Scope) (n : ℕ) (w : Vec (code_part.Part Target) alloc.Global)
         → Meant unit (body_uses listed scope n) (resolved_body unit listed scope n)
@@ -137,19 +151,25 @@ module _ (unit : Description Path) (x : code.Stmt code_path.Path)
         ∙ ap (λ t. Some t) (sym (block_is (λ r. r) (s.Block w) w refl))
 
   module _ (on : code_expr.Expr code_path.Path) (is : x ≡ s.Switch on v) where
+    switched : {S : Type 0} (f : code_path.Path → S)
+        → stmt_of f x ≡ Switch (expr_of f on) (body_from (map (part_of f) items))
+    switched f = switch_is f x on v is
+        ∙ ap (λ xs. Switch (expr_of f on) (body_from (map (part_of f) xs))) (sym same)
+
     switch : stmt_of path_of x ≡ Switch (expr_of path_of on) listed
-    switch = switch_is path_of x on v is
-        ∙ ap (λ xs. Switch (expr_of path_of on) (body_from (map (part_of path_of) xs))) (sym same)
+    switch = switched path_of
 
     pub switch_slots : slots_of (stmt_of path_of x) ≡ slots_in listed
     unfolding slots_of
     switch_slots = ap slots_of switch
 
     pub switch_told : (scope : Scope) (n : ℕ) (old new : List Breach)
-        → Tells unit (expr_uses scope (expr_of path_of on) ++ body_uses listed scope n) old new
-        → Tells unit (stmt_uses (stmt_of path_of x) scope n) old new
+        → Tells unit (expr_uses scope (expr_of path_of on) ++ body_uses listed scope n)
+        (paths_in_expr on ++ paths_in_parts items) old new
+        → Tells unit (stmt_uses (stmt_of path_of x) scope n) (paths_in_stmt x) old new
     switch_told scope n old new h =
-        subst (λ t. Tells unit (stmt_uses t scope n) old new) (sym switch) h
+        retold unit _ _ _ _ old new (ap (λ t. stmt_uses t scope n) (sym switch))
+        (ap stmt_references (sym (switched (λ r. r)))) h
 
     pub switch_means : (scope : Scope) (n : ℕ) (on' : code_expr.Expr Target)
         (w : Vec (code_part.Part Target) alloc.Global)

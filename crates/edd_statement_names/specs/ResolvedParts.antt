@@ -6,7 +6,11 @@ use Rattle.edd_syntax.specs.Statement.{Declarator, Part, Declare, Statement, Cas
 use Rattle.edd_syntax.specs.declared.reference.Target.TheVariants.{Local}
 use Rattle.edd_syntax.specs.NameUses.{Use, declarator_uses, stmt_uses}
 use Rattle.edd_syntax.specs.Reference.{Path}
+use Rattle.edd_syntax.specs.declared.reference.Path as code_path
 use Rattle.edd_syntax.specs.declared.reference.Target.{Target}
+use Rattle.edd_syntax.specs.declared.stmt.Part as code_part
+use Rattle.edd_syntax.specs.declared.stmt.Part.TheVariants as part
+use Rattle.edd_name_meanings.specs.PathsIn.{paths_in_declarators, paths_in_stmt}
 use Rattle.edd_syntax.specs.ResolvedTrees.{◌>>=◌, at_scope, resolved_optional, resolved_declarators, resolved_stmt}
 
 -- a declarator whose slot is `next`
@@ -24,6 +28,13 @@ part_uses scope next (Declare declarators) = declarator_uses scope next declarat
 part_uses scope next (Statement s) = stmt_uses s scope next
 part_uses scope next (CaseLabel label) = []
 part_uses scope next DefaultLabel = []
+
+-- the paths at which these are
+abbrev pub paths_in_part : code_part.Part code_path.Path → List code_path.Path
+paths_in_part (part.Declare declarators) = paths_in_declarators declarators.items
+paths_in_part (part.Statement s) = paths_in_stmt s
+paths_in_part (part.CaseLabel at label) = []
+paths_in_part (part.DefaultLabel at) = []
 
 -- the part with the meaning of its names, if each has one
 abbrev pub resolved_part : Description Path → Scope → (next : ℕ) → Part Path → Option (Part Target)

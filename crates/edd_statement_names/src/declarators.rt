@@ -9,6 +9,7 @@ ghost use Rattle.edd_name_meanings.specs.Directory.{description_of};
 ghost use Rattle.edd_name_meanings.specs.Meanings.{scope_of};
 ghost use Rattle.edd_statement_names.specs.ResolvedParts.{resolved_declarator};
 ghost use Rattle.edd_name_meanings.specs.Copies.{Copies, Told};
+ghost use Rattle.edd_name_meanings.specs.PathsIn.{paths_in_declarators, paths_in_optional};
 
 use edd_breaches::Breach;
 use edd_expression_names::exprs::copy_expr;
@@ -29,7 +30,7 @@ pub fn copy_optional<'a>(
 ) -> Result<Option<Expr<Target>>, AllocError>
     ensures told { Told (description_of names.now)
         (optional_uses (scope_of scope.now) (option_map (expr_of path_of) e.now))
-        told.old.items told.new.items result }
+        (paths_in_optional e.now) told.old.items told.new.items result }
     ensures sound { Copies (description_of names.now)
         (optional_uses (scope_of scope.now) (option_map (expr_of path_of) e.now))
         (resolved_optional (at_scope (description_of names.now) (scope_of scope.now))
@@ -67,7 +68,7 @@ fn copy_declarator<'a>(
 ) -> Result<Declarator<Target>, AllocError>
     ensures told { Told (description_of names.now)
         (optional_uses (scope_of scope.now) (declarator_of path_of declarator.now).value)
-        told.old.items told.new.items result }
+        (paths_in_optional declarator.now.value) told.old.items told.new.items result }
     ensures sound { Copies (description_of names.now)
         (optional_uses (scope_of scope.now) (declarator_of path_of declarator.now).value)
         (resolved_declarator (description_of names.now) (scope_of scope.now) slot
@@ -93,7 +94,7 @@ fn copy_next<'a>(
     requires { next.old < 64 }
     ensures told { Told (description_of names.now)
         (optional_uses (scope_of scope.old.items) (declarator_of path_of declarator.now).value)
-        told.old.items told.new.items result }
+        (paths_in_optional declarator.now.value) told.old.items told.new.items result }
     ensures sound { Copies (description_of names.now)
         (optional_uses (scope_of scope.old.items) (declarator_of path_of declarator.now).value)
         (resolved_declarator (description_of names.now) (scope_of scope.old.items) next.old
@@ -122,7 +123,7 @@ pub fn copy_declarators<'a>(
     requires { next.old + length declarators.now ≤ 64 }
     ensures told { Told (description_of names.now)
         (declarator_uses (scope_of scope.old.items) next.old
-        (map (declarator_of path_of) declarators.now)) told.old.items told.new.items result }
+        (map (declarator_of path_of) declarators.now)) (paths_in_declarators declarators.now) told.old.items told.new.items result }
     ensures sound { Copies (description_of names.now)
         (declarator_uses (scope_of scope.old.items) next.old
         (map (declarator_of path_of) declarators.now))

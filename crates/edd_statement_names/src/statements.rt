@@ -7,8 +7,9 @@ ghost use Rattle.edd_syntax.specs.Statement.{body_from, slots_of, slots_in};
 ghost use Rattle.edd_syntax.specs.TreeView.{path_of, expr_of, stmt_of, part_of, numbered_expr, numbered_part, numbered_stmt};
 ghost use Rattle.edd_name_meanings.specs.Directory.{description_of};
 ghost use Rattle.edd_name_meanings.specs.Meanings.{scope_of};
-ghost use Rattle.edd_statement_names.specs.ResolvedParts.{part_uses, resolved_part, scope_behind, next_behind};
+ghost use Rattle.edd_statement_names.specs.ResolvedParts.{part_uses, paths_in_part, resolved_part, scope_behind, next_behind};
 ghost use Rattle.edd_name_meanings.specs.Copies.{Copies, Told};
+ghost use Rattle.edd_name_meanings.specs.PathsIn.{paths_in_expr, paths_in_optional, paths_in_parts, paths_in_stmt};
 
 use crate::declarators::{copy_declarators, copy_optional};
 use edd_breaches::Breach;
@@ -40,7 +41,7 @@ fn copy_stmt<'a>(
     requires { next.old + slots_of (stmt_of path_of s.now) ≤ 64 }
     ensures told { Told (description_of names.now)
         (stmt_uses (stmt_of path_of s.now) (scope_of scope.now) next.old)
-        told.old.items told.new.items result }
+        (paths_in_stmt s.now) told.old.items told.new.items result }
     ensures sound { Copies (description_of names.now)
         (stmt_uses (stmt_of path_of s.now) (scope_of scope.now) next.old)
         (resolved_stmt (description_of names.now) (stmt_of path_of s.now) (scope_of scope.now)
@@ -108,7 +109,7 @@ fn copy_boxed<'a>(
     requires { next.old + slots_of (stmt_of path_of s.now) ≤ 64 }
     ensures told { Told (description_of names.now)
         (stmt_uses (stmt_of path_of s.now) (scope_of scope.now) next.old)
-        told.old.items told.new.items result }
+        (paths_in_stmt s.now) told.old.items told.new.items result }
     ensures sound { Copies (description_of names.now)
         (stmt_uses (stmt_of path_of s.now) (scope_of scope.now) next.old)
         (resolved_stmt (description_of names.now) (stmt_of path_of s.now) (scope_of scope.now)
@@ -134,7 +135,7 @@ fn copy_guarded<'a>(
     ensures told { Told (description_of names.now)
         (expr_uses (scope_of scope.now) (expr_of path_of condition.now)
         ++ stmt_uses (stmt_of path_of body.now) (scope_of scope.now) next.old)
-        told.old.items told.new.items result }
+        (paths_in_expr condition.now ++ paths_in_stmt body.now) told.old.items told.new.items result }
     ensures condition { Copies (description_of names.now)
         (expr_uses (scope_of scope.now) (expr_of path_of condition.now))
         (resolved_expr (at_scope (description_of names.now) (scope_of scope.now))
@@ -169,7 +170,7 @@ fn copy_choice<'a>(
         ++ (stmt_uses (stmt_of path_of first.now) (scope_of scope.now) next.old
         ++ stmt_uses (stmt_of path_of otherwise.now) (scope_of scope.now)
         (next.old + slots_of (stmt_of path_of first.now))))
-        told.old.items told.new.items result }
+        (paths_in_expr condition.now ++ (paths_in_stmt first.now ++ paths_in_stmt otherwise.now)) told.old.items told.new.items result }
     ensures condition { Copies (description_of names.now)
         (expr_uses (scope_of scope.now) (expr_of path_of condition.now))
         (resolved_expr (at_scope (description_of names.now) (scope_of scope.now))
@@ -207,7 +208,7 @@ fn copy_repeated<'a>(
     ensures told { Told (description_of names.now)
         (stmt_uses (stmt_of path_of body.now) (scope_of scope.now) next.old
         ++ expr_uses (scope_of scope.now) (expr_of path_of condition.now))
-        told.old.items told.new.items result }
+        (paths_in_stmt body.now ++ paths_in_expr condition.now) told.old.items told.new.items result }
     ensures body { Copies (description_of names.now)
         (stmt_uses (stmt_of path_of body.now) (scope_of scope.now) next.old)
         (resolved_stmt (description_of names.now) (stmt_of path_of body.now) (scope_of scope.now)
@@ -249,7 +250,7 @@ fn copy_looped<'a>(
         ++ (optional_uses (scope_of scope.now) (option_map (expr_of path_of) condition.now)
         ++ (optional_uses (scope_of scope.now) (option_map (expr_of path_of) update.now)
         ++ stmt_uses (stmt_of path_of body.now) (scope_of scope.now) next.old)))
-        told.old.items told.new.items result }
+        (paths_in_optional initial.now ++ (paths_in_optional condition.now ++ (paths_in_optional update.now ++ paths_in_stmt body.now))) told.old.items told.new.items result }
     ensures initial { Copies (description_of names.now)
         (optional_uses (scope_of scope.now) (option_map (expr_of path_of) initial.now))
         (resolved_optional (at_scope (description_of names.now) (scope_of scope.now))
@@ -290,7 +291,7 @@ fn copy_switched<'a>(
     ensures told { Told (description_of names.now)
         (expr_uses (scope_of scope.now) (expr_of path_of on.now)
         ++ body_uses (body_from (map (part_of path_of) parts.now)) (scope_of scope.now) next.old)
-        told.old.items told.new.items result }
+        (paths_in_expr on.now ++ paths_in_parts parts.now) told.old.items told.new.items result }
     ensures on { Copies (description_of names.now)
         (expr_uses (scope_of scope.now) (expr_of path_of on.now))
         (resolved_expr (at_scope (description_of names.now) (scope_of scope.now))
@@ -320,7 +321,7 @@ pub fn copy_body<'a>(
     requires { next.old + slots_in (body_from (map (part_of path_of) parts.now)) ≤ 64 }
     ensures told { Told (description_of names.now)
         (body_uses (body_from (map (part_of path_of) parts.now)) (scope_of scope.now) next.old)
-        told.old.items told.new.items result }
+        (paths_in_parts parts.now) told.old.items told.new.items result }
     ensures sound { Copies (description_of names.now)
         (body_uses (body_from (map (part_of path_of) parts.now)) (scope_of scope.now) next.old)
         (resolved_body (description_of names.now) (body_from (map (part_of path_of) parts.now))
@@ -349,7 +350,7 @@ fn copy_part<'a>(
     requires { next.old + slots_in (body_from (part_of path_of part.now ∷ [])) ≤ 64 }
     ensures told { Told (description_of names.now)
         (part_uses (scope_of scope.old.items) next.old (part_of path_of part.now))
-        told.old.items told.new.items result }
+        (paths_in_part part.now) told.old.items told.new.items result }
     ensures sound { Copies (description_of names.now)
         (part_uses (scope_of scope.old.items) next.old (part_of path_of part.now))
         (resolved_part (description_of names.now) (scope_of scope.old.items) next.old

@@ -10,9 +10,11 @@ use Rattle.edd_syntax.specs.NameUses.{conds_uses, arms_uses}
 use Rattle.edd_syntax.specs.ResolvedTrees.{at_attribute, resolved_cond, resolved_conds, resolved_arms}
 use Rattle.edd_syntax.specs.TreeView.{path_of}
 use Rattle.edd_name_meanings.specs.Directory.{description_of}
-use Rattle.edd_name_meanings.specs.Copies.{Meant, Tells}
+use Rattle.edd_name_meanings.specs.Copies.{Meant}
+use Rattle.edd_name_meanings.specs.PathsIn.{paths_in_arms, paths_in_conds}
+use Rattle.edd_name_meanings.proofs.UseLaws.{retold}
 use Rattle.edd_expression_names.specs.ResolvedParts.{resolved_arm}
-use Rattle.edd_expression_names.proofs.BranchSteps.{conds_split, arms_split, conds_joined, arms_joined, no_conds, no_arms, one_cond, value_told, value_means, if_told, if_means, select_told, select_means, case_told, case_means, default_told, default_means}
+use Rattle.edd_expression_names.proofs.BranchSteps.{conds_split, arms_split, conds_paths_split, arms_paths_split, one_path, conds_joined, arms_joined, no_conds, no_arms, one_cond, value_told, value_means, if_told, if_means, select_told, select_means, case_told, case_means, default_told, default_means}
 use Rattle.edd_name_rules.proofs.CondSpends.{cond_depth, arm_depth, conds_depth, arms_depth, first_falls, otherwise_falls, arms_fall, case_falls, default_falls, element_falls, arm_falls}
 use Rattle.edd_expression_names.proofs.Copying.{one_more, told_at_end, meant_at_end}
 use Rattle.edd_expression_names.proofs.conditionals.+branches.Goals as goal
@@ -20,19 +22,19 @@ use Rattle.edd_expression_names.proofs.conditionals.+branches.Goals as goal
 pub copy_cond-returns-in_ok-copy-in-Value-clause-told : goal.copy_cond-returns-in_ok-copy-in-Value-clause-told
 copy_cond-returns-in_ok-copy-in-Value-clause-told g t c =
     value_told (description_of c.args.names.now) g.V.ResolveValue.before g.V.ResolveValue.after
-    g.V.ResolveValue.uses g.V.ResolveValue.meant c.args.c.now _ c.in-Value.is
+    g.V.ResolveValue.uses g.V.ResolveValue.meant g.V.ResolveValue.placed g.V.ResolveValue.paths c.args.c.now _ c.in-Value.is
     c.args.told.now.items c.copy.new.told.items c.in_ok-copy-in-Value.ensures.told
 
 pub copy_cond-returns-in_ok-copy-in-Value-clause-sound : goal.copy_cond-returns-in_ok-copy-in-Value-clause-sound
 copy_cond-returns-in_ok-copy-in-Value-clause-sound g t c =
     value_means (description_of c.args.names.now) g.V.ResolveValue.before g.V.ResolveValue.after
-    g.V.ResolveValue.uses g.V.ResolveValue.meant c.args.c.now _ c.in-Value.is
+    g.V.ResolveValue.uses g.V.ResolveValue.meant g.V.ResolveValue.placed g.V.ResolveValue.paths c.args.c.now _ c.in-Value.is
     c.in_ok-copy-in-Value.field-0 c.in_ok-copy-in-Value.ensures.sound
 
 pub copy_cond-returns-in_ok-otherwise-in-If-clause-told : goal.copy_cond-returns-in_ok-otherwise-in-If-clause-told
 copy_cond-returns-in_ok-otherwise-in-If-clause-told g t c =
     if_told (description_of c.args.names.now) g.V.ResolveValue.before g.V.ResolveValue.after
-    g.V.ResolveValue.uses g.V.ResolveValue.meant c.args.c.now _ _ _ c.deref.result.now
+    g.V.ResolveValue.uses g.V.ResolveValue.meant g.V.ResolveValue.placed g.V.ResolveValue.paths c.args.c.now _ _ _ c.deref.result.now
     c.deref-in-If.result.now c.in-If.is c.deref.ensures.value c.deref-in-If.ensures.value
     c.args.told.now.items c.copy_expr.new.told.items c.copy_conds.new.told.items
     c.copy_conds-in-If.new.told.items c.in_ok-condition-in-If.ensures.told
@@ -41,7 +43,7 @@ copy_cond-returns-in_ok-otherwise-in-If-clause-told g t c =
 pub copy_cond-returns-in_ok-otherwise-in-If-clause-sound : goal.copy_cond-returns-in_ok-otherwise-in-If-clause-sound
 copy_cond-returns-in_ok-otherwise-in-If-clause-sound g t c =
     if_means (description_of c.args.names.now) g.V.ResolveValue.before g.V.ResolveValue.after
-    g.V.ResolveValue.uses g.V.ResolveValue.meant c.args.c.now _ _ _ c.deref.result.now
+    g.V.ResolveValue.uses g.V.ResolveValue.meant g.V.ResolveValue.placed g.V.ResolveValue.paths c.args.c.now _ _ _ c.deref.result.now
     c.deref-in-If.result.now c.in-If.is c.deref.ensures.value c.deref-in-If.ensures.value
     c.in_ok-condition-in-If.condition c.in_ok-first-in-If.first c.in_ok-otherwise-in-If.otherwise
     c.in_ok-condition-in-If.ensures.sound c.in_ok-first-in-If.ensures.sound
@@ -50,7 +52,7 @@ copy_cond-returns-in_ok-otherwise-in-If-clause-sound g t c =
 pub copy_cond-returns-in_ok-arms-in-Select-clause-told : goal.copy_cond-returns-in_ok-arms-in-Select-clause-told
 copy_cond-returns-in_ok-arms-in-Select-clause-told g t c =
     select_told (description_of c.args.names.now) g.V.ResolveValue.before g.V.ResolveValue.after
-    g.V.ResolveValue.uses g.V.ResolveValue.meant c.args.c.now _ _ c.deref-in-Select.result.now
+    g.V.ResolveValue.uses g.V.ResolveValue.meant g.V.ResolveValue.placed g.V.ResolveValue.paths c.args.c.now _ _ c.deref-in-Select.result.now
     c.in-Select.is c.deref-in-Select.ensures.value c.args.told.now.items
     c.copy_expr-in-Select.new.told.items c.copy_arms.new.told.items
     c.in_ok-on-in-Select.ensures.told c.in_ok-arms-in-Select.ensures.told
@@ -58,7 +60,7 @@ copy_cond-returns-in_ok-arms-in-Select-clause-told g t c =
 pub copy_cond-returns-in_ok-arms-in-Select-clause-sound : goal.copy_cond-returns-in_ok-arms-in-Select-clause-sound
 copy_cond-returns-in_ok-arms-in-Select-clause-sound g t c =
     select_means (description_of c.args.names.now) g.V.ResolveValue.before g.V.ResolveValue.after
-    g.V.ResolveValue.uses g.V.ResolveValue.meant c.args.c.now _ _ c.deref-in-Select.result.now
+    g.V.ResolveValue.uses g.V.ResolveValue.meant g.V.ResolveValue.placed g.V.ResolveValue.paths c.args.c.now _ _ c.deref-in-Select.result.now
     c.in-Select.is c.deref-in-Select.ensures.value c.in_ok-on-in-Select.on
     c.in_ok-arms-in-Select.arms c.in_ok-on-in-Select.ensures.sound
     c.in_ok-arms-in-Select.ensures.sound
@@ -66,7 +68,7 @@ copy_cond-returns-in_ok-arms-in-Select-clause-sound g t c =
 pub copy_arm-returns-in_ok-body-in-Case-clause-told : goal.copy_arm-returns-in_ok-body-in-Case-clause-told
 copy_arm-returns-in_ok-body-in-Case-clause-told g t c =
     case_told (description_of c.args.names.now) g.V.ResolveValue.before g.V.ResolveValue.after
-    g.V.ResolveValue.uses g.V.ResolveValue.meant c.args.arm.now c.deref.result.now _ _ c.in-Case.is
+    g.V.ResolveValue.uses g.V.ResolveValue.meant g.V.ResolveValue.placed g.V.ResolveValue.paths c.args.arm.now c.deref.result.now _ _ c.in-Case.is
     c.deref.ensures.value c.args.told.now.items c.copy_conds.new.told.items
     c.in_ok-body-in-Case.ensures.told
 
@@ -81,20 +83,20 @@ copy_arm-returns-in_ok-body-in-Case-clause-sound g t c =
     (numbered_arm g.V.ResolveValue.after (Case z c.in_ok-body-in-Case.body)))
     (sym (to_z-of_z w64 c.in-Case.label f))
     (case_means (description_of c.args.names.now) g.V.ResolveValue.before g.V.ResolveValue.after
-    g.V.ResolveValue.uses g.V.ResolveValue.meant c.args.arm.now c.deref.result.now _ _ c.in-Case.is
+    g.V.ResolveValue.uses g.V.ResolveValue.meant g.V.ResolveValue.placed g.V.ResolveValue.paths c.args.arm.now c.deref.result.now _ _ c.in-Case.is
     c.deref.ensures.value c.in_ok-body-in-Case.body c.in_ok-body-in-Case.ensures.sound)
 
 pub copy_arm-returns-in_ok-body-in-Default-clause-told : goal.copy_arm-returns-in_ok-body-in-Default-clause-told
 copy_arm-returns-in_ok-body-in-Default-clause-told g t c =
     default_told (description_of c.args.names.now) g.V.ResolveValue.before g.V.ResolveValue.after
-    g.V.ResolveValue.uses g.V.ResolveValue.meant c.args.arm.now c.deref-in-Default.result.now _ _
+    g.V.ResolveValue.uses g.V.ResolveValue.meant g.V.ResolveValue.placed g.V.ResolveValue.paths c.args.arm.now c.deref-in-Default.result.now _ _
     c.in-Default.is c.deref-in-Default.ensures.value c.args.told.now.items
     c.copy_conds-in-Default.new.told.items c.in_ok-body-in-Default.ensures.told
 
 pub copy_arm-returns-in_ok-body-in-Default-clause-sound : goal.copy_arm-returns-in_ok-body-in-Default-clause-sound
 copy_arm-returns-in_ok-body-in-Default-clause-sound g t c =
     default_means (description_of c.args.names.now) g.V.ResolveValue.before g.V.ResolveValue.after
-    g.V.ResolveValue.uses g.V.ResolveValue.meant c.args.arm.now c.deref-in-Default.result.now _ _
+    g.V.ResolveValue.uses g.V.ResolveValue.meant g.V.ResolveValue.placed g.V.ResolveValue.paths c.args.arm.now c.deref-in-Default.result.now _ _
     c.in-Default.is c.deref-in-Default.ensures.value c.in_ok-body-in-Default.body
     c.in_ok-body-in-Default.ensures.sound
 
@@ -102,7 +104,7 @@ pub copy_conds-loop-c-preserved : goal.copy_conds-loop-c-preserved
 copy_conds-loop-c-preserved g t c =
     one_more (description_of c.args.names.now) (cond_of path_of g.V.ResolveValue.before)
     (numbered_cond g.V.ResolveValue.after) (λ xs. conds_uses g.V.ResolveValue.uses (conds_from xs))
-    (conds_split g.V.ResolveValue.uses)
+    (conds_split g.V.ResolveValue.uses) (paths_in_conds g.V.ResolveValue.placed g.V.ResolveValue.paths) (conds_paths_split g.V.ResolveValue.placed g.V.ResolveValue.paths)
     (resolved_cond (at_attribute (description_of c.args.names.now)) (g.V.ResolveValue.meant (description_of c.args.names.now)))
     (λ xs. resolved_conds (at_attribute (description_of c.args.names.now)) (g.V.ResolveValue.meant (description_of c.args.names.now))
     (conds_from xs)) conds_from
@@ -110,9 +112,11 @@ copy_conds-loop-c-preserved g t c =
     c.args.told.now.items c.loop-c.c-index c.args.all.now
     c.c-item.result c.loop-c.copies.items c.push.new.self.items c.in_ok-copy_cond.field-0
     c.loop-c.told.items c.copy_cond.new.told.items (omega arith) c.c-item.is
-    (subst (λ us. Tells (description_of c.args.names.now) us c.loop-c.told.items
-    c.copy_cond.new.told.items)
-    (one_cond g.V.ResolveValue.uses (cond_of path_of g.V.ResolveValue.before c.c-item.result)) c.in_ok-copy_cond.ensures.told)
+    (retold (description_of c.args.names.now) _ _ _ _ c.loop-c.told.items
+    c.copy_cond.new.told.items
+    (one_cond g.V.ResolveValue.uses (cond_of path_of g.V.ResolveValue.before c.c-item.result))
+    (one_path g.V.ResolveValue.placed g.V.ResolveValue.paths c.c-item.result)
+    c.in_ok-copy_cond.ensures.told)
     (subst (λ us. Meant (description_of c.args.names.now) us
     (resolved_cond (at_attribute (description_of c.args.names.now)) (g.V.ResolveValue.meant (description_of c.args.names.now))
     (cond_of path_of g.V.ResolveValue.before c.c-item.result)) (numbered_cond g.V.ResolveValue.after c.in_ok-copy_cond.field-0))
@@ -123,12 +127,12 @@ pub copy_conds-returns-clause-told : goal.copy_conds-returns-clause-told
 copy_conds-returns-clause-told g t c =
     told_at_end (description_of c.args.names.now) (cond_of path_of g.V.ResolveValue.before)
     (numbered_cond g.V.ResolveValue.after) (λ xs. conds_uses g.V.ResolveValue.uses (conds_from xs))
-    (conds_split g.V.ResolveValue.uses)
+    (conds_split g.V.ResolveValue.uses) (paths_in_conds g.V.ResolveValue.placed g.V.ResolveValue.paths) (conds_paths_split g.V.ResolveValue.placed g.V.ResolveValue.paths)
     (resolved_cond (at_attribute (description_of c.args.names.now)) (g.V.ResolveValue.meant (description_of c.args.names.now)))
     (λ xs. resolved_conds (at_attribute (description_of c.args.names.now)) (g.V.ResolveValue.meant (description_of c.args.names.now))
     (conds_from xs)) conds_from
     (conds_joined (at_attribute (description_of c.args.names.now)) (g.V.ResolveValue.meant (description_of c.args.names.now)))
-    c.args.told.now.items refl c.loop-c.c-index c.args.all.now
+    c.args.told.now.items refl refl c.loop-c.c-index c.args.all.now
     c.loop-c.copies.items c.loop-c.told.items
     (drop_of_length-le c.args.all.now (omega arith)) c.loop-c.invariant
 
@@ -136,7 +140,7 @@ pub copy_conds-returns-clause-sound : goal.copy_conds-returns-clause-sound
 copy_conds-returns-clause-sound g t c =
     meant_at_end (description_of c.args.names.now) (cond_of path_of g.V.ResolveValue.before)
     (numbered_cond g.V.ResolveValue.after) (λ xs. conds_uses g.V.ResolveValue.uses (conds_from xs))
-    (conds_split g.V.ResolveValue.uses)
+    (conds_split g.V.ResolveValue.uses) (paths_in_conds g.V.ResolveValue.placed g.V.ResolveValue.paths) (conds_paths_split g.V.ResolveValue.placed g.V.ResolveValue.paths)
     (resolved_cond (at_attribute (description_of c.args.names.now)) (g.V.ResolveValue.meant (description_of c.args.names.now)))
     (λ xs. resolved_conds (at_attribute (description_of c.args.names.now)) (g.V.ResolveValue.meant (description_of c.args.names.now))
     (conds_from xs)) conds_from
@@ -150,7 +154,7 @@ pub copy_arms-loop-arm-preserved : goal.copy_arms-loop-arm-preserved
 copy_arms-loop-arm-preserved g t c =
     one_more (description_of c.args.names.now) (arm_of path_of g.V.ResolveValue.before)
     (numbered_arm g.V.ResolveValue.after) (λ xs. arms_uses g.V.ResolveValue.uses (arms_from xs))
-    (arms_split g.V.ResolveValue.uses)
+    (arms_split g.V.ResolveValue.uses) (paths_in_arms g.V.ResolveValue.placed g.V.ResolveValue.paths) (arms_paths_split g.V.ResolveValue.placed g.V.ResolveValue.paths)
     (resolved_arm (at_attribute (description_of c.args.names.now)) (g.V.ResolveValue.meant (description_of c.args.names.now)))
     (λ xs. resolved_arms (at_attribute (description_of c.args.names.now)) (g.V.ResolveValue.meant (description_of c.args.names.now))
     (arms_from xs)) arms_from
@@ -165,12 +169,12 @@ pub copy_arms-returns-clause-told : goal.copy_arms-returns-clause-told
 copy_arms-returns-clause-told g t c =
     told_at_end (description_of c.args.names.now) (arm_of path_of g.V.ResolveValue.before)
     (numbered_arm g.V.ResolveValue.after) (λ xs. arms_uses g.V.ResolveValue.uses (arms_from xs))
-    (arms_split g.V.ResolveValue.uses)
+    (arms_split g.V.ResolveValue.uses) (paths_in_arms g.V.ResolveValue.placed g.V.ResolveValue.paths) (arms_paths_split g.V.ResolveValue.placed g.V.ResolveValue.paths)
     (resolved_arm (at_attribute (description_of c.args.names.now)) (g.V.ResolveValue.meant (description_of c.args.names.now)))
     (λ xs. resolved_arms (at_attribute (description_of c.args.names.now)) (g.V.ResolveValue.meant (description_of c.args.names.now))
     (arms_from xs)) arms_from
     (arms_joined (at_attribute (description_of c.args.names.now)) (g.V.ResolveValue.meant (description_of c.args.names.now)))
-    c.args.told.now.items refl c.loop-arm.arm-index c.args.arms.now
+    c.args.told.now.items refl refl c.loop-arm.arm-index c.args.arms.now
     c.loop-arm.copies.items c.loop-arm.told.items
     (drop_of_length-le c.args.arms.now (omega arith)) c.loop-arm.invariant
 
@@ -178,7 +182,7 @@ pub copy_arms-returns-clause-sound : goal.copy_arms-returns-clause-sound
 copy_arms-returns-clause-sound g t c =
     meant_at_end (description_of c.args.names.now) (arm_of path_of g.V.ResolveValue.before)
     (numbered_arm g.V.ResolveValue.after) (λ xs. arms_uses g.V.ResolveValue.uses (arms_from xs))
-    (arms_split g.V.ResolveValue.uses)
+    (arms_split g.V.ResolveValue.uses) (paths_in_arms g.V.ResolveValue.placed g.V.ResolveValue.paths) (arms_paths_split g.V.ResolveValue.placed g.V.ResolveValue.paths)
     (resolved_arm (at_attribute (description_of c.args.names.now)) (g.V.ResolveValue.meant (description_of c.args.names.now)))
     (λ xs. resolved_arms (at_attribute (description_of c.args.names.now)) (g.V.ResolveValue.meant (description_of c.args.names.now))
     (arms_from xs)) arms_from

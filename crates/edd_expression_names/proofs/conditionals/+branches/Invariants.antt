@@ -5,9 +5,10 @@ use Rattle.edd_syntax.specs.Size.{cond_nodes, conds_nodes, arms_nodes, leaf}
 use Rattle.edd_syntax.specs.TreeView.{path_of}
 use Rattle.edd_syntax.specs.NameUses.{conds_uses, arms_uses}
 use Rattle.edd_syntax.specs.ResolvedTrees.{at_attribute, resolved_cond, resolved_conds, resolved_arms}
+use Rattle.edd_name_meanings.specs.PathsIn.{paths_in_arms, paths_in_conds}
 use Rattle.edd_name_meanings.specs.Directory.{description_of}
 use Rattle.edd_expression_names.specs.ResolvedParts.{resolved_arm}
-use Rattle.edd_expression_names.proofs.BranchSteps.{conds_split, arms_split, conds_joined, arms_joined}
+use Rattle.edd_expression_names.proofs.BranchSteps.{conds_split, arms_split, conds_paths_split, arms_paths_split, conds_joined, arms_joined}
 use Rattle.edd_expression_names.proofs.Copying.{Copied}
 use Rattle.edd_expression_names.proofs.conditionals.+branches.Given as goal
 
@@ -30,7 +31,7 @@ abbrev pub invariant-copy_conds-loop-c : goal.invariant-copy_conds-loop-c
 invariant-copy_conds-loop-c g l = Copied (description_of l.fn.names)
     (cond_of path_of g.V.ResolveValue.before)
     (numbered_cond g.V.ResolveValue.after) (λ xs. conds_uses g.V.ResolveValue.uses (conds_from xs))
-    (conds_split g.V.ResolveValue.uses) (resolved_cond (at_attribute (description_of l.fn.names))
+    (conds_split g.V.ResolveValue.uses) (paths_in_conds g.V.ResolveValue.placed g.V.ResolveValue.paths) (conds_paths_split g.V.ResolveValue.placed g.V.ResolveValue.paths) (resolved_cond (at_attribute (description_of l.fn.names))
     (g.V.ResolveValue.meant (description_of l.fn.names)))
     (λ xs. resolved_conds (at_attribute (description_of l.fn.names))
     (g.V.ResolveValue.meant (description_of l.fn.names))
@@ -43,7 +44,7 @@ abbrev pub invariant-copy_arms-loop-arm : goal.invariant-copy_arms-loop-arm
 invariant-copy_arms-loop-arm g l = Copied (description_of l.fn.names)
     (arm_of path_of g.V.ResolveValue.before)
     (numbered_arm g.V.ResolveValue.after) (λ xs. arms_uses g.V.ResolveValue.uses (arms_from xs))
-    (arms_split g.V.ResolveValue.uses)
+    (arms_split g.V.ResolveValue.uses) (paths_in_arms g.V.ResolveValue.placed g.V.ResolveValue.paths) (arms_paths_split g.V.ResolveValue.placed g.V.ResolveValue.paths)
     (resolved_arm (at_attribute (description_of l.fn.names))
     (g.V.ResolveValue.meant (description_of l.fn.names)))
     (λ xs. resolved_arms (at_attribute (description_of l.fn.names))

@@ -8,15 +8,16 @@ use Rattle.edd_syntax.specs.TreeView.{path_of, argument_of, numbered_argument}
 use Rattle.edd_name_meanings.specs.Directory.{description_of}
 use Rattle.edd_name_meanings.specs.Meanings.{scope_of}
 use Rattle.edd_expression_names.specs.ResolvedParts.{resolved_argument}
+use Rattle.edd_name_meanings.specs.PathsIn.{paths_in_arguments}
 use Rattle.edd_expression_names.proofs.Copying.{one_more, told_at_end, meant_at_end}
-use Rattle.edd_expression_names.proofs.ExprSteps.{argument_uses_split, arguments_joined, no_arguments, call_told, call_means, call_falls, argument_falls}
+use Rattle.edd_expression_names.proofs.ExprSteps.{argument_uses_split, paths_split, arguments_joined, no_arguments, call_told, call_means, call_falls, argument_falls}
 use Rattle.edd_expression_names.proofs.exprs.+exprs.Goals as goal
 
 pub copy_arguments-loop-argument-preserved : goal.copy_arguments-loop-argument-preserved
 copy_arguments-loop-argument-preserved t c =
     one_more (description_of c.args.names.now) (argument_of path_of) numbered_argument
     (λ xs. argument_uses (scope_of c.args.scope.now) c.args.kinds.now (arguments_from xs))
-    (argument_uses_split (scope_of c.args.scope.now) c.args.kinds.now)
+    (argument_uses_split (scope_of c.args.scope.now) c.args.kinds.now) paths_in_arguments paths_split
     (resolved_argument (at_scope (description_of c.args.names.now) (scope_of c.args.scope.now))
     (meaning (description_of c.args.names.now) (scope_of c.args.scope.now) c.args.kinds.now))
     (λ xs. resolved_arguments
@@ -35,7 +36,7 @@ pub copy_arguments-returns-clause-told : goal.copy_arguments-returns-clause-told
 copy_arguments-returns-clause-told t c =
     told_at_end (description_of c.args.names.now) (argument_of path_of) numbered_argument
     (λ xs. argument_uses (scope_of c.args.scope.now) c.args.kinds.now (arguments_from xs))
-    (argument_uses_split (scope_of c.args.scope.now) c.args.kinds.now)
+    (argument_uses_split (scope_of c.args.scope.now) c.args.kinds.now) paths_in_arguments paths_split
     (resolved_argument (at_scope (description_of c.args.names.now) (scope_of c.args.scope.now))
     (meaning (description_of c.args.names.now) (scope_of c.args.scope.now) c.args.kinds.now))
     (λ xs. resolved_arguments
@@ -44,7 +45,7 @@ copy_arguments-returns-clause-told t c =
     (arguments_from xs)) arguments_from
     (arguments_joined (at_scope (description_of c.args.names.now) (scope_of c.args.scope.now))
     (meaning (description_of c.args.names.now) (scope_of c.args.scope.now) c.args.kinds.now))
-    c.args.told.now.items refl c.loop-argument.argument-index c.args.arguments.now
+    c.args.told.now.items refl refl c.loop-argument.argument-index c.args.arguments.now
     c.loop-argument.all.items c.loop-argument.told.items
     (drop_of_length-le c.args.arguments.now (omega arith)) c.loop-argument.invariant
 
@@ -52,7 +53,7 @@ pub copy_arguments-returns-clause-sound : goal.copy_arguments-returns-clause-sou
 copy_arguments-returns-clause-sound t c =
     meant_at_end (description_of c.args.names.now) (argument_of path_of) numbered_argument
     (λ xs. argument_uses (scope_of c.args.scope.now) c.args.kinds.now (arguments_from xs))
-    (argument_uses_split (scope_of c.args.scope.now) c.args.kinds.now)
+    (argument_uses_split (scope_of c.args.scope.now) c.args.kinds.now) paths_in_arguments paths_split
     (resolved_argument (at_scope (description_of c.args.names.now) (scope_of c.args.scope.now))
     (meaning (description_of c.args.names.now) (scope_of c.args.scope.now) c.args.kinds.now))
     (λ xs. resolved_arguments

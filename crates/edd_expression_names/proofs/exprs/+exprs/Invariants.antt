@@ -7,8 +7,9 @@ use Rattle.edd_syntax.specs.TreeView.{path_of, argument_of, numbered_argument}
 use Rattle.edd_name_meanings.specs.Directory.{description_of}
 use Rattle.edd_name_meanings.specs.Meanings.{scope_of}
 use Rattle.edd_expression_names.specs.ResolvedParts.{resolved_argument}
+use Rattle.edd_name_meanings.specs.PathsIn.{paths_in_arguments}
 use Rattle.edd_expression_names.proofs.Copying.{Copied}
-use Rattle.edd_expression_names.proofs.ExprSteps.{argument_uses_split, arguments_joined, expr_depth, argument_depth, arguments_depth}
+use Rattle.edd_expression_names.proofs.ExprSteps.{argument_uses_split, paths_split, arguments_joined, expr_depth, argument_depth, arguments_depth}
 use Rattle.edd_expression_names.proofs.exprs.+exprs.Given as goal
 
 abbrev pub decreases-copy_among : goal.decreases-copy_among
@@ -39,7 +40,7 @@ decreases-copy_argument l = argument_depth l.argument.now + 1
 abbrev pub invariant-copy_arguments-loop-argument : goal.invariant-copy_arguments-loop-argument
 invariant-copy_arguments-loop-argument l = Copied (description_of l.fn.names) (argument_of path_of)
     numbered_argument (λ xs. argument_uses (scope_of l.fn.scope) l.fn.kinds (arguments_from xs))
-    (argument_uses_split (scope_of l.fn.scope) l.fn.kinds)
+    (argument_uses_split (scope_of l.fn.scope) l.fn.kinds) paths_in_arguments paths_split
     (resolved_argument (at_scope (description_of l.fn.names) (scope_of l.fn.scope))
     (meaning (description_of l.fn.names) (scope_of l.fn.scope) l.fn.kinds))
     (λ xs. resolved_arguments (at_scope (description_of l.fn.names) (scope_of l.fn.scope))

@@ -6,15 +6,16 @@ use Rattle.edd_syntax.specs.Numbers.{kind_of}
 use Rattle.edd_syntax.specs.Resolution.{along}
 use Rattle.edd_name_meanings.specs.Directory.{description_of}
 use Rattle.edd_name_meanings.specs.Paths.{Reaches}
+use Rattle.edd_name_meanings.specs.Places.{place_along}
 use Rattle.edd_name_rules.proofs.Passing.{passed, weaker_err}
-use Rattle.edd_name_meanings.proofs.PathLaws.{never_known, at_member, at_none, at_some}
+use Rattle.edd_name_meanings.proofs.PathLaws.{never_known, at_member, at_none, at_some, weaker_ok}
 use Rattle.edd_name_meanings.proofs.follow.follow.Goals as goal
 
 pub returns-in_err-next-clause-refused : goal.returns-in_err-next-clause-refused
 returns-in_err-next-clause-refused c =
     passed c.from_residual.result c.in_err-next.field-0.0 _ c.from_residual.ensures.1
-    (c.in_err-next.ensures.refused c.args.allowed.now _ _ _
-    (at_member string_bytes (description_of c.args.names.now) c.args.allowed.now _ _
+    (c.in_err-next.ensures.refused c.args.allowed.now _ _ _ _
+    (at_member string_bytes (description_of c.args.names.now) c.args.allowed.now _ _ _
     c.loop-member.here
     c.args.path.now.members.items c.deref-member-items.result.now c.loop-member.member-index
     c.member-item.result c.deref-in-loop-member.result.now c.deref-member-items.ensures.value
@@ -23,8 +24,8 @@ returns-in_err-next-clause-refused c =
 pub returns-in-None-clause-sound : goal.returns-in-None-clause-sound
 returns-in-None-clause-sound c =
     let h = at_none c.in_ok-next.field-0 _ _ c.in-None.is
-    (c.in_ok-next.ensures.sound c.args.allowed.now _ _ _
-    (at_member string_bytes (description_of c.args.names.now) c.args.allowed.now _ _
+    (c.in_ok-next.ensures.sound c.args.allowed.now _ _ _ _
+    (at_member string_bytes (description_of c.args.names.now) c.args.allowed.now _ _ _
     c.loop-member.here
     c.args.path.now.members.items c.deref-member-items.result.now c.loop-member.member-index
     c.member-item.result c.deref-in-loop-member.result.now c.deref-member-items.ensures.value
@@ -34,8 +35,8 @@ returns-in-None-clause-sound c =
 pub loop-member-preserved : goal.loop-member-preserved
 loop-member-preserved c =
     at_some c.in_ok-next.field-0 c.in-Some.next _ _ c.in-Some.is
-    (c.in_ok-next.ensures.sound c.args.allowed.now _ _ _
-    (at_member string_bytes (description_of c.args.names.now) c.args.allowed.now _ _
+    (c.in_ok-next.ensures.sound c.args.allowed.now _ _ _ _
+    (at_member string_bytes (description_of c.args.names.now) c.args.allowed.now _ _ _
     c.loop-member.here
     c.args.path.now.members.items c.deref-member-items.result.now c.loop-member.member-index
     c.member-item.result c.deref-in-loop-member.result.now c.deref-member-items.ensures.value
@@ -44,11 +45,27 @@ loop-member-preserved c =
 pub returns-clause-refused : goal.returns-clause-refused
 returns-clause-refused c =
     weaker_err c.arrive.result _ _
-    (λ f h. h _ _ (subst (λ ms. Reaches (description_of c.args.names.now) c.args.allowed.now
+    (λ f h. h _ _ _ (subst (λ ms. Reaches (description_of c.args.names.now) c.args.allowed.now
     (faults_along (description_of c.args.names.now) c.args.allowed.now
     (string_bytes c.args.path.now.base) (kind_of c.args.from) (Some c.args.from)
     (map string_bytes c.args.path.now.members.items))
+    (place_along (description_of c.args.names.now) c.args.path.now.at (kind_of c.args.from)
+    (Some c.args.from) (map string_bytes c.args.path.now.members.items))
     (along (description_of c.args.names.now) c.args.from
     (map string_bytes c.args.path.now.members.items)) c.loop-member.here (map string_bytes ms))
     (drop_of_length-le c.args.path.now.members.items (omega arith)) c.loop-member.invariant))
     c.arrive.ensures.refused
+
+pub returns-clause-sound : goal.returns-clause-sound
+returns-clause-sound c =
+    weaker_ok c.arrive.result _ _
+    (λ t h. h _ _ _ (subst (λ ms. Reaches (description_of c.args.names.now) c.args.allowed.now
+    (faults_along (description_of c.args.names.now) c.args.allowed.now
+    (string_bytes c.args.path.now.base) (kind_of c.args.from) (Some c.args.from)
+    (map string_bytes c.args.path.now.members.items))
+    (place_along (description_of c.args.names.now) c.args.path.now.at (kind_of c.args.from)
+    (Some c.args.from) (map string_bytes c.args.path.now.members.items))
+    (along (description_of c.args.names.now) c.args.from
+    (map string_bytes c.args.path.now.members.items)) c.loop-member.here (map string_bytes ms))
+    (drop_of_length-le c.args.path.now.members.items (omega arith)) c.loop-member.invariant))
+    c.arrive.ensures.sound

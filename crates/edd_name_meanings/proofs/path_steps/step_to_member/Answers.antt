@@ -12,6 +12,7 @@ returns-in-Some-clause-sound c = (
   sym c.in-Some.ensures,
   refl,
   refl,
+  refl,
   c.item_of_kind.ensures ∙ ap (option_and_then (of_kind c.in-Some.of))
       (c.item.ensures ∙ ap (item_named (description_of c.args.names.now)) c.deref.ensures),
 )

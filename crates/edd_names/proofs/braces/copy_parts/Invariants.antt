@@ -1,3 +1,4 @@
+use Rattle.std.proofs.Common.{map}
 use Rattle.std.specs.List.{flat_map}
 use Rattle.edd_syntax.specs.ItemView.{item_of}
 use Rattle.edd_syntax.specs.ResolvedTrees.{each}
@@ -11,7 +12,7 @@ use Rattle.edd_names.proofs.braces.copy_parts.Given as goal
 -- those so far are copied
 abbrev pub invariant-loop-part : goal.invariant-loop-part
 invariant-loop-part g l = Copied (description_of l.fn.names) g.P.ResolvePart.before g.P.ResolvePart.after
-    (flat_map (g.P.ResolvePart.uses (item_of path_of l.fn.item).sort)) (flat_split (g.P.ResolvePart.uses (item_of path_of l.fn.item).sort))
+    (flat_map (g.P.ResolvePart.uses (item_of path_of l.fn.item).sort)) (flat_split (g.P.ResolvePart.uses (item_of path_of l.fn.item).sort)) (λ xs. flat_map g.P.ResolvePart.paths (map g.P.ResolvePart.placed xs)) (λ x xs. flat_split g.P.ResolvePart.paths (g.P.ResolvePart.placed x) (map g.P.ResolvePart.placed xs))
     (g.P.ResolvePart.meant (description_of l.fn.names) (item_of path_of l.fn.item).sort)
     (each (g.P.ResolvePart.meant (description_of l.fn.names) (item_of path_of l.fn.item).sort)) (λ ws. ws)
     (each_joined (g.P.ResolvePart.meant (description_of l.fn.names) (item_of path_of l.fn.item).sort))

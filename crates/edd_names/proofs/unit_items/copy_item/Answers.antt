@@ -1,6 +1,7 @@
 use Rattle.std.proofs.Common.{◌∙◌, ap, map}
 use Rattle.edd_syntax.specs.ItemView.{attribute_of, item_of, numbered_attribute, numbered_item}
 use Rattle.edd_syntax.specs.TreeView.{path_of}
+use Rattle.edd_name_meanings.specs.PathsIn.{paths_in_attributes, paths_in_item}
 use Rattle.edd_name_meanings.specs.Directory.{description_of}
 use Rattle.edd_names.proofs.ItemSteps.{item_told, item_means}
 use Rattle.edd_names.proofs.unit_items.copy_item.Goals as goal
@@ -8,9 +9,11 @@ use Rattle.edd_names.proofs.unit_items.copy_item.Goals as goal
 pub returns-clause-told : goal.returns-clause-told
 returns-clause-told c =
     item_told (description_of c.args.names.now) (item_of path_of c.args.item.now)
-    (map (attribute_of path_of) c.attributes.result.now) c.args.told.now.items
-    c.copy_attributes.new.told.items
-    (ap (map (attribute_of path_of)) c.attributes.ensures) c.in_ok-attributes.ensures.told
+    (map (attribute_of path_of) c.attributes.result.now)
+    (paths_in_attributes c.attributes.result.now) (paths_in_item c.args.item.now)
+    c.args.told.now.items c.copy_attributes.new.told.items
+    (ap (map (attribute_of path_of)) c.attributes.ensures)
+    (ap paths_in_attributes c.attributes.ensures) c.in_ok-attributes.ensures.told
 
 pub returns-clause-sound : goal.returns-clause-sound
 returns-clause-sound c =

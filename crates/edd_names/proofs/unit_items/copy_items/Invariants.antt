@@ -1,8 +1,11 @@
+use Rattle.std.proofs.Common.{map}
 use Rattle.std.specs.List.{flat_map}
 use Rattle.edd_syntax.specs.ItemView.{item_of, numbered_item}
 use Rattle.edd_syntax.specs.NameUses.{item_uses}
 use Rattle.edd_syntax.specs.ResolvedTrees.{each, resolved_item}
 use Rattle.edd_syntax.specs.TreeView.{path_of}
+use Rattle.edd_name_meanings.specs.PathsIn.{paths_in_items}
+use Rattle.edd_syntax.specs.ReferenceOrder.{item_references}
 use Rattle.edd_name_meanings.specs.Directory.{description_of}
 use Rattle.edd_expression_names.proofs.Copying.{Copied}
 use Rattle.edd_expression_names.proofs.ExprSteps.{each_joined}
@@ -12,7 +15,7 @@ use Rattle.edd_names.proofs.unit_items.copy_items.Given as goal
 -- those so far are copied
 abbrev pub invariant-loop-item : goal.invariant-loop-item
 invariant-loop-item l = Copied (description_of l.fn.names) (item_of path_of) numbered_item
-    (flat_map item_uses) (flat_split item_uses)
+    (flat_map item_uses) (flat_split item_uses) paths_in_items (λ x xs. flat_split item_references (item_of (λ p. p) x) (map (item_of (λ p. p)) xs))
     (resolved_item (description_of l.fn.names))
     (each (resolved_item (description_of l.fn.names))) (λ ws. ws)
     (each_joined (resolved_item (description_of l.fn.names)))

@@ -3,15 +3,16 @@ use Rattle.std.proofs.Math.ListN.{drop_of_length-le}
 use Rattle.edd_syntax.specs.Resolution.{all_declared, declared}
 use Rattle.edd_syntax.specs.TreeView.{path_of, declarator_of, numbered_declarator}
 use Rattle.edd_name_meanings.specs.Directory.{description_of}
+use Rattle.edd_name_meanings.specs.PathsIn.{paths_in_declarators}
 use Rattle.edd_name_meanings.specs.Meanings.{scope_of}
 use Rattle.edd_expression_names.proofs.CopyingIn.{at_start, one_more, told_at_end, meant_at_end}
-use Rattle.edd_statement_names.proofs.DeclaratorSteps.{behind, uses_here, uses_from, uses_split, meant_here, meant_from, declarators_joined, declared_more}
+use Rattle.edd_statement_names.proofs.DeclaratorSteps.{behind, uses_here, uses_from, uses_split, paths_here, paths_split, meant_here, meant_from, declarators_joined, declared_more}
 use Rattle.edd_statement_names.proofs.declarators.copy_declarators.Goals as goal
 
 pub loop-declarator-init : goal.loop-declarator-init
 loop-declarator-init c = (
   at_start (description_of c.args.names.now) (declarator_of path_of) numbered_declarator behind
-      uses_here uses_from uses_split (meant_here (description_of c.args.names.now))
+      uses_here uses_from uses_split paths_here paths_in_declarators paths_split (meant_here (description_of c.args.names.now))
       (meant_from (description_of c.args.names.now)) (λ ws. ws)
       (declarators_joined (description_of c.args.names.now)) (
         scope_of c.args.scope.now.items,
@@ -30,7 +31,7 @@ copy_next-requires c = let n = c.loop-declarator.invariant.2 in let r =
 pub loop-declarator-preserved : goal.loop-declarator-preserved
 loop-declarator-preserved c = (
   one_more (description_of c.args.names.now) (declarator_of path_of) numbered_declarator behind
-      uses_here uses_from uses_split (meant_here (description_of c.args.names.now))
+      uses_here uses_from uses_split paths_here paths_in_declarators paths_split (meant_here (description_of c.args.names.now))
       (meant_from (description_of c.args.names.now)) (λ ws. ws)
       (declarators_joined (description_of c.args.names.now)) (
         scope_of c.args.scope.now.items,
@@ -64,19 +65,19 @@ loop-declarator-preserved c = (
 
 pub returns-clause-told : goal.returns-clause-told
 returns-clause-told c = told_at_end (description_of c.args.names.now) (declarator_of path_of) numbered_declarator behind
-    uses_here uses_from uses_split (meant_here (description_of c.args.names.now))
+    uses_here uses_from uses_split paths_here paths_in_declarators paths_split (meant_here (description_of c.args.names.now))
     (meant_from (description_of c.args.names.now)) (λ ws. ws)
     (declarators_joined (description_of c.args.names.now)) (
       scope_of c.args.scope.now.items,
       c.args.next.now,
-    ) c.args.told.now.items (λ s. refl)
+    ) c.args.told.now.items (λ s. refl) refl
     (scope_of c.loop-declarator.scope.items, c.loop-declarator.next)
     c.loop-declarator.declarator-index c.args.declarators.now c.loop-declarator.copies.items c.loop-declarator.told.items
     (drop_of_length-le c.args.declarators.now (omega arith)) c.loop-declarator.invariant.0
 
 pub returns-clause-sound : goal.returns-clause-sound
 returns-clause-sound c = meant_at_end (description_of c.args.names.now) (declarator_of path_of) numbered_declarator behind
-    uses_here uses_from uses_split (meant_here (description_of c.args.names.now))
+    uses_here uses_from uses_split paths_here paths_in_declarators paths_split (meant_here (description_of c.args.names.now))
     (meant_from (description_of c.args.names.now)) (λ ws. ws)
     (declarators_joined (description_of c.args.names.now)) (
       scope_of c.args.scope.now.items,

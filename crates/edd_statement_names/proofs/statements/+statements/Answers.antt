@@ -3,17 +3,18 @@ use Rattle.std.proofs.Math.ListN.{drop_of_length-le}
 use Rattle.edd_syntax.specs.Statement.{body_from, slots_in}
 use Rattle.edd_syntax.specs.TreeView.{path_of, part_of, numbered_part}
 use Rattle.edd_name_meanings.specs.Directory.{description_of}
+use Rattle.edd_name_meanings.specs.PathsIn.{paths_in_parts}
 use Rattle.edd_name_meanings.specs.Meanings.{scope_of}
-use Rattle.edd_statement_names.specs.ResolvedParts.{scope_behind}
+use Rattle.edd_statement_names.specs.ResolvedParts.{paths_in_part, scope_behind}
 use Rattle.edd_expression_names.proofs.CopyingIn.{at_start, one_more, told_at_end, meant_at_end}
-use Rattle.edd_statement_names.proofs.StatementSteps.{behind, uses_here, uses_from, uses_split, meant_here, meant_from, parts_joined, no_parts, no_slots, slots_next, slots_more, block_slots, block_told, block_means, switch_slots, switch_told, switch_means, block_falls, switch_falls, part_falls}
+use Rattle.edd_statement_names.proofs.StatementSteps.{behind, uses_here, uses_from, uses_split, paths_split, meant_here, meant_from, parts_joined, no_parts, no_slots, slots_next, slots_more, block_slots, block_told, block_means, switch_slots, switch_told, switch_means, block_falls, switch_falls, part_falls}
 use Rattle.edd_statement_names.proofs.statements.+statements.Goals as goal
 
 pub copy_body-loop-part-init : goal.copy_body-loop-part-init
 copy_body-loop-part-init t c = (
   at_start (description_of c.args.names.now) (part_of path_of) numbered_part behind uses_here
       uses_from
-      uses_split (meant_here (description_of c.args.names.now))
+      uses_split paths_in_part paths_in_parts paths_split (meant_here (description_of c.args.names.now))
       (meant_from (description_of c.args.names.now))
       body_from (parts_joined (description_of c.args.names.now)) (
         scope_of c.args.scope.now,
@@ -30,7 +31,7 @@ pub copy_body-loop-part-preserved : goal.copy_body-loop-part-preserved
 copy_body-loop-part-preserved t c = (
   one_more (description_of c.args.names.now) (part_of path_of) numbered_part behind uses_here
       uses_from
-      uses_split (meant_here (description_of c.args.names.now))
+      uses_split paths_in_part paths_in_parts paths_split (meant_here (description_of c.args.names.now))
       (meant_from (description_of c.args.names.now))
       body_from (parts_joined (description_of c.args.names.now)) (
         scope_of c.args.scope.now,
@@ -57,12 +58,12 @@ copy_body-loop-part-preserved t c = (
 pub copy_body-returns-clause-told : goal.copy_body-returns-clause-told
 copy_body-returns-clause-told t c = told_at_end (description_of c.args.names.now) (part_of path_of) numbered_part behind uses_here
     uses_from
-    uses_split (meant_here (description_of c.args.names.now))
+    uses_split paths_in_part paths_in_parts paths_split (meant_here (description_of c.args.names.now))
     (meant_from (description_of c.args.names.now))
     body_from (parts_joined (description_of c.args.names.now)) (
       scope_of c.args.scope.now,
       c.args.next.now,
-    ) c.args.told.now.items (λ s. refl)
+    ) c.args.told.now.items (λ s. refl) refl
     (scope_of c.loop-part.inner.items, c.loop-part.next) c.loop-part.part-index c.args.parts.now
     c.loop-part.copies.items c.loop-part.told.items (drop_of_length-le c.args.parts.now (omega arith))
     c.loop-part.invariant.0
@@ -70,7 +71,7 @@ copy_body-returns-clause-told t c = told_at_end (description_of c.args.names.now
 pub copy_body-returns-clause-sound : goal.copy_body-returns-clause-sound
 copy_body-returns-clause-sound t c = meant_at_end (description_of c.args.names.now) (part_of path_of) numbered_part behind uses_here
     uses_from
-    uses_split (meant_here (description_of c.args.names.now))
+    uses_split paths_in_part paths_in_parts paths_split (meant_here (description_of c.args.names.now))
     (meant_from (description_of c.args.names.now))
     body_from (parts_joined (description_of c.args.names.now)) (
       scope_of c.args.scope.now,
