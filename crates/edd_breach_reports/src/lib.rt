@@ -4,14 +4,12 @@
 //! Proved is that this is found safely and in bounded time.
 #![tactic(auto)]
 
-mod followers;
 mod kinds;
 mod names;
 mod places;
 mod rules;
 mod sources;
 
-pub use followers::without_followers;
 pub use kinds::OtherKinds;
 pub use rules::diagnostic;
 pub use sources::Source;

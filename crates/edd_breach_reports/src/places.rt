@@ -6,18 +6,6 @@ use edd_reports::words::is_sign;
 use edd_syntax::operators::Comparison;
 use edd_syntax::symbols::Symbol;
 
-/// The first token of the path in which a name is.
-pub fn first_of_path(source: &Source<'_>, number: usize) -> usize {
-    let mut first = number;
-    for _ in 0..LONGEST {
-        if !is_sign(source.tokens(), first.saturating_sub(1), Symbol::Dot) {
-            return first;
-        }
-        first = first.saturating_sub(2);
-    }
-    first
-}
-
 // The last token of the path that begins at a token, or the token itself.
 fn last_of_path(source: &Source<'_>, number: usize) -> usize {
     let mut last = number;

@@ -6,7 +6,7 @@ ghost use Rattle.edd_check.specs.Said.{BeginsWith, IsRefusal, SaysMore};
 use crate::breaches::told_of;
 use crate::grammar::Compiler;
 use crate::reports::Reports;
-use edd_breach_reports::{OtherKinds, Source, diagnostic, without_followers};
+use edd_breach_reports::{OtherKinds, Source, diagnostic};
 use edd_breaches::{Breach, Rule};
 use edd_compiler::Fault;
 use edd_lexer::token::Token;
@@ -269,8 +269,7 @@ pub fn of_unit(
     let source = Source::of(alloc, text, tokens)?;
     let mut items = Vec::new(alloc);
     let told = told_of(alloc, unit, &mut items)?;
-    let found = without_followers(alloc, &source, &told)?;
-    show_breaches(alloc, &source, &found, refusal, &mut reports)?;
+    show_breaches(alloc, &source, &told, refusal, &mut reports)?;
     Ok(reports)
 }
 

@@ -15,6 +15,7 @@ use Rattle.edd_syntax.specs.ItemView.{name_of, numbered_attribute, numbered_item
 use Rattle.edd_syntax.specs.Refusal.{Refusal}
 use Rattle.edd_syntax.specs.Resolved.{description}
 use Rattle.edd_syntax.specs.SubsetRules.{attributes_of, attribute_expressions, call_mismatches, decimals, type_breaches, types_in, type_option_breaches, breaks_outside_in, bodies_in, attribute_data_breaches, repeated_cases, repeated_elements, subset_breaches}
+use Rattle.edd_types.specs.declared.sought.Calls.TheVariants as calls
 use Rattle.edd_types.specs.Rules.{type_told, attribute_told, types_told, rule_told, all_told}
 use Rattle.edd_types.proofs.AttributePlaces.{options_are, calls_in_attribute, decimals_in_attribute, type_is, breaks_in_attribute, constants_are, cases_are, elements_are}
 use Rattle.edd_types.proofs.PlacesForgotten.{joined, each_forgotten, all_forgotten}
@@ -35,15 +36,15 @@ flat_parts f parts (x ∷ xs) = ap (λ ys. flat_map f (parts x) ++ ys) (flat_par
 
 -- a rule that speaks of single attributes
 rule_is : (i : Identification) (r : Rule) (f : item.Attribute Target → List Refusal)
-    → ((a : Attribute Target) → refusals (attribute_told r a) ≡ f (numbered_attribute a))
-    → (items : List (Item Target)) → refusals (rule_told r items)
+    → ((a : Attribute Target) → refusals (attribute_told calls.All r a) ≡ f (numbered_attribute a))
+    → (items : List (Item Target)) → refusals (rule_told calls.All r items)
     ≡ flat_map f (attributes_of (description i (numbered_items items)))
-rule_is i r f same = all_forgotten (λ x. flat_map (attribute_told r) (view.attributes_of x))
+rule_is i r f same = all_forgotten (λ x. flat_map (attribute_told calls.All r) (view.attributes_of x))
     numbered_item f (λ x. x.attributes)
-    (λ x. each_forgotten (attribute_told r) numbered_attribute f same (view.attributes_of x))
+    (λ x. each_forgotten (attribute_told calls.All r) numbered_attribute f same (view.attributes_of x))
 
 pub all_are : (i : Identification) (items : List (Item Target))
-    → refusals (all_told items) ≡ subset_breaches (description i (numbered_items items))
+    → refusals (all_told calls.All items) ≡ subset_breaches (description i (numbered_items items))
 unfolding all_told
 all_are i items =
     joined _ _ _ _ (types_are items)

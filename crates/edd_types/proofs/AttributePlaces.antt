@@ -25,6 +25,7 @@ use Rattle.edd_syntax.specs.ItemView.{enumerator_of, numbered_cond, numbered_con
 use Rattle.edd_syntax.specs.Refusal.{Refusal, Mismatch, DuplicateCase}
 use Rattle.edd_syntax.specs.SubsetRules.{Placed, part_of, no_expressions, cond_expressions, conds_expressions, type_part_expressions, transaction_part_expressions, attribute_expressions, call_mismatches, decimals, is_enumerated, part_breaches, type_option_breaches, breaks_outside_in, bodies_in, data_breaches, transaction_part_breaches, attribute_data_breaches, cond_defaults, conds_defaults, type_part_defaults, transaction_part_defaults, repeated_cases, is_number_in, repeated_numbers, repeated_elements, type_breaches, types_in}
 use Rattle.edd_types.specs.declared.sought.Sought.{Sought}
+use Rattle.edd_types.specs.declared.sought.Calls.TheVariants as calls
 use Rattle.edd_types.specs.declared.sought.Sought.TheVariants as sought
 use Rattle.edd_breaches.specs.Along.{told_along}
 use Rattle.edd_types.specs.Expressions.{expr_told, condition_told}
@@ -109,10 +110,10 @@ module _ (b : Sought) (f : Placed Target → List Refusal)
       ∙ body_is b f same parts
 
 pub calls_in_attribute : (a : Attribute Target)
-    → refusals (method_told sought.Call a ++ conditions_told sought.Call a)
+    → refusals (method_told (sought.Call calls.All) a ++ conditions_told (sought.Call calls.All) a)
     ≡ flat_map (λ p. call_mismatches p.is_statement p.expression)
     (attribute_expressions (numbered_attribute a))
-calls_in_attribute = expressions_are sought.Call
+calls_in_attribute = expressions_are (sought.Call calls.All)
     (λ p. call_mismatches p.is_statement p.expression) calls_are (λ e. refl) (λ had at. refl)
     (λ e. refl) (λ d. refl)
 

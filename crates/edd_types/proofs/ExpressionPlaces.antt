@@ -22,8 +22,10 @@ use Rattle.edd_syntax.specs.Refusal.{Refusal}
 use Rattle.edd_syntax.specs.SubsetRules.{Placed, optional_part, part_of, stmt_expressions, body_expressions, call_mismatches, argument_mismatches, decimals, argument_decimals}
 use Rattle.edd_syntax.proofs.TreeRows.{block_is}
 use Rattle.edd_types.specs.declared.sought.Sought.{Sought}
+use Rattle.edd_types.specs.declared.sought.Calls.TheVariants as calls
 use Rattle.edd_types.specs.declared.sought.Sought.TheVariants as sought
 use Rattle.edd_types.specs.Expressions.{expr_told, arguments_told_in, optional_told, stmt_told, parts_told_in, part_told}
+use Rattle.edd_types.proofs.Arguments.{same_breaches}
 use Rattle.edd_types.proofs.BodyRows.{expressions_in_block}
 use Rattle.edd_types.proofs.PlacesForgotten.{place_forgotten, joined, spread, all_forgotten}
 
@@ -31,7 +33,7 @@ use Rattle.edd_types.proofs.PlacesForgotten.{place_forgotten, joined, spread, al
 
 mutual
   pub calls_are : (is_statement : Bool) (e : Expr Target)
-      → refusals (expr_told sought.Call is_statement e)
+      → refusals (expr_told (sought.Call calls.All) is_statement e)
       ≡ call_mismatches is_statement (numbered_expr e)
   calls_are is_statement (Literal value) = refl
   calls_are is_statement (Decimal at) = refl
@@ -54,10 +56,12 @@ mutual
   calls_are is_statement (CompoundAssign' op to p value) = calls_are false value
   calls_are is_statement (Increment by to) = refl
   calls_are is_statement (Call' at function shape arguments) =
-      joined _ _ _ _ (place_forgotten _ at) (calls_in_are _ arguments)
+      joined _ _ _ _ (place_forgotten _ at
+      ∙ same_breaches is_statement function (arguments_from (arguments_in (λ r. r) arguments)))
+      (calls_in_are _ arguments)
 
   calls_in_are : (n : _) (row : Row_of-Argument Target n)
-      → refusals (arguments_told_in sought.Call row)
+      → refusals (arguments_told_in (sought.Call calls.All) row)
       ≡ argument_mismatches (arguments_from (arguments_in (λ r. r) row))
   calls_in_are n end_of-Argument = refl
   calls_in_are n (more_of-Argument (argument.Text text) rest) = calls_in_are _ rest

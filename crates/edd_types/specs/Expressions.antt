@@ -1,9 +1,10 @@
 -- What is told of the expressions of attributes and methods.
-use Rattle.std.specs.Prelude.{Bool, true, false, List, [], ◌∷◌, ◌++◌, map, Option, Some, None}
+use Rattle.std.specs.Prelude.{Bool, true, false, not, ◌&&◌, ◌||◌, List, [], ◌∷◌, ◌++◌, map, Option, Some, None}
 use Rattle.std.specs.List.{flat_map}
 use Rattle.edd_breaches.specs.Told.{Told, told_at}
 use Rattle.edd_syntax.specs.declared.numbers.TokenNo.{TokenNo}
 use Rattle.edd_syntax.specs.declared.reference.Target.{Target}
+use Rattle.edd_syntax.specs.declared.reference.Target.TheVariants.{Local, Item, Function}
 use Rattle.edd_syntax.specs.declared.expr.Expr.{Expr, Row_of-Argument, end_of-Argument, more_of-Argument}
 use Rattle.edd_syntax.specs.declared.expr.Expr.TheVariants.{Literal, Decimal, Reference, Indexed', Parentheses', Unary', Binary', Compare', LogicalAnd', LogicalOr', Conditional', Assign', CompoundAssign', Increment, Call'}
 use Rattle.edd_syntax.specs.declared.expr.Argument.{Argument}
@@ -12,10 +13,14 @@ use Rattle.edd_syntax.specs.declared.stmt.Stmt.{Stmt, Row_of-Part, end_of-Part, 
 use Rattle.edd_syntax.specs.declared.stmt.Stmt.TheVariants.{Empty, Evaluate, Block', If', IfElse', While', Do', For', Switch', Break, Continue, Return}
 use Rattle.edd_syntax.specs.declared.stmt.Part.{Part}
 use Rattle.edd_syntax.specs.declared.stmt.Part.TheVariants.{Declare, Statement, CaseLabel, DefaultLabel}
+use Rattle.edd_syntax.specs.declared.operators.Parameter.{Parameter}
+use Rattle.edd_syntax.specs.Expression as pure
 use Rattle.edd_syntax.specs.Expression.{Arguments, arguments_from}
 use Rattle.edd_syntax.specs.TreeView.{arguments_in}
-use Rattle.edd_syntax.specs.Refusal.{FloatValue}
-use Rattle.edd_syntax.specs.SubsetRules.{call_breaches}
+use Rattle.edd_syntax.specs.Refusal.{Refusal, FloatValue, Mismatch, refused_if}
+use Rattle.edd_syntax.specs.SubsetRules.{fits, parameters, is_abort}
+use Rattle.edd_types.specs.declared.sought.Calls.{Calls}
+use Rattle.edd_types.specs.declared.sought.Calls.TheVariants as calls
 use Rattle.edd_types.specs.declared.sought.Sought.{Sought}
 use Rattle.edd_types.specs.declared.sought.Sought.TheVariants as sought
 
@@ -24,17 +29,53 @@ use Rattle.edd_types.specs.declared.sought.Sought.TheVariants as sought
 -- of a decimal
 abbrev pub decimal_told : Sought → (at : TokenNo) → List Told
 decimal_told sought.Enumerator at = []
-decimal_told sought.Call at = []
+decimal_told (sought.Call which) at = []
 decimal_told sought.Decimal at = told_at FloatValue at ∷ []
 decimal_told sought.Constant at = []
 decimal_told sought.Default at = []
+
+-- ---- calls
+
+-- the call of what is no function, which stands for the name of one that does not exist
+abbrev pub is_nameless : pure.Argument Target → Bool
+is_nameless (pure.Value (pure.Call (Function f) arguments)) = false
+is_nameless (pure.Value (pure.Call (Local slot) arguments)) = true
+is_nameless (pure.Value (pure.Call (Item i) arguments)) = true
+is_nameless _ = false
+
+-- a function may have the argument for this parameter
+abbrev pub fits_among : Calls → Parameter → pure.Argument Target → Bool
+fits_among calls.All p argument = fits p argument
+fits_among calls.Named p argument = is_nameless argument || fits p argument
+
+-- there are as many arguments as parameters, and each fits
+abbrev pub all_fit_among : Calls → List Parameter → Arguments Target → Bool
+all_fit_among which [] pure.Nil = true
+all_fit_among which [] (pure.Cons first rest) = false
+all_fit_among which (p ∷ parameters) pure.Nil = false
+all_fit_among which (p ∷ parameters) (pure.Cons first rest) = fits_among which p first
+    && all_fit_among which parameters rest
+
+-- a call of what is no function is a breach where all calls are looked for
+abbrev pub nameless_breaches : Calls → List Refusal
+nameless_breaches calls.All = Mismatch ∷ []
+nameless_breaches calls.Named = []
+
+-- the breach of one call: its arguments, an abort inside an expression, or what is no function
+abbrev pub call_breaches_among : Calls → (is_statement : Bool) → (function : Target)
+    → Arguments Target → List Refusal
+call_breaches_among which is_statement (Function f) arguments =
+    refused_if (not (all_fit_among which (parameters f) arguments)
+    || (is_abort f && not is_statement)) Mismatch
+call_breaches_among which is_statement (Local slot) arguments = nameless_breaches which
+call_breaches_among which is_statement (Item i) arguments = nameless_breaches which
 
 -- of one call, which may be a whole statement
 abbrev pub call_told : Sought → (is_statement : Bool) → (function : Target) → Arguments Target
     → (at : TokenNo) → List Told
 call_told sought.Enumerator is_statement function arguments at = []
-call_told sought.Call is_statement function arguments at =
-    map (λ why. told_at why at) (call_breaches is_statement function arguments)
+call_told (sought.Call which) is_statement function arguments at =
+    map (λ why. told_at why at) (call_breaches_among which is_statement function arguments)
 call_told sought.Decimal is_statement function arguments at = []
 call_told sought.Constant is_statement function arguments at = []
 call_told sought.Default is_statement function arguments at = []
@@ -79,7 +120,7 @@ abbrev mutual
 -- of an expression under conditions, or in one of them
 abbrev pub condition_told : Sought → Expr Target → List Told
 condition_told sought.Enumerator e = []
-condition_told sought.Call e = expr_told sought.Call false e
+condition_told (sought.Call which) e = expr_told (sought.Call which) false e
 condition_told sought.Decimal e = expr_told sought.Decimal false e
 condition_told sought.Constant e = []
 condition_told sought.Default e = []

@@ -18,6 +18,7 @@ use Rattle.edd_syntax.specs.Text.{Name}
 use Rattle.edd_syntax.specs.ItemView.{type_word_of, name_of, attributes_of}
 use Rattle.edd_syntax.specs.Refusal.{Mismatch}
 use Rattle.edd_syntax.specs.SubsetRules.{type_breaches, is_enumerated, no_labels}
+use Rattle.edd_types.specs.declared.sought.Calls.{Calls}
 use Rattle.edd_types.specs.declared.sought.Sought.TheVariants as sought
 use Rattle.edd_breaches.specs.Along.{told_along}
 use Rattle.edd_types.specs.Attributes.{type_part_told, transaction_part_told, conditions_told, method_told}
@@ -83,28 +84,28 @@ elements_told _ = []
 -- ---- all rules
 
 -- of a rule in an attribute; types are told of by themselves, and the rules on names elsewhere
-abbrev pub attribute_told : Rule → Attribute Target → List Told
-attribute_told rule.Mismatch a = options_told a
-    ++ (method_told sought.Call a ++ conditions_told sought.Call a)
-attribute_told rule.FloatValue a = method_told sought.Decimal a ++ conditions_told sought.Decimal a
-attribute_told rule.BreakOutside a = breaks_told_in_method a
-attribute_told rule.ConstRange a = constants_told a
-attribute_told rule.DuplicateCase a = labels_told_in_method a ++ conditions_told sought.Default a
-attribute_told rule.DuplicateElement a = elements_told a
-attribute_told _ a = []
+abbrev pub attribute_told : Calls → Rule → Attribute Target → List Told
+attribute_told which rule.Mismatch a = options_told a
+    ++ (method_told (sought.Call which) a ++ conditions_told (sought.Call which) a)
+attribute_told which rule.FloatValue a = method_told sought.Decimal a ++ conditions_told sought.Decimal a
+attribute_told which rule.BreakOutside a = breaks_told_in_method a
+attribute_told which rule.ConstRange a = constants_told a
+attribute_told which rule.DuplicateCase a = labels_told_in_method a ++ conditions_told sought.Default a
+attribute_told which rule.DuplicateElement a = elements_told a
+attribute_told which _ a = []
 
 -- of a rule in items
-abbrev pub rule_told : Rule → List (Item Target) → List Told
-rule_told r items = flat_map (λ i. flat_map (attribute_told r) (attributes_of i)) items
+abbrev pub rule_told : Calls → Rule → List (Item Target) → List Told
+rule_told which r items = flat_map (λ i. flat_map (attribute_told which r) (attributes_of i)) items
 
 -- of the types of variables
 abbrev pub types_told : List (Item Target) → List Told
 types_told items = flat_map (λ i. flat_map (type_told (name_of i)) (attributes_of i)) items
 
 -- all that is told, rule after rule
-unfoldable pub all_told : List (Item Target) → List Told
-all_told items =
-    types_told items ++ (rule_told rule.Mismatch items
-    ++ (rule_told rule.FloatValue items ++ (rule_told rule.BreakOutside items
-    ++ (rule_told rule.ConstRange items ++ (rule_told rule.DuplicateCase items
-    ++ rule_told rule.DuplicateElement items)))))
+unfoldable pub all_told : Calls → List (Item Target) → List Told
+all_told which items =
+    types_told items ++ (rule_told which rule.Mismatch items
+    ++ (rule_told which rule.FloatValue items ++ (rule_told which rule.BreakOutside items
+    ++ (rule_told which rule.ConstRange items ++ (rule_told which rule.DuplicateCase items
+    ++ rule_told which rule.DuplicateElement items)))))

@@ -5,11 +5,11 @@ ghost use Rattle.edd_breaches.specs.Told.{Tells};
 ghost use Rattle.edd_syntax.specs.Expression.{arguments_from};
 ghost use Rattle.edd_syntax.specs.TreeView.{numbered_argument};
 ghost use Rattle.edd_syntax.specs.SubsetRules as rules;
-ghost use Rattle.edd_syntax.specs.SubsetRules.{all_fit, call_breaches};
 ghost use Rattle.edd_syntax.specs.Refusal.{Mismatch, refused_if};
 ghost use Rattle.edd_types.specs.declared.sought.Sought.TheVariants as sought;
-ghost use Rattle.edd_types.specs.Expressions.{call_told};
+ghost use Rattle.edd_types.specs.Expressions.{all_fit_among, call_breaches_among, call_told, fits_among, is_nameless};
 
+use crate::sought::Calls;
 use edd_breaches::{Breach, Rule, tell};
 use edd_syntax::expr::{Argument, Expr};
 use edd_syntax::numbers::{ItemNo, TokenNo};
@@ -55,9 +55,28 @@ fn fits(parameter: Parameter, argument: &Argument<Target>) -> bool
     }
 }
 
-#[tactic(auto, using(crate::proofs::Arguments::some_are_not_none))]
-fn are_none(arguments: &[Argument<Target>]) -> bool
-    ensures { result ≡ all_fit [] (arguments_from (map numbered_argument arguments.now)) }
+// The call of a function that does not exist.
+fn is_nameless(argument: &Argument<Target>) -> bool
+    ensures { result ≡ is_nameless (numbered_argument argument.now) }
+{
+    match argument {
+        Argument::Value(Expr::Call { function, .. }) => !matches!(function, Target::Function(_)),
+        _ => false,
+    }
+}
+
+fn fits_among(which: Calls, parameter: Parameter, argument: &Argument<Target>) -> bool
+    ensures { result ≡ fits_among which parameter (numbered_argument argument.now) }
+{
+    match which {
+        Calls::All => fits(parameter, argument),
+        Calls::Named => is_nameless(argument) || fits(parameter, argument),
+    }
+}
+
+fn are_none(which: Calls, arguments: &[Argument<Target>]) -> bool
+    ensures { result ≡ all_fit_among which []
+        (arguments_from (map numbered_argument arguments.now)) }
 {
     match arguments {
         [] => true,
@@ -66,52 +85,63 @@ fn are_none(arguments: &[Argument<Target>]) -> bool
 }
 
 #[tactic(auto, using(crate::proofs::Arguments::not_one))]
-fn is_one(first: Parameter, arguments: &[Argument<Target>]) -> bool
-    ensures { result ≡ all_fit (first ∷ []) (arguments_from (map numbered_argument arguments.now)) }
+fn is_one(which: Calls, first: Parameter, arguments: &[Argument<Target>]) -> bool
+    ensures { result ≡ all_fit_among which (first ∷ [])
+        (arguments_from (map numbered_argument arguments.now)) }
 {
     match arguments {
-        [only] => fits(first, only),
+        [only] => fits_among(which, first, only),
         _ => false,
     }
 }
 
 #[tactic(auto, using(crate::proofs::Arguments::not_two))]
-fn are_two(first: Parameter, second: Parameter, arguments: &[Argument<Target>]) -> bool
-    ensures { result ≡ all_fit (first ∷ second ∷ [])
+fn are_two(
+    which: Calls,
+    first: Parameter,
+    second: Parameter,
+    arguments: &[Argument<Target>],
+) -> bool
+    ensures { result ≡ all_fit_among which (first ∷ second ∷ [])
         (arguments_from (map numbered_argument arguments.now)) }
 {
     match arguments {
-        [one, other] => fits(first, one) && fits(second, other),
+        [one, other] => fits_among(which, first, one) && fits_among(which, second, other),
         _ => false,
     }
 }
 
 // The arguments are such as these parameters ask for, in number and kind. No function has more than
 // two.
-fn all_fit(parameters: &[Parameter], arguments: &[Argument<Target>]) -> bool
+fn all_fit(which: Calls, parameters: &[Parameter], arguments: &[Argument<Target>]) -> bool
     requires { length parameters.now ≤ 2 }
-    ensures { result ≡ all_fit parameters.now
+    ensures { result ≡ all_fit_among which parameters.now
         (arguments_from (map numbered_argument arguments.now)) }
 {
     match parameters {
-        [] => are_none(arguments),
-        [only] => is_one(*only, arguments),
-        [first, second, ..] => are_two(*first, *second, arguments),
+        [] => are_none(which, arguments),
+        [only] => is_one(which, *only, arguments),
+        [first, second, ..] => are_two(which, *first, *second, arguments),
     }
 }
 
 // An abort is a statement of its own.
 #[tactic(auto, using(crate::proofs::Arguments::few_parameters))]
-fn is_call(function: Target, arguments: &[Argument<Target>], is_statement: bool) -> bool
-    ensures { call_breaches is_statement function
+fn is_call(
+    which: Calls,
+    function: Target,
+    arguments: &[Argument<Target>],
+    is_statement: bool,
+) -> bool
+    ensures { call_breaches_among which is_statement function
         (arguments_from (map numbered_argument arguments.now)) ≡ refused_if (not result) Mismatch }
 {
     match function {
         Target::Function(f) => {
             let is_abort = matches!(f, Builtin::Abort | Builtin::ProcessAbort);
-            all_fit(f.parameters(), arguments) && (is_statement || !is_abort)
+            all_fit(which, f.parameters(), arguments) && (is_statement || !is_abort)
         }
-        Target::Local(_) | Target::Item(_) => false,
+        Target::Local(_) | Target::Item(_) => matches!(which, Calls::Named),
     }
 }
 
@@ -119,16 +149,17 @@ fn is_call(function: Target, arguments: &[Argument<Target>], is_statement: bool)
 /// expression.
 #[tactic(auto, using(edd_breaches::proofs::TellLaws::tells, crate::proofs::Arguments::calls))]
 pub fn tell_call<'a>(
+    which: Calls,
     function: Target,
     arguments: &[Argument<Target>],
     is_statement: bool,
     at: TokenNo,
     told: &mut Vec<Breach<'a>>,
 ) -> Result<(), AllocError>
-    ensures told { OnOk result (Tells (call_told sought.Call is_statement function
+    ensures told { OnOk result (Tells (call_told (sought.Call which) is_statement function
         (arguments_from (map numbered_argument arguments.now)) at) told.old.items told.new.items) }
 {
-    if is_call(function, arguments, is_statement) {
+    if is_call(which, function, arguments, is_statement) {
         return Ok(());
     }
     tell(Rule::Mismatch, at, told)

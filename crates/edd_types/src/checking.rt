@@ -7,6 +7,7 @@ ghost use Rattle.edd_syntax.specs.Resolved.{description};
 ghost use Rattle.edd_syntax.specs.SubsetRules.{subset_breaches};
 
 use crate::rules::tell_profile;
+use crate::sought::Calls;
 use edd_breaches::RuleFault;
 use edd_syntax::checked::Checked;
 use edd_syntax::resolved::Resolved;
@@ -26,7 +27,7 @@ pub fn check(alloc: Global, resolved: &Resolved) -> Result<Checked, RuleFault>
         (numbered_items resolved.now.items.value.items)))) }
 {
     let mut told = Vec::new(alloc);
-    tell_profile(&resolved.items, alloc, &mut told)?;
+    tell_profile(&resolved.items, Calls::All, alloc, &mut told)?;
     match told.first() {
         None => Ok(Checked::new(resolved)?),
         Some(first) => Err(RuleFault::of(alloc, first)?),

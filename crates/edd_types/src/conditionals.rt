@@ -119,7 +119,7 @@ fn tell_default<'a>(
             }
             tell_clash(Rule::DuplicateCase, at, earlier, told)
         }
-        Sought::Enumerator | Sought::Call | Sought::Decimal | Sought::Constant => Ok(()),
+        Sought::Enumerator | Sought::Call(_) | Sought::Decimal | Sought::Constant => Ok(()),
     }
 }
 

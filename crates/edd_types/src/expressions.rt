@@ -25,7 +25,7 @@ fn tell_decimal<'a>(
 {
     match sought {
         Sought::Decimal => tell(Rule::FloatValue, at, told),
-        Sought::Enumerator | Sought::Call | Sought::Constant | Sought::Default => Ok(()),
+        Sought::Enumerator | Sought::Call(_) | Sought::Constant | Sought::Default => Ok(()),
     }
 }
 
@@ -42,7 +42,7 @@ fn tell_one_call<'a>(
         (arguments_from (map numbered_argument arguments.now)) at) told.old.items told.new.items) }
 {
     match sought {
-        Sought::Call => tell_call(function, arguments, is_statement, at, told),
+        Sought::Call(which) => tell_call(which, function, arguments, is_statement, at, told),
         Sought::Enumerator | Sought::Decimal | Sought::Constant | Sought::Default => Ok(()),
     }
 }
@@ -133,7 +133,7 @@ pub fn tell_condition<'a>(
         (Tells (condition_told sought e.now) told.old.items told.new.items) }
 {
     match sought {
-        Sought::Call => tell_expression(e, Sought::Call, false, told),
+        Sought::Call(which) => tell_expression(e, Sought::Call(which), false, told),
         Sought::Decimal => tell_expression(e, Sought::Decimal, false, told),
         Sought::Enumerator | Sought::Constant | Sought::Default => Ok(()),
     }

@@ -18,3 +18,4 @@ mod values;
 
 pub use checking::check;
 pub use rules::tell_profile;
+pub use sought::Calls;

@@ -7,6 +7,7 @@ ghost use Rattle.edd_syntax.specs.Item.{Identification};
 ghost use Rattle.edd_syntax.specs.ItemView.{numbered_items};
 ghost use Rattle.edd_syntax.specs.Resolved.{description};
 ghost use Rattle.edd_syntax.specs.SubsetRules.{subset_breaches};
+ghost use Rattle.edd_types.specs.declared.sought.Calls.TheVariants as calls;
 ghost use Rattle.edd_types.specs.Rules.{breaks_told_in_method, constants_told, labels_told_in_method, elements_told, attribute_told, rule_told, all_told};
 
 use crate::attributes::{tell_conditions, tell_method, tell_transaction};
@@ -14,7 +15,7 @@ use crate::breaks::tell_breaks;
 use crate::elements::tell_elements;
 use crate::labels::tell_labels;
 use crate::options::tell_options;
-use crate::sought::Sought;
+use crate::sought::{Calls, Sought};
 use crate::types::tell_types;
 use edd_breaches::{Breach, Rule};
 use edd_syntax::item::{Attribute, Item};
@@ -81,18 +82,19 @@ fn tell_elements_in<'a>(
 #[tactic(auto, using(edd_breaches::proofs::TellLaws::tells))]
 fn tell_attribute<'a>(
     attribute: &Attribute<Target>,
+    which: Calls,
     rule: Rule<'a>,
     alloc: Global,
     told: &mut Vec<Breach<'a>>,
 ) -> Result<(), AllocError>
     ensures told { OnOk result
-        (Tells (attribute_told rule.entry attribute.now) told.old.items told.new.items) }
+        (Tells (attribute_told which rule.entry attribute.now) told.old.items told.new.items) }
 {
     match rule {
         Rule::Mismatch => {
             tell_options(attribute, told)?;
-            tell_method(attribute, Sought::Call, told)?;
-            tell_conditions(attribute, Sought::Call, told)
+            tell_method(attribute, Sought::Call(which), told)?;
+            tell_conditions(attribute, Sought::Call(which), told)
         }
         Rule::FloatValue => {
             tell_method(attribute, Sought::Decimal, told)?;
@@ -112,15 +114,16 @@ fn tell_attribute<'a>(
 #[tactic(auto, using(edd_breaches::proofs::TellLaws::tells, edd_breaches::proofs::TellLaws::tells_more))]
 fn tell_attributes<'a>(
     attributes: &[Attribute<Target>],
+    which: Calls,
     rule: Rule<'a>,
     alloc: Global,
     told: &mut Vec<Breach<'a>>,
 ) -> Result<(), AllocError>
     ensures told { OnOk result
-        (Tells (flat_map (attribute_told rule.entry) attributes.now) told.old.items told.new.items) }
+        (Tells (flat_map (attribute_told which rule.entry) attributes.now) told.old.items told.new.items) }
 {
     for attribute in attributes {
-        tell_attribute(attribute, rule, alloc, told)?;
+        tell_attribute(attribute, which, rule, alloc, told)?;
     }
     Ok(())
 }
@@ -128,37 +131,40 @@ fn tell_attributes<'a>(
 #[tactic(auto, using(edd_breaches::proofs::TellLaws::tells, edd_breaches::proofs::TellLaws::tells_more))]
 fn tell_rule<'a>(
     items: &[Item<Target>],
+    which: Calls,
     rule: Rule<'a>,
     alloc: Global,
     told: &mut Vec<Breach<'a>>,
 ) -> Result<(), AllocError>
-    ensures told { OnOk result (Tells (rule_told rule.entry items.now) told.old.items told.new.items) }
+    ensures told { OnOk result (Tells (rule_told which rule.entry items.now) told.old.items told.new.items) }
 {
     for item in items {
-        tell_attributes(item.attributes(), rule, alloc, told)?;
+        tell_attributes(item.attributes(), which, rule, alloc, told)?;
     }
     Ok(())
 }
 
 /// Tells the breaches of the profile, rule by rule: the types and sizes of variables, then what
 /// functions and types take, decimals, `break` and `continue`, data constants and masks, labels,
-/// elements; each with its token, and where two clash with that of the first.
+/// elements; each with its token, and where two clash with that of the first. Of calls it tells
+/// those that are looked for.
 #[tactic(auto, using(edd_breaches::proofs::TellLaws::tells), unfolding(crate::specs::Rules::all_told))]
 pub fn tell_profile<'a>(
     items: &'a [Item<Target>],
+    which: Calls,
     alloc: Global,
     told: &mut Vec<Breach<'a>>,
 ) -> Result<(), AllocError>
-    ensures told { OnOk result (Tells (all_told items.now) told.old.items told.new.items) }
-    ensures rules { OnOk result ((i : Identification) → refusals (all_told items.now)
+    ensures told { OnOk result (Tells (all_told which items.now) told.old.items told.new.items) }
+    ensures rules { OnOk result ((i : Identification) → refusals (all_told calls.All items.now)
         ≡ subset_breaches (description i (numbered_items items.now))) }
 {
     tell_types(items, told)?;
-    tell_rule(items, Rule::Mismatch, alloc, told)?;
-    tell_rule(items, Rule::FloatValue, alloc, told)?;
-    tell_rule(items, Rule::BreakOutside, alloc, told)?;
-    tell_rule(items, Rule::ConstRange, alloc, told)?;
-    tell_rule(items, Rule::DuplicateCase, alloc, told)?;
-    tell_rule(items, Rule::DuplicateElement, alloc, told)?;
+    tell_rule(items, which, Rule::Mismatch, alloc, told)?;
+    tell_rule(items, which, Rule::FloatValue, alloc, told)?;
+    tell_rule(items, which, Rule::BreakOutside, alloc, told)?;
+    tell_rule(items, which, Rule::ConstRange, alloc, told)?;
+    tell_rule(items, which, Rule::DuplicateCase, alloc, told)?;
+    tell_rule(items, which, Rule::DuplicateElement, alloc, told)?;
     Ok(())
 }

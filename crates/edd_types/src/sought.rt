@@ -5,8 +5,18 @@
 #[derive(Clone, Copy)]
 pub enum Sought {
     Enumerator,
-    Call,
+    Call(Calls),
     Decimal,
     Constant,
     Default,
+}
+
+/// Which calls are looked for.
+#[derive(Clone, Copy)]
+pub enum Calls {
+    /// All that do not fit.
+    All,
+    /// Those of functions that exist, where the calls of other functions among the arguments may fit:
+    /// where something stands for the names of these.
+    Named,
 }

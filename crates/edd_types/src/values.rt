@@ -95,7 +95,7 @@ impl TellValue for Enumerator {
     fn tell_value<'a>(&self, sought: Sought, told: &mut Vec<Breach<'a>>) -> Result<(), AllocError> {
         match sought {
             Sought::Enumerator => tell(Rule::Mismatch, self.at, told),
-            Sought::Call | Sought::Decimal | Sought::Constant | Sought::Default => Ok(()),
+            Sought::Call(_) | Sought::Decimal | Sought::Constant | Sought::Default => Ok(()),
         }
     }
 }
@@ -107,7 +107,7 @@ impl TellValue for DataItem<Target> {
     fn tell_value<'a>(&self, sought: Sought, told: &mut Vec<Breach<'a>>) -> Result<(), AllocError> {
         match sought {
             Sought::Constant => tell_constant(self, told),
-            Sought::Enumerator | Sought::Call | Sought::Decimal | Sought::Default => Ok(()),
+            Sought::Enumerator | Sought::Call(_) | Sought::Decimal | Sought::Default => Ok(()),
         }
     }
 }

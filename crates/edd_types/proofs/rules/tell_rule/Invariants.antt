@@ -8,4 +8,4 @@ use Rattle.edd_types.proofs.rules.tell_rule.Given as goal
 -- what was told of the items so far
 abbrev pub invariant-loop-item : goal.invariant-loop-item
 invariant-loop-item l =
-    Tells (flat_map (λ i. flat_map (attribute_told l.rule) (attributes_of i)) (take l.item-index l.items)) l.fn.told.items l.told.items
+    Tells (flat_map (λ i. flat_map (attribute_told l.which l.rule) (attributes_of i)) (take l.item-index l.items)) l.fn.told.items l.told.items
