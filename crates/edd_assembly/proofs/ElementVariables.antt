@@ -16,7 +16,7 @@ use Rattle.edd_syntax.specs.Item.{ItemKind, ArrayElement, Attribute, Item, Descr
 use Rattle.edd_syntax.specs.Elements.{written_elements}
 use Rattle.edd_syntax.specs.Targets.{variable_of}
 use Rattle.edd_syntax.specs.Resolution.{count_of, variable_kinds, member_kinds, is_among}
-use Rattle.edd_syntax.specs.ResolvedTrees.{each, unchanged, resolved_cond, resolved_conds, resolved_body, item_among, at_attribute, resolved_entry, resolved_member, resolved_element, resolved_type_part, resolved_transaction_part, resolved_attribute, resolved_item}
+use Rattle.edd_syntax.specs.ResolvedTrees.{each, unchanged, resolved_cond, resolved_conds, resolved_body, item_among, at_attribute, resolved_entry, resolved_member, resolved_element, resolved_type_part, resolved_transaction_part, resolved_attribute, resolved_item, meant_in}
 use Rattle.edd_syntax.specs.Resolved.{IsChecked}
 use Rattle.edd_syntax.proofs.WithinLimits.{each_keeps, items_meant, same_count}
 use Rattle.edd_syntax.proofs.Existing.{exists_in, meant_exists}
@@ -70,10 +70,12 @@ module _ (unit : Description Path) where
   numbered (item_no.Method n) among there = absurd cc
   numbered (item_no.Array n) among there = absurd cc
 
-  element_has : (e : ArrayElement Path) (f : ArrayElement Target) → resolved_element unit e ≡ Some f
+  element_has : (e : ArrayElement Path) (f : ArrayElement Target) → resolved_element (meant_in unit)
+      e ≡ Some f
       → has_variable count f ≡ true
   element_has e f h =
-      let x = bind_some (item_among unit variable_kinds e.variable) (λ variable. Some (record {
+      let x = bind_some (item_among (meant_in unit) variable_kinds e.variable)
+      (λ variable. Some (record {
         number = e.number;
         variable = variable;
         label = e.label;
@@ -93,48 +95,58 @@ module _ (unit : Description Path) where
   has a = list_all (has_variable count) (written_elements a)
 
   attribute_has : (sort : ItemKind) (a : Attribute Path) (b : Attribute Target)
-      → resolved_attribute unit sort a ≡ Some b → has b ≡ true
+      → resolved_attribute (meant_in unit) sort a ≡ Some b → has b ≡ true
   attribute_has sort (item.OneText which c) b h =
-      made has (resolved_cond (at_attribute unit) unchanged c) (item.OneText which) b true
+      made has (resolved_cond (at_attribute (meant_in unit)) unchanged c) (item.OneText which) b
+      true
       (λ x. refl) h
   attribute_has sort (item.Class words) b h = sym (at_some has true (item.Class words) b h)
   attribute_has sort (item.Handling c) b h =
-      made has (resolved_cond (at_attribute unit) unchanged c) item.Handling b true (λ x. refl) h
+      made has (resolved_cond (at_attribute (meant_in unit)) unchanged c) item.Handling b true
+      (λ x. refl) h
   attribute_has sort (item.Validity c) b h =
-      made has (resolved_cond (at_attribute unit) unchanged c) item.Validity b true (λ x. refl) h
+      made has (resolved_cond (at_attribute (meant_in unit)) unchanged c) item.Validity b true
+      (λ x. refl) h
   attribute_has sort (item.TypeOf word parts) b h =
-      made has (each (resolved_type_part unit) parts) (item.TypeOf word) b true (λ x. refl) h
+      made has (each (resolved_type_part (meant_in unit)) parts) (item.TypeOf word) b true
+      (λ x. refl) h
   attribute_has sort (item.Number n) b h = sym (at_some has true (item.Number n) b h)
   attribute_has sort (item.Operation o) b h = sym (at_some has true (item.Operation o) b h)
   attribute_has sort (item.Transaction number parts) b h =
-      made has (each (resolved_transaction_part unit) parts) (item.Transaction number) b true
+      made has (each (resolved_transaction_part (meant_in unit)) parts) (item.Transaction number) b
+      true
       (λ x. refl) h
   attribute_has sort (item.ResponseCodes responses) b h =
       sym (at_some has true (item.ResponseCodes responses) b h)
   attribute_has sort (item.Items entries) b h =
-      made has (resolved_conds (at_attribute unit) (resolved_entry unit) entries) item.Items b true
+      made has (resolved_conds (at_attribute (meant_in unit)) (resolved_entry (meant_in unit))
+      entries) item.Items b true
       (λ x. refl) h
   attribute_has sort (item.Members members) b h =
-      made has (each (resolved_member unit (member_kinds sort)) members) item.Members b true
+      made has (each (resolved_member (meant_in unit) (member_kinds sort)) members) item.Members b
+      true
       (λ x. refl) h
   attribute_has sort (item.Elements elements) b h =
-      let x = bind_some (each (resolved_element unit) elements) (λ all. Some (item.Elements all)) b
+      let x = bind_some (each (resolved_element (meant_in unit)) elements)
+      (λ all. Some (item.Elements all)) b
       h in
       sym (at_some has true (item.Elements x.0) b x.2)
-      ∙ each_passes (resolved_element unit) (has_variable count) element_has elements x.0 x.1
+      ∙ each_passes (resolved_element (meant_in unit)) (has_variable count) element_has elements x.0
+      x.1
   attribute_has sort (item.Definition body) b h =
-      made has (resolved_body unit body [] 0) item.Definition b true (λ x. refl) h
+      made has (resolved_body (meant_in unit) body [] 0) item.Definition b true (λ x. refl) h
 
-  item_has : (i : Item Path) (y : Item Target) → resolved_item unit i ≡ Some y
+  item_has : (i : Item Path) (y : Item Target) → resolved_item (meant_in unit) i ≡ Some y
       → has_variables count y ≡ true
   item_has i y h =
-      let x = bind_some (each (resolved_attribute unit i.sort) i.attributes)
+      let x = bind_some (each (resolved_attribute (meant_in unit) i.sort) i.attributes)
       (λ attributes. Some (record { sort = i.sort; name = i.name; attributes = attributes })) y
       h in
       sym (at_some (has_variables count) true
       (record { sort = i.sort; name = i.name; attributes = x.0 }) y x.2)
       ∙ all_joined (has_variable count) written_elements x.0
-      (each_passes (resolved_attribute unit i.sort) has (attribute_has i.sort) i.attributes x.0
+      (each_passes (resolved_attribute (meant_in unit) i.sort) has (attribute_has i.sort)
+      i.attributes x.0
       x.1)
 
 -- ---- a checked description
@@ -146,7 +158,8 @@ variables_exist d checked =
     let u = r.unit in
     let meant = items_meant d r in
     ap (λ n. list_all (has_variables n) d.items) (same_count u d.items meant kind.Variable)
-    ∙ each_passes (resolved_item u) (has_variables (count_of kind.Variable u.items)) (item_has u)
+    ∙ each_passes (resolved_item (meant_in u)) (has_variables (count_of kind.Variable u.items))
+    (item_has u)
     u.items d.items meant
 
 pub variables_exist_when_checked : (d : Description Target) → ∥ IsChecked d ∥₁

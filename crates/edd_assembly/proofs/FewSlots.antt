@@ -24,7 +24,7 @@ use Rattle.edd_syntax.specs.NameRules.{locals_of, transaction_count, too_many}
 use Rattle.edd_syntax.specs.Numbers.{same_kind}
 use Rattle.edd_syntax.specs.Refusal.{TooMany, refused_if}
 use Rattle.edd_syntax.specs.Resolution.{Scope, member_kinds, declared, all_declared, count_of, kinds}
-use Rattle.edd_syntax.specs.ResolvedTrees.{◌>>=◌, each, unchanged, resolved_expr, resolved_optional, resolved_cond, resolved_conds, at_scope, resolved_declarators, resolved_stmt, resolved_body, at_attribute, resolved_entry, resolved_member, resolved_element, resolved_type_part, resolved_transaction_part, resolved_attribute, resolved_item, resolved_unit}
+use Rattle.edd_syntax.specs.ResolvedTrees.{◌>>=◌, each, unchanged, resolved_expr, resolved_optional, resolved_cond, resolved_conds, at_scope, resolved_declarators, resolved_stmt, resolved_body, at_attribute, resolved_entry, resolved_member, resolved_element, resolved_type_part, resolved_transaction_part, resolved_attribute, resolved_item, resolved_unit, meant_in, Reading}
 use Rattle.edd_syntax.specs.Resolved.{IsChecked}
 use Rattle.edd_syntax.proofs.WithinLimits.{each_keeps, no_front, no_rest, no_refusal}
 use Rattle.edd_instructions.specs.MethodAgreement.{IsMethodCode}
@@ -47,15 +47,15 @@ module _ {Y : Type 0} (f : Y → ℕ) (n : ℕ) where
   it_is : (x y : Y) → Some x ≡ Some y → f x ≡ n → f y ≡ n
   it_is x y h same = ap f (sym (same_Some x y h)) ∙ same
 
-module _ (unit : Description Path) where
+module _ (names : Reading) where
   same_length : (scope : Scope) (next : ℕ) (ds : List (Declarator Path))
-      (ys : List (Declarator Target)) → resolved_declarators unit scope next ds ≡ Some ys
+      (ys : List (Declarator Target)) → resolved_declarators names scope next ds ≡ Some ys
       → length ys ≡ length ds
   same_length scope next [] ys h = it_is length 0 [] ys h refl
   same_length scope next (d ∷ rest) ys h =
-      through length (suc (length rest)) (resolved_optional (at_scope unit scope) d.value) _ ys h
+      through length (suc (length rest)) (resolved_optional (at_scope names scope) d.value) _ ys h
       (λ value e k.
-      through length (suc (length rest)) (resolved_declarators unit (declared d.place next scope)
+      through length (suc (length rest)) (resolved_declarators names (declared d.place next scope)
       (next + 1) rest) _ ys k (λ others e' l.
       it_is length (suc (length rest)) (record { place = Local next; value = value } ∷ others) ys l
       (ap suc (same_length (declared d.place next scope) (next + 1) rest others e'))))
@@ -64,55 +64,55 @@ module _ (unit : Description Path) where
     unfolding resolved_stmt slots_of
 
     same_slots : (x : Stmt Path) (scope : Scope) (next : ℕ) (y : Stmt Target)
-        → resolved_stmt unit x scope next ≡ Some y → slots_of y ≡ slots_of x
+        → resolved_stmt names x scope next ≡ Some y → slots_of y ≡ slots_of x
     same_slots s.Empty scope next y h = it_is slots_of 0 s.Empty y h refl
     same_slots (s.Evaluate e) scope next y h =
-        through slots_of 0 (resolved_expr (at_scope unit scope) e) _ y h
+        through slots_of 0 (resolved_expr (at_scope names scope) e) _ y h
         (λ e' is k. it_is slots_of 0 (s.Evaluate e') y k refl)
     same_slots (s.Block body) scope next y h =
-        through slots_of (slots_in body) (resolved_body unit body scope next) _ y h
+        through slots_of (slots_in body) (resolved_body names body scope next) _ y h
         (λ b is k. it_is slots_of (slots_in body) (s.Block b) y k
         (same_slots_in body scope next b is))
     same_slots (s.If condition first) scope next y h =
-        through slots_of (slots_of first) (resolved_expr (at_scope unit scope) condition) _ y h
+        through slots_of (slots_of first) (resolved_expr (at_scope names scope) condition) _ y h
         (λ c is k.
-        through slots_of (slots_of first) (resolved_stmt unit first scope next) _ y k
+        through slots_of (slots_of first) (resolved_stmt names first scope next) _ y k
         (λ a is' l. it_is slots_of (slots_of first) (s.If c a) y l
         (same_slots first scope next a is')))
     same_slots (s.IfElse condition first otherwise) scope next y h =
         let all = slots_of first + slots_of otherwise in
-        through slots_of all (resolved_expr (at_scope unit scope) condition) _ y h (λ c is k.
-        through slots_of all (resolved_stmt unit first scope next) _ y k (λ a is' l.
-        through slots_of all (resolved_stmt unit otherwise scope (next + slots_of first)) _ y l
+        through slots_of all (resolved_expr (at_scope names scope) condition) _ y h (λ c is k.
+        through slots_of all (resolved_stmt names first scope next) _ y k (λ a is' l.
+        through slots_of all (resolved_stmt names otherwise scope (next + slots_of first)) _ y l
         (λ b is'' m.
         it_is slots_of all (s.IfElse c a b) y m
         (ap (λ n. n + slots_of b) (same_slots first scope next a is')
         ∙ ap (λ n. slots_of first + n) (same_slots otherwise scope (next + slots_of first) b
         is'')))))
     same_slots (s.While condition body) scope next y h =
-        through slots_of (slots_of body) (resolved_expr (at_scope unit scope) condition) _ y h
+        through slots_of (slots_of body) (resolved_expr (at_scope names scope) condition) _ y h
         (λ c is k.
-        through slots_of (slots_of body) (resolved_stmt unit body scope next) _ y k
+        through slots_of (slots_of body) (resolved_stmt names body scope next) _ y k
         (λ b is' l. it_is slots_of (slots_of body) (s.While c b) y l
         (same_slots body scope next b is')))
     same_slots (s.Do body condition) scope next y h =
-        through slots_of (slots_of body) (resolved_stmt unit body scope next) _ y h (λ b is' k.
-        through slots_of (slots_of body) (resolved_expr (at_scope unit scope) condition) _ y k
+        through slots_of (slots_of body) (resolved_stmt names body scope next) _ y h (λ b is' k.
+        through slots_of (slots_of body) (resolved_expr (at_scope names scope) condition) _ y k
         (λ c is l. it_is slots_of (slots_of body) (s.Do b c) y l
         (same_slots body scope next b is')))
     same_slots (s.For initial condition update body) scope next y h =
-        through slots_of (slots_of body) (resolved_optional (at_scope unit scope) initial) _ y h
+        through slots_of (slots_of body) (resolved_optional (at_scope names scope) initial) _ y h
         (λ i is k.
-        through slots_of (slots_of body) (resolved_optional (at_scope unit scope) condition) _ y k
+        through slots_of (slots_of body) (resolved_optional (at_scope names scope) condition) _ y k
         (λ c is' l.
-        through slots_of (slots_of body) (resolved_optional (at_scope unit scope) update) _ y l
+        through slots_of (slots_of body) (resolved_optional (at_scope names scope) update) _ y l
         (λ u is'' m.
-        through slots_of (slots_of body) (resolved_stmt unit body scope next) _ y m
+        through slots_of (slots_of body) (resolved_stmt names body scope next) _ y m
         (λ b is''' n. it_is slots_of (slots_of body) (s.For i c u b) y n
         (same_slots body scope next b is''')))))
     same_slots (s.Switch on body) scope next y h =
-        through slots_of (slots_in body) (resolved_expr (at_scope unit scope) on) _ y h (λ o is k.
-        through slots_of (slots_in body) (resolved_body unit body scope next) _ y k
+        through slots_of (slots_in body) (resolved_expr (at_scope names scope) on) _ y h (λ o is k.
+        through slots_of (slots_in body) (resolved_body names body scope next) _ y k
         (λ b is' l. it_is slots_of (slots_in body) (s.Switch o b) y l
         (same_slots_in body scope next b is')))
     same_slots s.Break scope next y h = it_is slots_of 0 s.Break y h refl
@@ -120,13 +120,13 @@ module _ (unit : Description Path) where
     same_slots s.Return scope next y h = it_is slots_of 0 s.Return y h refl
 
     same_slots_in : (x : Body Path) (scope : Scope) (next : ℕ) (y : Body Target)
-        → resolved_body unit x scope next ≡ Some y → slots_in y ≡ slots_in x
+        → resolved_body names x scope next ≡ Some y → slots_in y ≡ slots_in x
     same_slots_in Nil scope next y h = it_is slots_in 0 Nil y h refl
     same_slots_in (Cons (Declare declarators) rest) scope next y h =
         let all = length declarators + slots_in rest in
         let inner = all_declared scope next declarators in
-        through slots_in all (resolved_declarators unit scope next declarators) _ y h (λ ds is k.
-        through slots_in all (resolved_body unit rest inner (next + length declarators)) _ y k
+        through slots_in all (resolved_declarators names scope next declarators) _ y h (λ ds is k.
+        through slots_in all (resolved_body names rest inner (next + length declarators)) _ y k
         (λ r is' l.
         it_is slots_in all (Cons (Declare ds) r) y l
         (ap (λ n. n + slots_in r) (same_length scope next declarators ds is)
@@ -134,19 +134,19 @@ module _ (unit : Description Path) where
         r is'))))
     same_slots_in (Cons (Statement first) rest) scope next y h =
         let all = slots_of first + slots_in rest in
-        through slots_in all (resolved_stmt unit first scope next) _ y h (λ a is k.
-        through slots_in all (resolved_body unit rest scope (next + slots_of first)) _ y k
+        through slots_in all (resolved_stmt names first scope next) _ y h (λ a is k.
+        through slots_in all (resolved_body names rest scope (next + slots_of first)) _ y k
         (λ r is' l.
         it_is slots_in all (Cons (Statement a) r) y l
         (ap (λ n. n + slots_in r) (same_slots first scope next a is)
         ∙ ap (λ n. slots_of first + n) (same_slots_in rest scope (next + slots_of first) r
         is'))))
     same_slots_in (Cons (CaseLabel label) rest) scope next y h =
-        through slots_in (slots_in rest) (resolved_body unit rest scope next) _ y h
+        through slots_in (slots_in rest) (resolved_body names rest scope next) _ y h
         (λ r is k. it_is slots_in (slots_in rest) (Cons (CaseLabel label) r) y k
         (same_slots_in rest scope next r is))
     same_slots_in (Cons DefaultLabel rest) scope next y h =
-        through slots_in (slots_in rest) (resolved_body unit rest scope next) _ y h
+        through slots_in (slots_in rest) (resolved_body names rest scope next) _ y h
         (λ r is k. it_is slots_in (slots_in rest) (Cons DefaultLabel r) y k
         (same_slots_in rest scope next r is))
 
@@ -157,41 +157,41 @@ abbrev locals_in : {R : Type 0} → Attribute R → ℕ
 locals_in (item.Definition body) = slots_in body
 locals_in _ = 0
 
-keeps_locals : (unit : Description Path) (sort : ItemKind) (a : Attribute Path)
-    (b : Attribute Target) → resolved_attribute unit sort a ≡ Some b → locals_in b ≡ locals_in a
-keeps_locals unit sort (item.OneText which c) b h =
-    through locals_in 0 (resolved_cond (at_attribute unit) unchanged c) _ b h
+keeps_locals : (names : Reading) (sort : ItemKind) (a : Attribute Path)
+    (b : Attribute Target) → resolved_attribute names sort a ≡ Some b → locals_in b ≡ locals_in a
+keeps_locals names sort (item.OneText which c) b h =
+    through locals_in 0 (resolved_cond (at_attribute names) unchanged c) _ b h
     (λ x is k. it_is locals_in 0 (item.OneText which x) b k refl)
-keeps_locals unit sort (item.Class words) b h = it_is locals_in 0 (item.Class words) b h refl
-keeps_locals unit sort (item.Handling c) b h =
-    through locals_in 0 (resolved_cond (at_attribute unit) unchanged c) _ b h
+keeps_locals names sort (item.Class words) b h = it_is locals_in 0 (item.Class words) b h refl
+keeps_locals names sort (item.Handling c) b h =
+    through locals_in 0 (resolved_cond (at_attribute names) unchanged c) _ b h
     (λ x is k. it_is locals_in 0 (item.Handling x) b k refl)
-keeps_locals unit sort (item.Validity c) b h =
-    through locals_in 0 (resolved_cond (at_attribute unit) unchanged c) _ b h
+keeps_locals names sort (item.Validity c) b h =
+    through locals_in 0 (resolved_cond (at_attribute names) unchanged c) _ b h
     (λ x is k. it_is locals_in 0 (item.Validity x) b k refl)
-keeps_locals unit sort (item.TypeOf word parts) b h =
-    through locals_in 0 (each (resolved_type_part unit) parts) _ b h
+keeps_locals names sort (item.TypeOf word parts) b h =
+    through locals_in 0 (each (resolved_type_part names) parts) _ b h
     (λ x is k. it_is locals_in 0 (item.TypeOf word x) b k refl)
-keeps_locals unit sort (item.Number n) b h = it_is locals_in 0 (item.Number n) b h refl
-keeps_locals unit sort (item.Operation o) b h = it_is locals_in 0 (item.Operation o) b h refl
-keeps_locals unit sort (item.Transaction number parts) b h =
-    through locals_in 0 (each (resolved_transaction_part unit) parts) _ b h
+keeps_locals names sort (item.Number n) b h = it_is locals_in 0 (item.Number n) b h refl
+keeps_locals names sort (item.Operation o) b h = it_is locals_in 0 (item.Operation o) b h refl
+keeps_locals names sort (item.Transaction number parts) b h =
+    through locals_in 0 (each (resolved_transaction_part names) parts) _ b h
     (λ x is k. it_is locals_in 0 (item.Transaction number x) b k refl)
-keeps_locals unit sort (item.ResponseCodes responses) b h =
+keeps_locals names sort (item.ResponseCodes responses) b h =
     it_is locals_in 0 (item.ResponseCodes responses) b h refl
-keeps_locals unit sort (item.Items entries) b h =
-    through locals_in 0 (resolved_conds (at_attribute unit) (resolved_entry unit) entries) _ b h
+keeps_locals names sort (item.Items entries) b h =
+    through locals_in 0 (resolved_conds (at_attribute names) (resolved_entry names) entries) _ b h
     (λ x is k. it_is locals_in 0 (item.Items x) b k refl)
-keeps_locals unit sort (item.Members members) b h =
-    through locals_in 0 (each (resolved_member unit (member_kinds sort)) members) _ b h
+keeps_locals names sort (item.Members members) b h =
+    through locals_in 0 (each (resolved_member names (member_kinds sort)) members) _ b h
     (λ x is k. it_is locals_in 0 (item.Members x) b k refl)
-keeps_locals unit sort (item.Elements elements) b h =
-    through locals_in 0 (each (resolved_element unit) elements) _ b h
+keeps_locals names sort (item.Elements elements) b h =
+    through locals_in 0 (each (resolved_element names) elements) _ b h
     (λ x is k. it_is locals_in 0 (item.Elements x) b k refl)
-keeps_locals unit sort (item.Definition body) b h =
-    through locals_in (slots_in body) (resolved_body unit body [] 0) _ b h
+keeps_locals names sort (item.Definition body) b h =
+    through locals_in (slots_in body) (resolved_body names body [] 0) _ b h
     (λ x is k. it_is locals_in (slots_in body) (item.Definition x) b k
-    (same_slots_in unit body [] 0 x is))
+    (same_slots_in names body [] 0 x is))
 
 sum_from : (n : ℕ) (xs : List ℕ) → fold (λ a x. a + x) n xs ≡ n + sum xs
 sum_from n [] = omega arith
@@ -252,17 +252,17 @@ first_body (item.Definition body ∷ rest) =
 abbrev has_few : {R : Type 0} → Item R → Bool
 has_few i = nat_le (locals_of i) 64
 
-keeps_few : (unit : Description Path) (i : Item Path) (y : Item Target)
-    → resolved_item unit i ≡ Some y → has_few y ≡ has_few i
-keeps_few unit i y h =
-    let x = bind_some (each (resolved_attribute unit i.sort) i.attributes)
+keeps_few : (names : Reading) (i : Item Path) (y : Item Target)
+    → resolved_item names i ≡ Some y → has_few y ≡ has_few i
+keeps_few names i y h =
+    let x = bind_some (each (resolved_attribute names i.sort) i.attributes)
     (λ attributes. Some (record { sort = i.sort; name = i.name; attributes = attributes })) y
     h in
     ap (λ n. nat_le n 64)
     (sym (at_some locals_of 0 (record { sort = i.sort; name = i.name; attributes = x.0 }) y x.2)
     ∙ locals_are i.sort i.name x.0
-    ∙ ap sum (each_keeps (resolved_attribute unit i.sort) locals_in locals_in
-    (keeps_locals unit i.sort) i.attributes x.0 x.1)
+    ∙ ap sum (each_keeps (resolved_attribute names i.sort) locals_in locals_in
+    (keeps_locals names i.sort) i.attributes x.0 x.1)
     ∙ sym (locals_are i.sort i.name i.attributes))
 
 none_over : {R : Type 0} (items : List (Item R)) → list_any (λ i. nat_lt 64 (locals_of i)) items
@@ -279,7 +279,7 @@ unfolding resolved_unit
 all_few d checked =
     let r = checked.is_resolved in
     let u = r.unit in
-    let x = bind_some (each (resolved_item u) u.items)
+    let x = bind_some (each (resolved_item (meant_in u)) u.items)
     (λ items. Some (record { identification = u.identification; items = items })) d
     r.meanings in
     let many = no_front (too_many u) _ r.no_breach in
@@ -291,7 +291,8 @@ all_few d checked =
     sym (at_some (λ (e : Description Target). list_all has_few e.items) false
     (record { identification = u.identification; items = x.0 }) d x.2)
     ∙ all_mapped has_few x.0
-    ∙ ap (list_all (λ b. b)) (each_keeps (resolved_item u) has_few has_few (keeps_few u) u.items x.0
+    ∙ ap (list_all (λ b. b))
+    (each_keeps (resolved_item (meant_in u)) has_few has_few (keeps_few (meant_in u)) u.items x.0
     x.1)
     ∙ sym (all_mapped has_few u.items)
     ∙ none_over u.items (no_refusal (list_any (λ i. nat_lt 64 (locals_of i)) u.items)

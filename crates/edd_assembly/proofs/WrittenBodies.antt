@@ -20,7 +20,7 @@ use Rattle.edd_syntax.specs.NameRules.{attribute_word, required_words, missing_w
 use Rattle.edd_syntax.specs.Numbers.{same_kind, same_attr, attr_word, text_attr}
 use Rattle.edd_syntax.specs.Refusal.{MissingAttribute, is_name_in}
 use Rattle.edd_syntax.specs.Resolution.{member_kinds}
-use Rattle.edd_syntax.specs.ResolvedTrees.{each, unchanged, resolved_cond, resolved_conds, resolved_body, at_attribute, resolved_entry, resolved_member, resolved_element, resolved_type_part, resolved_transaction_part, resolved_attribute, resolved_item, resolved_unit}
+use Rattle.edd_syntax.specs.ResolvedTrees.{each, unchanged, resolved_cond, resolved_conds, resolved_body, at_attribute, resolved_entry, resolved_member, resolved_element, resolved_type_part, resolved_transaction_part, resolved_attribute, resolved_item, resolved_unit, meant_in, Reading}
 use Rattle.edd_syntax.specs.Resolved.{IsChecked}
 use Rattle.edd_syntax.specs.Rows.{part_attr, stands_for, is_written, of_kind}
 use Rattle.edd_syntax.proofs.EveryAttribute.{every_text}
@@ -112,49 +112,51 @@ module _ {R : Type 0} where
 abbrev is_body : {R : Type 0} → Attribute R → Bool
 is_body a = stands_for attr.Definition a
 
-keeps_body : (unit : Description Path) (sort : ItemKind) (a : Attribute Path) (b : Attribute Target)
-    → resolved_attribute unit sort a ≡ Some b → is_body b ≡ is_body a
+keeps_body : (names : Reading) (sort : ItemKind) (a : Attribute Path) (b : Attribute Target)
+    → resolved_attribute names sort a ≡ Some b → is_body b ≡ is_body a
 unfolding stands_for
-keeps_body unit sort (item.OneText which c) b h =
-    made is_body (resolved_cond (at_attribute unit) unchanged c) (item.OneText which) b _
+keeps_body names sort (item.OneText which c) b h =
+    made is_body (resolved_cond (at_attribute names) unchanged c) (item.OneText which) b _
     (λ x. refl) h
-keeps_body unit sort (item.Class words) b h = sym (at_some is_body false (item.Class words) b h)
-keeps_body unit sort (item.Handling c) b h =
-    made is_body (resolved_cond (at_attribute unit) unchanged c) item.Handling b false (λ x. refl) h
-keeps_body unit sort (item.Validity c) b h =
-    made is_body (resolved_cond (at_attribute unit) unchanged c) item.Validity b false (λ x. refl) h
-keeps_body unit sort (item.TypeOf word parts) b h =
-    made is_body (each (resolved_type_part unit) parts) (item.TypeOf word) b false no_body_in_parts
+keeps_body names sort (item.Class words) b h = sym (at_some is_body false (item.Class words) b h)
+keeps_body names sort (item.Handling c) b h =
+    made is_body (resolved_cond (at_attribute names) unchanged c) item.Handling b false (λ x. refl)
+    h
+keeps_body names sort (item.Validity c) b h =
+    made is_body (resolved_cond (at_attribute names) unchanged c) item.Validity b false (λ x. refl)
+    h
+keeps_body names sort (item.TypeOf word parts) b h =
+    made is_body (each (resolved_type_part names) parts) (item.TypeOf word) b false no_body_in_parts
     h ∙ sym (no_body_in_parts parts)
-keeps_body unit sort (item.Number n) b h = sym (at_some is_body false (item.Number n) b h)
-keeps_body unit sort (item.Operation o) b h = sym (at_some is_body false (item.Operation o) b h)
-keeps_body unit sort (item.Transaction number parts) b h =
-    made is_body (each (resolved_transaction_part unit) parts) (item.Transaction number) b false
+keeps_body names sort (item.Number n) b h = sym (at_some is_body false (item.Number n) b h)
+keeps_body names sort (item.Operation o) b h = sym (at_some is_body false (item.Operation o) b h)
+keeps_body names sort (item.Transaction number parts) b h =
+    made is_body (each (resolved_transaction_part names) parts) (item.Transaction number) b false
     (λ x. refl) h
-keeps_body unit sort (item.ResponseCodes responses) b h =
+keeps_body names sort (item.ResponseCodes responses) b h =
     sym (at_some is_body false (item.ResponseCodes responses) b h)
-keeps_body unit sort (item.Items entries) b h =
-    made is_body (resolved_conds (at_attribute unit) (resolved_entry unit) entries) item.Items b
+keeps_body names sort (item.Items entries) b h =
+    made is_body (resolved_conds (at_attribute names) (resolved_entry names) entries) item.Items b
     false (λ x. refl) h
-keeps_body unit sort (item.Members members) b h =
-    made is_body (each (resolved_member unit (member_kinds sort)) members) item.Members b false
+keeps_body names sort (item.Members members) b h =
+    made is_body (each (resolved_member names (member_kinds sort)) members) item.Members b false
     (λ x. refl) h
-keeps_body unit sort (item.Elements elements) b h =
-    made is_body (each (resolved_element unit) elements) item.Elements b false (λ x. refl) h
-keeps_body unit sort (item.Definition body) b h = made is_body (resolved_body unit body [] 0)
+keeps_body names sort (item.Elements elements) b h =
+    made is_body (each (resolved_element names) elements) item.Elements b false (λ x. refl) h
+keeps_body names sort (item.Definition body) b h = made is_body (resolved_body names body [] 0)
     item.Definition b true (λ x. refl) h
 
-keeps_bodies : (unit : Description Path) (i : Item Path) (y : Item Target)
-    → resolved_item unit i ≡ Some y → has_body y ≡ has_body i
-keeps_bodies unit i y h =
-    let x = bind_some (each (resolved_attribute unit i.sort) i.attributes)
+keeps_bodies : (names : Reading) (i : Item Path) (y : Item Target)
+    → resolved_item names i ≡ Some y → has_body y ≡ has_body i
+keeps_bodies names i y h =
+    let x = bind_some (each (resolved_attribute names i.sort) i.attributes)
     (λ attributes. Some (record { sort = i.sort; name = i.name; attributes = attributes })) y
     h in
     sym (at_some has_body false (record { sort = i.sort; name = i.name; attributes = x.0 }) y x.2)
     ∙ ap (λ b. not (same_kind (kind_of_item i.sort) kind.Method) || b)
     (sym (any_mapped (λ b. b) is_body x.0)
-    ∙ ap (list_any (λ b. b)) (each_keeps (resolved_attribute unit i.sort) is_body is_body
-    (keeps_body unit i.sort) i.attributes x.0 x.1)
+    ∙ ap (list_any (λ b. b)) (each_keeps (resolved_attribute names i.sort) is_body is_body
+    (keeps_body names i.sort) i.attributes x.0 x.1)
     ∙ any_mapped (λ b. b) is_body i.attributes)
 
 bodies : (d : Description Target) → IsChecked d → list_all has_body d.items ≡ true
@@ -162,13 +164,14 @@ unfolding resolved_unit
 bodies d checked =
     let r = checked.is_resolved in
     let u = r.unit in
-    let x = bind_some (each (resolved_item u) u.items)
+    let x = bind_some (each (resolved_item (meant_in u)) u.items)
     (λ items. Some (record { identification = u.identification; items = items })) d
     r.meanings in
     sym (at_some (λ (e : Description Target). list_all has_body e.items) false
     (record { identification = u.identification; items = x.0 }) d x.2)
     ∙ all_mapped has_body x.0
-    ∙ ap (list_all (λ b. b)) (each_keeps (resolved_item u) has_body has_body (keeps_bodies u)
+    ∙ ap (list_all (λ b. b))
+    (each_keeps (resolved_item (meant_in u)) has_body has_body (keeps_bodies (meant_in u))
     u.items x.0 x.1)
     ∙ sym (all_mapped has_body u.items)
     ∙ with_bodies u.items (no_front (missing_attributes u) _

@@ -22,7 +22,7 @@ use Rattle.edd_syntax.specs.Resolution.{count_of}
 use Rattle.edd_syntax.specs.Refusal.{Refusal, ConstRange, refused_if}
 use Rattle.edd_syntax.specs.SubsetRules.{values_of, cond_defaults, conds_defaults, type_part_defaults, transaction_part_defaults, repeated_cases, duplicate_cases, duplicate_elements, data_breaches, transaction_part_breaches, attribute_data_breaches, wrong_types, mismatches, float_values, wrong_breaks, wrong_constants}
 use Rattle.edd_syntax.specs.WellFormed.{is_path, is_plain, is_item, are_items}
-use Rattle.edd_syntax.specs.ResolvedTrees.{each, resolved_attribute, resolved_item, resolved_unit}
+use Rattle.edd_syntax.specs.ResolvedTrees.{each, resolved_attribute, resolved_item, resolved_unit, meant_in, Reading}
 use Rattle.edd_syntax.specs.Resolved.{IsChecked}
 use Rattle.edd_syntax.proofs.WithinLimits.{each_keeps}
 use Rattle.edd_attrs.specs.Trees as trees
@@ -194,22 +194,23 @@ filter_lengths κ p (x ∷ xs) = here (p (κ x)) (filter_lengths κ p xs)
     here true h = omega (arith, h)
     here false h = h
 
-sort_kept : (unit : Description Path) (i : Item Path) (y : Item Target)
-    → resolved_item unit i ≡ Some y → y.sort ≡ i.sort
-sort_kept unit i y h =
-    let x = bind_some (each (resolved_attribute unit i.sort) i.attributes)
+sort_kept : (names : Reading) (i : Item Path) (y : Item Target)
+    → resolved_item names i ≡ Some y → y.sort ≡ i.sort
+sort_kept names i y h =
+    let x = bind_some (each (resolved_attribute names i.sort) i.attributes)
     (λ attributes. Some (record { sort = i.sort; name = i.name; attributes = attributes })) y
     h in
     sym (ap (λ (z : Item Target). z.sort)
     (same_Some (record { sort = i.sort; name = i.name; attributes = x.0 }) y x.2))
 
 count_kept : (unit : Description Path) (items : List (Item Target))
-    → each (resolved_item unit) unit.items ≡ Some items → (k : Kind)
+    → each (resolved_item (meant_in unit)) unit.items ≡ Some items → (k : Kind)
     → count_of k items ≡ count_of k unit.items
 count_kept unit items meant k =
     filter_lengths (λ i. i.sort) (λ s. same_kind (kind_of_item s) k) items
     ∙ ap (λ ss. length (filter (λ s. same_kind (kind_of_item s) k) ss))
-    (each_keeps (resolved_item unit) (λ i. i.sort) (λ i. i.sort) (sort_kept unit) unit.items
+    (each_keeps (resolved_item (meant_in unit)) (λ i. i.sort) (λ i. i.sort)
+    (sort_kept (meant_in unit)) unit.items
     items meant)
     ∙ sym (filter_lengths (λ i. i.sort) (λ s. same_kind (kind_of_item s) k) unit.items)
 
@@ -282,13 +283,13 @@ module _ (d : Description Target) (row : AttrRef) where
   unfolding resolved_unit are_items
   whole_in checked =
       let u = checked.is_resolved.unit in
-      let x = bind_some (each (resolved_item u) u.items)
+      let x = bind_some (each (resolved_item (meant_in u)) u.items)
       (λ items. Some (record { identification = u.identification; items = items })) d
       checked.is_resolved.meanings in
       let same_items : x.0 ≡ d.items = ap (λ (e : Description Target). e.items)
       (same_Some (record { identification = u.identification; items = x.0 }) d x.2) in
       let good : list_all (throughout_item (good_with (λ k. count_of k u.items))) x.0 ≡ true =
-      each_all (resolved_item u) (λ i. is_item is_path is_plain i
+      each_all (resolved_item (meant_in u)) (λ i. is_item is_path is_plain i
       && has_arrays (λ k. count_of k u.items) i.sort)
       (throughout_item (good_with (λ k. count_of k u.items)))
       (item_good u (reads_of (λ k. count_of k u.items)) (item_readable (λ k. count_of k u.items)))

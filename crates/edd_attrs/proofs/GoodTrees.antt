@@ -21,7 +21,7 @@ use Rattle.edd_syntax.specs.Item.{ItemKind, VariableItem, CommandItem, MenuItem,
 use Rattle.edd_syntax.specs.Targets.{item_of, variable_of}
 use Rattle.edd_syntax.specs.Resolution.{count_of, variable_kinds, entry_kinds, array_kinds, member_kinds, is_among}
 use Rattle.edd_syntax.specs.WellFormed.{is_pure_expr, is_text, if_some, is_path, is_plain, is_cond, are_conds, is_single, is_type_part, is_type, is_attribute, is_enumerator, is_entry, is_data_item, is_response_code, is_member, is_array_element, may_list, is_transaction_part, belongs_to, stands_in, is_item}
-use Rattle.edd_syntax.specs.ResolvedTrees.{Meanings, each, unchanged, resolved_expr, resolved_cond, resolved_conds, resolved_body, item_among, at_attribute, resolved_entry, resolved_data, resolved_member, resolved_element, resolved_type_part, resolved_transaction_part, resolved_attribute, resolved_item}
+use Rattle.edd_syntax.specs.ResolvedTrees.{Meanings, each, unchanged, resolved_expr, resolved_cond, resolved_conds, resolved_body, item_among, at_attribute, resolved_entry, resolved_data, resolved_member, resolved_element, resolved_type_part, resolved_transaction_part, resolved_attribute, resolved_item, meant_in}
 use Rattle.edd_instructions.specs.Agreement.{mask_number}
 use Rattle.edd_attrs.specs.Trees.{trees_of_part, trees_of_parts, tree_of_transaction_part}
 use Rattle.edd_attrs.specs.Records.{is_label, is_listed}
@@ -112,7 +112,7 @@ module _ (unit : Description Path) (reads : Target → Bool)
   count k = count_of k unit.items
 
   abbrev at : Meanings
-  at = at_attribute unit
+  at = at_attribute (meant_in unit)
 
   kept : (p : Path) (t : Target) → at.reference p ≡ Some t → reads t ≡ true
   kept p t e = let i = meant_exists unit variable_kinds p t e in ap reads i.1 ∙ readable i.0 i.2
@@ -159,10 +159,10 @@ module _ (unit : Description Path) (reads : Target → Bool)
       (stays_single at reads (resolved_expr at) c d parts.1 e)
 
   entry_good : (e : MenuEntry Path) (f : MenuEntry Target) → is_entry is_path is_plain e ≡ true
-      → resolved_entry unit e ≡ Some f → good_entry count reads f ≡ true
+      → resolved_entry (meant_in unit) e ≡ Some f → good_entry count reads f ≡ true
   entry_good (item.Text text) f h e = along_some (good_entry count reads) (item.Text text) f e h
   entry_good (item.Reference to qualifiers) f h e =
-      let x = bind_some (item_among unit entry_kinds to)
+      let x = bind_some (item_among (meant_in unit) entry_kinds to)
       (λ to'. Some (item.Reference to' qualifiers)) f e in
       let i = meant_exists unit entry_kinds to x.0 x.1 in
       along_some (good_entry count reads) (item.Reference x.0 qualifiers) f x.2
@@ -170,10 +170,10 @@ module _ (unit : Description Path) (reads : Target → Bool)
       (ap (λ t. is_item_of count (item_of t)) i.1 ∙ i.2))
 
   data_good : (d : DataItem Path) (f : DataItem Target) → is_data_item is_path is_plain d ≡ true
-      → resolved_data unit d ≡ Some f → good_data count reads f ≡ true
+      → resolved_data (meant_in unit) d ≡ Some f → good_data count reads f ≡ true
   data_good (item.Constant n) f h e = along_some (good_data count reads) (item.Constant n) f e refl
   data_good (item.Variable variable mask qualifiers) f h e =
-      let x = bind_some (item_among unit variable_kinds variable)
+      let x = bind_some (item_among (meant_in unit) variable_kinds variable)
       (λ variable'. Some (item.Variable variable' mask qualifiers))
       f e in
       let i = meant_exists unit variable_kinds variable x.0 x.1 in
@@ -184,10 +184,10 @@ module _ (unit : Description Path) (reads : Target → Bool)
 
   member_good : (kinds : List Kind) → ((i : ItemNo) → is_among kinds i ≡ true → is_listed i ≡ true)
       → (m : item.Member Path) (f : item.Member Target)
-      → is_member is_path is_plain m ≡ true → resolved_member unit kinds m ≡ Some f
+      → is_member is_path is_plain m ≡ true → resolved_member (meant_in unit) kinds m ≡ Some f
       → good_member count reads f ≡ true
   member_good kinds listed m f h e =
-      let x = bind_some (item_among unit kinds m.item)
+      let x = bind_some (item_among (meant_in unit) kinds m.item)
       (λ item'. Some (record { name = m.name; item = item'; label = m.label; help = m.help })) f
       e in
       let i = meant_exists unit kinds m.item x.0 x.1 in
@@ -200,10 +200,10 @@ module _ (unit : Description Path) (reads : Target → Bool)
 
   array_element_good : nat_lt 0 (count kind.Array) ≡ true
       → (e : item.ArrayElement Path) (f : item.ArrayElement Target)
-      → is_array_element is_path is_plain e ≡ true → resolved_element unit e ≡ Some f
+      → is_array_element is_path is_plain e ≡ true → resolved_element (meant_in unit) e ≡ Some f
       → good_array_element count reads f ≡ true
   array_element_good some e f h r =
-      let x = bind_some (item_among unit variable_kinds e.variable)
+      let x = bind_some (item_among (meant_in unit) variable_kinds e.variable)
       (λ variable'. Some (record {
         number = e.number;
         variable = variable';
@@ -235,7 +235,7 @@ module _ (unit : Description Path) (reads : Target → Bool)
 
   part_good : (p : TypePart Path) (q : TypePart Target)
       → (is_type_part is_path is_plain p && is_low (type_part_height p)) ≡ true
-      → resolved_type_part unit p ≡ Some q → good_part q ≡ true
+      → resolved_type_part (meant_in unit) p ≡ Some q → good_part q ≡ true
   part_good (item.DefaultValue c) q h e =
       let parts = both_of _ (is_low (cond_height height c)) h in
       let x = bind_some (resolved_cond at (resolved_expr at) c) (λ c'. Some (item.DefaultValue c'))
@@ -301,20 +301,22 @@ module _ (unit : Description Path) (reads : Target → Bool)
 
   transaction_part_good : (p : TransactionPart Path) (q : TransactionPart Target)
       → (is_transaction_part is_path is_plain p && is_low (transaction_part_height p)) ≡ true
-      → resolved_transaction_part unit p ≡ Some q → good_transaction_part q ≡ true
+      → resolved_transaction_part (meant_in unit) p ≡ Some q → good_transaction_part q ≡ true
   transaction_part_good (item.Request all) q h e =
       let parts = both_of _ (is_low (conds_height leaf all)) h in
-      let x = bind_some (resolved_conds at (resolved_data unit) all)
+      let x = bind_some (resolved_conds at (resolved_data (meant_in unit)) all)
       (λ all'. Some (item.Request all')) q e in
       along_some good_transaction_part (item.Request x.0) q x.2
-      (conds_good (resolved_data unit) (is_data_item is_path is_plain) (good_data count reads) leaf
+      (conds_good (resolved_data (meant_in unit)) (is_data_item is_path is_plain)
+      (good_data count reads) leaf
       leaf data_good (λ v w k f. refl) all x.0 parts.0 parts.1 x.1)
   transaction_part_good (item.Reply all) q h e =
       let parts = both_of _ (is_low (conds_height leaf all)) h in
-      let x = bind_some (resolved_conds at (resolved_data unit) all)
+      let x = bind_some (resolved_conds at (resolved_data (meant_in unit)) all)
       (λ all'. Some (item.Reply all')) q e in
       along_some good_transaction_part (item.Reply x.0) q x.2
-      (conds_good (resolved_data unit) (is_data_item is_path is_plain) (good_data count reads) leaf
+      (conds_good (resolved_data (meant_in unit)) (is_data_item is_path is_plain)
+      (good_data count reads) leaf
       leaf data_good (λ v w k f. refl) all x.0 parts.0 parts.1 x.1)
 
   all_mapped : (parts : List (TransactionPart Target)) → list_all good_transaction_part parts ≡ true
@@ -337,7 +339,7 @@ module _ (unit : Description Path) (reads : Target → Bool)
   attribute_good : (sort : ItemKind) → may_list sort ≡ true → has_arrays count sort ≡ true
       → (a : Attribute Path) (b : Attribute Target) → belongs_to (kind_of_item sort) a ≡ true
       → is_attribute is_path is_plain a ≡ true → is_low (attribute_height a) ≡ true
-      → resolved_attribute unit sort a ≡ Some b → good_attribute b ≡ true
+      → resolved_attribute (meant_in unit) sort a ≡ Some b → good_attribute b ≡ true
   attribute_good sort may some (item.OneText which c) b belongs h l e = let x =
       bind_some (resolved_cond at unchanged c) (λ c'. Some (item.OneText which c')) b
       e in along_some good_attribute (item.OneText which x.0) b x.2
@@ -354,10 +356,10 @@ module _ (unit : Description Path) (reads : Target → Bool)
       (λ c'. Some (item.Validity c')) b e in along_some good_attribute (item.Validity x.0) b x.2
       (alone (one_good any_value c x.0 h l x.1))
   attribute_good sort may some (item.TypeOf word parts) b belongs h l e =
-      let x = bind_some (each (resolved_type_part unit) parts)
+      let x = bind_some (each (resolved_type_part (meant_in unit)) parts)
       (λ parts'. Some (item.TypeOf word parts')) b e in
       let both = parts_good x.0
-      (each_all (resolved_type_part unit) (λ p. is_type_part is_path is_plain p
+      (each_all (resolved_type_part (meant_in unit)) (λ p. is_type_part is_path is_plain p
       && is_low (type_part_height p)) good_part part_good parts x.0
       (all_both (is_type_part is_path is_plain) (λ p. is_low (type_part_height p)) parts
       (type_parts word parts h) (all_low type_part_height parts l)) x.1) in
@@ -369,13 +371,13 @@ module _ (unit : Description Path) (reads : Target → Bool)
       along_some good_attribute (item.Operation o) b e
       refl
   attribute_good sort may some (item.Transaction number parts) b belongs h l e =
-      let x = bind_some (each (resolved_transaction_part unit) parts)
+      let x = bind_some (each (resolved_transaction_part (meant_in unit)) parts)
       (λ parts'. Some (item.Transaction number parts')) b e in
       let told = both_of (if_some is_small number)
       (list_all (is_transaction_part is_path is_plain) parts) h in
       along_some good_attribute (item.Transaction number x.0) b x.2
       (both_true refl (both_true told.0
-      (all_mapped x.0 (each_all (resolved_transaction_part unit)
+      (all_mapped x.0 (each_all (resolved_transaction_part (meant_in unit))
       (λ p. is_transaction_part is_path is_plain p && is_low (transaction_part_height p))
       good_transaction_part transaction_part_good parts x.0
       (all_both (is_transaction_part is_path is_plain) (λ p. is_low (transaction_part_height p))
@@ -385,28 +387,29 @@ module _ (unit : Description Path) (reads : Target → Bool)
       (alone (all_good (is_response_code is_path is_plain) good_response response_good responses
       h))
   attribute_good sort may some (item.Items entries) b belongs h l e =
-      let x = bind_some (resolved_conds at (resolved_entry unit) entries)
+      let x = bind_some (resolved_conds at (resolved_entry (meant_in unit)) entries)
       (λ entries'. Some (item.Items entries')) b e in
       along_some good_attribute (item.Items x.0) b x.2
-      (alone (conds_good (resolved_entry unit) (is_entry is_path is_plain)
+      (alone (conds_good (resolved_entry (meant_in unit)) (is_entry is_path is_plain)
       (good_entry count reads) leaf leaf entry_good (λ v w k f. refl) entries x.0 h l x.1))
   attribute_good sort may some (item.Members members) b belongs h l e =
-      let x = bind_some (each (resolved_member unit (member_kinds sort)) members)
+      let x = bind_some (each (resolved_member (meant_in unit) (member_kinds sort)) members)
       (λ members'. Some (item.Members members')) b e in
       along_some good_attribute (item.Members x.0) b x.2
-      (alone (each_all (resolved_member unit (member_kinds sort)) (is_member is_path is_plain)
+      (alone (each_all (resolved_member (meant_in unit) (member_kinds sort))
+      (is_member is_path is_plain)
       (good_member count reads) (member_good (member_kinds sort) (members_listed sort may))
       members x.0 h x.1))
   attribute_good sort may some (item.Elements elements) b belongs h l e =
-      let x = bind_some (each (resolved_element unit) elements)
+      let x = bind_some (each (resolved_element (meant_in unit)) elements)
       (λ elements'. Some (item.Elements elements')) b e in
       along_some good_attribute (item.Elements x.0) b x.2
-      (alone (each_all (resolved_element unit) (is_array_element is_path is_plain)
+      (alone (each_all (resolved_element (meant_in unit)) (is_array_element is_path is_plain)
       (good_array_element count reads) (array_element_good (counted count sort belongs some))
       elements x.0
       h x.1))
   attribute_good sort may some (item.Definition body) b belongs h l e = let x =
-      bind_some (resolved_body unit body [] 0) (λ body'. Some (item.Definition body')) b
+      bind_some (resolved_body (meant_in unit) body [] 0) (λ body'. Some (item.Definition body')) b
       e in along_some good_attribute (item.Definition x.0) b x.2 refl
 
   abbrev good_item : Item Target → Bool
@@ -414,16 +417,17 @@ module _ (unit : Description Path) (reads : Target → Bool)
 
   pub item_good : (i : Item Path) (j : Item Target)
       → (is_item is_path is_plain i && has_arrays count i.sort) ≡ true
-      → resolved_item unit i ≡ Some j → good_item j ≡ true
+      → resolved_item (meant_in unit) i ≡ Some j → good_item j ≡ true
   item_good i j h e =
-      let x = bind_some (each (resolved_attribute unit i.sort) i.attributes)
+      let x = bind_some (each (resolved_attribute (meant_in unit) i.sort) i.attributes)
       (λ attributes. Some (record { sort = i.sort; name = i.name; attributes = attributes })) j
       e in
       let whole = both_of (is_item is_path is_plain i) (has_arrays count i.sort) h in
       let front = both_of (is_name i.name && may_list i.sort) _ whole.0 in
       let may = (both_of (is_name i.name) (may_list i.sort) front.0).1 in
       along_some good_item (record { sort = i.sort; name = i.name; attributes = x.0 }) j x.2
-      (each_all (resolved_attribute unit i.sort) (stands_in is_path is_plain (kind_of_item i.sort))
+      (each_all (resolved_attribute (meant_in unit) i.sort)
+      (stands_in is_path is_plain (kind_of_item i.sort))
       good_attribute
       (λ a b k.
       let parts = both_of (belongs_to (kind_of_item i.sort) a && is_attribute is_path is_plain a) _

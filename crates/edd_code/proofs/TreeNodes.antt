@@ -10,9 +10,8 @@ use Rattle.edd_syntax.specs.Conditional as cond
 use Rattle.edd_syntax.specs.Conditional.{Cond, Value, If, Select, Conds, Arms, NoArms, ConsArm, Case, Default}
 use Rattle.edd_syntax.specs.Statement as s
 use Rattle.edd_syntax.specs.Statement.{Declarator, Stmt, Body, Nil, Cons, Declare, Statement, CaseLabel, DefaultLabel, slots_of}
-use Rattle.edd_syntax.specs.Item.{Description}
-use Rattle.edd_syntax.specs.Resolution.{Scope, function_meant, declared, all_declared}
-use Rattle.edd_syntax.specs.ResolvedTrees.{Meanings, resolved_by, resolved_expr, resolved_arguments, resolved_optional, resolved_cond, resolved_conds, resolved_arms, at_scope, resolved_declarators, resolved_stmt, resolved_body}
+use Rattle.edd_syntax.specs.Resolution.{Scope, declared, all_declared}
+use Rattle.edd_syntax.specs.ResolvedTrees.{Meanings, resolved_by, resolved_expr, resolved_arguments, resolved_optional, resolved_cond, resolved_conds, resolved_arms, at_scope, resolved_declarators, resolved_stmt, resolved_body, Reading}
 use Rattle.edd_syntax.specs.Size.{nodes, argument_nodes, cond_nodes, conds_nodes, arms_nodes, optional_nodes, declarator_nodes, statement_nodes, body_nodes}
 use Rattle.edd_syntax.proofs.Made.{stays, made, made_of_two, made_of_three, made_of_four}
 
@@ -63,7 +62,7 @@ module _ (at : Meanings) where
     keeps plain (Increment op to) e' h = made nodes (at.reference to) (Increment op) e' _
         (λ x p. refl) h
     keeps plain (Call name arguments) e' h =
-        made_of_two nodes (function_meant name) (resolved_arguments at (at.argument name) arguments)
+        made_of_two nodes (at.function name) (resolved_arguments at (at.argument name) arguments)
         Call e' _ (λ x y p q. ap (λ n. 1 + n)
         (arguments_keep (at.argument name) arguments y q)) h
 
@@ -135,18 +134,18 @@ module _ (at : Meanings) where
 
 -- ---- statements
 
-module _ (unit : Description Path) where
+module _ (names : Reading) where
   pub declarators_keep : (scope : Scope) (next : ℕ) (ds : List (Declarator Path))
-      (ds' : List (Declarator Target)) → resolved_declarators unit scope next ds ≡ Some ds'
+      (ds' : List (Declarator Target)) → resolved_declarators names scope next ds ≡ Some ds'
       → declarator_nodes ds' ≡ declarator_nodes ds
   declarators_keep scope next [] ds' h = stays declarator_nodes [] ds' h
   declarators_keep scope next (d ∷ rest) ds' h =
-      made_of_two declarator_nodes (resolved_optional (at_scope unit scope) d.value)
-      (resolved_declarators unit (declared d.place next scope) (next + 1) rest)
+      made_of_two declarator_nodes (resolved_optional (at_scope names scope) d.value)
+      (resolved_declarators names (declared d.place next scope) (next + 1) rest)
       (λ value others. record { place = Local next; value = value } ∷ others) ds' _
       (λ x y p q. omega (
         arith,
-        optional_keeps (at_scope unit scope) d.value x p,
+        optional_keeps (at_scope names scope) d.value x p,
         declarators_keep (declared d.place next scope) (next + 1) rest y q,
       )) h
 
@@ -154,68 +153,68 @@ module _ (unit : Description Path) where
     unfolding resolved_stmt resolved_body
 
     pub statement_keeps : (t : Stmt Path) (scope : Scope) (next : ℕ) (t' : Stmt Target)
-        → resolved_stmt unit t scope next ≡ Some t' → statement_nodes t' ≡ statement_nodes t
+        → resolved_stmt names t scope next ≡ Some t' → statement_nodes t' ≡ statement_nodes t
     statement_keeps s.Empty scope next t' h = stays statement_nodes s.Empty t' h
     statement_keeps (s.Evaluate e) scope next t' h =
-        made statement_nodes (resolved_expr (at_scope unit scope) e) s.Evaluate t' _
-        (λ x p. ap (λ n. 1 + n) (expr_keeps (at_scope unit scope) e x p)) h
+        made statement_nodes (resolved_expr (at_scope names scope) e) s.Evaluate t' _
+        (λ x p. ap (λ n. 1 + n) (expr_keeps (at_scope names scope) e x p)) h
     statement_keeps (s.Block body) scope next t' h =
-        made statement_nodes (resolved_body unit body scope next) s.Block t' _
+        made statement_nodes (resolved_body names body scope next) s.Block t' _
         (λ x p. ap (λ n. 1 + n) (body_keeps body scope next x p)) h
     statement_keeps (s.If condition first) scope next t' h =
-        made_of_two statement_nodes (resolved_expr (at_scope unit scope) condition)
-        (resolved_stmt unit first scope next) s.If t' _
+        made_of_two statement_nodes (resolved_expr (at_scope names scope) condition)
+        (resolved_stmt names first scope next) s.If t' _
         (λ x y p q. omega (
           arith,
-          expr_keeps (at_scope unit scope) condition x p,
+          expr_keeps (at_scope names scope) condition x p,
           statement_keeps first scope next y q,
         )) h
     statement_keeps (s.IfElse condition first otherwise) scope next t' h =
-        made_of_three statement_nodes (resolved_expr (at_scope unit scope) condition)
-        (resolved_stmt unit first scope next)
-        (resolved_stmt unit otherwise scope (next + slots_of first)) s.IfElse t' _
+        made_of_three statement_nodes (resolved_expr (at_scope names scope) condition)
+        (resolved_stmt names first scope next)
+        (resolved_stmt names otherwise scope (next + slots_of first)) s.IfElse t' _
         (λ x y z p q r. omega (
           arith,
-          expr_keeps (at_scope unit scope) condition x p,
+          expr_keeps (at_scope names scope) condition x p,
           statement_keeps first scope next y q,
           statement_keeps otherwise scope
               (next + slots_of first) z r,
         )) h
     statement_keeps (s.While condition body) scope next t' h =
-        made_of_two statement_nodes (resolved_expr (at_scope unit scope) condition)
-        (resolved_stmt unit body scope next) s.While t' _
+        made_of_two statement_nodes (resolved_expr (at_scope names scope) condition)
+        (resolved_stmt names body scope next) s.While t' _
         (λ x y p q. omega (
           arith,
-          expr_keeps (at_scope unit scope) condition x p,
+          expr_keeps (at_scope names scope) condition x p,
           statement_keeps body scope next y q,
         )) h
     statement_keeps (s.Do body condition) scope next t' h =
-        made_of_two statement_nodes (resolved_stmt unit body scope next)
-        (resolved_expr (at_scope unit scope) condition) s.Do t' _
+        made_of_two statement_nodes (resolved_stmt names body scope next)
+        (resolved_expr (at_scope names scope) condition) s.Do t' _
         (λ x y p q. omega (
           arith,
           statement_keeps body scope next x p,
-          expr_keeps (at_scope unit scope) condition y q,
+          expr_keeps (at_scope names scope) condition y q,
         )) h
     statement_keeps (s.For initial condition update body) scope next t' h =
-        made_of_four statement_nodes (resolved_optional (at_scope unit scope) initial)
-        (resolved_optional (at_scope unit scope) condition)
-        (resolved_optional (at_scope unit scope) update) (resolved_stmt unit body scope next)
+        made_of_four statement_nodes (resolved_optional (at_scope names scope) initial)
+        (resolved_optional (at_scope names scope) condition)
+        (resolved_optional (at_scope names scope) update) (resolved_stmt names body scope next)
         s.For t' _
         (λ x y z u p q r m. omega (
           arith,
-          optional_keeps (at_scope unit scope) initial x p,
-          optional_keeps (at_scope unit scope) condition y q,
-          optional_keeps (at_scope unit scope)
+          optional_keeps (at_scope names scope) initial x p,
+          optional_keeps (at_scope names scope) condition y q,
+          optional_keeps (at_scope names scope)
               update z r,
           statement_keeps body scope next u m,
         )) h
     statement_keeps (s.Switch on body) scope next t' h =
-        made_of_two statement_nodes (resolved_expr (at_scope unit scope) on)
-        (resolved_body unit body scope next) s.Switch t' _
+        made_of_two statement_nodes (resolved_expr (at_scope names scope) on)
+        (resolved_body names body scope next) s.Switch t' _
         (λ x y p q. omega (
           arith,
-          expr_keeps (at_scope unit scope) on x p,
+          expr_keeps (at_scope names scope) on x p,
           body_keeps body scope next y q,
         )) h
     statement_keeps s.Break scope next t' h = stays statement_nodes s.Break t' h
@@ -223,11 +222,11 @@ module _ (unit : Description Path) where
     statement_keeps s.Return scope next t' h = stays statement_nodes s.Return t' h
 
     pub body_keeps : (b : Body Path) (scope : Scope) (next : ℕ) (b' : Body Target)
-        → resolved_body unit b scope next ≡ Some b' → body_nodes b' ≡ body_nodes b
+        → resolved_body names b scope next ≡ Some b' → body_nodes b' ≡ body_nodes b
     body_keeps Nil scope next b' h = stays body_nodes Nil b' h
     body_keeps (Cons (Declare declarators) rest) scope next b' h =
-        made_of_two body_nodes (resolved_declarators unit scope next declarators)
-        (resolved_body unit rest (all_declared scope next declarators)
+        made_of_two body_nodes (resolved_declarators names scope next declarators)
+        (resolved_body names rest (all_declared scope next declarators)
         (next + length declarators)) (λ declarators' rest'. Cons (Declare declarators') rest')
         b' _
         (λ x y p q. omega (
@@ -237,8 +236,8 @@ module _ (unit : Description Path) where
         ))
         h
     body_keeps (Cons (Statement first) rest) scope next b' h =
-        made_of_two body_nodes (resolved_stmt unit first scope next)
-        (resolved_body unit rest scope (next + slots_of first))
+        made_of_two body_nodes (resolved_stmt names first scope next)
+        (resolved_body names rest scope (next + slots_of first))
         (λ first' rest'. Cons (Statement first') rest') b' _
         (λ x y p q. omega (
           arith,
@@ -246,8 +245,8 @@ module _ (unit : Description Path) where
           body_keeps rest scope (next + slots_of first) y q,
         )) h
     body_keeps (Cons (CaseLabel label) rest) scope next b' h =
-        made body_nodes (resolved_body unit rest scope next) (Cons (CaseLabel label)) b' _
+        made body_nodes (resolved_body names rest scope next) (Cons (CaseLabel label)) b' _
         (λ x p. ap (λ n. 1 + n) (body_keeps rest scope next x p)) h
     body_keeps (Cons DefaultLabel rest) scope next b' h =
-        made body_nodes (resolved_body unit rest scope next) (Cons DefaultLabel) b' _
+        made body_nodes (resolved_body names rest scope next) (Cons DefaultLabel) b' _
         (λ x p. ap (λ n. 1 + n) (body_keeps rest scope next x p)) h

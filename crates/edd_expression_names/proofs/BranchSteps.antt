@@ -1,15 +1,14 @@
 -- Conditionals with the meaning of their names, case by case.
-use Rattle.std.proofs.Common.{◌≡◌, refl, sym, ap, ◌∙◌, ℤ, List, [], ◌∷◌, ◌++◌, map, Option, Some, subst}
+use Rattle.std.proofs.Common.{◌≡◌, refl, sym, ap, ◌∙◌, ℤ, List, [], ◌∷◌, ◌++◌, map, Option, Some}
 use Rattle.std.specs.Prelude.{Vec}
 use Rattle.std.specs.declared.alloc.Global as alloc
 use Rattle.std.proofs.lemmas.List.{append-nil}
 use Rattle.edd_breaches.specs.declared.breach.Breach.{Breach}
-use Rattle.edd_name_meanings.specs.Meanings.{Means, NoFault}
-use Rattle.edd_name_meanings.specs.Copies.{Meant, Tells}
+use Rattle.edd_name_meanings.specs.Copies.{Tells}
 use Rattle.edd_name_meanings.specs.PathsIn.{paths_in_arms, paths_in_cond, paths_in_conds, paths_in_expr}
 use Rattle.edd_expression_names.specs.ResolvedParts.{resolved_arm}
 use Rattle.edd_expression_names.proofs.ExprSteps.{bound, regroup}
-use Rattle.edd_name_meanings.proofs.UseLaws.{tells_append, retold, none_left, none_right}
+use Rattle.edd_name_meanings.proofs.UseLaws.{tells_append, retold}
 use Rattle.edd_syntax.specs.declared.numbers.TokenNo.{TokenNo}
 use Rattle.edd_syntax.specs.declared.cond.Cond as code
 use Rattle.edd_syntax.specs.declared.cond.Cond.TheVariants as c
@@ -24,7 +23,7 @@ use Rattle.edd_syntax.specs.Conditional.{Cond, Value, If, Select, Conds, Cons, A
 use Rattle.edd_syntax.specs.ItemView.{cond_of, conds_of, arm_of, numbered_arm, numbered_cond}
 use Rattle.edd_syntax.specs.NameUses.{Use, attribute_expr_uses, cond_uses, conds_uses, arms_uses}
 use Rattle.edd_syntax.specs.ReferenceOrder.{cond_references, conds_references, arms_references}
-use Rattle.edd_syntax.specs.ResolvedTrees.{◌>>=◌, Meanings, at_attribute, resolved_expr, resolved_cond, resolved_conds, resolved_arms}
+use Rattle.edd_syntax.specs.ResolvedTrees.{◌>>=◌, Meanings, Reading, at_attribute, resolved_expr, resolved_cond, resolved_conds, resolved_arms}
 use Rattle.edd_syntax.specs.TreeView.{path_of, expr_of, numbered_expr}
 use Rattle.edd_syntax.proofs.CondRows.{of_value, of_if, of_select, of_case, of_default}
 
@@ -139,8 +138,8 @@ module _ {V W : Type 0} (at : Meanings) (of : V → Option W) where
 
 -- ---- the variants of the code
 
-module _ {V W X Y P : Type 0} (unit : Description Path) (before : V → W) (after : X → Y) (uses : W
-    → List Use) (meant : Description Path → W → Option Y) (placed : V → P)
+module _ {V W X Y P : Type 0} (unit : Description Path) (names : Reading) (before : V → W)
+    (after : X → Y) (uses : W → List Use) (meant : Reading → W → Option Y) (placed : V → P)
     (paths : P → List code_path.Path) where
   abbrev pub listed : List (code.Cond code_path.Path V) → Conds Path W
   listed xs = conds_from (map (cond_of path_of before) xs)
@@ -155,20 +154,18 @@ module _ {V W X Y P : Type 0} (unit : Description Path) (before : V → W) (afte
     value : cond_of path_of before x ≡ Value (before v)
     value = valued path_of before
 
-    pub value_told : (old new : List Breach) → Tells unit (uses (before v)) (paths (placed v)) old new
+    pub value_told : (old new : List Breach) → Tells unit (uses (before v)) (paths (placed v)) old
+        new
         → Tells unit (cond_uses uses (cond_of path_of before x)) (paths_in_cond placed paths x) old
         new
     value_told old new h = retold unit _ _ _ _ old new (ap (cond_uses uses) (sym value))
         (ap (cond_references paths) (sym (valued (λ r. r) placed))) h
 
-    pub value_means : (w : X) → Meant unit (uses (before v)) (meant unit (before v)) (after w)
-        → Meant unit (cond_uses uses (cond_of path_of before x))
-        (resolved_cond (at_attribute unit) (meant unit) (cond_of path_of before x))
-        (numbered_cond after (c.Value w))
-    unfolding Means Meant
-    value_means w h = λ none known. ap (resolved_cond (at_attribute unit) (meant unit)) value
-        ∙ value_meant (at_attribute unit) (meant unit) (before v) (after w)
-        (h (subst (λ t. NoFault unit (cond_uses uses t)) value none) known)
+    pub value_means : (w : X) → meant names (before v) ≡ Some (after w)
+        → resolved_cond (at_attribute names) (meant names) (cond_of path_of before x)
+        ≡ Some (numbered_cond after (c.Value w))
+    value_means w h = ap (resolved_cond (at_attribute names) (meant names)) value
+        ∙ value_meant (at_attribute names) (meant names) (before v) (after w) h
         ∙ ap (λ y. Some y) (sym (of_value (λ r. r) after w))
 
   module _ (x : code.Cond code_path.Path V) (test : code_expr.Expr code_path.Path)
@@ -197,27 +194,17 @@ module _ {V W X Y P : Type 0} (unit : Description Path) (before : V → W) (afte
         (tells_append unit _ _ (paths_in_conds placed paths xs) _ first otherwise new k m))
 
     pub if_means : (test' : code_expr.Expr Target) (v' w' : Vec (code.Cond Target X) alloc.Global)
-        → Meant unit (attribute_expr_uses (expr_of path_of test))
-        (resolved_expr (at_attribute unit) (expr_of path_of test)) (numbered_expr test')
-        → Meant unit (conds_uses uses (listed xs))
-        (resolved_conds (at_attribute unit) (meant unit) (listed xs))
-        (conds_from (map (numbered_cond after) v'.items))
-        → Meant unit (conds_uses uses (listed ys))
-        (resolved_conds (at_attribute unit) (meant unit) (listed ys))
-        (conds_from (map (numbered_cond after) w'.items))
-        → Meant unit (cond_uses uses (cond_of path_of before x))
-        (resolved_cond (at_attribute unit) (meant unit) (cond_of path_of before x))
-        (numbered_cond after (c.If test' v' w'))
-    unfolding Means Meant
-    if_means test' v' w' h k m = λ none known.
-        let fine = subst (λ t. NoFault unit (cond_uses uses t)) if_is none in
-        let inner = none_right unit (attribute_expr_uses (expr_of path_of test)) _ fine in
-        ap (resolved_cond (at_attribute unit) (meant unit)) if_is
-        ∙ if_meant (at_attribute unit) (meant unit) (expr_of path_of test) (listed xs) (listed ys)
-        (numbered_expr test') _ _
-        (h (none_left unit (attribute_expr_uses (expr_of path_of test)) _ fine) known)
-        (k (none_left unit (conds_uses uses (listed xs)) _ inner) known)
-        (m (none_right unit (conds_uses uses (listed xs)) _ inner) known)
+        → resolved_expr (at_attribute names) (expr_of path_of test) ≡ Some (numbered_expr test')
+        → resolved_conds (at_attribute names) (meant names) (listed xs)
+        ≡ Some (conds_from (map (numbered_cond after) v'.items))
+        → resolved_conds (at_attribute names) (meant names) (listed ys)
+        ≡ Some (conds_from (map (numbered_cond after) w'.items))
+        → resolved_cond (at_attribute names) (meant names) (cond_of path_of before x)
+        ≡ Some (numbered_cond after (c.If test' v' w'))
+    if_means test' v' w' h k m =
+        ap (resolved_cond (at_attribute names) (meant names)) if_is
+        ∙ if_meant (at_attribute names) (meant names) (expr_of path_of test) (listed xs) (listed ys)
+        (numbered_expr test') _ _ h k m
         ∙ ap (λ y. Some y) (sym (of_if (λ r. r) after test' v' w'))
 
   module _ (x : code.Cond code_path.Path V) (on : code_expr.Expr code_path.Path)
@@ -235,7 +222,8 @@ module _ {V W X Y P : Type 0} (unit : Description Path) (before : V → W) (afte
       pub select_told : (old mid new : List Breach)
           → Tells unit (attribute_expr_uses (expr_of path_of on)) (paths_in_expr on) old mid
           → Tells unit (arms_uses uses (armed xs)) (paths_in_arms placed paths xs) mid new
-          → Tells unit (cond_uses uses (cond_of path_of before x)) (paths_in_cond placed paths x) old
+          → Tells unit (cond_uses uses (cond_of path_of before x)) (paths_in_cond placed paths x)
+          old
           new
       select_told old mid new h k =
           retold unit _ _ _ _ old new (ap (cond_uses uses) (sym select_is))
@@ -244,22 +232,15 @@ module _ {V W X Y P : Type 0} (unit : Description Path) (before : V → W) (afte
 
       pub select_means : (on' : code_expr.Expr Target)
           (v' : Vec (code_arm.Arm Target X) alloc.Global)
-          → Meant unit (attribute_expr_uses (expr_of path_of on))
-          (resolved_expr (at_attribute unit) (expr_of path_of on)) (numbered_expr on')
-          → Meant unit (arms_uses uses (armed xs))
-          (resolved_arms (at_attribute unit) (meant unit) (armed xs))
-          (arms_from (map (numbered_arm after) v'.items))
-          → Meant unit (cond_uses uses (cond_of path_of before x))
-          (resolved_cond (at_attribute unit) (meant unit) (cond_of path_of before x))
-          (numbered_cond after (c.Select on' v'))
-      unfolding Means Meant
-      select_means on' v' h k = λ none known.
-          let fine = subst (λ t. NoFault unit (cond_uses uses t)) select_is none in
-          ap (resolved_cond (at_attribute unit) (meant unit)) select_is
-          ∙ select_meant (at_attribute unit) (meant unit) (expr_of path_of on) (armed xs)
-          (numbered_expr on') _
-          (h (none_left unit (attribute_expr_uses (expr_of path_of on)) _ fine) known)
-          (k (none_right unit (attribute_expr_uses (expr_of path_of on)) _ fine) known)
+          → resolved_expr (at_attribute names) (expr_of path_of on) ≡ Some (numbered_expr on')
+          → resolved_arms (at_attribute names) (meant names) (armed xs)
+          ≡ Some (arms_from (map (numbered_arm after) v'.items))
+          → resolved_cond (at_attribute names) (meant names) (cond_of path_of before x)
+          ≡ Some (numbered_cond after (c.Select on' v'))
+      select_means on' v' h k =
+          ap (resolved_cond (at_attribute names) (meant names)) select_is
+          ∙ select_meant (at_attribute names) (meant names) (expr_of path_of on) (armed xs)
+          (numbered_expr on') _ h k
           ∙ ap (λ y. Some y) (sym (of_select (λ r. r) after on' v'))
 
   -- an arm is its label and its body
@@ -295,18 +276,13 @@ module _ {V W X Y P : Type 0} (unit : Description Path) (before : V → W) (afte
           (same_paths (Case label (conds_of (λ r. r) placed xs)) (labelled (λ r. r) placed) refl) h
 
       pub case_means : (w : Vec (code.Cond Target X) alloc.Global)
-          → Meant unit (conds_uses uses (listed xs))
-          (resolved_conds (at_attribute unit) (meant unit) (listed xs))
-          (conds_from (map (numbered_cond after) w.items))
-          → Meant unit (arms_uses uses (arms_from (arm_of path_of before x ∷ [])))
-          (resolved_arm (at_attribute unit) (meant unit) (arm_of path_of before x))
-          (numbered_arm after (a.Case label w))
-      unfolding Means Meant
-      case_means w h = λ none known.
-          ap (resolved_arm (at_attribute unit) (meant unit)) case_is
-          ∙ case_meant (at_attribute unit) (meant unit) label (listed xs) _
-          (h (subst (NoFault unit) (sym (same_uses (Case label (listed xs)) case_is refl)) none)
-          known)
+          → resolved_conds (at_attribute names) (meant names) (listed xs)
+          ≡ Some (conds_from (map (numbered_cond after) w.items))
+          → resolved_arm (at_attribute names) (meant names) (arm_of path_of before x)
+          ≡ Some (numbered_arm after (a.Case label w))
+      case_means w h =
+          ap (resolved_arm (at_attribute names) (meant names)) case_is
+          ∙ case_meant (at_attribute names) (meant names) label (listed xs) _ h
           ∙ ap (λ y. Some y) (sym (of_case (λ r. r) after label w))
 
     module _ (token : TokenNo) (v : Vec (code.Cond code_path.Path V) alloc.Global)
@@ -328,16 +304,11 @@ module _ {V W X Y P : Type 0} (unit : Description Path) (before : V → W) (afte
           (same_paths (Default (conds_of (λ r. r) placed xs)) (unlabelled (λ r. r) placed) refl) h
 
       pub default_means : (w : Vec (code.Cond Target X) alloc.Global)
-          → Meant unit (conds_uses uses (listed xs))
-          (resolved_conds (at_attribute unit) (meant unit) (listed xs))
-          (conds_from (map (numbered_cond after) w.items))
-          → Meant unit (arms_uses uses (arms_from (arm_of path_of before x ∷ [])))
-          (resolved_arm (at_attribute unit) (meant unit) (arm_of path_of before x))
-          (numbered_arm after (a.Default token w))
-      unfolding Means Meant
-      default_means w h = λ none known.
-          ap (resolved_arm (at_attribute unit) (meant unit)) default_is
-          ∙ default_meant (at_attribute unit) (meant unit) (listed xs) _
-          (h (subst (NoFault unit) (sym (same_uses (Default (listed xs)) default_is refl)) none)
-          known)
+          → resolved_conds (at_attribute names) (meant names) (listed xs)
+          ≡ Some (conds_from (map (numbered_cond after) w.items))
+          → resolved_arm (at_attribute names) (meant names) (arm_of path_of before x)
+          ≡ Some (numbered_arm after (a.Default token w))
+      default_means w h =
+          ap (resolved_arm (at_attribute names) (meant names)) default_is
+          ∙ default_meant (at_attribute names) (meant names) (listed xs) _ h
           ∙ ap (λ y. Some y) (sym (of_default (λ r. r) after token w))

@@ -3,10 +3,9 @@
 use Rattle.std.proofs.Common.{◌≡◌, sym, ap, ◌∙◌, ℕ, ◌+◌, ◌<◌, List, [], ◌∷◌, ◌++◌, length, get_or, drop, map, Option, Some, append_assoc, subst}
 use Rattle.std.proofs.lemmas.List.{at_drop_more, append-nil}
 use Rattle.edd_breaches.specs.declared.breach.Breach.{Breach}
-use Rattle.edd_name_meanings.specs.Meanings.{Means, NoFault}
-use Rattle.edd_name_meanings.specs.Copies.{Meant, Tells}
+use Rattle.edd_name_meanings.specs.Copies.{Tells}
 use Rattle.edd_name_rules.proofs.Repeating.{map_append}
-use Rattle.edd_name_meanings.proofs.UseLaws.{tells_none, tells_append, retold, none_left, none_right}
+use Rattle.edd_name_meanings.proofs.UseLaws.{tells_none, tells_append, retold}
 use Rattle.edd_syntax.specs.declared.reference.Path as code
 use Rattle.edd_syntax.specs.Reference.{Path}
 use Rattle.edd_syntax.specs.Item.{Description}
@@ -28,21 +27,17 @@ module _ {S X Y Z W C : Type 0} (unit : Description Path) (view : X → Y) (show
     pub told : (new : List Breach)
         → Tells unit (uses s (map view (drop i xs))) (paths (drop i xs)) mid new
         → Tells unit (uses start (map view xs)) (paths xs) old new
-    pub fine : NoFault unit (uses start (map view xs))
-        → NoFault unit (uses s (map view (drop i xs)))
-    pub meant : NoFault unit (uses start (map view xs)) → (ws : List W)
-        → Means unit (resolved s (map view (drop i xs))) (join ws)
-        → Means unit (resolved start (map view xs)) (join (map shown zs ++ ws))
+    pub meant : (ws : List W) → resolved s (map view (drop i xs)) ≡ Some (join ws)
+        → resolved start (map view xs) ≡ Some (join (map shown zs ++ ws))
 
   pub at_start : (s : S) (xs : List X) (zs : List Z) (mid : List Breach) → s ≡ start → zs ≡ []
       → mid ≡ old → Copied s 0 xs zs mid
   at_start s xs zs mid same is before = record {
     told = λ new h. subst (λ m. Tells unit (uses start (map view xs)) (paths xs) m new) before
         (subst (λ t. Tells unit (uses t (map view xs)) (paths xs) mid new) same h);
-    fine = λ h. subst (λ t. NoFault unit (uses t (map view xs))) (sym same) h;
-    meant = λ none ws h.
-        subst (λ ys. Means unit (resolved start (map view xs)) (join (map shown ys ++ ws))) (sym is)
-        (subst (λ t. Means unit (resolved t (map view xs)) (join ws)) same h);
+    meant = λ ws h.
+        subst (λ ys. resolved start (map view xs) ≡ Some (join (map shown ys ++ ws))) (sym is)
+        (subst (λ t. resolved t (map view xs) ≡ Some (join ws)) same h);
   }
 
   next_uses : (s : S) (i : ℕ) (xs : List X) (x : X) → i < length xs → x ≡ get_or xs i x
@@ -59,39 +54,31 @@ module _ {S X Y Z W C : Type 0} (unit : Description Path) (view : X → Y) (show
       ∙ ap (λ y. at y ++ paths (drop (i + 1) xs)) (sym is)
 
   next_meant : (s : S) (i : ℕ) (xs : List X) (x : X) (w : W) (ws : List W) → i < length xs
-      → x ≡ get_or xs i x → Means unit (one s (view x)) w
-      → Means unit (resolved (next s (view x)) (map view (drop (i + 1) xs))) (join ws)
-      → Means unit (resolved s (map view (drop i xs))) (join (w ∷ ws))
-  unfolding Means
-  next_meant s i xs x w ws h is m ms = λ known.
+      → x ≡ get_or xs i x → one s (view x) ≡ Some w
+      → resolved (next s (view x)) (map view (drop (i + 1) xs)) ≡ Some (join ws)
+      → resolved s (map view (drop i xs)) ≡ Some (join (w ∷ ws))
+  next_meant s i xs x w ws h is m ms =
       at_drop_more (λ ys. resolved s (map view ys)) xs i x h
       ∙ ap (λ y. resolved s (view y ∷ map view (drop (i + 1) xs))) (sym is)
-      ∙ joined s (view x) (map view (drop (i + 1) xs)) w ws (m known) (ms known)
+      ∙ joined s (view x) (map view (drop (i + 1) xs)) w ws m ms
 
   pub one_more : (s t : S) (i : ℕ) (xs : List X) (x : X) (zs ys : List Z) (z : Z)
       (mid after : List Breach) → i < length xs → x ≡ get_or xs i x → t ≡ next s (view x)
       → Tells unit (here s (view x)) (at x) mid after
-      → Meant unit (here s (view x)) (one s (view x)) (shown z) → ys ≡ zs ++ z ∷ []
+      → one s (view x) ≡ Some (shown z) → ys ≡ zs ++ z ∷ []
       → Copied s i xs zs mid → Copied t (i + 1) xs ys after
-  unfolding Meant
   one_more s t i xs x zs ys z mid after h is follows tells m grown c = record {
     told = λ new k. c.told new (retold unit _ _ _ _ mid new (sym (next_uses s i xs x h is))
         (sym (next_paths i xs x h is))
         (tells_append unit (here s (view x)) _ (at x) _ mid after new tells
         (subst (λ u. Tells unit (uses u (map view (drop (i + 1) xs))) (paths (drop (i + 1) xs))
         after new) follows k)));
-    fine = λ none. subst (λ u. NoFault unit (uses u (map view (drop (i + 1) xs)))) (sym follows)
-        (none_right unit (here s (view x)) _
-        (subst (NoFault unit) (next_uses s i xs x h is) (c.fine none)));
-    meant = λ none ws k.
-        let fine = none_left unit (here s (view x)) _
-        (subst (NoFault unit) (next_uses s i xs x h is) (c.fine none)) in
-        subst (λ vs. Means unit (resolved start (map view xs)) (join vs))
+    meant = λ ws k.
+        subst (λ vs. resolved start (map view xs) ≡ Some (join vs))
         (sym (ap (λ vs. vs ++ ws) (ap (map shown) grown ∙ map_append shown zs (z ∷ []))
         ∙ append_assoc (map shown zs) (shown z ∷ []) ws))
-        (c.meant none (shown z ∷ ws) (next_meant s i xs x (shown z) ws h is (m fine)
-        (subst (λ u. Means unit (resolved u (map view (drop (i + 1) xs))) (join ws)) follows
-        k)));
+        (c.meant (shown z ∷ ws) (next_meant s i xs x (shown z) ws h is m
+        (subst (λ u. resolved u (map view (drop (i + 1) xs)) ≡ Some (join ws)) follows k)));
   }
 
   pub told_at_end : ((s : S) → uses s [] ≡ []) → paths [] ≡ [] → (s : S) (i : ℕ) (xs : List X)
@@ -101,15 +88,9 @@ module _ {S X Y Z W C : Type 0} (unit : Description Path) (view : X → Y) (show
       (retold unit [] _ [] _ mid mid (sym (ap (λ ys. uses s (map view ys)) over ∙ empty s))
       (sym (ap paths over ∙ no_paths)) (tells_none unit mid))
 
-  means_empty : {A : Type 0} (o : Option A) (x : A) → o ≡ Some x → Means unit o x
-  unfolding Means
-  means_empty o x e = λ known. e
-
   pub meant_at_end : ((s : S) → resolved s [] ≡ Some (join []))
       → (s : S) (i : ℕ) (xs : List X) (zs : List Z) (mid : List Breach) → drop i xs ≡ []
-      → Copied s i xs zs mid
-      → Meant unit (uses start (map view xs)) (resolved start (map view xs)) (join (map shown zs))
-  unfolding Meant
-  meant_at_end empty s i xs zs mid over c = λ none.
-      subst (λ ws. Means unit (resolved start (map view xs)) (join ws)) (append-nil (map shown zs))
-      (c.meant none [] (means_empty _ _ (ap (λ ys. resolved s (map view ys)) over ∙ empty s)))
+      → Copied s i xs zs mid → resolved start (map view xs) ≡ Some (join (map shown zs))
+  meant_at_end empty s i xs zs mid over c =
+      subst (λ ws. resolved start (map view xs) ≡ Some (join ws)) (append-nil (map shown zs))
+      (c.meant [] (ap (λ ys. resolved s (map view ys)) over ∙ empty s))

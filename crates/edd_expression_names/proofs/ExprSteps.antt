@@ -1,13 +1,12 @@
 -- Calls and their arguments with the meaning of their names.
-use Rattle.std.proofs.Common.{◌≡◌, refl, sym, ap, ◌∙◌, ℕ, zero, suc, ◌+◌, ◌*◌, ◌<◌, ◌≤◌, List, [], ◌∷◌, ◌++◌, length, get_or, map, Option, Some, None, arith, subst}
+use Rattle.std.proofs.Common.{◌≡◌, refl, sym, ap, ◌∙◌, ℕ, zero, suc, ◌+◌, ◌*◌, ◌<◌, ◌≤◌, List, [], ◌∷◌, ◌++◌, length, get_or, map, Option, Some, None, arith}
 use Rattle.std.specs.Prelude.{Vec}
 use Rattle.std.specs.declared.alloc.Global as alloc
 use Rattle.std.proofs.lemmas.List.{append-nil}
 use Rattle.edd_breaches.specs.declared.breach.Breach.{Breach}
-use Rattle.edd_name_meanings.specs.Meanings.{Means, NoFault}
-use Rattle.edd_name_meanings.specs.Copies.{Meant, Tells}
+use Rattle.edd_name_meanings.specs.Copies.{Tells}
 use Rattle.edd_name_meanings.specs.PathsIn.{paths_in_arguments, paths_in_expr}
-use Rattle.edd_name_meanings.proofs.UseLaws.{none_head, none_tail, retold}
+use Rattle.edd_name_meanings.proofs.UseLaws.{retold}
 use Rattle.edd_expression_names.specs.ResolvedParts.{resolved_argument}
 use Rattle.edd_syntax.specs.declared.numbers.TokenNo.{TokenNo}
 use Rattle.edd_syntax.specs.declared.expr.Expr as code
@@ -21,7 +20,7 @@ use Rattle.edd_syntax.specs.Item.{Description}
 use Rattle.edd_syntax.specs.Expression.{Argument, Text, Value, Arguments, Cons, Call, arguments_from}
 use Rattle.edd_syntax.specs.NameUses.{OfFunction, uses_among, argument_uses}
 use Rattle.edd_syntax.specs.ReferenceOrder.{argument_references, expr_references}
-use Rattle.edd_syntax.specs.Resolution.{Scope, argument_kinds, function_meant}
+use Rattle.edd_syntax.specs.Resolution.{Scope, argument_kinds}
 use Rattle.edd_syntax.specs.ResolvedTrees.{◌>>=◌, Meanings, each, resolved_by, resolved_arguments}
 use Rattle.edd_syntax.specs.Size.{nodes, argument_nodes}
 use Rattle.edd_syntax.specs.TreeView.{path_of, expr_of, argument_of, numbered_argument, numbered_expr}
@@ -85,7 +84,8 @@ module _ (at : Meanings) (plain : Path → Option Target) where
   unfolding resolved_by
   no_arguments = refl
 
-module _ (unit : Description Path) (x : code.Expr code_path.Path) (token : TokenNo) (p : code_path.Path)
+module _ (unit : Description Path) (x : code.Expr code_path.Path) (token : TokenNo)
+    (p : code_path.Path)
     (v : Vec (code_argument.Argument code_path.Path) alloc.Global)
     (items : List (code_argument.Argument code_path.Path)) (is : x ≡ e.Call token p v)
     (same : items ≡ v.items) where
@@ -106,27 +106,19 @@ module _ (unit : Description Path) (x : code.Expr code_path.Path) (token : Token
       retold unit _ _ _ _ old new (ap (uses_among scope kinds) (sym call))
       (ap expr_references (sym (called (λ r. r)))) h
 
-  pub call_means : (scope : Scope) (kinds : List Kind) (at : Meanings)
-      (plain : Path → Option Target) (t : Target)
-      (w : Vec (code_argument.Argument Target) alloc.Global)
-      → Meant unit (OfFunction (path_of p) ∷ []) (function_meant (path_of p)) t
-      → Meant unit (argument_uses scope (argument_kinds (path_of p))
-      (arguments_from (map (argument_of path_of) items)))
-      (resolved_arguments at (at.argument (path_of p))
-      (arguments_from (map (argument_of path_of) items)))
-      (arguments_from (map numbered_argument w.items))
-      → Meant unit (uses_among scope kinds (expr_of path_of x))
-      (resolved_by at plain (expr_of path_of x)) (numbered_expr (e.Call token t w))
-  unfolding Means Meant resolved_by
-  call_means scope kinds at plain t w h k = λ none known.
-      let fine = subst (λ t. NoFault unit (uses_among scope kinds t)) call none in
+  pub call_means : (at : Meanings) (plain : Path → Option Target) (t : Target)
+      (w : Vec (code_argument.Argument Target) alloc.Global) → at.function (path_of p) ≡ Some t
+      → resolved_arguments at (at.argument (path_of p))
+      (arguments_from (map (argument_of path_of) items))
+      ≡ Some (arguments_from (map numbered_argument w.items))
+      → resolved_by at plain (expr_of path_of x) ≡ Some (numbered_expr (e.Call token t w))
+  unfolding resolved_by
+  call_means at plain t w h k =
       ap (resolved_by at plain) call
-      ∙ bound (function_meant (path_of p))
+      ∙ bound (at.function (path_of p))
       (resolved_arguments at (at.argument (path_of p))
       (arguments_from (map (argument_of path_of) items)))
-      (λ f r. Call f r) t (arguments_from (map numbered_argument w.items))
-      (h (none_head unit (OfFunction (path_of p)) _ fine) known)
-      (k (none_tail unit (OfFunction (path_of p)) _ fine) known)
+      (λ f r. Call f r) t (arguments_from (map numbered_argument w.items)) h k
       ∙ ap (λ y. Some y) (sym (call_is (λ r. r) (e.Call token t w) token t w refl))
 
 -- ---- what is inside an expression has fewer nodes than it

@@ -1,18 +1,20 @@
 //! Expressions with the meaning of their names.
 
 ghost use Rattle.std.specs.Prelude.{[], ◌∷◌, ◌++◌, map};
+ghost use Rattle.std.specs.List.{flat_map};
 ghost use Rattle.edd_syntax.specs.declared.expr.Argument.{Argument};
 ghost use Rattle.edd_syntax.specs.declared.reference.Target.{Target};
 ghost use Rattle.edd_syntax.specs.Expression.{arguments_from};
 ghost use Rattle.edd_syntax.specs.NameUses.{OfArray, OfFunction, OfItem, expr_uses, uses_among, argument_uses};
 ghost use Rattle.edd_syntax.specs.Resolution as resolution;
-ghost use Rattle.edd_syntax.specs.Resolution.{array_meant, function_meant, meaning, variable_kinds};
+ghost use Rattle.edd_syntax.specs.Resolution.{variable_kinds};
 ghost use Rattle.edd_syntax.specs.ResolvedTrees.{at_scope, resolved_expr, resolved_by, resolved_arguments};
 ghost use Rattle.edd_syntax.specs.TreeView.{path_of, expr_of, argument_of, numbered_argument, numbered_expr};
-ghost use Rattle.edd_name_meanings.specs.Directory.{description_of};
+ghost use Rattle.edd_name_meanings.specs.Directory.{description_of, read_by};
 ghost use Rattle.edd_expression_names.specs.ResolvedParts.{resolved_argument};
 ghost use Rattle.edd_name_meanings.specs.Meanings.{scope_of};
-ghost use Rattle.edd_name_meanings.specs.Copies.{Copies, Told};
+ghost use Rattle.edd_name_meanings.specs.Copies.{Copies, Keeps, Told};
+ghost use Rattle.edd_name_meanings.specs.TokensIn.{tokens_in_argument, tokens_in_expr};
 ghost use Rattle.edd_name_meanings.specs.PathsIn.{paths_in_arguments, paths_in_expr};
 
 use crate::texts::copy_text;
@@ -34,10 +36,8 @@ pub fn refer_variable<'a>(
     ensures told { Told (description_of names.now)
         (OfItem (scope_of scope.now) variable_kinds (path_of path.now) ∷ [])
         (path.now ∷ []) told.old.items told.new.items result }
-    ensures sound { Copies (description_of names.now)
-        (OfItem (scope_of scope.now) variable_kinds (path_of path.now) ∷ [])
-        (meaning (description_of names.now) (scope_of scope.now) variable_kinds (path_of path.now))
-        (λ t. t) result }
+    ensures sound { Copies ((read_by names.now).reference (scope_of scope.now) variable_kinds
+        (path_of path.now)) (λ t. t) result }
 {
     refer(names, scope, &[Kind::Variable], path, told)
 }
@@ -52,17 +52,16 @@ pub fn copy_expr<'a>(
     ensures told { Told (description_of names.now)
         (expr_uses (scope_of scope.now) (expr_of path_of e.now))
         (paths_in_expr e.now) told.old.items told.new.items result }
-    ensures sound { Copies (description_of names.now)
-        (expr_uses (scope_of scope.now) (expr_of path_of e.now))
-        (resolved_expr (at_scope (description_of names.now) (scope_of scope.now))
+    ensures sound { Copies (resolved_expr (at_scope (read_by names.now) (scope_of scope.now))
         (expr_of path_of e.now)) numbered_expr result }
+    ensures kept { Keeps (tokens_in_expr e.now) tokens_in_expr result }
 {
     copy_among(e, &[Kind::Variable], names, scope, told)
 }
 
 // An expression in whose place a plain reference names an item of these kinds.
 #[cycle(exprs)]
-#[tactic(auto, using(edd_name_meanings::proofs::UseLaws::uses), unfolding(edd_name_meanings::specs::Meanings::Means, edd_name_meanings::specs::Copies::Meant, edd_syntax::specs::ResolvedTrees::resolved_by))]
+#[tactic(auto, using(edd_name_meanings::proofs::UseLaws::uses), unfolding(edd_syntax::specs::ResolvedTrees::resolved_by))]
 fn copy_among<'a>(
     e: &'a Expr<Path>,
     kinds: &[Kind],
@@ -73,11 +72,10 @@ fn copy_among<'a>(
     ensures told { Told (description_of names.now)
         (uses_among (scope_of scope.now) kinds.now (expr_of path_of e.now))
         (paths_in_expr e.now) told.old.items told.new.items result }
-    ensures sound { Copies (description_of names.now)
-        (uses_among (scope_of scope.now) kinds.now (expr_of path_of e.now))
-        (resolved_by (at_scope (description_of names.now) (scope_of scope.now))
-        (meaning (description_of names.now) (scope_of scope.now) kinds.now)
-        (expr_of path_of e.now)) numbered_expr result }
+    ensures sound { Copies (resolved_by (at_scope (read_by names.now) (scope_of scope.now))
+        ((read_by names.now).reference (scope_of scope.now) kinds.now) (expr_of path_of e.now))
+        numbered_expr result }
+    ensures kept { Keeps (tokens_in_expr e.now) tokens_in_expr result }
 {
     match e {
         Expr::Literal(value) => Ok(Expr::Literal(*value)),
@@ -152,10 +150,9 @@ fn copy_boxed<'a>(
     ensures told { Told (description_of names.now)
         (expr_uses (scope_of scope.now) (expr_of path_of e.now))
         (paths_in_expr e.now) told.old.items told.new.items result }
-    ensures sound { Copies (description_of names.now)
-        (expr_uses (scope_of scope.now) (expr_of path_of e.now))
-        (resolved_expr (at_scope (description_of names.now) (scope_of scope.now))
+    ensures sound { Copies (resolved_expr (at_scope (read_by names.now) (scope_of scope.now))
         (expr_of path_of e.now)) (λ t. numbered_expr t.value) result }
+    ensures kept { Keeps (tokens_in_expr e.now) (λ t. tokens_in_expr t.value) result }
 {
     let copy = copy_among(e, &[Kind::Variable], names, scope, told)?;
     Ok(Box::new(names.alloc, copy)?)
@@ -173,15 +170,14 @@ fn copy_pair<'a>(
 ) -> Result<(Box<Expr<Target>>, Box<Expr<Target>>), AllocError>
     ensures told { Told (description_of names.now)
         (expr_uses (scope_of scope.now) (expr_of path_of left.now) ++ expr_uses (scope_of scope.now)
-        (expr_of path_of right.now)) (paths_in_expr left.now ++ paths_in_expr right.now) told.old.items told.new.items result }
-    ensures left { Copies (description_of names.now)
-        (expr_uses (scope_of scope.now) (expr_of path_of left.now))
-        (resolved_expr (at_scope (description_of names.now) (scope_of scope.now))
+        (expr_of path_of right.now)) (paths_in_expr left.now ++ paths_in_expr right.now)
+        told.old.items told.new.items result }
+    ensures left { Copies (resolved_expr (at_scope (read_by names.now) (scope_of scope.now))
         (expr_of path_of left.now)) (λ t. numbered_expr t.0.value) result }
-    ensures right { Copies (description_of names.now)
-        (expr_uses (scope_of scope.now) (expr_of path_of right.now))
-        (resolved_expr (at_scope (description_of names.now) (scope_of scope.now))
+    ensures right { Copies (resolved_expr (at_scope (read_by names.now) (scope_of scope.now))
         (expr_of path_of right.now)) (λ t. numbered_expr t.1.value) result }
+    ensures kept { Keeps (tokens_in_expr left.now ++ tokens_in_expr right.now)
+        (λ t. tokens_in_expr t.0.value ++ tokens_in_expr t.1.value) result }
 {
     let left = copy_boxed(left, names, scope, told)?;
     let right = copy_boxed(right, names, scope, told)?;
@@ -202,14 +198,11 @@ fn copy_assigned<'a>(
         (OfItem (scope_of scope.now) variable_kinds (path_of to.now)
         ∷ expr_uses (scope_of scope.now) (expr_of path_of value.now))
         (to.now ∷ paths_in_expr value.now) told.old.items told.new.items result }
-    ensures to { Copies (description_of names.now)
-        (OfItem (scope_of scope.now) variable_kinds (path_of to.now) ∷ [])
-        (meaning (description_of names.now) (scope_of scope.now) variable_kinds (path_of to.now))
-        (λ t. t.0) result }
-    ensures value { Copies (description_of names.now)
-        (expr_uses (scope_of scope.now) (expr_of path_of value.now))
-        (resolved_expr (at_scope (description_of names.now) (scope_of scope.now))
+    ensures to { Copies ((read_by names.now).reference (scope_of scope.now) variable_kinds
+        (path_of to.now)) (λ t. t.0) result }
+    ensures value { Copies (resolved_expr (at_scope (read_by names.now) (scope_of scope.now))
         (expr_of path_of value.now)) (λ t. numbered_expr t.1.value) result }
+    ensures kept { Keeps (tokens_in_expr value.now) (λ t. tokens_in_expr t.1.value) result }
 {
     let to = refer_variable(names, scope, to, told)?;
     let value = copy_boxed(value, names, scope, told)?;
@@ -230,14 +223,11 @@ fn copy_indexed<'a>(
         (OfArray (scope_of scope.now) (path_of array.now)
         ∷ expr_uses (scope_of scope.now) (expr_of path_of index.now))
         (array.now ∷ paths_in_expr index.now) told.old.items told.new.items result }
-    ensures array { Copies (description_of names.now)
-        (OfArray (scope_of scope.now) (path_of array.now) ∷ [])
-        (array_meant (description_of names.now) (scope_of scope.now) (path_of array.now))
+    ensures array { Copies ((read_by names.now).array (scope_of scope.now) (path_of array.now))
         (λ t. t.0) result }
-    ensures index { Copies (description_of names.now)
-        (expr_uses (scope_of scope.now) (expr_of path_of index.now))
-        (resolved_expr (at_scope (description_of names.now) (scope_of scope.now))
+    ensures index { Copies (resolved_expr (at_scope (read_by names.now) (scope_of scope.now))
         (expr_of path_of index.now)) (λ t. numbered_expr t.1.value) result }
+    ensures kept { Keeps (tokens_in_expr index.now) (λ t. tokens_in_expr t.1.value) result }
 {
     let array = refer_array(names, scope, array, told)?;
     let index = copy_boxed(index, names, scope, told)?;
@@ -258,15 +248,16 @@ fn copy_call<'a>(
         ∷ argument_uses (scope_of scope.now) (resolution.argument_kinds (path_of function.now))
         (arguments_from (map (argument_of path_of) arguments.now)))
         (function.now ∷ paths_in_arguments arguments.now) told.old.items told.new.items result }
-    ensures function { Copies (description_of names.now) (OfFunction (path_of function.now) ∷ [])
-        (function_meant (path_of function.now)) (λ t. t.0) result }
-    ensures arguments { Copies (description_of names.now) (argument_uses (scope_of scope.now) (resolution.argument_kinds (path_of function.now))
-        (arguments_from (map (argument_of path_of) arguments.now)))
-        (resolved_arguments (at_scope (description_of names.now) (scope_of scope.now))
-        (meaning (description_of names.now) (scope_of scope.now)
+    ensures function { Copies ((read_by names.now).function (path_of function.now)) (λ t. t.0)
+        result }
+    ensures arguments { Copies (resolved_arguments
+        (at_scope (read_by names.now) (scope_of scope.now))
+        ((read_by names.now).reference (scope_of scope.now)
         (resolution.argument_kinds (path_of function.now)))
         (arguments_from (map (argument_of path_of) arguments.now)))
         (λ t. arguments_from (map numbered_argument t.1.items)) result }
+    ensures kept { Keeps (flat_map tokens_in_argument arguments.now)
+        (λ t. flat_map tokens_in_argument t.1.items) result }
 {
     let kinds = argument_kinds(function);
     let function = refer_function(names, function, told)?;
@@ -286,13 +277,12 @@ fn copy_arguments<'a>(
         (argument_uses (scope_of scope.now) kinds.now
         (arguments_from (map (argument_of path_of) arguments.now)))
         (paths_in_arguments arguments.now) told.old.items told.new.items result }
-    ensures sound { Copies (description_of names.now)
-        (argument_uses (scope_of scope.now) kinds.now
-        (arguments_from (map (argument_of path_of) arguments.now)))
-        (resolved_arguments (at_scope (description_of names.now) (scope_of scope.now))
-        (meaning (description_of names.now) (scope_of scope.now) kinds.now)
+    ensures sound { Copies (resolved_arguments (at_scope (read_by names.now) (scope_of scope.now))
+        ((read_by names.now).reference (scope_of scope.now) kinds.now)
         (arguments_from (map (argument_of path_of) arguments.now)))
         (λ all. arguments_from (map numbered_argument all.items)) result }
+    ensures kept { Keeps (flat_map tokens_in_argument arguments.now)
+        (λ all. flat_map tokens_in_argument all.items) result }
 {
     let mut all = Vec::with_capacity(names.alloc, arguments.len())?;
     for argument in arguments {
@@ -302,7 +292,7 @@ fn copy_arguments<'a>(
 }
 
 #[cycle(exprs)]
-#[tactic(auto, using(edd_name_meanings::proofs::UseLaws::uses), unfolding(edd_name_meanings::specs::Meanings::Means, edd_name_meanings::specs::Copies::Meant))]
+#[tactic(auto, using(edd_name_meanings::proofs::UseLaws::uses))]
 fn copy_argument<'a>(
     argument: &'a Argument<Path>,
     kinds: &[Kind],
@@ -314,12 +304,10 @@ fn copy_argument<'a>(
         (argument_uses (scope_of scope.now) kinds.now
         (arguments_from (argument_of path_of argument.now ∷ [])))
         (paths_in_arguments (argument.now ∷ [])) told.old.items told.new.items result }
-    ensures sound { Copies (description_of names.now)
-        (argument_uses (scope_of scope.now) kinds.now
-        (arguments_from (argument_of path_of argument.now ∷ [])))
-        (resolved_argument (at_scope (description_of names.now) (scope_of scope.now))
-        (meaning (description_of names.now) (scope_of scope.now) kinds.now)
+    ensures sound { Copies (resolved_argument (at_scope (read_by names.now) (scope_of scope.now))
+        ((read_by names.now).reference (scope_of scope.now) kinds.now)
         (argument_of path_of argument.now)) numbered_argument result }
+    ensures kept { Keeps (tokens_in_argument argument.now) tokens_in_argument result }
 {
     match argument {
         Argument::Text(text) => Ok(Argument::Text(copy_text(text, names.alloc)?)),

@@ -1,6 +1,7 @@
 //! What is under conditions, with the meaning of its names.
 
 ghost use Rattle.std.specs.Prelude.{Bool};
+ghost use Rattle.edd_name_meanings.specs.TokensIn.{no_tokens, token_of_data, token_of_enumerator, tokens_in_expr};
 ghost use Rattle.edd_syntax.specs.declared.reference.Path as path;
 ghost use Rattle.edd_syntax.specs.declared.reference.Target.{Target};
 ghost use Rattle.edd_syntax.specs.declared.types.Handling as handling;
@@ -46,11 +47,15 @@ impl ResolveValue for Text {
 
     ghost paths = { no_references };
 
+    ghost tokens = { no_tokens };
+
+    ghost copied_tokens = { no_tokens };
+
     ghost uses = { no_uses };
 
-    ghost meant = { λ unit. unchanged };
+    ghost meant = { λ names. unchanged };
 
-    #[tactic(auto, using(edd_name_meanings::proofs::UseLaws::uses), unfolding(edd_name_meanings::specs::Meanings::Means, edd_name_meanings::specs::Copies::Meant))]
+    #[tactic(auto, using(edd_name_meanings::proofs::UseLaws::uses))]
     fn copy<'a>(&'a self, names: &Names, told: &mut Vec<Breach<'a>>) -> Result<Text, AllocError> {
         copy_text(self, names.alloc)
     }
@@ -73,11 +78,15 @@ impl ResolveValue for Handling {
 
     ghost paths = { no_references };
 
+    ghost tokens = { no_tokens };
+
+    ghost copied_tokens = { no_tokens };
+
     ghost uses = { no_uses };
 
-    ghost meant = { λ unit. unchanged };
+    ghost meant = { λ names. unchanged };
 
-    #[tactic(auto, using(edd_name_meanings::proofs::UseLaws::uses), unfolding(edd_name_meanings::specs::Meanings::Means, edd_name_meanings::specs::Copies::Meant))]
+    #[tactic(auto, using(edd_name_meanings::proofs::UseLaws::uses))]
     fn copy<'a>(
         &'a self,
         names: &Names,
@@ -104,11 +113,15 @@ impl ResolveValue for bool {
 
     ghost paths = { no_references };
 
+    ghost tokens = { no_tokens };
+
+    ghost copied_tokens = { no_tokens };
+
     ghost uses = { no_uses };
 
-    ghost meant = { λ unit. unchanged };
+    ghost meant = { λ names. unchanged };
 
-    #[tactic(auto, using(edd_name_meanings::proofs::UseLaws::uses), unfolding(edd_name_meanings::specs::Meanings::Means, edd_name_meanings::specs::Copies::Meant))]
+    #[tactic(auto, using(edd_name_meanings::proofs::UseLaws::uses))]
     fn copy<'a>(&'a self, names: &Names, told: &mut Vec<Breach<'a>>) -> Result<bool, AllocError> {
         Ok(*self)
     }
@@ -131,11 +144,15 @@ impl ResolveValue for Enumerator {
 
     ghost paths = { no_references };
 
+    ghost tokens = { token_of_enumerator };
+
+    ghost copied_tokens = { token_of_enumerator };
+
     ghost uses = { no_uses };
 
-    ghost meant = { λ unit. unchanged };
+    ghost meant = { λ names. unchanged };
 
-    #[tactic(auto, using(edd_name_meanings::proofs::UseLaws::uses), unfolding(edd_name_meanings::specs::Meanings::Means, edd_name_meanings::specs::Copies::Meant))]
+    #[tactic(auto, using(edd_name_meanings::proofs::UseLaws::uses))]
     fn copy<'a>(
         &'a self,
         names: &Names,
@@ -169,11 +186,15 @@ impl ResolveValue for Expr<Path> {
 
     ghost paths = { expr_references };
 
+    ghost tokens = { tokens_in_expr };
+
+    ghost copied_tokens = { tokens_in_expr };
+
     ghost uses = { attribute_expr_uses };
 
-    ghost meant = { λ unit. resolved_expr (at_attribute unit) };
+    ghost meant = { λ names. resolved_expr (at_attribute names) };
 
-    #[tactic(auto, using(edd_name_meanings::proofs::UseLaws::uses), unfolding(edd_name_meanings::specs::Meanings::Means, edd_name_meanings::specs::Copies::Meant))]
+    #[tactic(auto, using(edd_name_meanings::proofs::UseLaws::uses))]
     fn copy<'a>(
         &'a self,
         names: &Names,
@@ -200,11 +221,15 @@ impl ResolveValue for MenuEntry<Path> {
 
     ghost paths = { entry_references };
 
+    ghost tokens = { no_tokens };
+
+    ghost copied_tokens = { no_tokens };
+
     ghost uses = { entry_uses };
 
     ghost meant = { resolved_entry };
 
-    #[tactic(auto, using(edd_name_meanings::proofs::UseLaws::uses), unfolding(edd_name_meanings::specs::Meanings::Means, edd_name_meanings::specs::Copies::Meant))]
+    #[tactic(auto, using(edd_name_meanings::proofs::UseLaws::uses))]
     fn copy<'a>(
         &'a self,
         names: &Names,
@@ -241,11 +266,15 @@ impl ResolveValue for DataItem<Path> {
 
     ghost paths = { data_references };
 
+    ghost tokens = { token_of_data };
+
+    ghost copied_tokens = { token_of_data };
+
     ghost uses = { data_uses };
 
     ghost meant = { resolved_data };
 
-    #[tactic(auto, using(edd_name_meanings::proofs::UseLaws::uses), unfolding(edd_name_meanings::specs::Meanings::Means, edd_name_meanings::specs::Copies::Meant))]
+    #[tactic(auto, using(edd_name_meanings::proofs::UseLaws::uses))]
     fn copy<'a>(
         &'a self,
         names: &Names,

@@ -13,7 +13,7 @@ use Rattle.edd_syntax.specs.NameRules.{item_limit, transaction_limit, local_limi
 use Rattle.edd_syntax.specs.Refusal.{Refusal, TooMany, refused_if}
 use Rattle.edd_syntax.specs.Resolution.{count_of, kinds}
 use Rattle.edd_syntax.specs.Resolved.{IsResolved}
-use Rattle.edd_syntax.specs.ResolvedTrees.{resolved_body}
+use Rattle.edd_syntax.specs.ResolvedTrees.{resolved_body, meant_in, Reading}
 use Rattle.edd_syntax.specs.Size.{unit_nodes}
 use Rattle.edd_syntax.specs.declared.limits.Limit.TheVariants as limit
 use Rattle.edd_syntax.specs.Statement.{Body, Nil, slots_in}
@@ -88,10 +88,10 @@ all_few (i ∷ rest) h =
     within n h = grind (arith, nat_tests, h)
 
 -- the declarators of a body that means something have its slots
-slots_kept : (unit : Description Path) (b : Body Path) (b' : Body Target) → HasFew b
-    → resolved_body unit b [] 0 ≡ Some b' → KeepsSlots b'
-slots_kept unit b b' few h =
-    let i = body_in unit b [] 0 b' h in
+slots_kept : (names : Reading) (b : Body Path) (b' : Body Target) → HasFew b
+    → resolved_body names b [] 0 ≡ Some b' → KeepsSlots b'
+slots_kept names b b' few h =
+    let i = body_in names b [] 0 b' h in
     (omega (arith, few, i.0), each_slot (0 + slots_in b) (slots_in b') (omega (arith, i.0)) b' i.1)
 
 pub not_refused : (b : Bool) (why : Refusal) → refused_if b why ≡ [] → b ≡ false
@@ -122,5 +122,6 @@ body_keeps d is m =
     (list_any (λ i. nat_lt local_limit (locals_of i)) items)
     (nat_lt node_limit (unit_nodes is.unit)) (TooMany limit.Items) (TooMany limit.Transactions)
     (TooMany limit.Locals) (TooMany limit.Nodes) counts.0 in
-    of_method KeepsSlots nothing_keeps d m (unit_made is.unit HasFew KeepsSlots (slots_kept is.unit)
+    of_method KeepsSlots nothing_keeps d m
+    (unit_made is.unit HasFew KeepsSlots (slots_kept (meant_in is.unit))
     d (all_few items few) is.meanings)

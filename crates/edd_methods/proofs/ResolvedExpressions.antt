@@ -14,7 +14,7 @@ use Rattle.edd_syntax.specs.declared.reference.Target.TheVariants.{Local, Item}
 use Rattle.edd_syntax.specs.Expression.{Expr, Literal, Decimal, Reference, Indexed, Parentheses, Unary, Binary, Compare, LogicalAnd, LogicalOr, Conditional, Assign, CompoundAssign, Increment, Call, Text, Value, Arguments, Nil, Cons}
 use Rattle.edd_syntax.specs.Item.{Description}
 use Rattle.edd_syntax.specs.Reference.{Path}
-use Rattle.edd_syntax.specs.Resolution.{Scope, array_kinds, array_meant, count_of, function_meant, item_meant, local_meant, look_up, meaning}
+use Rattle.edd_syntax.specs.Resolution.{Scope, array_kinds, array_meant, count_of, item_meant, local_meant, look_up, meaning}
 use Rattle.edd_syntax.specs.ResolvedTrees.{Meanings, resolved_by, resolved_expr, resolved_arguments}
 use Rattle.edd_syntax.specs.WellFormed.{is_path, is_plain, is_expr, are_arguments}
 use Rattle.edd_instructions.specs.declared.unit.Context.{Context}
@@ -117,7 +117,7 @@ module _ (at : Meanings) (good : Target → Bool) (meant : (p : Path) (t : Targe
         (same_Some _ e' a.2) (meant to a.0 a.1)
     good_by plain means (Call name arguments) e' is h =
         let are = and_parts _ _ is in
-        let a = bound (function_meant name) _ e' h in
+        let a = bound (at.function name) _ e' h in
         let b = bound (resolved_arguments at (at.argument name) arguments) _ e' a.2 in
         subst Good (same_Some _ e' b.2)
         (arguments_good (at.argument name) (meant_argument name) arguments b.0 are.1 b.1)

@@ -14,9 +14,9 @@ use Rattle.edd_syntax.specs.Expression.{Expr, Literal, Decimal, Reference, Index
 use Rattle.edd_syntax.specs.Item as item
 use Rattle.edd_syntax.specs.Item.{kind_of_item, Attribute, Item, Description}
 use Rattle.edd_syntax.specs.Reference.{Path}
-use Rattle.edd_syntax.specs.Resolution.{Scope, function_meant, declared, all_declared}
+use Rattle.edd_syntax.specs.Resolution.{Scope, declared, all_declared}
 use Rattle.edd_syntax.specs.Resolved.{IsResolved}
-use Rattle.edd_syntax.specs.ResolvedTrees.{Meanings, at_scope, resolved_by, resolved_expr, resolved_arguments, resolved_optional, resolved_declarators, resolved_stmt, resolved_body}
+use Rattle.edd_syntax.specs.ResolvedTrees.{Meanings, at_scope, resolved_by, resolved_expr, resolved_arguments, resolved_optional, resolved_declarators, resolved_stmt, resolved_body, meant_in, Reading}
 use Rattle.edd_syntax.specs.Size.{height, argument_height, optional_height, declarator_height, statement_height, body_height, attribute_height, height_limit}
 use Rattle.edd_syntax.specs.Statement.{Declarator, Stmt, Empty, Evaluate, Block, If, IfElse, While, Do, For, Switch, Break, Continue, Return, Body, Nil, Cons, Declare, Statement, CaseLabel, DefaultLabel, slots_of}
 use Rattle.edd_syntax.specs.SubsetRules.{Placed, part_of, optional_part, stmt_expressions, body_expressions}
@@ -101,7 +101,7 @@ module _ (at : Meanings) where
     low_by plain (Increment op to) e' h = let a = bound (at.reference to) _ e' h in subst (Low 1)
         (same_Some _ e' a.2) (omega arith)
     low_by plain (Call name arguments) e' h =
-        let a = bound (function_meant name) _ e' h in
+        let a = bound (at.function name) _ e' h in
         let b = bound (resolved_arguments at (at.argument name) arguments) _ e' a.2 in
         subst (Low (1 + argument_height arguments)) (same_Some _ e' b.2)
         (omega (arith, arguments_low (at.argument name) arguments b.0 b.1))
@@ -133,23 +133,23 @@ module _ (at : Meanings) where
       subst (λ (o : Option (Expr Target)). optional_height o ≤ height e) (same_Some _ e' a.2)
       (expr_low e a.0 a.1)
 
-module _ (unit : Description Path) where
+module _ (names : Reading) where
   abbrev DeclaredLow : ℕ → List (Declarator Target) → Type 0
   DeclaredLow n ds = declarator_height ds ≤ n
 
   declarators_low : (ds : List (Declarator Path)) (scope : Scope) (next : ℕ)
-      (ds' : List (Declarator Target)) → resolved_declarators unit scope next ds ≡ Some ds'
+      (ds' : List (Declarator Target)) → resolved_declarators names scope next ds ≡ Some ds'
       → DeclaredLow (declarator_height ds) ds'
   declarators_low [] scope next ds' h = subst (DeclaredLow 0) (same_Some [] ds' h) (omega arith)
   declarators_low (d ∷ rest) scope next ds' h =
-      let a = bound (resolved_optional (at_scope unit scope) d.value) _ ds' h in
-      let b = bound (resolved_declarators unit (declared d.place next scope) (next + 1) rest) _ ds'
+      let a = bound (resolved_optional (at_scope names scope) d.value) _ ds' h in
+      let b = bound (resolved_declarators names (declared d.place next scope) (next + 1) rest) _ ds'
       a.2 in
       subst (DeclaredLow (max (1 + optional_height d.value) (declarator_height rest)))
       (same_Some _ ds' b.2)
       (omega (
         arith,
-        optional_low (at_scope unit scope) d.value a.0 a.1,
+        optional_low (at_scope names scope) d.value a.0 a.1,
         declarators_low rest (declared d.place next scope) (next + 1) b.0 b.1,
       ))
 
@@ -163,89 +163,95 @@ module _ (unit : Description Path) where
     unfolding resolved_stmt
 
     statement_low : (x : Stmt Path) (scope : Scope) (next : ℕ) (x' : Stmt Target)
-        → resolved_stmt unit x scope next ≡ Some x' → StatementLow (statement_height x) x'
+        → resolved_stmt names x scope next ≡ Some x' → StatementLow (statement_height x) x'
     statement_low Empty scope next x' h = subst (StatementLow 1) (same_Some _ x' h) (omega arith)
     statement_low (Evaluate e) scope next x' h =
-        let a = bound (resolved_expr (at_scope unit scope) e) _ x' h in
+        let a = bound (resolved_expr (at_scope names scope) e) _ x' h in
         subst (StatementLow (1 + height e)) (same_Some _ x' a.2)
-        (omega (arith, expr_low (at_scope unit scope) e a.0 a.1))
+        (omega (arith, expr_low (at_scope names scope) e a.0 a.1))
     statement_low (Block body) scope next x' h =
-        let a = bound (resolved_body unit body scope next) _ x' h in
+        let a = bound (resolved_body names body scope next) _ x' h in
         subst (StatementLow (1 + body_height body)) (same_Some _ x' a.2)
         (omega (arith, body_low body scope next a.0 a.1))
     statement_low (If condition first) scope next x' h =
-        let a = bound (resolved_expr (at_scope unit scope) condition) _ x' h in
-        let b = bound (resolved_stmt unit first scope next) _ x' a.2 in
+        let a = bound (resolved_expr (at_scope names scope) condition) _ x' h in
+        let b = bound (resolved_stmt names first scope next) _ x' a.2 in
         subst (StatementLow (1 + max (height condition) (statement_height first)))
         (same_Some _ x' b.2)
         (omega (
           arith,
-          expr_low (at_scope unit scope) condition a.0 a.1,
+          expr_low (at_scope names scope) condition a.0 a.1,
           statement_low first scope next b.0 b.1,
         ))
     statement_low (IfElse condition first otherwise) scope next x' h =
-        let a = bound (resolved_expr (at_scope unit scope) condition) _ x' h in
-        let b = bound (resolved_stmt unit first scope next) _ x' a.2 in
-        let c = bound (resolved_stmt unit otherwise scope (next + slots_of first)) _ x' b.2 in
+        let a = bound (resolved_expr (at_scope names scope) condition) _ x' h in
+        let b = bound (resolved_stmt names first scope next) _ x' a.2 in
+        let c = bound (resolved_stmt names otherwise scope (next + slots_of first)) _ x' b.2 in
         subst (StatementLow (1 + max (height condition)
         (max (statement_height first) (statement_height otherwise)))) (same_Some _ x' c.2)
         (omega (
           arith,
-          expr_low (at_scope unit scope) condition a.0 a.1,
+          expr_low (at_scope names scope) condition a.0 a.1,
           statement_low first scope next b.0 b.1,
           statement_low otherwise scope
               (next + slots_of first) c.0 c.1,
         ))
     statement_low (While condition body) scope next x' h =
-        let a = bound (resolved_expr (at_scope unit scope) condition) _ x' h in
-        let b = bound (resolved_stmt unit body scope next) _ x' a.2 in
+        let a = bound (resolved_expr (at_scope names scope) condition) _ x' h in
+        let b = bound (resolved_stmt names body scope next) _ x' a.2 in
         subst (StatementLow (1 + max (height condition) (statement_height body)))
         (same_Some _ x' b.2)
         (omega (
           arith,
-          expr_low (at_scope unit scope) condition a.0 a.1,
+          expr_low (at_scope names scope) condition a.0 a.1,
           statement_low body scope next b.0 b.1,
         ))
     statement_low (Do body condition) scope next x' h =
-        let a = bound (resolved_stmt unit body scope next) _ x' h in
-        let b = bound (resolved_expr (at_scope unit scope) condition) _ x' a.2 in
+        let a = bound (resolved_stmt names body scope next) _ x' h in
+        let b = bound (resolved_expr (at_scope names scope) condition) _ x' a.2 in
         subst (StatementLow (1 + max (statement_height body) (height condition)))
         (same_Some _ x' b.2)
         (omega (
           arith,
           statement_low body scope next a.0 a.1,
-          expr_low (at_scope unit scope)
+          expr_low (at_scope names scope)
               condition b.0 b.1,
         ))
     statement_low (For first condition update body) scope next x' h =
-        let a = bound (resolved_optional (at_scope unit scope) first) _ x' h in
-        let b = bound (resolved_optional (at_scope unit scope) condition) _ x' a.2 in
-        let c = bound (resolved_optional (at_scope unit scope) update) _ x' b.2 in
-        let d = bound (resolved_stmt unit body scope next) _ x' c.2 in
+        let a = bound (resolved_optional (at_scope names scope) first) _ x' h in
+        let b = bound (resolved_optional (at_scope names scope) condition) _ x' a.2 in
+        let c = bound (resolved_optional (at_scope names scope) update) _ x' b.2 in
+        let d = bound (resolved_stmt names body scope next) _ x' c.2 in
         subst (StatementLow (1 + max (max (optional_height first) (optional_height condition))
         (max (optional_height update) (statement_height body)))) (same_Some _ x' d.2)
         (omega (
           arith,
-          optional_low (at_scope unit scope) first a.0 a.1,
-          optional_low (at_scope unit scope) condition b.0 b.1,
-          optional_low (at_scope unit scope) update c.0 c.1,
+          optional_low (at_scope names scope) first a.0 a.1,
+          optional_low (at_scope names scope) condition b.0 b.1,
+          optional_low (at_scope names scope) update c.0 c.1,
           statement_low body scope next d.0 d.1,
         ))
     statement_low (Switch on body) scope next x' h =
-        let a = bound (resolved_expr (at_scope unit scope) on) _ x' h in
-        let b = bound (resolved_body unit body scope next) _ x' a.2 in
+        let a = bound (resolved_expr (at_scope names scope) on) _ x' h in
+        let b = bound (resolved_body names body scope next) _ x' a.2 in
         subst (StatementLow (1 + max (height on) (body_height body))) (same_Some _ x' b.2)
-        (omega (arith, expr_low (at_scope unit scope) on a.0 a.1, body_low body scope next b.0 b.1))
+        (omega (
+          arith,
+          expr_low (at_scope names scope) on a.0 a.1,
+          body_low body scope next b.0
+              b.1,
+        ))
     statement_low Break scope next x' h = subst (StatementLow 1) (same_Some _ x' h) (omega arith)
     statement_low Continue scope next x' h = subst (StatementLow 1) (same_Some _ x' h) (omega arith)
     statement_low Return scope next x' h = subst (StatementLow 1) (same_Some _ x' h) (omega arith)
 
     body_low : (b : Body Path) (scope : Scope) (next : ℕ) (b' : Body Target)
-        → resolved_body unit b scope next ≡ Some b' → BodyLow (body_height b) b'
+        → resolved_body names b scope next ≡ Some b' → BodyLow (body_height b) b'
     body_low Nil scope next b' h = subst (BodyLow 0) (same_Some _ b' h) (omega arith)
     body_low (Cons (Declare ds) rest) scope next b' h =
-        let a = bound (resolved_declarators unit scope next ds) _ b' h in
-        let c = bound (resolved_body unit rest (all_declared scope next ds) (next + length ds)) _ b'
+        let a = bound (resolved_declarators names scope next ds) _ b' h in
+        let c = bound (resolved_body names rest (all_declared scope next ds) (next + length ds)) _
+        b'
         a.2 in
         subst (BodyLow (max (1 + declarator_height ds) (body_height rest))) (same_Some _ b' c.2)
         (omega (
@@ -254,8 +260,8 @@ module _ (unit : Description Path) where
           body_low rest (all_declared scope next ds) (next + length ds) c.0 c.1,
         ))
     body_low (Cons (Statement x) rest) scope next b' h =
-        let a = bound (resolved_stmt unit x scope next) _ b' h in
-        let c = bound (resolved_body unit rest scope (next + slots_of x)) _ b' a.2 in
+        let a = bound (resolved_stmt names x scope next) _ b' h in
+        let c = bound (resolved_body names rest scope (next + slots_of x)) _ b' a.2 in
         subst (BodyLow (max (statement_height x) (body_height rest))) (same_Some _ b' c.2)
         (omega (
           arith,
@@ -264,10 +270,10 @@ module _ (unit : Description Path) where
               c.0 c.1,
         ))
     body_low (Cons (CaseLabel label) rest) scope next b' h =
-        let a = bound (resolved_body unit rest scope next) _ b' h in
+        let a = bound (resolved_body names rest scope next) _ b' h in
         subst (BodyLow (body_height rest)) (same_Some _ b' a.2) (body_low rest scope next a.0 a.1)
     body_low (Cons DefaultLabel rest) scope next b' h =
-        let a = bound (resolved_body unit rest scope next) _ b' h in
+        let a = bound (resolved_body names rest scope next) _ b' h in
         subst (BodyLow (body_height rest)) (same_Some _ b' a.2) (body_low rest scope next a.0 a.1)
 
 -- ---- so its expressions are not
@@ -380,12 +386,13 @@ low_items (i ∷ rest) is =
 abbrev LowBody : Body Target → Type 0
 LowBody b = NoneHigher height_limit (body_expressions b)
 
-low_made : (unit : Description Path) (b : Body Path) (b' : Body Target) → IsLow b
-    → resolved_body unit b [] 0 ≡ Some b' → LowBody b'
-low_made unit b b' low h =
-    body_listed height_limit b' (omega (arith, low, body_low unit b [] 0 b' h))
+low_made : (names : Reading) (b : Body Path) (b' : Body Target) → IsLow b
+    → resolved_body names b [] 0 ≡ Some b' → LowBody b'
+low_made names b b' low h =
+    body_listed height_limit b' (omega (arith, low, body_low names b [] 0 b' h))
 
 pub body_is_low : (d : Description Target) → IsResolved d → (m : MethNo)
     → NoneHigher height_limit (body_expressions (body_of d m))
-body_is_low d is m = of_method LowBody tt d m (unit_made is.unit IsLow LowBody (low_made is.unit) d
+body_is_low d is m = of_method LowBody tt d m
+    (unit_made is.unit IsLow LowBody (low_made (meant_in is.unit)) d
     (low_items is.unit.items is.well_formed) is.meanings)

@@ -14,7 +14,7 @@ use Rattle.edd_syntax.specs.Numbers.{same_kind}
 use Rattle.edd_syntax.specs.Reference.{Path}
 use Rattle.edd_syntax.specs.Resolution.{count_of}
 use Rattle.edd_syntax.specs.Resolved.{IsResolved}
-use Rattle.edd_syntax.specs.ResolvedTrees.{each, resolved_attribute, resolved_body, resolved_item, resolved_unit}
+use Rattle.edd_syntax.specs.ResolvedTrees.{each, resolved_attribute, resolved_body, resolved_item, resolved_unit, meant_in}
 use Rattle.edd_syntax.specs.Statement.{Body, slots_in}
 use Rattle.edd_syntax.specs.SubsetRules.{body_expressions}
 use Rattle.edd_syntax.specs.WellFormed.{is_path, is_plain, is_attribute, is_body, is_item, stands_in, are_items}
@@ -30,14 +30,15 @@ use Rattle.edd_methods.proofs.ResolvedUnits.{unit_made}
 -- ---- there are as many items of a kind as before
 
 module _ (unit : Description Path) (k : Kind) where
-  items_stay : (xs : List (Item Path)) (ys : List (Item Target)) → each (resolved_item unit) xs
+  items_stay : (xs : List (Item Path)) (ys : List (Item Target)) → each
+      (resolved_item (meant_in unit)) xs
       ≡ Some ys → count_of k xs ≡ count_of k ys
   items_stay [] ys h = subst (λ (ys : List (Item Target)). 0 ≡ count_of k ys) (same_Some [] ys h)
       refl
   items_stay (x ∷ xs) ys h =
-      let a = bound (resolved_item unit x) _ ys h in
-      let b = bound (each (resolved_item unit) xs) _ ys a.2 in
-      let c = bound (each (resolved_attribute unit x.sort) x.attributes) _ a.0 a.1 in
+      let a = bound (resolved_item (meant_in unit) x) _ ys h in
+      let b = bound (each (resolved_item (meant_in unit)) xs) _ ys a.2 in
+      let c = bound (each (resolved_attribute (meant_in unit) x.sort) x.attributes) _ a.0 a.1 in
       let sorts : x.sort ≡ a.0.sort = ap (λ (i : Item Target). i.sort) (same_Some _ a.0 c.2) in
       subst (λ (ys : List (Item Target)). count_of k (x ∷ xs) ≡ count_of k ys) (same_Some _ ys b.2)
       (counted (same_kind (kind_of_item x.sort) k) (same_kind (kind_of_item a.0.sort) k)
@@ -56,7 +57,7 @@ module _ (unit : Description Path) (k : Kind) where
       ≡ count_of k d.items
   unfolding resolved_unit
   counts_stay d h =
-      let a = bound (each (resolved_item unit) unit.items) _ d h in
+      let a = bound (each (resolved_item (meant_in unit)) unit.items) _ d h in
       items_stay unit.items a.0 a.1 ∙ ap (λ (d : Description Target). count_of k d.items)
       (same_Some _ d a.2)
 
@@ -118,9 +119,9 @@ refers : (unit : Description Path) (counts : Counts) → count_of kind.Variable 
     ≡ counts.variables → count_of kind.Array unit.items ≡ counts.arrays
     → count_of kind.Method unit.items ≡ counts.methods → (b : Body Path) (b' : Body Target)
     → WellFormed b
-    → resolved_body unit b [] 0 ≡ Some b' → Refers counts b'
+    → resolved_body (meant_in unit) b [] 0 ≡ Some b' → Refers counts b'
 refers unit counts variables arrays methods b b' is h =
-    let i = body_in unit b [] 0 b' h in
+    let i = body_in (meant_in unit) b [] 0 b' h in
     body_at unit (around counts (slots_in b')) variables arrays methods false b [] 0 b'
     (refl, omega (arith, i.0))
     is h

@@ -4,10 +4,9 @@ use Rattle.std.proofs.lemmas.Option.{none-some, same_Some}
 use Rattle.edd_syntax.specs.declared.reference.Target.{Target}
 use Rattle.edd_syntax.specs.declared.reference.Target.TheVariants.{Local, Item, Function}
 use Rattle.edd_syntax.specs.Reference.{Path}
-use Rattle.edd_syntax.specs.Item.{Description}
 use Rattle.edd_syntax.specs.Statement.{Declarator, Stmt, Empty, Evaluate, Block, If, IfElse, While, Do, For, Switch, Break, Continue, Return, Body, Nil, Cons, Declare, Statement, CaseLabel, DefaultLabel, slots_of, slots_in}
 use Rattle.edd_syntax.specs.Resolution.{Scope, declared, all_declared}
-use Rattle.edd_syntax.specs.ResolvedTrees.{◌>>=◌, resolved_expr, resolved_optional, at_scope, resolved_declarators, resolved_stmt, resolved_body}
+use Rattle.edd_syntax.specs.ResolvedTrees.{◌>>=◌, resolved_expr, resolved_optional, at_scope, resolved_declarators, resolved_stmt, resolved_body, Reading}
 use Rattle.edd_methods.specs.TreeExpressions.{IsSlotBelow, EachSlotOf, HasSlots, EachSlot}
 
 -- ---- a higher limit
@@ -63,14 +62,14 @@ IsIn slots next x = (slots_of x ≡ slots) × HasSlots (next + slots) x
 abbrev pub IsInBody : (slots next : ℕ) → Body Target → Type 0
 IsInBody slots next b = (slots_in b ≡ slots) × EachSlot (next + slots) b
 
-module _ (unit : Description Path) where
+module _ (names : Reading) where
   declarators_in : (ds : List (Declarator Path)) (scope : Scope) (next : ℕ)
-      (ds' : List (Declarator Target)) → resolved_declarators unit scope next ds ≡ Some ds'
+      (ds' : List (Declarator Target)) → resolved_declarators names scope next ds ≡ Some ds'
       → AreIn (length ds) next ds'
   declarators_in [] scope next ds' h = subst (AreIn 0 next) (same_Some [] ds' h) (refl, tt)
   declarators_in (d ∷ rest) scope next ds' h =
-      let a = bound (resolved_optional (at_scope unit scope) d.value) _ ds' h in
-      let b = bound (resolved_declarators unit (declared d.place next scope) (next + 1) rest) _ ds'
+      let a = bound (resolved_optional (at_scope names scope) d.value) _ ds' h in
+      let b = bound (resolved_declarators names (declared d.place next scope) (next + 1) rest) _ ds'
       a.2 in
       let i = declarators_in rest (declared d.place next scope) (next + 1) b.0 b.1 in
       subst (AreIn (length (d ∷ rest)) next) (same_Some _ ds' b.2) (
@@ -86,24 +85,24 @@ module _ (unit : Description Path) where
     unfolding resolved_stmt slots_of
 
     pub statement_in : (x : Stmt Path) (scope : Scope) (next : ℕ) (x' : Stmt Target)
-        → resolved_stmt unit x scope next ≡ Some x' → IsIn (slots_of x) next x'
+        → resolved_stmt names x scope next ≡ Some x' → IsIn (slots_of x) next x'
     statement_in Empty scope next x' h = subst (IsIn 0 next) (same_Some _ x' h) (refl, tt)
     statement_in (Evaluate e) scope next x' h =
-        let a = bound (resolved_expr (at_scope unit scope) e) _ x' h in
+        let a = bound (resolved_expr (at_scope names scope) e) _ x' h in
         subst (IsIn 0 next) (same_Some _ x' a.2) (refl, tt)
     statement_in (Block body) scope next x' h =
-        let a = bound (resolved_body unit body scope next) _ x' h in
+        let a = bound (resolved_body names body scope next) _ x' h in
         let i = body_in body scope next a.0 a.1 in
         subst (IsIn (slots_in body) next) (same_Some _ x' a.2) (i.0, i.1)
     statement_in (If condition first) scope next x' h =
-        let a = bound (resolved_expr (at_scope unit scope) condition) _ x' h in
-        let b = bound (resolved_stmt unit first scope next) _ x' a.2 in
+        let a = bound (resolved_expr (at_scope names scope) condition) _ x' h in
+        let b = bound (resolved_stmt names first scope next) _ x' a.2 in
         let i = statement_in first scope next b.0 b.1 in
         subst (IsIn (slots_of first) next) (same_Some _ x' b.2) (i.0, i.1)
     statement_in (IfElse condition first otherwise) scope next x' h =
-        let a = bound (resolved_expr (at_scope unit scope) condition) _ x' h in
-        let b = bound (resolved_stmt unit first scope next) _ x' a.2 in
-        let c = bound (resolved_stmt unit otherwise scope (next + slots_of first)) _ x' b.2 in
+        let a = bound (resolved_expr (at_scope names scope) condition) _ x' h in
+        let b = bound (resolved_stmt names first scope next) _ x' a.2 in
+        let c = bound (resolved_stmt names otherwise scope (next + slots_of first)) _ x' b.2 in
         let i = statement_in first scope next b.0 b.1 in
         let j = statement_in otherwise scope (next + slots_of first) c.0 c.1 in
         let all = next + (slots_of first + slots_of otherwise) in
@@ -115,25 +114,25 @@ module _ (unit : Description Path) where
           ),
         )
     statement_in (While condition body) scope next x' h =
-        let a = bound (resolved_expr (at_scope unit scope) condition) _ x' h in
-        let b = bound (resolved_stmt unit body scope next) _ x' a.2 in
+        let a = bound (resolved_expr (at_scope names scope) condition) _ x' h in
+        let b = bound (resolved_stmt names body scope next) _ x' a.2 in
         let i = statement_in body scope next b.0 b.1 in
         subst (IsIn (slots_of body) next) (same_Some _ x' b.2) (i.0, i.1)
     statement_in (Do body condition) scope next x' h =
-        let a = bound (resolved_stmt unit body scope next) _ x' h in
-        let b = bound (resolved_expr (at_scope unit scope) condition) _ x' a.2 in
+        let a = bound (resolved_stmt names body scope next) _ x' h in
+        let b = bound (resolved_expr (at_scope names scope) condition) _ x' a.2 in
         let i = statement_in body scope next a.0 a.1 in
         subst (IsIn (slots_of body) next) (same_Some _ x' b.2) (i.0, i.1)
     statement_in (For first condition update body) scope next x' h =
-        let a = bound (resolved_optional (at_scope unit scope) first) _ x' h in
-        let b = bound (resolved_optional (at_scope unit scope) condition) _ x' a.2 in
-        let c = bound (resolved_optional (at_scope unit scope) update) _ x' b.2 in
-        let d = bound (resolved_stmt unit body scope next) _ x' c.2 in
+        let a = bound (resolved_optional (at_scope names scope) first) _ x' h in
+        let b = bound (resolved_optional (at_scope names scope) condition) _ x' a.2 in
+        let c = bound (resolved_optional (at_scope names scope) update) _ x' b.2 in
+        let d = bound (resolved_stmt names body scope next) _ x' c.2 in
         let i = statement_in body scope next d.0 d.1 in
         subst (IsIn (slots_of body) next) (same_Some _ x' d.2) (i.0, i.1)
     statement_in (Switch on body) scope next x' h =
-        let a = bound (resolved_expr (at_scope unit scope) on) _ x' h in
-        let b = bound (resolved_body unit body scope next) _ x' a.2 in
+        let a = bound (resolved_expr (at_scope names scope) on) _ x' h in
+        let b = bound (resolved_body names body scope next) _ x' a.2 in
         let i = body_in body scope next b.0 b.1 in
         subst (IsIn (slots_in body) next) (same_Some _ x' b.2) (i.0, i.1)
     statement_in Break scope next x' h = subst (IsIn 0 next) (same_Some _ x' h) (refl, tt)
@@ -141,11 +140,12 @@ module _ (unit : Description Path) where
     statement_in Return scope next x' h = subst (IsIn 0 next) (same_Some _ x' h) (refl, tt)
 
     pub body_in : (b : Body Path) (scope : Scope) (next : ℕ) (b' : Body Target)
-        → resolved_body unit b scope next ≡ Some b' → IsInBody (slots_in b) next b'
+        → resolved_body names b scope next ≡ Some b' → IsInBody (slots_in b) next b'
     body_in Nil scope next b' h = subst (IsInBody 0 next) (same_Some _ b' h) (refl, tt)
     body_in (Cons (Declare ds) rest) scope next b' h =
-        let a = bound (resolved_declarators unit scope next ds) _ b' h in
-        let c = bound (resolved_body unit rest (all_declared scope next ds) (next + length ds)) _ b'
+        let a = bound (resolved_declarators names scope next ds) _ b' h in
+        let c = bound (resolved_body names rest (all_declared scope next ds) (next + length ds)) _
+        b'
         a.2 in
         let i = declarators_in ds scope next a.0 a.1 in
         let j = body_in rest (all_declared scope next ds) (next + length ds) c.0 c.1 in
@@ -158,8 +158,8 @@ module _ (unit : Description Path) where
           ),
         )
     body_in (Cons (Statement x) rest) scope next b' h =
-        let a = bound (resolved_stmt unit x scope next) _ b' h in
-        let c = bound (resolved_body unit rest scope (next + slots_of x)) _ b' a.2 in
+        let a = bound (resolved_stmt names x scope next) _ b' h in
+        let c = bound (resolved_body names rest scope (next + slots_of x)) _ b' a.2 in
         let i = statement_in x scope next a.0 a.1 in
         let j = body_in rest scope (next + slots_of x) c.0 c.1 in
         let all = next + (slots_of x + slots_in rest) in
@@ -171,10 +171,10 @@ module _ (unit : Description Path) where
           ),
         )
     body_in (Cons (CaseLabel label) rest) scope next b' h =
-        let a = bound (resolved_body unit rest scope next) _ b' h in
+        let a = bound (resolved_body names rest scope next) _ b' h in
         let i = body_in rest scope next a.0 a.1 in
         subst (IsInBody (slots_in rest) next) (same_Some _ b' a.2) (i.0, i.1)
     body_in (Cons DefaultLabel rest) scope next b' h =
-        let a = bound (resolved_body unit rest scope next) _ b' h in
+        let a = bound (resolved_body names rest scope next) _ b' h in
         let i = body_in rest scope next a.0 a.1 in
         subst (IsInBody (slots_in rest) next) (same_Some _ b' a.2) (i.0, i.1)

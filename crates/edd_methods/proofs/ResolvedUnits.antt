@@ -7,7 +7,7 @@ use Rattle.edd_syntax.specs.Reference.{Path}
 use Rattle.edd_syntax.specs.Item as item
 use Rattle.edd_syntax.specs.Item.{ItemKind, Attribute, Item, Description}
 use Rattle.edd_syntax.specs.Resolution.{member_kinds}
-use Rattle.edd_syntax.specs.ResolvedTrees.{◌>>=◌, each, resolved_cond, resolved_conds, unchanged, at_attribute, resolved_type_part, resolved_transaction_part, resolved_entry, resolved_member, resolved_element, resolved_body, resolved_attribute, resolved_item, resolved_unit}
+use Rattle.edd_syntax.specs.ResolvedTrees.{◌>>=◌, each, resolved_cond, resolved_conds, unchanged, at_attribute, resolved_type_part, resolved_transaction_part, resolved_entry, resolved_member, resolved_element, resolved_body, resolved_attribute, resolved_item, resolved_unit, meant_in}
 use Rattle.edd_syntax.specs.Statement.{Body}
 use Rattle.edd_syntax.specs.SubsetRules.{attributes_of}
 use Rattle.edd_methods.proofs.CheckedBodies.{OfBody}
@@ -36,60 +36,69 @@ plain_attribute Q x a none h = subst (OfBody Q) (same_Some x a h) none
 
 -- P holds of each written body, and with it Q of what the body means
 module _ (unit : Description Path) (P : Body Path → Type 0) (Q : Body Target → Type 0)
-    (make : (b : Body Path) (b' : Body Target) → P b → resolved_body unit b [] 0 ≡ Some b' → Q b')
+    (make : (b : Body Path) (b' : Body Target) → P b → resolved_body (meant_in unit) b [] 0 ≡ Some
+    b' → Q b')
   where
     attribute_made : (sort : ItemKind) (x : Attribute Path) (a : Attribute Target) → OfBody P x
-        → resolved_attribute unit sort x ≡ Some a → OfBody Q a
+        → resolved_attribute (meant_in unit) sort x ≡ Some a → OfBody Q a
     attribute_made sort (item.OneText which c) a holds h =
-        no_body Q (resolved_cond (at_attribute unit) unchanged c) (item.OneText which) (λ _. tt) a h
+        no_body Q (resolved_cond (at_attribute (meant_in unit)) unchanged c) (item.OneText which)
+        (λ _. tt) a h
     attribute_made sort (item.Class words) a holds h = plain_attribute Q (item.Class words) a tt h
     attribute_made sort (item.Handling c) a holds h =
-        no_body Q (resolved_cond (at_attribute unit) unchanged c) item.Handling (λ _. tt) a h
+        no_body Q (resolved_cond (at_attribute (meant_in unit)) unchanged c) item.Handling (λ _. tt)
+        a h
     attribute_made sort (item.Validity c) a holds h =
-        no_body Q (resolved_cond (at_attribute unit) unchanged c) item.Validity (λ _. tt) a h
+        no_body Q (resolved_cond (at_attribute (meant_in unit)) unchanged c) item.Validity (λ _. tt)
+        a h
     attribute_made sort (item.TypeOf word parts) a holds h =
-        no_body Q (each (resolved_type_part unit) parts) (item.TypeOf word) (λ _. tt) a h
+        no_body Q (each (resolved_type_part (meant_in unit)) parts) (item.TypeOf word) (λ _. tt) a h
     attribute_made sort (item.Number n) a holds h = plain_attribute Q (item.Number n) a tt h
     attribute_made sort (item.Operation o) a holds h = plain_attribute Q (item.Operation o) a tt h
     attribute_made sort (item.Transaction number parts) a holds h =
-        no_body Q (each (resolved_transaction_part unit) parts) (item.Transaction number) (λ _. tt)
+        no_body Q (each (resolved_transaction_part (meant_in unit)) parts) (item.Transaction number)
+        (λ _. tt)
         a
         h
     attribute_made sort (item.ResponseCodes responses) a holds h =
         plain_attribute Q (item.ResponseCodes responses) a tt h
     attribute_made sort (item.Items entries) a holds h =
-        no_body Q (resolved_conds (at_attribute unit) (resolved_entry unit) entries) item.Items
+        no_body Q (resolved_conds (at_attribute (meant_in unit)) (resolved_entry (meant_in unit))
+        entries) item.Items
         (λ _. tt) a h
     attribute_made sort (item.Members members) a holds h =
-        no_body Q (each (resolved_member unit (member_kinds sort)) members) item.Members (λ _. tt) a
+        no_body Q (each (resolved_member (meant_in unit) (member_kinds sort)) members) item.Members
+        (λ _. tt) a
         h
     attribute_made sort (item.Elements elements) a holds h =
-        no_body Q (each (resolved_element unit) elements) item.Elements (λ _. tt) a
+        no_body Q (each (resolved_element (meant_in unit)) elements) item.Elements (λ _. tt) a
         h
     attribute_made sort (item.Definition body) a holds h =
-        let b = bound (resolved_body unit body [] 0) _ a h in
+        let b = bound (resolved_body (meant_in unit) body [] 0) _ a h in
         subst (OfBody Q) (same_Some _ a b.2) (make body b.0 holds b.1)
 
     -- in each attribute of an item
     abbrev pub ItemHas : Item Path → Type 0
     ItemHas i = AllByRecursion (OfBody P) i.attributes
 
-    item_made : (x : Item Path) (i : Item Target) → ItemHas x → resolved_item unit x ≡ Some i
+    item_made : (x : Item Path) (i : Item Target) → ItemHas x → resolved_item (meant_in unit) x ≡
+        Some i
         → AllByRecursion (OfBody Q) i.attributes
     item_made x i holds h =
-        let a = bound (each (resolved_attribute unit x.sort) x.attributes) _ i h in
+        let a = bound (each (resolved_attribute (meant_in unit) x.sort) x.attributes) _ i h in
         subst (λ (i : Item Target). AllByRecursion (OfBody Q) i.attributes) (same_Some _ i a.2)
-        (each_made (resolved_attribute unit x.sort) (OfBody P) (OfBody Q) (attribute_made x.sort)
+        (each_made (resolved_attribute (meant_in unit) x.sort) (OfBody P) (OfBody Q)
+        (attribute_made x.sort)
         x.attributes a.0 holds a.1)
 
     pub unit_made : (d : Description Target) → AllByRecursion ItemHas unit.items
         → resolved_unit unit ≡ Some d → AllByRecursion (OfBody Q) (attributes_of d)
     unfolding resolved_unit
     unit_made d holds h =
-        let a = bound (each (resolved_item unit) unit.items) _ d h in
+        let a = bound (each (resolved_item (meant_in unit)) unit.items) _ d h in
         subst (λ (d : Description Target). AllByRecursion (OfBody Q) (attributes_of d))
         (same_Some _ d a.2)
-        (together a.0 (each_made (resolved_item unit) ItemHas
+        (together a.0 (each_made (resolved_item (meant_in unit)) ItemHas
         (λ i. AllByRecursion (OfBody Q) i.attributes) item_made unit.items a.0 holds a.1))
       where
         in_front : (xs ys : List (Attribute Target)) → AllByRecursion (OfBody Q) xs

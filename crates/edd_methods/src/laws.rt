@@ -14,7 +14,7 @@ ghost use Rattle.edd_syntax.specs.MethodState as source;
 ghost use Rattle.edd_syntax.specs.MethodState.{Action, pure};
 ghost use Rattle.edd_syntax.specs.Reference.{Path};
 ghost use Rattle.edd_syntax.specs.Resolved.{IsChecked, IsResolved};
-ghost use Rattle.edd_syntax.specs.ResolvedTrees.{resolved_body};
+ghost use Rattle.edd_syntax.specs.ResolvedTrees.{resolved_body, meant_in};
 ghost use Rattle.edd_syntax.specs.Size.{body_nodes, height, height_limit};
 ghost use Rattle.edd_syntax.specs.Statement.{Body, Stmt, slots_in};
 ghost use Rattle.edd_syntax.specs.SubsetRules.{body_expressions, call_mismatches, mismatches};
@@ -144,7 +144,7 @@ pub fn calls_of_methods_fit()
 /// The declarators of a resolved body have slots below the number of slots of the body.
 pub fn declarators_have_slots()
     ensures { (unit : Description Path) (body : Body Path) (resolved : Body Target)
-        → resolved_body unit body [] 0 ≡ Some resolved
+        → resolved_body (meant_in unit) body [] 0 ≡ Some resolved
         → EachSlot (slots_in resolved) resolved }
 {}
 

@@ -1,6 +1,6 @@
 pub mod Gathering
 pub mod LookingUp
 pub mod MapLaws
-pub mod OneFault
 pub mod PathLaws
+pub mod UseCases
 pub mod UseLaws

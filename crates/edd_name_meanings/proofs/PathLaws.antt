@@ -1,15 +1,14 @@
 -- Along a path, from one member to the next.
 use Rattle.std.proofs.Common.{◌≡◌, sym, ap, ◌∙◌, ℕ, ◌+◌, ◌<◌, List, [], ◌∷◌, length, get_or, drop, map, Option, Some, None, subst}
-use Rattle.std.specs.Prelude.{true, not, is_some, IfOk, MatchOption, Result, Ok, Err, option_and_then, if◌then◌else◌}
-use Rattle.std.proofs.lemmas.Bool.{false≢true}
+use Rattle.std.specs.Prelude.{true, not, IfOk, MatchOption, Result, Ok, Err, option_and_then, if◌then◌else◌}
 use Rattle.std.proofs.lemmas.List.{at_drop_more}
 use Rattle.edd_name_meanings.specs.declared.path_steps.PathStep.{PathStep}
-use Rattle.edd_name_meanings.specs.Meanings.{AllMembersNamed, Means, item_among}
+use Rattle.edd_name_meanings.specs.Meanings.{item_among}
 use Rattle.edd_name_meanings.specs.Paths.{Reaches}
+use Rattle.edd_name_meanings.specs.StandIns.{or_stand_in, stand_in}
 use Rattle.edd_syntax.specs.declared.numbers.Kind.{Kind}
 use Rattle.edd_syntax.specs.declared.numbers.ItemNo.{ItemNo}
 use Rattle.edd_syntax.specs.declared.numbers.TokenNo.{TokenNo}
-use Rattle.edd_syntax.specs.declared.reference.Target.{Target}
 use Rattle.edd_syntax.specs.declared.reference.Target.TheVariants.{Item}
 use Rattle.edd_syntax.specs.Text.{Name}
 use Rattle.edd_syntax.specs.Reference.{Path}
@@ -17,6 +16,10 @@ use Rattle.edd_syntax.specs.Item.{Description}
 use Rattle.edd_syntax.specs.NameRules.{faults_along, is_kind_among}
 use Rattle.edd_syntax.specs.Refusal.{Refusal, WrongKind, refused_if, first_of}
 use Rattle.edd_syntax.specs.Resolution.{along}
+
+pub reads_nothing : (allowed : List Kind) (meant : Option ItemNo) → meant ≡ None
+    → or_stand_in allowed (item_among allowed meant) ≡ Some (stand_in allowed)
+reads_nothing allowed meant is = ap (λ i. or_stand_in allowed (item_among allowed i)) is
 
 module _ (unit : Description Path) (allowed : List Kind) (all : List Refusal) (at : TokenNo)
     (meant : Option ItemNo) (p : PathStep) where
@@ -30,28 +33,22 @@ module _ (unit : Description Path) (allowed : List Kind) (all : List Refusal) (a
 
   pub arrives : (item : ItemNo) → p.item ≡ Some item → is_kind_among allowed p.kind ≡ true
       → Reaches unit allowed all at meant p [] → (None ≡ first_of all)
-      × Means unit (item_among allowed meant) (Item item)
-  unfolding Means
+      × (or_stand_in allowed (item_among allowed meant) ≡ Some (Item item))
   arrives item is among r = (
     no_fault p.item among r.faults,
-    λ known. ap (item_among allowed) (sym r.item ∙ ap (option_and_then (λ j. along unit j [])) is)
-        ∙ ap (λ b. if b then Some (Item item) else None)
+    ap (λ i. or_stand_in allowed (item_among allowed i))
+        (sym r.item ∙ ap (option_and_then (λ j. along unit j [])) is)
+        ∙ ap (λ b. or_stand_in allowed (if b then Some (Item item) else None))
         (ap (λ k. is_kind_among allowed k) (r.kind item is) ∙ among),
   )
 
-  pub unknown : (t : Target) → p.item ≡ None → is_kind_among allowed p.kind ≡ true
+  pub unknown : p.item ≡ None → is_kind_among allowed p.kind ≡ true
       → Reaches unit allowed all at meant p [] → (None ≡ first_of all)
-      × Means unit (item_among allowed meant) t
-  unfolding Means
-  unknown t is among r = (
+      × (or_stand_in allowed (item_among allowed meant) ≡ Some (stand_in allowed))
+  unknown is among r = (
     no_fault p.item among r.faults,
-    λ known. absurd (false≢true (sym (ap is_some is) ∙ r.known known)),
+    reads_nothing allowed meant (sym r.item ∙ ap (option_and_then (λ j. along unit j [])) is),
   )
-
-pub never_known : {A : Type 0} (unit : Description Path) (meant : Option A) (x : A)
-    → (AllMembersNamed unit → ⊥) → Means unit meant x
-unfolding Means
-never_known unit meant x none = λ known. absurd (none known)
 
 -- the next member of a path
 pub at_member : {X : Type 0} (name : X → Name) (unit : Description Path) (allowed : List Kind)

@@ -1,5 +1,6 @@
--- What is answered of a copy: a tree with the meaning of each name in its place.
-use Rattle.std.specs.Prelude.{◌≡◌, List, [], ◌∷◌, ◌++◌, length, map, Option, Result, IfOk, OnOk}
+-- What is answered of a copy: a tree with what each name is read as in its place.
+use Rattle.std.specs.Prelude.{◌≡◌, List, [], ◌∷◌, ◌++◌, length, map, Option, Some, Result, IfOk, OnOk}
+use Rattle.edd_syntax.specs.declared.numbers.TokenNo.{TokenNo}
 use Rattle.edd_syntax.specs.declared.reference.Path as code
 use Rattle.edd_syntax.specs.Item.{Description}
 use Rattle.edd_syntax.specs.NameRules.{faults_of_use}
@@ -8,7 +9,6 @@ use Rattle.edd_syntax.specs.Reference.{Path}
 use Rattle.edd_breaches.specs.declared.breach.Breach.{Breach}
 use Rattle.edd_breaches.specs.Told as breaches
 use Rattle.edd_breaches.specs.Told.{told_at}
-use Rattle.edd_name_meanings.specs.Meanings.{Means, NoFault}
 use Rattle.edd_name_meanings.specs.Places.{place_of_use}
 
 -- what is told of uses, each of which is at the path of the same number
@@ -30,11 +30,11 @@ abbrev pub Told : {T E : Type 0} → Description Path → List Use → List code
     → (old new : List Breach) → Result T E → Type 0
 Told unit uses paths old new answer = OnOk answer (Tells unit uses paths old new)
 
--- this is meant, where no use has a fault
-unfoldable pub Meant : {A : Type 0} → Description Path → List Use → (meant : Option A) → A → Type 0
-Meant unit uses meant x = NoFault unit uses → Means unit meant x
+-- the copy, seen as a tree of the syntax, is what is read
+abbrev pub Copies : {T E S : Type 0} → (read : Option S) → (seen : T → S) → Result T E → Type 0
+Copies read seen answer = IfOk answer (λ t. read ≡ Some (seen t))
 
--- the copy, seen as a tree of the syntax, is what is meant where no use has a fault
-abbrev pub Copies : {T E S : Type 0} → Description Path → List Use → (meant : Option S)
-    → (seen : T → S) → Result T E → Type 0
-Copies unit uses meant seen answer = IfOk answer (λ t. Meant unit uses meant (seen t))
+-- the copy has the tokens of what it is a copy of
+abbrev pub Keeps : {T E : Type 0} → (tokens : List TokenNo) → (of : T → List TokenNo) → Result T E
+    → Type 0
+Keeps tokens of answer = IfOk answer (λ t. of t ≡ tokens)

@@ -6,3 +6,5 @@ pub mod Numbering
 pub mod Paths
 pub mod PathsIn
 pub mod Places
+pub mod StandIns
+pub mod TokensIn

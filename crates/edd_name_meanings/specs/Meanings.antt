@@ -24,10 +24,6 @@ unfoldable pub AllMembersNamed : Description Path → Type 0
 AllMembersNamed unit = (i : ItemNo) (m : Name) (found : FoundMember)
     → member_at unit i m ≡ Some found → is_some (item_of_member unit found) ≡ true
 
--- this is what is meant, where all members name something: else the fault is the member's
-unfoldable pub Means : {A : Type 0} → Description Path → (meant : Option A) → A → Type 0
-Means unit meant x = AllMembersNamed unit → meant ≡ Some x
-
 -- an item of one of these kinds
 abbrev pub item_among : List Kind → Option ItemNo → Option Target
 item_among kinds (Some i) = if is_among kinds i then Some (Item i) else None

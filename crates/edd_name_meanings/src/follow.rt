@@ -10,9 +10,10 @@ ghost use Rattle.edd_syntax.specs.Refusal.{Refusal, first_of};
 ghost use Rattle.edd_syntax.specs.Resolution.{along};
 ghost use Rattle.edd_syntax.specs.Text.{Name};
 ghost use Rattle.edd_name_meanings.specs.Directory.{description_of};
-ghost use Rattle.edd_name_meanings.specs.Meanings.{AllMembersNamed, IsFirst, Means, item_among};
+ghost use Rattle.edd_name_meanings.specs.Meanings.{IsFirst, item_among};
 ghost use Rattle.edd_name_meanings.specs.Paths.{Reaches};
 ghost use Rattle.edd_name_meanings.specs.Places.{place_along};
+ghost use Rattle.edd_name_meanings.specs.StandIns.{or_stand_in};
 
 use crate::directory::Names;
 use crate::path_steps::{PathStep, is_among, step_to_member, wrong_kind};
@@ -22,7 +23,6 @@ use edd_syntax::numbers::{ItemNo, Kind, TokenNo};
 use edd_syntax::reference::{Path, Target};
 
 // The step to the next member, or none where the item is not known.
-#[tactic(auto, unfolding(crate::specs::Meanings::AllMembersNamed))]
 fn step<'b>(
     names: &Names,
     here: PathStep<'b>,
@@ -32,8 +32,7 @@ fn step<'b>(
     ensures sound { IfOk result (λ next. (allowed : List Kind) (all : List Refusal)
         (at : token.TokenNo) (meant : Option ItemNo) (rest : List Name)
         → Reaches (description_of names.now) allowed all at meant here.entry (member.now ∷ rest)
-        → MatchOption next ((None ≡ first_of all) × (AllMembersNamed (description_of names.now)
-        → ⊥))
+        → MatchOption next ((None ≡ first_of all) × (meant ≡ None))
         (λ p. Reaches (description_of names.now) allowed all at meant p rest)) }
     ensures refused { IfErr result
         (λ b. (allowed : List Kind) (all : List Refusal) (at : token.TokenNo)
@@ -57,8 +56,8 @@ fn arrive<'b>(names: &Names, allowed: &[Kind], here: PathStep<'b>) -> Result<Tar
     ensures sound { IfOk result (λ t. (all : List Refusal) (at : token.TokenNo)
         (meant : Option ItemNo)
         → Reaches (description_of names.now) allowed.now all at meant here.entry []
-        → (None ≡ first_of all) × Means (description_of names.now) (item_among allowed.now meant)
-        t) }
+        → (None ≡ first_of all) × (or_stand_in allowed.now (item_among allowed.now meant)
+        ≡ Some t)) }
     ensures refused { IfErr result (λ b. (all : List Refusal) (at : token.TokenNo)
         (meant : Option ItemNo)
         → Reaches (description_of names.now) allowed.now all at meant here.entry []
@@ -73,7 +72,8 @@ fn arrive<'b>(names: &Names, allowed: &[Kind], here: PathStep<'b>) -> Result<Tar
     }
 }
 
-/// The item that a path means which begins at an item, where items of some kinds are allowed.
+/// The item that a path means which begins at an item, where items of some kinds are allowed. A
+/// member that names nothing is no fault here: something stands for what it would mean.
 pub fn follow<'b>(
     names: &Names,
     allowed: &[Kind],
@@ -84,9 +84,8 @@ pub fn follow<'b>(
         (λ t. (None ≡ first_of (faults_along (description_of names.now) allowed.now
         (string_bytes path.now.base) (kind_of from) (Some from)
         (map string_bytes path.now.members.items)))
-        × Means (description_of names.now)
-        (item_among allowed.now (along (description_of names.now) from
-        (map string_bytes path.now.members.items))) t) }
+        × (or_stand_in allowed.now (item_among allowed.now (along (description_of names.now) from
+        (map string_bytes path.now.members.items))) ≡ Some t)) }
     ensures refused { IfErr result
         (λ b. IsFirst b (faults_along (description_of names.now) allowed.now
         (string_bytes path.now.base)

@@ -203,7 +203,8 @@ fn find_in_list<'a>(attributes: &'a [Attribute<Path>], name: &str) -> Option<&'a
 
 impl<'a> Collection<'a> {
     fn find(&self, name: &str) -> Option<&'a Member<Path>>
-        ensures { option_map (λ m. member_of path_of m.now) result ≡ member_of_name self.now name.now }
+        ensures { option_map (λ m. member_of path_of m.now) result ≡ member_of_name self.now
+            name.now }
     {
         match &self.by_name {
             Some(members) => members.get(name).copied(),

@@ -7,13 +7,14 @@ ghost use Rattle.edd_syntax.specs.NameRules.{faults_of_local, faults_of_item};
 ghost use Rattle.edd_syntax.specs.NameUses.{OfItem, OfArray, OfFunction};
 ghost use Rattle.edd_syntax.specs.Reference as pure;
 ghost use Rattle.edd_syntax.specs.Resolution as resolution;
-ghost use Rattle.edd_syntax.specs.Resolution.{look_up, builtin_name, builtins, meaning, array_meant, local_meant, item_meant, function_meant};
+ghost use Rattle.edd_syntax.specs.Resolution.{look_up, builtin_name, builtins, local_meant, item_meant, function_meant};
 ghost use Rattle.edd_syntax.specs.Refusal.{first_of};
 ghost use Rattle.edd_syntax.specs.TreeView.{path_of};
 ghost use Rattle.edd_name_meanings.specs.Copies.{Copies, Told};
 ghost use Rattle.edd_name_meanings.specs.Directory.{description_of};
 ghost use Rattle.edd_name_meanings.specs.Places.{place_of_item};
-ghost use Rattle.edd_name_meanings.specs.Meanings.{IsFaultOf, IsFirst, Means, NoFault, scope_of};
+ghost use Rattle.edd_name_meanings.specs.Meanings.{IsFaultOf, IsFirst, NoFault, scope_of};
+ghost use Rattle.edd_name_meanings.specs.StandIns.{or_stand_in, read_in};
 
 use crate::directory::Names;
 use crate::follow::follow;
@@ -65,9 +66,8 @@ fn refer_item<'b>(names: &Names, kinds: &[Kind], path: &'b Path) -> Result<Targe
     ensures sound { IfOk result
         (λ t. (None ≡ first_of (faults_of_item (description_of names.now) kinds.now
         (path_of path.now)))
-        × Means (description_of names.now)
-        (item_meant (description_of names.now) kinds.now (path_of path.now))
-        t) }
+        × (or_stand_in kinds.now
+        (item_meant (description_of names.now) kinds.now (path_of path.now)) ≡ Some t)) }
     ensures refused { IfErr result
         (λ b. IsFirst b (faults_of_item (description_of names.now) kinds.now (path_of path.now))
         (place_of_item (description_of names.now) (path_of path.now) path.now.at)) }
@@ -79,7 +79,7 @@ fn refer_item<'b>(names: &Names, kinds: &[Kind], path: &'b Path) -> Result<Targe
 }
 
 // What a reference means at a place where items of some kinds may be.
-#[tactic(auto, unfolding(crate::specs::Meanings::Means, crate::specs::Meanings::NoFault, crate::specs::Meanings::IsFaultOf, crate::specs::Meanings::faults_in))]
+#[tactic(auto, unfolding(crate::specs::Meanings::NoFault, crate::specs::Meanings::IsFaultOf, crate::specs::Meanings::faults_in))]
 fn find<'b>(
     names: &Names,
     scope: &[Local],
@@ -91,9 +91,8 @@ fn find<'b>(
         (OfItem (scope_of scope.now) kinds.now (path_of path.now)
         ∷ [])) }
     ensures sound { IfOk result
-        (λ t. Means (description_of names.now)
-        (meaning (description_of names.now) (scope_of scope.now) kinds.now
-        (path_of path.now)) t) }
+        (λ t. (read_in (description_of names.now)).reference (scope_of scope.now) kinds.now
+        (path_of path.now) ≡ Some t) }
     ensures refused { IfErr result
         (λ b. IsFaultOf b (description_of names.now)
         (OfItem (scope_of scope.now) kinds.now (path_of path.now)) path.now) }
@@ -105,14 +104,14 @@ fn find<'b>(
 }
 
 // The array that is meant before an index; a local of the name is no array.
-#[tactic(auto, unfolding(crate::specs::Meanings::Means, crate::specs::Meanings::NoFault, crate::specs::Meanings::IsFaultOf, crate::specs::Meanings::faults_in))]
+#[tactic(auto, unfolding(crate::specs::Meanings::NoFault, crate::specs::Meanings::IsFaultOf, crate::specs::Meanings::faults_in))]
 fn find_array<'b>(names: &Names, scope: &[Local], path: &'b Path) -> Result<Target, Breach<'b>>
     ensures accepted { IfOk result
         (λ t. NoFault (description_of names.now)
         (OfArray (scope_of scope.now) (path_of path.now) ∷ [])) }
     ensures sound { IfOk result
-        (λ t. Means (description_of names.now)
-        (array_meant (description_of names.now) (scope_of scope.now) (path_of path.now)) t) }
+        (λ t. (read_in (description_of names.now)).array (scope_of scope.now) (path_of path.now)
+        ≡ Some t) }
     ensures refused { IfErr result
         (λ b. IsFaultOf b (description_of names.now)
         (OfArray (scope_of scope.now) (path_of path.now)) path.now) }
@@ -169,12 +168,11 @@ pub fn argument_kinds(function: &Path) -> &'static [Kind]
 }
 
 // What the name of a call means.
-#[tactic(auto, unfolding(crate::specs::Meanings::Means, crate::specs::Meanings::NoFault, crate::specs::Meanings::IsFaultOf, crate::specs::Meanings::faults_in))]
+#[tactic(auto, unfolding(crate::specs::Meanings::NoFault, crate::specs::Meanings::IsFaultOf, crate::specs::Meanings::faults_in))]
 fn find_function<'b>(path: &'b Path) -> Result<Target, Breach<'b>>
     ensures accepted { IfOk result
         (λ t. (unit : Description pure.Path) → NoFault unit (OfFunction (path_of path.now) ∷ [])) }
-    ensures sound { IfOk result (λ t. (unit : Description pure.Path)
-        → Means unit (function_meant (path_of path.now)) t) }
+    ensures sound { IfOk result (λ t. function_meant (path_of path.now) ≡ Some t) }
     ensures refused { IfErr result (λ b. (unit : Description pure.Path)
         → IsFaultOf b unit (OfFunction (path_of path.now)) path.now) }
 {
@@ -186,7 +184,7 @@ fn find_function<'b>(path: &'b Path) -> Result<Target, Breach<'b>>
 
 /// What a reference means at a place where items of some kinds may be. A fault of it is told, and
 /// the walk goes on.
-#[tactic(auto, using(crate::proofs::UseLaws::uses), unfolding(crate::specs::Copies::Meant))]
+#[tactic(auto, using(crate::proofs::UseLaws::uses))]
 pub fn refer<'a>(
     names: &Names,
     scope: &[Local],
@@ -194,10 +192,13 @@ pub fn refer<'a>(
     path: &'a Path,
     told: &mut Vec<Breach<'a>>,
 ) -> Result<Target, AllocError>
-    ensures told { Told (description_of names.now) (OfItem (scope_of scope.now) kinds.now (path_of path.now) ∷ []) (path.now ∷ []) told.old.items told.new.items
+    ensures told { Told (description_of names.now)
+        (OfItem (scope_of scope.now) kinds.now (path_of path.now) ∷ []) (path.now ∷ [])
+        told.old.items told.new.items
         result }
-    ensures sound { Copies (description_of names.now) (OfItem (scope_of scope.now) kinds.now (path_of path.now) ∷ [])
-        (meaning (description_of names.now) (scope_of scope.now) kinds.now (path_of path.now)) (λ t. t) result }
+    ensures sound { Copies ((read_in (description_of names.now)).reference (scope_of scope.now)
+        kinds.now
+        (path_of path.now)) (λ t. t) result }
 {
     match find(names, scope, kinds, path) {
         Ok(target) => Ok(target),
@@ -207,17 +208,20 @@ pub fn refer<'a>(
 
 /// The array that is meant before an index; a local of the name is no array. A fault of it is told,
 /// and the walk goes on.
-#[tactic(auto, using(crate::proofs::UseLaws::uses), unfolding(crate::specs::Copies::Meant))]
+#[tactic(auto, using(crate::proofs::UseLaws::uses))]
 pub fn refer_array<'a>(
     names: &Names,
     scope: &[Local],
     path: &'a Path,
     told: &mut Vec<Breach<'a>>,
 ) -> Result<Target, AllocError>
-    ensures told { Told (description_of names.now) (OfArray (scope_of scope.now) (path_of path.now) ∷ []) (path.now ∷ []) told.old.items told.new.items
+    ensures told { Told (description_of names.now)
+        (OfArray (scope_of scope.now) (path_of path.now) ∷ []) (path.now ∷ []) told.old.items
+        told.new.items
         result }
-    ensures sound { Copies (description_of names.now) (OfArray (scope_of scope.now) (path_of path.now) ∷ [])
-        (array_meant (description_of names.now) (scope_of scope.now) (path_of path.now)) (λ t. t) result }
+    ensures sound { Copies ((read_in (description_of names.now)).array (scope_of scope.now)
+        (path_of path.now))
+        (λ t. t) result }
 {
     match find_array(names, scope, path) {
         Ok(target) => Ok(target),
@@ -226,16 +230,17 @@ pub fn refer_array<'a>(
 }
 
 /// What the name of a call means. A fault of it is told, and the walk goes on.
-#[tactic(auto, using(crate::proofs::UseLaws::uses), unfolding(crate::specs::Copies::Meant))]
+#[tactic(auto, using(crate::proofs::UseLaws::uses))]
 pub fn refer_function<'a>(
     names: &Names,
     path: &'a Path,
     told: &mut Vec<Breach<'a>>,
 ) -> Result<Target, AllocError>
-    ensures told { Told (description_of names.now) (OfFunction (path_of path.now) ∷ []) (path.now ∷ []) told.old.items told.new.items
+    ensures told { Told (description_of names.now) (OfFunction (path_of path.now) ∷ [])
+        (path.now ∷ []) told.old.items told.new.items
         result }
-    ensures sound { Copies (description_of names.now) (OfFunction (path_of path.now) ∷ [])
-        (function_meant (path_of path.now)) (λ t. t) result }
+    ensures sound { Copies ((read_in (description_of names.now)).function (path_of path.now))
+        (λ t. t) result }
 {
     match find_function(path) {
         Ok(target) => Ok(target),

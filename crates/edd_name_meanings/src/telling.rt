@@ -1,13 +1,13 @@
 //! Faults that are told, after which a walk goes on.
 
-ghost use Rattle.std.specs.Prelude.{[], ◌∷◌, Option, IfOk, OnOk};
+ghost use Rattle.std.specs.Prelude.{◌≡◌, [], ◌∷◌, IfOk, OnOk};
 ghost use Rattle.edd_syntax.specs.declared.reference.Path as path;
-ghost use Rattle.edd_syntax.specs.declared.reference.Target as target;
 ghost use Rattle.edd_syntax.specs.Item.{Description};
 ghost use Rattle.edd_syntax.specs.NameUses.{Use};
 ghost use Rattle.edd_syntax.specs.Reference as pure;
-ghost use Rattle.edd_name_meanings.specs.Copies.{Meant, Tells};
+ghost use Rattle.edd_name_meanings.specs.Copies.{Tells};
 ghost use Rattle.edd_name_meanings.specs.Meanings.{IsFaultOf};
+ghost use Rattle.edd_name_meanings.specs.StandIns as stand_ins;
 
 use edd_breaches::Breach;
 use edd_syntax::numbers::{ItemNo, Kind, VarNo};
@@ -16,7 +16,9 @@ use std::alloc::AllocError;
 
 /// What stands for the meaning of a name that has none: an item of the first kind that may be there.
 /// The fault is told where the name is, or where a member is that names nothing.
-pub fn stand_in(kinds: &[Kind]) -> Target {
+pub fn stand_in(kinds: &[Kind]) -> Target
+    ensures { result ≡ stand_ins.stand_in kinds.now }
+{
     match kinds.first() {
         Some(kind) => Target::Item(kind.item(0)),
         None => Target::Item(ItemNo::Variable(VarNo(0))),
@@ -32,9 +34,7 @@ pub fn tell<'a>(
     ensures told { OnOk result ((unit : Description pure.Path) (u : Use) (p : path.Path)
         → IsFaultOf fault.entry unit u p
         → Tells unit (u ∷ []) (p ∷ []) told.old.items told.new.items) }
-    ensures sound { IfOk result (λ t. (unit : Description pure.Path) (u : Use) (p : path.Path)
-        (meant : Option target.Target) → IsFaultOf fault.entry unit u p
-        → Meant unit (u ∷ []) meant t) }
+    ensures sound { IfOk result (λ t. t ≡ instead) }
 {
     told.push(fault)?;
     Ok(instead)

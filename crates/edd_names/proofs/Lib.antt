@@ -1,3 +1,4 @@
 pub mod ItemSteps
 pub mod MemberLaws
+pub mod ReadingLaws
 pub mod ResolvingLaws

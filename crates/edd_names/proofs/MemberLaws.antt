@@ -25,7 +25,7 @@ abbrev pub Every : {A : Type 0} → (A → Type 0) → List A → Type 0
 Every P [] = Unit {0}
 Every P (x ∷ xs) = P x × Every P xs
 
-every_append : {A : Type 0} (P : A → Type 0) (xs ys : List A) → Every P (xs ++ ys)
+pub every_append : {A : Type 0} (P : A → Type 0) (xs ys : List A) → Every P (xs ++ ys)
     → Every P xs × Every P ys
 every_append P [] ys h = (tt, h)
 every_append P (x ∷ xs) ys h = let r = every_append P xs ys h.1 in ((h.0, r.0), r.1)
@@ -35,7 +35,7 @@ every_joined : {A : Type 0} (P : A → Type 0) (xs ys : List A) → Every P xs �
 every_joined P [] ys h k = k
 every_joined P (x ∷ xs) ys h k = (h.0, every_joined P xs ys h.1 k)
 
-every_flat : {A B : Type 0} (P : B → Type 0) (f : A → List B) (xs : List A)
+pub every_flat : {A B : Type 0} (P : B → Type 0) (f : A → List B) (xs : List A)
     → Every P (flat_map f xs) → Every (λ x. Every P (f x)) xs
 every_flat P f [] h = tt
 every_flat P f (x ∷ xs) h = let r = every_append P (f x) (flat_map f xs)
@@ -111,7 +111,8 @@ module _ (unit : Description Path) where
   no_first [] ys h = (refl, h)
   no_first (x ∷ xs) ys h = absurd (none_some x h)
 
-  all_fine : (us : List Use) → None ≡ first_of (flat_map (faults_of_use unit) us) → Every Fine us
+  pub all_fine : (us : List Use) → None ≡ first_of (flat_map (faults_of_use unit) us) → Every Fine
+      us
   all_fine [] h = tt
   all_fine (u ∷ us) h = let r = no_first (faults_of_use unit u) (flat_map (faults_of_use unit) us)
       h in (r.0, all_fine us r.1)

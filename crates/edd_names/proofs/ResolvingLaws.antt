@@ -8,12 +8,15 @@ use Rattle.edd_breaches.specs.declared.breach.Breach.{Breach}
 use Rattle.edd_breaches.specs.Told as breaches
 use Rattle.edd_breaches.specs.Told.{Told, told_at, refusals}
 use Rattle.edd_breaches.proofs.TellLaws.{tells_append, refusals_append}
-use Rattle.edd_name_meanings.specs.Meanings.{Means, NoFault, faults_in}
-use Rattle.edd_names.specs.Told.{IsMeant, rules_before}
+use Rattle.edd_name_meanings.specs.Meanings.{AllMembersNamed, NoFault, faults_in}
+use Rattle.edd_names.specs.Told.{IsMeant, IsRead, rules_before}
 use Rattle.edd_names.specs.Units.{unit_view}
-use Rattle.edd_names.proofs.MemberLaws.{all_named}
-use Rattle.edd_name_meanings.specs.Copies.{Meant, Tells, told_in}
+use Rattle.edd_names.proofs.MemberLaws.{Every, all_fine, all_named}
+use Rattle.edd_names.proofs.ReadingLaws.{same_items}
+use Rattle.edd_name_meanings.specs.Copies.{Tells, told_in}
 use Rattle.edd_name_meanings.specs.Places.{place_of_use}
+use Rattle.edd_name_meanings.specs.StandIns.{read_in, reading_of}
+use Rattle.edd_name_meanings.proofs.UseCases.{reads_as_meant}
 use Rattle.edd_syntax.specs.declared.numbers.TokenNo.{TokenNo}
 use Rattle.edd_syntax.specs.declared.item.Item as code_item
 use Rattle.edd_syntax.specs.declared.reference.Path as code_path
@@ -27,7 +30,7 @@ use Rattle.edd_syntax.specs.NameUses.{Use, unit_uses}
 use Rattle.edd_syntax.specs.Reference.{Path}
 use Rattle.edd_syntax.specs.Refusal.{Refusal, first_of}
 use Rattle.edd_syntax.specs.Resolved.{description}
-use Rattle.edd_syntax.specs.ResolvedTrees.{◌>>=◌, each, resolved_item, resolved_unit}
+use Rattle.edd_syntax.specs.ResolvedTrees.{◌>>=◌, meant_in, resolved_unit}
 use Rattle.edd_syntax.specs.WellFormed.{are_items}
 
 nothing_right : {A : Type 0} (xs ys : List A) → xs ++ ys ≡ [] → ys ≡ []
@@ -87,17 +90,22 @@ module _ (unit : Description Path) where
   no_fault none = sym (ap first_of (nothing_right (rules_before unit) (wrong_uses unit)
       (sym in_order ∙ none)))
 
-  meanings : (items : List (Item Target)) → IsTrue (are_items unit.items)
-      → NoFault unit (unit_uses unit) → Meant unit (unit_uses unit) (each (resolved_item unit) unit.items) items
-      → resolved_unit unit ≡ Some (description unit.identification items)
-  unfolding Means Meant resolved_unit
-  meanings items good none h = ap (λ o. o >>= (λ xs. Some (description unit.identification xs)))
-      (h none (all_named unit good none))
+  reads_same : AllMembersNamed unit → (us : List Use) → Every (λ u. faults_of_use unit u ≡ []) us
+      → Every (λ u. reading_of (read_in unit) u ≡ reading_of (meant_in unit) u) us
+  reads_same named [] h = tt
+  reads_same named (u ∷ us) h = (reads_as_meant unit u h.0 named, reads_same named us h.1)
 
-  pub is_meant : (items : List (Item Target)) → IsTrue (are_items unit.items)
-      → Meant unit (unit_uses unit) (each (resolved_item unit) unit.items) items
+  -- where no rule on names is broken, names are read as what they mean
+  pub is_meant : (items : List (Item Target)) → IsTrue (are_items unit.items) → IsRead unit items
       → IsMeant unit items
-  is_meant items good h = λ none. meanings items good (no_fault none) h
+  unfolding resolved_unit NoFault faults_in
+  is_meant items good h = λ none.
+      let fine = no_fault none in
+      ap (λ o. o >>= (λ xs. Some (description unit.identification xs)))
+      (sym (same_items (read_in unit) (meant_in unit) unit.items
+      (reads_same (all_named unit good fine) (unit_uses unit)
+      (all_fine unit (unit_uses unit) fine)))
+      ∙ h)
 
 -- the unit whose names were taken
 pub same_unit : (n : Names) (u : Unit) (xs : List (code_item.Item code_path.Path))

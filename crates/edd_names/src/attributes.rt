@@ -7,9 +7,10 @@ ghost use Rattle.edd_syntax.specs.NameUses.{attribute_uses, body_uses};
 ghost use Rattle.edd_syntax.specs.ResolvedTrees.{each, resolved_attribute, resolved_body};
 ghost use Rattle.edd_syntax.specs.Statement.{body_from, slots_in};
 ghost use Rattle.edd_syntax.specs.TreeView.{path_of, part_of, numbered_part};
-ghost use Rattle.edd_name_meanings.specs.Directory.{description_of};
+ghost use Rattle.edd_name_meanings.specs.Directory.{description_of, read_by};
 ghost use Rattle.edd_name_rules.specs.Spending.{locals_in};
-ghost use Rattle.edd_name_meanings.specs.Copies.{Copies, Told};
+ghost use Rattle.edd_name_meanings.specs.Copies.{Copies, Keeps, Told};
+ghost use Rattle.edd_name_meanings.specs.TokensIn.{tokens_in_attribute, tokens_in_part};
 ghost use Rattle.edd_name_meanings.specs.PathsIn.{paths_in_attribute, paths_in_attributes, paths_in_parts};
 
 use crate::braces::copy_parts;
@@ -46,16 +47,17 @@ fn copy_definition<'a>(
     ensures told { Told (description_of names.now)
         (body_uses (body_from (map (part_of path_of) parts.now)) [] 0)
         (paths_in_parts parts.now) told.old.items told.new.items result }
-    ensures sound { Copies (description_of names.now)
-        (body_uses (body_from (map (part_of path_of) parts.now)) [] 0)
-        (resolved_body (description_of names.now) (body_from (map (part_of path_of) parts.now)) []
-        0) (λ t. body_from (map numbered_part t.items)) result }
+    ensures sound { Copies (resolved_body (read_by names.now)
+        (body_from (map (part_of path_of) parts.now)) [] 0)
+        (λ t. body_from (map numbered_part t.items)) result }
+    ensures kept { Keeps (flat_map tokens_in_part parts.now) (λ t. flat_map tokens_in_part t.items)
+        result }
 {
     let mut next = 0;
     copy_body(parts, names, &[], &mut next, told)
 }
 
-#[tactic(auto, using(edd_name_meanings::proofs::UseLaws::uses), unfolding(edd_name_meanings::specs::Meanings::Means, edd_name_meanings::specs::Copies::Meant))]
+#[tactic(auto, using(edd_name_meanings::proofs::UseLaws::uses))]
 fn copy_attribute<'a>(
     attribute: &'a Attribute<Path>,
     item: &Item<Path>,
@@ -66,10 +68,9 @@ fn copy_attribute<'a>(
     ensures told { Told (description_of names.now)
         (attribute_uses (item_of path_of item.now).sort (attribute_of path_of attribute.now))
         (paths_in_attribute attribute.now) told.old.items told.new.items result }
-    ensures sound { Copies (description_of names.now)
-        (attribute_uses (item_of path_of item.now).sort (attribute_of path_of attribute.now))
-        (resolved_attribute (description_of names.now) (item_of path_of item.now).sort
+    ensures sound { Copies (resolved_attribute (read_by names.now) (item_of path_of item.now).sort
         (attribute_of path_of attribute.now)) numbered_attribute result }
+    ensures kept { Keeps (tokens_in_attribute attribute.now) tokens_in_attribute result }
 {
     match attribute {
         Attribute::OneText(at, which, c) => {
@@ -120,12 +121,13 @@ pub fn copy_attributes<'a>(
     requires { locals_in (map (attribute_of path_of) attributes.now) ≤ 64 }
     ensures told { Told (description_of names.now)
         (flat_map (attribute_uses (item_of path_of item.now).sort)
-        (map (attribute_of path_of) attributes.now)) (paths_in_attributes attributes.now) told.old.items told.new.items result }
-    ensures sound { Copies (description_of names.now)
-        (flat_map (attribute_uses (item_of path_of item.now).sort)
-        (map (attribute_of path_of) attributes.now))
-        (each (resolved_attribute (description_of names.now) (item_of path_of item.now).sort)
-        (map (attribute_of path_of) attributes.now)) (λ t. map numbered_attribute t.items) result }
+        (map (attribute_of path_of) attributes.now)) (paths_in_attributes attributes.now)
+        told.old.items told.new.items result }
+    ensures sound { Copies (each (resolved_attribute (read_by names.now)
+        (item_of path_of item.now).sort) (map (attribute_of path_of) attributes.now))
+        (λ t. map numbered_attribute t.items) result }
+    ensures kept { Keeps (flat_map tokens_in_attribute attributes.now)
+        (λ t. flat_map tokens_in_attribute t.items) result }
 {
     let mut copies = Vec::with_capacity(names.alloc, attributes.len())?;
     for attribute in attributes {

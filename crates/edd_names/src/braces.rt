@@ -3,20 +3,22 @@
 
 ghost use Rattle.std.specs.Prelude.{[], ◌∷◌, List, Option, map};
 ghost use Rattle.std.specs.List.{flat_map};
+ghost use Rattle.edd_name_meanings.specs.TokensIn.{token_of_element, token_of_member, tokens_in_transaction_part, tokens_in_type_part};
+ghost use Rattle.edd_syntax.specs.declared.numbers.TokenNo.{TokenNo};
 ghost use Rattle.edd_syntax.specs.declared.reference.Path as path;
 ghost use Rattle.edd_syntax.specs.declared.reference.Target as target;
 ghost use Rattle.edd_syntax.specs.Item as pure;
-ghost use Rattle.edd_syntax.specs.Item.{Description, ItemKind};
+ghost use Rattle.edd_syntax.specs.Item.{ItemKind};
 ghost use Rattle.edd_syntax.specs.ItemView.{item_of, type_part_of, transaction_part_of, array_element_of, member_of, numbered_array_element, numbered_member, numbered_transaction_part, numbered_type_part};
 ghost use Rattle.edd_syntax.specs.NameUses.{Use, OfItem, type_part_uses, transaction_part_uses};
 ghost use Rattle.edd_syntax.specs.Reference as reference;
 ghost use Rattle.edd_syntax.specs.ReferenceOrder.{element_references, member_references, transaction_part_references, type_part_references};
-ghost use Rattle.edd_syntax.specs.Resolution.{meaning, member_kinds};
-ghost use Rattle.edd_syntax.specs.ResolvedTrees.{each, resolved_type_part, resolved_transaction_part, resolved_member, resolved_element};
+ghost use Rattle.edd_syntax.specs.Resolution.{member_kinds};
+ghost use Rattle.edd_syntax.specs.ResolvedTrees.{Reading, each, resolved_type_part, resolved_transaction_part, resolved_member, resolved_element};
 ghost use Rattle.edd_syntax.specs.TreeView.{path_of};
-ghost use Rattle.edd_name_meanings.specs.Directory.{description_of};
+ghost use Rattle.edd_name_meanings.specs.Directory.{description_of, read_by};
 ghost use Rattle.edd_names.specs.MemberUses.{element_uses, member_uses};
-ghost use Rattle.edd_name_meanings.specs.Copies.{Copies, Told};
+ghost use Rattle.edd_name_meanings.specs.Copies.{Copies, Keeps, Told};
 
 use edd_breaches::Breach;
 use edd_expression_names::conditionals::{copy_cond, copy_conds};
@@ -48,10 +50,15 @@ pub trait ResolvePart {
 
     ghost paths: { Placed → List path.Path };
 
-    /// The uses of names in a part of an item of this kind, and what it means.
+    /// The tokens in a part, before and after.
+    ghost tokens: { Self → List TokenNo };
+
+    ghost copied_tokens: { Self.Out → List TokenNo };
+
+    /// The uses of names in a part of an item of this kind, and what it is read as.
     ghost uses: { ItemKind → Before → List Use };
 
-    ghost meant: { Description reference.Path → ItemKind → Before → Option After };
+    ghost meant: { Reading → ItemKind → Before → Option After };
 
     /// The part with the meaning of its names.
     fn copy<'a>(
@@ -63,10 +70,9 @@ pub trait ResolvePart {
         ensures told { Told (description_of names.now)
             (uses (item_of path_of item.now).sort (before self.now)) (paths (placed self.now))
             told.old.items told.new.items result }
-        ensures sound { Copies (description_of names.now)
-            (uses (item_of path_of item.now).sort (before self.now))
-            (meant (description_of names.now) (item_of path_of item.now).sort (before self.now))
-            after result };
+        ensures sound { Copies (meant (read_by names.now) (item_of path_of item.now).sort
+            (before self.now)) after result }
+        ensures kept { Keeps (tokens self.now) copied_tokens result };
 }
 
 /// The parts of an attribute of an item with the meaning of their names.
@@ -79,10 +85,10 @@ pub fn copy_parts<'a, P: ResolvePart>(
     ensures told { Told (description_of names.now)
         (flat_map (P.uses (item_of path_of item.now).sort) (map P.before parts.now))
         (flat_map P.paths (map P.placed parts.now)) told.old.items told.new.items result }
-    ensures sound { Copies (description_of names.now)
-        (flat_map (P.uses (item_of path_of item.now).sort) (map P.before parts.now))
-        (each (P.meant (description_of names.now) (item_of path_of item.now).sort)
+    ensures sound { Copies (each (P.meant (read_by names.now) (item_of path_of item.now).sort)
         (map P.before parts.now)) (λ t. map P.after t.items) result }
+    ensures kept { Keeps (flat_map P.tokens parts.now) (λ t. flat_map P.copied_tokens t.items)
+        result }
 {
     let mut copies = Vec::with_capacity(names.alloc, parts.len())?;
     for part in parts {
@@ -108,11 +114,15 @@ impl ResolvePart for TypePart<Path> {
 
     ghost paths = { type_part_references };
 
+    ghost tokens = { tokens_in_type_part };
+
+    ghost copied_tokens = { tokens_in_type_part };
+
     ghost uses = { λ sort. type_part_uses };
 
-    ghost meant = { λ unit sort. resolved_type_part unit };
+    ghost meant = { λ names sort. resolved_type_part names };
 
-    #[tactic(auto, using(edd_name_meanings::proofs::UseLaws::uses), unfolding(edd_name_meanings::specs::Meanings::Means, edd_name_meanings::specs::Copies::Meant))]
+    #[tactic(auto, using(edd_name_meanings::proofs::UseLaws::uses))]
     fn copy<'a>(
         &'a self,
         _item: &Item<Path>,
@@ -164,11 +174,15 @@ impl ResolvePart for TransactionPart<Path> {
 
     ghost paths = { transaction_part_references };
 
+    ghost tokens = { tokens_in_transaction_part };
+
+    ghost copied_tokens = { tokens_in_transaction_part };
+
     ghost uses = { λ sort. transaction_part_uses };
 
-    ghost meant = { λ unit sort. resolved_transaction_part unit };
+    ghost meant = { λ names sort. resolved_transaction_part names };
 
-    #[tactic(auto, using(edd_name_meanings::proofs::UseLaws::uses), unfolding(edd_name_meanings::specs::Meanings::Means, edd_name_meanings::specs::Copies::Meant))]
+    #[tactic(auto, using(edd_name_meanings::proofs::UseLaws::uses))]
     fn copy<'a>(
         &'a self,
         _item: &Item<Path>,
@@ -196,10 +210,8 @@ fn refer_member<'a>(
     ensures told { Told (description_of names.now)
         (OfItem [] (member_kinds (item_of path_of item.now).sort) (path_of path.now) ∷ [])
         (path.now ∷ []) told.old.items told.new.items result }
-    ensures sound { Copies (description_of names.now)
-        (OfItem [] (member_kinds (item_of path_of item.now).sort) (path_of path.now) ∷ [])
-        (meaning (description_of names.now) [] (member_kinds (item_of path_of item.now).sort)
-        (path_of path.now)) (λ t. t) result }
+    ensures sound { Copies ((read_by names.now).reference []
+        (member_kinds (item_of path_of item.now).sort) (path_of path.now)) (λ t. t) result }
 {
     match item {
         Item::Collection(d) => refer(names, &[], &[d.of], path, told),
@@ -225,11 +237,15 @@ impl ResolvePart for Member<Path> {
 
     ghost paths = { member_references };
 
+    ghost tokens = { token_of_member };
+
+    ghost copied_tokens = { token_of_member };
+
     ghost uses = { λ sort. member_uses (member_kinds sort) };
 
-    ghost meant = { λ unit sort. resolved_member unit (member_kinds sort) };
+    ghost meant = { λ names sort. resolved_member names (member_kinds sort) };
 
-    #[tactic(auto, using(edd_name_meanings::proofs::UseLaws::uses), unfolding(edd_name_meanings::specs::Meanings::Means, edd_name_meanings::specs::Copies::Meant))]
+    #[tactic(auto, using(edd_name_meanings::proofs::UseLaws::uses))]
     fn copy<'a>(
         &'a self,
         item: &Item<Path>,
@@ -263,11 +279,15 @@ impl ResolvePart for ArrayElement<Path> {
 
     ghost paths = { element_references };
 
+    ghost tokens = { token_of_element };
+
+    ghost copied_tokens = { token_of_element };
+
     ghost uses = { λ sort. element_uses };
 
-    ghost meant = { λ unit sort. resolved_element unit };
+    ghost meant = { λ names sort. resolved_element names };
 
-    #[tactic(auto, using(edd_name_meanings::proofs::UseLaws::uses), unfolding(edd_name_meanings::specs::Meanings::Means, edd_name_meanings::specs::Copies::Meant))]
+    #[tactic(auto, using(edd_name_meanings::proofs::UseLaws::uses))]
     fn copy<'a>(
         &'a self,
         _item: &Item<Path>,

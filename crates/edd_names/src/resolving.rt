@@ -8,7 +8,7 @@ ghost use Rattle.edd_syntax.specs.ItemView.{identification_of, numbered_items};
 ghost use Rattle.edd_syntax.specs.NameRules.{too_many};
 ghost use Rattle.edd_syntax.specs.Resolved.{description};
 ghost use Rattle.edd_syntax.specs.ResolvedTrees.{resolved_unit};
-ghost use Rattle.edd_names.specs.Told.{IsMeant, names_told, told_of_names};
+ghost use Rattle.edd_names.specs.Told.{AreAtTokens, IsMeant, IsRead, names_told, told_of_names};
 ghost use Rattle.edd_names.specs.Units.{unit_view};
 
 use crate::unit_items::copy_items;
@@ -21,10 +21,10 @@ use edd_syntax::resolved::Resolved;
 use edd_syntax::unit::Unit;
 use std::alloc::{AllocError, Global};
 
-/// All that breaks a rule on names, each at its token, and the items of the unit with the meaning of
-/// each name in its place, where no such rule is broken: else something stands for what a name does
-/// not mean. What there is too much of has no numbers: then it is not asked what names mean, and
-/// there are no items.
+/// All that breaks a rule on names, each at its token, and the items of the unit, at their tokens,
+/// with the meaning of each name in its place: of one that means nothing, an item of the first kind
+/// that may be there. What there is too much of has no numbers: then it is not asked what names
+/// mean, and there are no items.
 pub fn tell_names<'a>(
     alloc: Global,
     unit: &'a Unit,
@@ -36,6 +36,10 @@ pub fn tell_names<'a>(
         ++ told_of_names (unit_view unit.now) (is_some items)) }
     ensures counted { IfOk result (λ items. is_some items ≡ false
         → too_many (unit_view unit.now) ≡ [] → ⊥) }
+    ensures read { IfOk result (λ items. IfSome items
+        (λ v. IsRead (unit_view unit.now) (numbered_items v.items))) }
+    ensures kept { IfOk result (λ items. IfSome items
+        (λ v. AreAtTokens unit.now v.items)) }
     ensures sound { IfOk result (λ items. IfSome items
         (λ v. IsMeant (unit_view unit.now) (numbered_items v.items))) }
 {

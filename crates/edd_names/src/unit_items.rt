@@ -1,14 +1,15 @@
 //! The items of a unit with the meaning of their names.
 
-ghost use Rattle.std.specs.Prelude.{◌≡◌, false, map, nat_lt, string_bytes};
+ghost use Rattle.std.specs.Prelude.{◌≡◌, ◌∷◌, false, map, nat_lt, string_bytes};
 ghost use Rattle.std.specs.List.{flat_map, list_any};
 ghost use Rattle.edd_syntax.specs.ItemView.{item_of, numbered_attribute, numbered_item};
 ghost use Rattle.edd_syntax.specs.NameRules.{local_limit, locals_of};
 ghost use Rattle.edd_syntax.specs.NameUses.{item_uses};
 ghost use Rattle.edd_syntax.specs.ResolvedTrees.{each, resolved_item};
 ghost use Rattle.edd_syntax.specs.TreeView.{path_of};
-ghost use Rattle.edd_name_meanings.specs.Directory.{description_of};
-ghost use Rattle.edd_name_meanings.specs.Copies.{Copies, Told};
+ghost use Rattle.edd_name_meanings.specs.Directory.{description_of, read_by};
+ghost use Rattle.edd_name_meanings.specs.Copies.{Copies, Keeps, Told};
+ghost use Rattle.edd_name_meanings.specs.TokensIn.{token_of_item, tokens_in_attribute, tokens_in_item, tokens_in_items};
 ghost use Rattle.edd_name_meanings.specs.PathsIn.{paths_in_item, paths_in_items};
 
 use crate::attributes::copy_attributes;
@@ -26,6 +27,8 @@ fn like(item: &Item<Path>, name: String, attributes: Vec<Attribute<Target>>) -> 
     ensures name { (numbered_item result).name ≡ string_bytes name }
     ensures attributes { (numbered_item result).attributes
         ≡ map numbered_attribute attributes.items }
+    ensures kept { tokens_in_item result
+        ≡ token_of_item item.now ∷ flat_map tokens_in_attribute attributes.items }
 {
     match item {
         Item::Variable(d) => Item::Variable(VariableDef {
@@ -71,8 +74,9 @@ fn copy_item<'a>(
     requires { nat_lt local_limit (locals_of (item_of path_of item.now)) ≡ false }
     ensures told { Told (description_of names.now) (item_uses (item_of path_of item.now))
         (paths_in_item item.now) told.old.items told.new.items result }
-    ensures sound { Copies (description_of names.now) (item_uses (item_of path_of item.now))
-        (resolved_item (description_of names.now) (item_of path_of item.now)) numbered_item result }
+    ensures sound { Copies (resolved_item (read_by names.now) (item_of path_of item.now))
+        numbered_item result }
+    ensures kept { Keeps (tokens_in_item item.now) tokens_in_item result }
 {
     let attributes = copy_attributes(item.attributes(), item, names, told)?;
     let name = String::from_str(names.alloc, item.name())?;
@@ -90,10 +94,9 @@ pub fn copy_items<'a>(
     ensures told { Told (description_of names.now)
         (flat_map item_uses (map (item_of path_of) items.now))
         (paths_in_items items.now) told.old.items told.new.items result }
-    ensures sound { Copies (description_of names.now)
-        (flat_map item_uses (map (item_of path_of) items.now))
-        (each (resolved_item (description_of names.now)) (map (item_of path_of) items.now))
-        (λ t. map numbered_item t.items) result }
+    ensures sound { Copies (each (resolved_item (read_by names.now))
+        (map (item_of path_of) items.now)) (λ t. map numbered_item t.items) result }
+    ensures kept { Keeps (tokens_in_items items.now) (λ t. tokens_in_items t.items) result }
 {
     let mut copies = Vec::with_capacity(names.alloc, items.len())?;
     for item in items {

@@ -9,10 +9,9 @@ use Rattle.edd_syntax.specs.declared.stmt.Declarator as code
 use Rattle.edd_name_meanings.specs.PathsIn.{paths_in_declarators, paths_in_optional}
 use Rattle.edd_syntax.specs.declared.reference.Target.TheVariants.{Local}
 use Rattle.edd_syntax.specs.Reference.{Path}
-use Rattle.edd_syntax.specs.Item.{Description}
 use Rattle.edd_syntax.specs.NameUses.{Use, optional_uses, declarator_uses}
 use Rattle.edd_syntax.specs.Resolution.{Scope, declared, all_declared}
-use Rattle.edd_syntax.specs.ResolvedTrees.{◌>>=◌, at_scope, resolved_optional, resolved_declarators}
+use Rattle.edd_syntax.specs.ResolvedTrees.{◌>>=◌, Reading, at_scope, resolved_optional, resolved_declarators}
 use Rattle.edd_syntax.specs.Statement.{Declarator}
 
 -- the locals that can be used, and the next slot
@@ -39,18 +38,18 @@ pub paths_split : (d : code.Declarator code_path.Path) (ds : List (code.Declarat
     → paths_in_declarators (d ∷ ds) ≡ paths_here d ++ paths_in_declarators ds
 paths_split d ds = refl
 
-module _ (unit : Description Path) where
+module _ (names : Reading) where
   abbrev pub meant_here : State → Declarator Path → Option (Declarator Target)
-  meant_here s d = resolved_declarator unit s.0 s.1 d
+  meant_here s d = resolved_declarator names s.0 s.1 d
 
   abbrev pub meant_from : State → List (Declarator Path) → Option (List (Declarator Target))
-  meant_from s ds = resolved_declarators unit s.0 s.1 ds
+  meant_from s ds = resolved_declarators names s.0 s.1 ds
 
   pub declarators_joined : (s : State) (d : Declarator Path) (ds : List (Declarator Path))
       (w : Declarator Target) (ws : List (Declarator Target)) → meant_here s d ≡ Some w
       → meant_from (behind s d) ds ≡ Some ws → meant_from s (d ∷ ds) ≡ Some (w ∷ ws)
   declarators_joined s d ds w ws e f =
-      regroup (resolved_optional (at_scope unit s.0) d.value)
+      regroup (resolved_optional (at_scope names s.0) d.value)
       (λ v. record { place = Local s.1; value = v }) (λ z. meant_from (behind s d) ds
       >>= (λ zs. Some (z ∷ zs)))
       ∙ bound (meant_here s d) (meant_from (behind s d) ds) (λ z zs. z ∷ zs) w ws e f

@@ -1,2 +1,3 @@
 pub mod DeclaratorSteps
 pub mod StatementSteps
+pub mod TokenSteps

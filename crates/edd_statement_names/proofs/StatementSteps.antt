@@ -1,13 +1,12 @@
 -- The parts of a block, each of which may change the scope and the next slot.
-use Rattle.std.proofs.Common.{◌≡◌, refl, sym, ap, ◌∙◌, ℕ, zero, suc, ◌+◌, ◌*◌, ◌<◌, ◌≤◌, List, [], ◌∷◌, ◌++◌, length, get_or, drop, map, Option, Some, arith, subst}
+use Rattle.std.proofs.Common.{◌≡◌, refl, sym, ap, ◌∙◌, ℕ, zero, suc, ◌+◌, ◌*◌, ◌<◌, ◌≤◌, List, [], ◌∷◌, ◌++◌, length, get_or, drop, map, Option, Some, arith}
 use Rattle.std.specs.Prelude.{Vec}
 use Rattle.std.specs.declared.alloc.Global as alloc
 use Rattle.std.proofs.lemmas.List.{at_drop_more}
 use Rattle.edd_breaches.specs.declared.breach.Breach.{Breach}
-use Rattle.edd_name_meanings.specs.Meanings.{Means, NoFault}
-use Rattle.edd_name_meanings.specs.Copies.{Meant, Tells}
+use Rattle.edd_name_meanings.specs.Copies.{Tells}
 use Rattle.edd_name_meanings.specs.PathsIn.{paths_in_expr, paths_in_parts, paths_in_stmt}
-use Rattle.edd_name_meanings.proofs.UseLaws.{none_left, none_right, retold}
+use Rattle.edd_name_meanings.proofs.UseLaws.{retold}
 use Rattle.edd_statement_names.specs.ResolvedParts.{part_uses, paths_in_part, resolved_part, scope_behind, next_behind}
 use Rattle.edd_statement_names.proofs.DeclaratorSteps.{State}
 use Rattle.edd_expression_names.proofs.ExprSteps.{bound, regroup}
@@ -25,7 +24,7 @@ use Rattle.edd_syntax.specs.Item.{Description}
 use Rattle.edd_syntax.specs.NameUses.{Use, expr_uses, stmt_uses, body_uses}
 use Rattle.edd_syntax.specs.ReferenceOrder.{stmt_references}
 use Rattle.edd_syntax.specs.Resolution.{Scope}
-use Rattle.edd_syntax.specs.ResolvedTrees.{◌>>=◌, at_scope, resolved_expr, resolved_declarators, resolved_stmt, resolved_body}
+use Rattle.edd_syntax.specs.ResolvedTrees.{◌>>=◌, Reading, at_scope, resolved_expr, resolved_declarators, resolved_stmt, resolved_body}
 use Rattle.edd_syntax.specs.Size.{statement_nodes, body_nodes}
 use Rattle.edd_syntax.specs.Statement.{Block, Switch, Part, Declare, Statement, CaseLabel, DefaultLabel, Body, Cons, body_from, slots_of, slots_in}
 use Rattle.edd_syntax.specs.TreeView.{path_of, expr_of, stmt_of, part_of, numbered_expr, numbered_part, numbered_stmt}
@@ -54,20 +53,20 @@ paths_split (part.Statement t) ps = refl
 paths_split (part.CaseLabel at label) ps = refl
 paths_split (part.DefaultLabel at) ps = refl
 
-module _ (unit : Description Path) where
+module _ (names : Reading) where
   abbrev pub meant_here : State → Part Path → Option (Part Target)
-  meant_here s p = resolved_part unit s.0 s.1 p
+  meant_here s p = resolved_part names s.0 s.1 p
 
   abbrev pub meant_from : State → List (Part Path) → Option (Body Target)
-  meant_from s ps = resolved_body unit (body_from ps) s.0 s.1
+  meant_from s ps = resolved_body names (body_from ps) s.0 s.1
 
   first_then : (s : State) (p : Part Path) (ps : List (Part Path)) → meant_from s (p ∷ ps)
       ≡ (meant_here s p >>= (λ w. meant_from (behind s p) ps >>= (λ r. Some (Cons w r))))
   unfolding resolved_stmt
-  first_then s (Declare declarators) ps = regroup (resolved_declarators unit s.0 s.1 declarators)
+  first_then s (Declare declarators) ps = regroup (resolved_declarators names s.0 s.1 declarators)
       (λ x. Declare x) (λ w. meant_from (behind s (Declare declarators)) ps
       >>= (λ r. Some (Cons w r)))
-  first_then s (Statement t) ps = regroup (resolved_stmt unit t s.0 s.1) (λ x. Statement x)
+  first_then s (Statement t) ps = regroup (resolved_stmt names t s.0 s.1) (λ x. Statement x)
       (λ w. meant_from (behind s (Statement t)) ps >>= (λ r. Some (Cons w r)))
   first_then s (CaseLabel label) ps = refl
   first_then s DefaultLabel ps = refl
@@ -139,15 +138,13 @@ module _ (unit : Description Path) (x : code.Stmt code_path.Path)
         retold unit _ _ _ _ old new (ap (λ t. stmt_uses t scope n) (sym block))
         (ap stmt_references (sym (blocked (λ r. r)))) h
 
-    pub block_means : (scope : Scope) (n : ℕ) (w : Vec (code_part.Part Target) alloc.Global)
-        → Meant unit (body_uses listed scope n) (resolved_body unit listed scope n)
-        (body_from (map numbered_part w.items))
-        → Meant unit (stmt_uses (stmt_of path_of x) scope n)
-        (resolved_stmt unit (stmt_of path_of x) scope n) (numbered_stmt (s.Block w))
-    unfolding Means Meant resolved_stmt
-    block_means scope n w h = λ none known.
-        ap (λ t. resolved_stmt unit t scope n) block ∙ ap (λ o. o >>= (λ b. Some (Block b)))
-        (h (subst (λ t. NoFault unit (stmt_uses t scope n)) block none) known)
+    pub block_means : (names : Reading) (scope : Scope) (n : ℕ)
+        (w : Vec (code_part.Part Target) alloc.Global)
+        → resolved_body names listed scope n ≡ Some (body_from (map numbered_part w.items))
+        → resolved_stmt names (stmt_of path_of x) scope n ≡ Some (numbered_stmt (s.Block w))
+    unfolding resolved_stmt
+    block_means names scope n w h =
+        ap (λ t. resolved_stmt names t scope n) block ∙ ap (λ o. o >>= (λ b. Some (Block b))) h
         ∙ ap (λ t. Some t) (sym (block_is (λ r. r) (s.Block w) w refl))
 
   module _ (on : code_expr.Expr code_path.Path) (is : x ≡ s.Switch on v) where
@@ -171,22 +168,16 @@ module _ (unit : Description Path) (x : code.Stmt code_path.Path)
         retold unit _ _ _ _ old new (ap (λ t. stmt_uses t scope n) (sym switch))
         (ap stmt_references (sym (switched (λ r. r)))) h
 
-    pub switch_means : (scope : Scope) (n : ℕ) (on' : code_expr.Expr Target)
+    pub switch_means : (names : Reading) (scope : Scope) (n : ℕ) (on' : code_expr.Expr Target)
         (w : Vec (code_part.Part Target) alloc.Global)
-        → Meant unit (expr_uses scope (expr_of path_of on))
-        (resolved_expr (at_scope unit scope) (expr_of path_of on)) (numbered_expr on')
-        → Meant unit (body_uses listed scope n) (resolved_body unit listed scope n)
-        (body_from (map numbered_part w.items))
-        → Meant unit (stmt_uses (stmt_of path_of x) scope n)
-        (resolved_stmt unit (stmt_of path_of x) scope n) (numbered_stmt (s.Switch on' w))
-    unfolding Means Meant resolved_stmt
-    switch_means scope n on' w h k = λ none known.
-        let fine = subst (λ t. NoFault unit (stmt_uses t scope n)) switch none in
-        ap (λ t. resolved_stmt unit t scope n) switch
-        ∙ bound (resolved_expr (at_scope unit scope) (expr_of path_of on))
-        (resolved_body unit listed scope n) (λ o b. Switch o b) (numbered_expr on') _
-        (h (none_left unit (expr_uses scope (expr_of path_of on)) _ fine) known)
-        (k (none_right unit (expr_uses scope (expr_of path_of on)) _ fine) known)
+        → resolved_expr (at_scope names scope) (expr_of path_of on) ≡ Some (numbered_expr on')
+        → resolved_body names listed scope n ≡ Some (body_from (map numbered_part w.items))
+        → resolved_stmt names (stmt_of path_of x) scope n ≡ Some (numbered_stmt (s.Switch on' w))
+    unfolding resolved_stmt
+    switch_means names scope n on' w h k =
+        ap (λ t. resolved_stmt names t scope n) switch
+        ∙ bound (resolved_expr (at_scope names scope) (expr_of path_of on))
+        (resolved_body names listed scope n) (λ o b. Switch o b) (numbered_expr on') _ h k
         ∙ ap (λ t. Some t) (sym (switch_is (λ r. r) (s.Switch on' w) on' w refl))
 
 -- ---- what is inside a statement has fewer nodes than it

@@ -1,6 +1,5 @@
 -- The parts of statements with the meaning of their names.
 use Rattle.std.specs.Prelude.{ℕ, ◌+◌, List, [], length, Option, Some}
-use Rattle.edd_syntax.specs.Item.{Description}
 use Rattle.edd_syntax.specs.Resolution.{Scope, all_declared}
 use Rattle.edd_syntax.specs.Statement.{Declarator, Part, Declare, Statement, CaseLabel, DefaultLabel, slots_of}
 use Rattle.edd_syntax.specs.declared.reference.Target.TheVariants.{Local}
@@ -11,13 +10,13 @@ use Rattle.edd_syntax.specs.declared.reference.Target.{Target}
 use Rattle.edd_syntax.specs.declared.stmt.Part as code_part
 use Rattle.edd_syntax.specs.declared.stmt.Part.TheVariants as part
 use Rattle.edd_name_meanings.specs.PathsIn.{paths_in_declarators, paths_in_stmt}
-use Rattle.edd_syntax.specs.ResolvedTrees.{◌>>=◌, at_scope, resolved_optional, resolved_declarators, resolved_stmt}
+use Rattle.edd_syntax.specs.ResolvedTrees.{◌>>=◌, Reading, at_scope, resolved_optional, resolved_declarators, resolved_stmt}
 
 -- a declarator whose slot is `next`
-abbrev pub resolved_declarator : Description Path → Scope → (next : ℕ) → Declarator Path
+abbrev pub resolved_declarator : Reading → Scope → (next : ℕ) → Declarator Path
     → Option (Declarator Target)
-resolved_declarator unit scope next d = do
-  value ← resolved_optional (at_scope unit scope) d.value
+resolved_declarator names scope next d = do
+  value ← resolved_optional (at_scope names scope) d.value
   Some (record { place = Local next; value = value })
 
 -- ---- a part of a block, where `next` is the slot of the next declarator
@@ -37,15 +36,15 @@ paths_in_part (part.CaseLabel at label) = []
 paths_in_part (part.DefaultLabel at) = []
 
 -- the part with the meaning of its names, if each has one
-abbrev pub resolved_part : Description Path → Scope → (next : ℕ) → Part Path → Option (Part Target)
-resolved_part unit scope next (Declare declarators) = do
-  declarators' ← resolved_declarators unit scope next declarators
+abbrev pub resolved_part : Reading → Scope → (next : ℕ) → Part Path → Option (Part Target)
+resolved_part names scope next (Declare declarators) = do
+  declarators' ← resolved_declarators names scope next declarators
   Some (Declare declarators')
-resolved_part unit scope next (Statement s) = do
-  s' ← resolved_stmt unit s scope next
+resolved_part names scope next (Statement s) = do
+  s' ← resolved_stmt names s scope next
   Some (Statement s')
-resolved_part unit scope next (CaseLabel label) = Some (CaseLabel label)
-resolved_part unit scope next DefaultLabel = Some DefaultLabel
+resolved_part names scope next (CaseLabel label) = Some (CaseLabel label)
+resolved_part names scope next DefaultLabel = Some DefaultLabel
 
 -- the locals that can be used after it
 abbrev pub scope_behind : Scope → (next : ℕ) → Part Path → Scope

@@ -1,14 +1,16 @@
 //! Declared locals with the meaning of the names in their values.
 
 ghost use Rattle.std.specs.Prelude.{◌≡◌, ◌+◌, ◌<◌, ◌≤◌, OnOk, length, map, option_map};
+ghost use Rattle.std.specs.List.{flat_map};
 ghost use Rattle.edd_syntax.specs.NameUses.{optional_uses, declarator_uses};
 ghost use Rattle.edd_syntax.specs.Resolution.{all_declared, declared};
 ghost use Rattle.edd_syntax.specs.ResolvedTrees.{at_scope, resolved_optional, resolved_declarators};
 ghost use Rattle.edd_syntax.specs.TreeView.{path_of, expr_of, declarator_of, numbered_declarator, numbered_expr};
-ghost use Rattle.edd_name_meanings.specs.Directory.{description_of};
+ghost use Rattle.edd_name_meanings.specs.Directory.{description_of, read_by};
 ghost use Rattle.edd_name_meanings.specs.Meanings.{scope_of};
 ghost use Rattle.edd_statement_names.specs.ResolvedParts.{resolved_declarator};
-ghost use Rattle.edd_name_meanings.specs.Copies.{Copies, Told};
+ghost use Rattle.edd_name_meanings.specs.Copies.{Copies, Keeps, Told};
+ghost use Rattle.edd_name_meanings.specs.TokensIn.{tokens_in_declarator, tokens_in_optional};
 ghost use Rattle.edd_name_meanings.specs.PathsIn.{paths_in_declarators, paths_in_optional};
 
 use edd_breaches::Breach;
@@ -21,7 +23,7 @@ use edd_syntax::stmt::Declarator;
 use std::alloc::AllocError;
 
 /// An expression that may be missing, with the meaning of its names.
-#[tactic(auto, using(edd_name_meanings::proofs::UseLaws::uses), unfolding(edd_name_meanings::specs::Meanings::Means, edd_name_meanings::specs::Copies::Meant))]
+#[tactic(auto, using(edd_name_meanings::proofs::UseLaws::uses))]
 pub fn copy_optional<'a>(
     e: &'a Option<Expr<Path>>,
     names: &Names,
@@ -31,10 +33,9 @@ pub fn copy_optional<'a>(
     ensures told { Told (description_of names.now)
         (optional_uses (scope_of scope.now) (option_map (expr_of path_of) e.now))
         (paths_in_optional e.now) told.old.items told.new.items result }
-    ensures sound { Copies (description_of names.now)
-        (optional_uses (scope_of scope.now) (option_map (expr_of path_of) e.now))
-        (resolved_optional (at_scope (description_of names.now) (scope_of scope.now))
+    ensures sound { Copies (resolved_optional (at_scope (read_by names.now) (scope_of scope.now))
         (option_map (expr_of path_of) e.now)) (option_map numbered_expr) result }
+    ensures kept { Keeps (tokens_in_optional e.now) tokens_in_optional result }
 {
     match e {
         Some(e) => Ok(Some(copy_expr(e, names, scope, told)?)),
@@ -58,7 +59,7 @@ pub fn declare<'a>(scope: &mut Vec<Local<'a>>, place: &'a Path, slot: u8) -> Res
     Ok(())
 }
 
-#[tactic(auto, using(edd_name_meanings::proofs::UseLaws::uses), unfolding(edd_name_meanings::specs::Meanings::Means, edd_name_meanings::specs::Copies::Meant))]
+#[tactic(auto, using(edd_name_meanings::proofs::UseLaws::uses))]
 fn copy_declarator<'a>(
     declarator: &'a Declarator<Path>,
     names: &Names,
@@ -69,10 +70,9 @@ fn copy_declarator<'a>(
     ensures told { Told (description_of names.now)
         (optional_uses (scope_of scope.now) (declarator_of path_of declarator.now).value)
         (paths_in_optional declarator.now.value) told.old.items told.new.items result }
-    ensures sound { Copies (description_of names.now)
-        (optional_uses (scope_of scope.now) (declarator_of path_of declarator.now).value)
-        (resolved_declarator (description_of names.now) (scope_of scope.now) slot
+    ensures sound { Copies (resolved_declarator (read_by names.now) (scope_of scope.now) slot
         (declarator_of path_of declarator.now)) numbered_declarator result }
+    ensures kept { Keeps (tokens_in_declarator declarator.now) tokens_in_declarator result }
 {
     let value = copy_optional(&declarator.value, names, scope, told)?;
     Ok(Declarator {
@@ -95,10 +95,9 @@ fn copy_next<'a>(
     ensures told { Told (description_of names.now)
         (optional_uses (scope_of scope.old.items) (declarator_of path_of declarator.now).value)
         (paths_in_optional declarator.now.value) told.old.items told.new.items result }
-    ensures sound { Copies (description_of names.now)
-        (optional_uses (scope_of scope.old.items) (declarator_of path_of declarator.now).value)
-        (resolved_declarator (description_of names.now) (scope_of scope.old.items) next.old
-        (declarator_of path_of declarator.now)) numbered_declarator result }
+    ensures sound { Copies (resolved_declarator (read_by names.now) (scope_of scope.old.items)
+        next.old (declarator_of path_of declarator.now)) numbered_declarator result }
+    ensures kept { Keeps (tokens_in_declarator declarator.now) tokens_in_declarator result }
     ensures scope { OnOk result (scope_of scope.new.items
         ≡ declared (declarator_of path_of declarator.now).place next.old
         (scope_of scope.old.items)) }
@@ -123,13 +122,13 @@ pub fn copy_declarators<'a>(
     requires { next.old + length declarators.now ≤ 64 }
     ensures told { Told (description_of names.now)
         (declarator_uses (scope_of scope.old.items) next.old
-        (map (declarator_of path_of) declarators.now)) (paths_in_declarators declarators.now) told.old.items told.new.items result }
-    ensures sound { Copies (description_of names.now)
-        (declarator_uses (scope_of scope.old.items) next.old
-        (map (declarator_of path_of) declarators.now))
-        (resolved_declarators (description_of names.now) (scope_of scope.old.items) next.old
-        (map (declarator_of path_of) declarators.now))
+        (map (declarator_of path_of) declarators.now)) (paths_in_declarators declarators.now)
+        told.old.items told.new.items result }
+    ensures sound { Copies (resolved_declarators (read_by names.now) (scope_of scope.old.items)
+        next.old (map (declarator_of path_of) declarators.now))
         (λ copies. map numbered_declarator copies.items) result }
+    ensures kept { Keeps (flat_map tokens_in_declarator declarators.now)
+        (λ copies. flat_map tokens_in_declarator copies.items) result }
     ensures scope { OnOk result (scope_of scope.new.items ≡ all_declared (scope_of scope.old.items)
         next.old (map (declarator_of path_of) declarators.now)) }
     ensures next { OnOk result (next.new ≡ next.old + length declarators.now) }

@@ -1,14 +1,16 @@
 //! Statements with the meaning of their names.
 
 ghost use Rattle.std.specs.Prelude.{◌≡◌, ◌+◌, ◌≤◌, ◌++◌, [], ◌∷◌, IfOk, OnOk, map, option_map};
+ghost use Rattle.std.specs.List.{flat_map};
 ghost use Rattle.edd_syntax.specs.NameUses.{expr_uses, optional_uses, stmt_uses, body_uses};
 ghost use Rattle.edd_syntax.specs.ResolvedTrees.{at_scope, resolved_expr, resolved_optional, resolved_stmt, resolved_body};
 ghost use Rattle.edd_syntax.specs.Statement.{body_from, slots_of, slots_in};
 ghost use Rattle.edd_syntax.specs.TreeView.{path_of, expr_of, stmt_of, part_of, numbered_expr, numbered_part, numbered_stmt};
-ghost use Rattle.edd_name_meanings.specs.Directory.{description_of};
+ghost use Rattle.edd_name_meanings.specs.Directory.{description_of, read_by};
 ghost use Rattle.edd_name_meanings.specs.Meanings.{scope_of};
 ghost use Rattle.edd_statement_names.specs.ResolvedParts.{part_uses, paths_in_part, resolved_part, scope_behind, next_behind};
-ghost use Rattle.edd_name_meanings.specs.Copies.{Copies, Told};
+ghost use Rattle.edd_name_meanings.specs.Copies.{Copies, Keeps, Told};
+ghost use Rattle.edd_name_meanings.specs.TokensIn.{tokens_in_expr, tokens_in_optional, tokens_in_part, tokens_in_stmt};
 ghost use Rattle.edd_name_meanings.specs.PathsIn.{paths_in_expr, paths_in_optional, paths_in_parts, paths_in_stmt};
 
 use crate::declarators::{copy_declarators, copy_optional};
@@ -30,7 +32,7 @@ fn inner_scope<'a>(scope: &[Local<'a>], alloc: Global) -> Result<Vec<Local<'a>>,
 
 /// A statement with the meaning of its names. Each of its locals takes the next slot.
 #[cycle(statements)]
-#[tactic(auto, using(edd_name_meanings::proofs::UseLaws::uses), unfolding(edd_name_meanings::specs::Copies::Meant, edd_name_meanings::specs::Meanings::Means, edd_syntax::specs::ResolvedTrees::resolved_stmt, edd_syntax::specs::Statement::slots_of))]
+#[tactic(auto, using(edd_name_meanings::proofs::UseLaws::uses), unfolding(edd_syntax::specs::ResolvedTrees::resolved_stmt, edd_syntax::specs::Statement::slots_of))]
 fn copy_stmt<'a>(
     s: &'a Stmt<Path>,
     names: &Names,
@@ -42,10 +44,9 @@ fn copy_stmt<'a>(
     ensures told { Told (description_of names.now)
         (stmt_uses (stmt_of path_of s.now) (scope_of scope.now) next.old)
         (paths_in_stmt s.now) told.old.items told.new.items result }
-    ensures sound { Copies (description_of names.now)
-        (stmt_uses (stmt_of path_of s.now) (scope_of scope.now) next.old)
-        (resolved_stmt (description_of names.now) (stmt_of path_of s.now) (scope_of scope.now)
-        next.old) numbered_stmt result }
+    ensures sound { Copies (resolved_stmt (read_by names.now) (stmt_of path_of s.now)
+        (scope_of scope.now) next.old) numbered_stmt result }
+    ensures kept { Keeps (tokens_in_stmt s.now) tokens_in_stmt result }
     ensures next { OnOk result (next.new ≡ next.old + slots_of (stmt_of path_of s.now)) }
 {
     match s {
@@ -110,10 +111,9 @@ fn copy_boxed<'a>(
     ensures told { Told (description_of names.now)
         (stmt_uses (stmt_of path_of s.now) (scope_of scope.now) next.old)
         (paths_in_stmt s.now) told.old.items told.new.items result }
-    ensures sound { Copies (description_of names.now)
-        (stmt_uses (stmt_of path_of s.now) (scope_of scope.now) next.old)
-        (resolved_stmt (description_of names.now) (stmt_of path_of s.now) (scope_of scope.now)
-        next.old) (λ t. numbered_stmt t.value) result }
+    ensures sound { Copies (resolved_stmt (read_by names.now) (stmt_of path_of s.now)
+        (scope_of scope.now) next.old) (λ t. numbered_stmt t.value) result }
+    ensures kept { Keeps (tokens_in_stmt s.now) (λ t. tokens_in_stmt t.value) result }
     ensures next { OnOk result (next.new ≡ next.old + slots_of (stmt_of path_of s.now)) }
 {
     let copy = copy_stmt(s, names, scope, next, told)?;
@@ -135,15 +135,14 @@ fn copy_guarded<'a>(
     ensures told { Told (description_of names.now)
         (expr_uses (scope_of scope.now) (expr_of path_of condition.now)
         ++ stmt_uses (stmt_of path_of body.now) (scope_of scope.now) next.old)
-        (paths_in_expr condition.now ++ paths_in_stmt body.now) told.old.items told.new.items result }
-    ensures condition { Copies (description_of names.now)
-        (expr_uses (scope_of scope.now) (expr_of path_of condition.now))
-        (resolved_expr (at_scope (description_of names.now) (scope_of scope.now))
+        (paths_in_expr condition.now ++ paths_in_stmt body.now) told.old.items told.new.items
+        result }
+    ensures condition { Copies (resolved_expr (at_scope (read_by names.now) (scope_of scope.now))
         (expr_of path_of condition.now)) (λ t. numbered_expr t.0) result }
-    ensures body { Copies (description_of names.now)
-        (stmt_uses (stmt_of path_of body.now) (scope_of scope.now) next.old)
-        (resolved_stmt (description_of names.now) (stmt_of path_of body.now) (scope_of scope.now)
-        next.old) (λ t. numbered_stmt t.1.value) result }
+    ensures body { Copies (resolved_stmt (read_by names.now) (stmt_of path_of body.now)
+        (scope_of scope.now) next.old) (λ t. numbered_stmt t.1.value) result }
+    ensures kept { Keeps (tokens_in_expr condition.now ++ tokens_in_stmt body.now)
+        (λ t. tokens_in_expr t.0 ++ tokens_in_stmt t.1.value) result }
     ensures next { OnOk result (next.new ≡ next.old + slots_of (stmt_of path_of body.now)) }
 {
     let condition = copy_expr(condition, names, scope, told)?;
@@ -170,20 +169,18 @@ fn copy_choice<'a>(
         ++ (stmt_uses (stmt_of path_of first.now) (scope_of scope.now) next.old
         ++ stmt_uses (stmt_of path_of otherwise.now) (scope_of scope.now)
         (next.old + slots_of (stmt_of path_of first.now))))
-        (paths_in_expr condition.now ++ (paths_in_stmt first.now ++ paths_in_stmt otherwise.now)) told.old.items told.new.items result }
-    ensures condition { Copies (description_of names.now)
-        (expr_uses (scope_of scope.now) (expr_of path_of condition.now))
-        (resolved_expr (at_scope (description_of names.now) (scope_of scope.now))
+        (paths_in_expr condition.now ++ (paths_in_stmt first.now ++ paths_in_stmt otherwise.now))
+        told.old.items told.new.items result }
+    ensures condition { Copies (resolved_expr (at_scope (read_by names.now) (scope_of scope.now))
         (expr_of path_of condition.now)) (λ t. numbered_expr t.0) result }
-    ensures first { Copies (description_of names.now)
-        (stmt_uses (stmt_of path_of first.now) (scope_of scope.now) next.old)
-        (resolved_stmt (description_of names.now) (stmt_of path_of first.now) (scope_of scope.now)
-        next.old) (λ t. numbered_stmt t.1.value) result }
-    ensures otherwise { Copies (description_of names.now)
-        (stmt_uses (stmt_of path_of otherwise.now) (scope_of scope.now) (next.old
-        + slots_of (stmt_of path_of first.now)))
-        (resolved_stmt (description_of names.now) (stmt_of path_of otherwise.now) (scope_of scope.now)
-        (next.old + slots_of (stmt_of path_of first.now))) (λ t. numbered_stmt t.2.value) result }
+    ensures first { Copies (resolved_stmt (read_by names.now) (stmt_of path_of first.now)
+        (scope_of scope.now) next.old) (λ t. numbered_stmt t.1.value) result }
+    ensures otherwise { Copies (resolved_stmt (read_by names.now) (stmt_of path_of otherwise.now)
+        (scope_of scope.now) (next.old + slots_of (stmt_of path_of first.now)))
+        (λ t. numbered_stmt t.2.value) result }
+    ensures kept { Keeps (tokens_in_expr condition.now ++
+        (tokens_in_stmt first.now ++ tokens_in_stmt otherwise.now))
+        (λ t. tokens_in_expr t.0 ++ (tokens_in_stmt t.1.value ++ tokens_in_stmt t.2.value)) result }
     ensures next { OnOk result (next.new ≡ next.old
         + (slots_of (stmt_of path_of first.now) + slots_of (stmt_of path_of otherwise.now))) }
 {
@@ -208,15 +205,14 @@ fn copy_repeated<'a>(
     ensures told { Told (description_of names.now)
         (stmt_uses (stmt_of path_of body.now) (scope_of scope.now) next.old
         ++ expr_uses (scope_of scope.now) (expr_of path_of condition.now))
-        (paths_in_stmt body.now ++ paths_in_expr condition.now) told.old.items told.new.items result }
-    ensures body { Copies (description_of names.now)
-        (stmt_uses (stmt_of path_of body.now) (scope_of scope.now) next.old)
-        (resolved_stmt (description_of names.now) (stmt_of path_of body.now) (scope_of scope.now)
-        next.old) (λ t. numbered_stmt t.0.value) result }
-    ensures condition { Copies (description_of names.now)
-        (expr_uses (scope_of scope.now) (expr_of path_of condition.now))
-        (resolved_expr (at_scope (description_of names.now) (scope_of scope.now))
+        (paths_in_stmt body.now ++ paths_in_expr condition.now) told.old.items told.new.items
+        result }
+    ensures body { Copies (resolved_stmt (read_by names.now) (stmt_of path_of body.now)
+        (scope_of scope.now) next.old) (λ t. numbered_stmt t.0.value) result }
+    ensures condition { Copies (resolved_expr (at_scope (read_by names.now) (scope_of scope.now))
         (expr_of path_of condition.now)) (λ t. numbered_expr t.1) result }
+    ensures kept { Keeps (tokens_in_stmt body.now ++ tokens_in_expr condition.now)
+        (λ t. tokens_in_stmt t.0.value ++ tokens_in_expr t.1) result }
     ensures next { OnOk result (next.new ≡ next.old + slots_of (stmt_of path_of body.now)) }
 {
     let body = copy_boxed(body, names, scope, next, told)?;
@@ -250,23 +246,22 @@ fn copy_looped<'a>(
         ++ (optional_uses (scope_of scope.now) (option_map (expr_of path_of) condition.now)
         ++ (optional_uses (scope_of scope.now) (option_map (expr_of path_of) update.now)
         ++ stmt_uses (stmt_of path_of body.now) (scope_of scope.now) next.old)))
-        (paths_in_optional initial.now ++ (paths_in_optional condition.now ++ (paths_in_optional update.now ++ paths_in_stmt body.now))) told.old.items told.new.items result }
-    ensures initial { Copies (description_of names.now)
-        (optional_uses (scope_of scope.now) (option_map (expr_of path_of) initial.now))
-        (resolved_optional (at_scope (description_of names.now) (scope_of scope.now))
+        (paths_in_optional initial.now ++ (paths_in_optional condition.now ++
+        (paths_in_optional update.now ++ paths_in_stmt body.now))) told.old.items told.new.items
+        result }
+    ensures initial { Copies (resolved_optional (at_scope (read_by names.now) (scope_of scope.now))
         (option_map (expr_of path_of) initial.now)) (λ t. option_map numbered_expr t.0) result }
-    ensures condition { Copies (description_of names.now)
-        (optional_uses (scope_of scope.now) (option_map (expr_of path_of) condition.now))
-        (resolved_optional (at_scope (description_of names.now) (scope_of scope.now))
+    ensures condition { Copies (resolved_optional
+        (at_scope (read_by names.now) (scope_of scope.now))
         (option_map (expr_of path_of) condition.now)) (λ t. option_map numbered_expr t.1) result }
-    ensures update { Copies (description_of names.now)
-        (optional_uses (scope_of scope.now) (option_map (expr_of path_of) update.now))
-        (resolved_optional (at_scope (description_of names.now) (scope_of scope.now))
+    ensures update { Copies (resolved_optional (at_scope (read_by names.now) (scope_of scope.now))
         (option_map (expr_of path_of) update.now)) (λ t. option_map numbered_expr t.2) result }
-    ensures body { Copies (description_of names.now)
-        (stmt_uses (stmt_of path_of body.now) (scope_of scope.now) next.old)
-        (resolved_stmt (description_of names.now) (stmt_of path_of body.now) (scope_of scope.now)
-        next.old) (λ t. numbered_stmt t.3.value) result }
+    ensures body { Copies (resolved_stmt (read_by names.now) (stmt_of path_of body.now)
+        (scope_of scope.now) next.old) (λ t. numbered_stmt t.3.value) result }
+    ensures kept { Keeps (tokens_in_optional initial.now ++
+        (tokens_in_optional condition.now ++ (tokens_in_optional update.now ++ tokens_in_stmt
+        body.now))) (λ t. tokens_in_optional t.0 ++
+        (tokens_in_optional t.1 ++ (tokens_in_optional t.2 ++ tokens_in_stmt t.3.value))) result }
     ensures next { OnOk result (next.new ≡ next.old + slots_of (stmt_of path_of body.now)) }
 {
     let initial = copy_optional(initial, names, scope, told)?;
@@ -292,14 +287,13 @@ fn copy_switched<'a>(
         (expr_uses (scope_of scope.now) (expr_of path_of on.now)
         ++ body_uses (body_from (map (part_of path_of) parts.now)) (scope_of scope.now) next.old)
         (paths_in_expr on.now ++ paths_in_parts parts.now) told.old.items told.new.items result }
-    ensures on { Copies (description_of names.now)
-        (expr_uses (scope_of scope.now) (expr_of path_of on.now))
-        (resolved_expr (at_scope (description_of names.now) (scope_of scope.now))
+    ensures on { Copies (resolved_expr (at_scope (read_by names.now) (scope_of scope.now))
         (expr_of path_of on.now)) (λ t. numbered_expr t.0) result }
-    ensures parts { Copies (description_of names.now)
-        (body_uses (body_from (map (part_of path_of) parts.now)) (scope_of scope.now) next.old)
-        (resolved_body (description_of names.now) (body_from (map (part_of path_of) parts.now))
-        (scope_of scope.now) next.old) (λ t. body_from (map numbered_part t.1.items)) result }
+    ensures parts { Copies (resolved_body (read_by names.now)
+        (body_from (map (part_of path_of) parts.now)) (scope_of scope.now) next.old)
+        (λ t. body_from (map numbered_part t.1.items)) result }
+    ensures kept { Keeps (tokens_in_expr on.now ++ flat_map tokens_in_part parts.now)
+        (λ t. tokens_in_expr t.0 ++ flat_map tokens_in_part t.1.items) result }
     ensures next { OnOk result (next.new ≡ next.old
         + slots_in (body_from (map (part_of path_of) parts.now))) }
 {
@@ -322,10 +316,11 @@ pub fn copy_body<'a>(
     ensures told { Told (description_of names.now)
         (body_uses (body_from (map (part_of path_of) parts.now)) (scope_of scope.now) next.old)
         (paths_in_parts parts.now) told.old.items told.new.items result }
-    ensures sound { Copies (description_of names.now)
-        (body_uses (body_from (map (part_of path_of) parts.now)) (scope_of scope.now) next.old)
-        (resolved_body (description_of names.now) (body_from (map (part_of path_of) parts.now))
-        (scope_of scope.now) next.old) (λ t. body_from (map numbered_part t.items)) result }
+    ensures sound { Copies (resolved_body (read_by names.now)
+        (body_from (map (part_of path_of) parts.now)) (scope_of scope.now) next.old)
+        (λ t. body_from (map numbered_part t.items)) result }
+    ensures kept { Keeps (flat_map tokens_in_part parts.now) (λ t. flat_map tokens_in_part t.items)
+        result }
     ensures next { OnOk result (next.new ≡ next.old
         + slots_in (body_from (map (part_of path_of) parts.now))) }
 {
@@ -339,7 +334,7 @@ pub fn copy_body<'a>(
 
 // A part of a block, with the scope and the next slot after it.
 #[cycle(statements)]
-#[tactic(auto, using(edd_name_meanings::proofs::UseLaws::uses), unfolding(edd_name_meanings::specs::Meanings::Means, edd_name_meanings::specs::Copies::Meant, edd_syntax::specs::Statement::slots_of))]
+#[tactic(auto, using(edd_name_meanings::proofs::UseLaws::uses), unfolding(edd_syntax::specs::Statement::slots_of))]
 fn copy_part<'a>(
     part: &'a Part<Path>,
     names: &Names,
@@ -351,10 +346,9 @@ fn copy_part<'a>(
     ensures told { Told (description_of names.now)
         (part_uses (scope_of scope.old.items) next.old (part_of path_of part.now))
         (paths_in_part part.now) told.old.items told.new.items result }
-    ensures sound { Copies (description_of names.now)
-        (part_uses (scope_of scope.old.items) next.old (part_of path_of part.now))
-        (resolved_part (description_of names.now) (scope_of scope.old.items) next.old
+    ensures sound { Copies (resolved_part (read_by names.now) (scope_of scope.old.items) next.old
         (part_of path_of part.now)) numbered_part result }
+    ensures kept { Keeps (tokens_in_part part.now) tokens_in_part result }
     ensures scope { OnOk result (scope_of scope.new.items
         ≡ scope_behind (scope_of scope.old.items) next.old (part_of path_of part.now)) }
     ensures next { OnOk result (next.new ≡ next_behind next.old (part_of path_of part.now)) }

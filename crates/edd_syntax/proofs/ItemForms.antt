@@ -17,7 +17,7 @@ use Rattle.edd_syntax.specs.Item.{ItemKind, kind_of_item, Attribute, Item, Descr
 use Rattle.edd_syntax.specs.Names.{is_name}
 use Rattle.edd_syntax.specs.Numbers.{has_attr, same_kind, text_attr}
 use Rattle.edd_syntax.specs.Resolution.{member_kinds}
-use Rattle.edd_syntax.specs.ResolvedTrees.{◌>>=◌, each, unchanged, resolved_cond, resolved_conds, resolved_body, at_attribute, resolved_entry, resolved_member, resolved_element, resolved_type_part, resolved_transaction_part, resolved_attribute, resolved_item, resolved_unit}
+use Rattle.edd_syntax.specs.ResolvedTrees.{◌>>=◌, each, unchanged, resolved_cond, resolved_conds, resolved_body, at_attribute, resolved_entry, resolved_member, resolved_element, resolved_type_part, resolved_transaction_part, resolved_attribute, resolved_item, resolved_unit, meant_in, Reading}
 use Rattle.edd_syntax.specs.WellFormed.{are_items, is_item, is_path, is_plain, may_list, belongs_to, has_own_attributes, stands_in, is_attribute}
 use Rattle.edd_syntax.specs.Resolved.{IsChecked}
 use Rattle.edd_syntax.proofs.Made.{bind_some}
@@ -52,57 +52,57 @@ made test None make b v same h = absurd (none-some b h)
 made test (Some x) make b v same h = sym (at_some test v (make x) b h) ∙ same x
 
 module _ (k : Kind) where
-  keeps_belonging : (unit : Description Path) (sort : ItemKind) (a : Attribute Path)
-      (b : Attribute Target) → resolved_attribute unit sort a ≡ Some b
+  keeps_belonging : (names : Reading) (sort : ItemKind) (a : Attribute Path)
+      (b : Attribute Target) → resolved_attribute names sort a ≡ Some b
       → belongs_to k b ≡ belongs_to k a
-  keeps_belonging unit sort (item.OneText which c) b h =
-      made (belongs_to k) (resolved_cond (at_attribute unit) unchanged c) (item.OneText which) b
+  keeps_belonging names sort (item.OneText which c) b h =
+      made (belongs_to k) (resolved_cond (at_attribute names) unchanged c) (item.OneText which) b
       (has_attr k (text_attr which)) (λ x. refl) h
-  keeps_belonging unit sort (item.Class words) b h =
+  keeps_belonging names sort (item.Class words) b h =
       sym (at_some (belongs_to k) false (item.Class words) b h)
-  keeps_belonging unit sort (item.Handling c) b h =
-      made (belongs_to k) (resolved_cond (at_attribute unit) unchanged c) item.Handling b
+  keeps_belonging names sort (item.Handling c) b h =
+      made (belongs_to k) (resolved_cond (at_attribute names) unchanged c) item.Handling b
       (has_attr k attr.Handling) (λ x. refl) h
-  keeps_belonging unit sort (item.Validity c) b h =
-      made (belongs_to k) (resolved_cond (at_attribute unit) unchanged c) item.Validity b
+  keeps_belonging names sort (item.Validity c) b h =
+      made (belongs_to k) (resolved_cond (at_attribute names) unchanged c) item.Validity b
       (has_attr k attr.Validity) (λ x. refl) h
-  keeps_belonging unit sort (item.TypeOf word parts) b h =
-      made (belongs_to k) (each (resolved_type_part unit) parts) (item.TypeOf word) b
+  keeps_belonging names sort (item.TypeOf word parts) b h =
+      made (belongs_to k) (each (resolved_type_part names) parts) (item.TypeOf word) b
       (same_kind k kind.Variable) (λ x. refl) h
-  keeps_belonging unit sort (item.Number n) b h =
+  keeps_belonging names sort (item.Number n) b h =
       sym (at_some (belongs_to k) false (item.Number n) b h)
-  keeps_belonging unit sort (item.Operation o) b h =
+  keeps_belonging names sort (item.Operation o) b h =
       sym (at_some (belongs_to k) false (item.Operation o) b h)
-  keeps_belonging unit sort (item.Transaction number parts) b h =
-      made (belongs_to k) (each (resolved_transaction_part unit) parts) (item.Transaction number) b
+  keeps_belonging names sort (item.Transaction number parts) b h =
+      made (belongs_to k) (each (resolved_transaction_part names) parts) (item.Transaction number) b
       (has_attr k attr.Transaction) (λ x. refl) h
-  keeps_belonging unit sort (item.ResponseCodes responses) b h =
+  keeps_belonging names sort (item.ResponseCodes responses) b h =
       sym (at_some (belongs_to k) false (item.ResponseCodes responses) b h)
-  keeps_belonging unit sort (item.Items entries) b h =
-      made (belongs_to k) (resolved_conds (at_attribute unit) (resolved_entry unit) entries)
+  keeps_belonging names sort (item.Items entries) b h =
+      made (belongs_to k) (resolved_conds (at_attribute names) (resolved_entry names) entries)
       item.Items b (has_attr k attr.Items) (λ x. refl) h
-  keeps_belonging unit sort (item.Members members) b h =
-      made (belongs_to k) (each (resolved_member unit (member_kinds sort)) members) item.Members b
+  keeps_belonging names sort (item.Members members) b h =
+      made (belongs_to k) (each (resolved_member names (member_kinds sort)) members) item.Members b
       (has_attr k attr.Members) (λ x. refl) h
-  keeps_belonging unit sort (item.Elements elements) b h =
-      made (belongs_to k) (each (resolved_element unit) elements) item.Elements b
+  keeps_belonging names sort (item.Elements elements) b h =
+      made (belongs_to k) (each (resolved_element names) elements) item.Elements b
       (has_attr k attr.Elements) (λ x. refl) h
-  keeps_belonging unit sort (item.Definition body) b h =
-      made (belongs_to k) (resolved_body unit body [] 0) item.Definition b
+  keeps_belonging names sort (item.Definition body) b h =
+      made (belongs_to k) (resolved_body names body [] 0) item.Definition b
       (has_attr k attr.Definition) (λ x. refl) h
 
-keeps_form : (unit : Description Path) (i : Item Path) (y : Item Target)
-    → resolved_item unit i ≡ Some y → is_formed y ≡ is_formed i
-keeps_form unit i y h =
+keeps_form : (names : Reading) (i : Item Path) (y : Item Target)
+    → resolved_item names i ≡ Some y → is_formed y ≡ is_formed i
+keeps_form names i y h =
     let k = kind_of_item i.sort in
-    let x = bind_some (each (resolved_attribute unit i.sort) i.attributes)
+    let x = bind_some (each (resolved_attribute names i.sort) i.attributes)
     (λ attributes. Some (record { sort = i.sort; name = i.name; attributes = attributes })) y
     h in
     sym (at_some is_formed false (record { sort = i.sort; name = i.name; attributes = x.0 }) y x.2)
     ∙ ap (λ b. is_name i.name && b)
     (all_mapped (belongs_to k) x.0
-    ∙ ap (list_all (λ b. b)) (each_keeps (resolved_attribute unit i.sort) (belongs_to k)
-    (belongs_to k) (keeps_belonging k unit i.sort) i.attributes x.0 x.1)
+    ∙ ap (list_all (λ b. b)) (each_keeps (resolved_attribute names i.sort) (belongs_to k)
+    (belongs_to k) (keeps_belonging k names i.sort) i.attributes x.0 x.1)
     ∙ sym (all_mapped (belongs_to k) i.attributes))
 
 -- ---- the items of the parser
@@ -126,13 +126,14 @@ formed : (d : Description Target) → IsChecked d → list_all is_formed d.items
 unfolding are_items resolved_unit
 formed d checked =
     let u = checked.is_resolved.unit in
-    let x = bind_some (each (resolved_item u) u.items)
+    let x = bind_some (each (resolved_item (meant_in u)) u.items)
     (λ items. Some (record { identification = u.identification; items = items })) d
     checked.is_resolved.meanings in
     sym (at_some (λ (e : Description Target). list_all is_formed e.items) false
     (record { identification = u.identification; items = x.0 }) d x.2)
     ∙ all_mapped is_formed x.0
-    ∙ ap (list_all (λ b. b)) (each_keeps (resolved_item u) is_formed is_formed (keeps_form u)
+    ∙ ap (list_all (λ b. b))
+    (each_keeps (resolved_item (meant_in u)) is_formed is_formed (keeps_form (meant_in u))
     u.items x.0 x.1)
     ∙ sym (all_mapped is_formed u.items)
     ∙ all_weaker (is_item is_path is_plain) is_formed item_is_formed u.items

@@ -12,7 +12,7 @@ use Rattle.edd_syntax.specs.Item.{ItemKind, TypePart, TransactionPart, Attribute
 use Rattle.edd_syntax.specs.Refusal.{DuplicateAttribute, repeated}
 use Rattle.edd_syntax.specs.NameRules.{is_transaction, attribute_word, type_part_words, transaction_part_word, repeated_words_inside, repeated_words, too_many, duplicate_names, duplicate_attributes}
 use Rattle.edd_syntax.specs.Resolution.{member_kinds}
-use Rattle.edd_syntax.specs.ResolvedTrees.{each, unchanged, resolved_expr, resolved_cond, resolved_conds, resolved_body, at_attribute, resolved_data, resolved_entry, resolved_member, resolved_element, resolved_type_part, resolved_transaction_part, resolved_attribute, resolved_item}
+use Rattle.edd_syntax.specs.ResolvedTrees.{each, unchanged, resolved_expr, resolved_cond, resolved_conds, resolved_body, at_attribute, resolved_data, resolved_entry, resolved_member, resolved_element, resolved_type_part, resolved_transaction_part, resolved_attribute, resolved_item, meant_in, Reading}
 use Rattle.edd_syntax.specs.Resolved.{IsChecked}
 use Rattle.edd_syntax.proofs.WithinLimits.{each_keeps, items_meant, not_empty, no_front, no_rest}
 use Rattle.edd_syntax.proofs.Made.{stays, made}
@@ -55,93 +55,96 @@ by_shape before (a ∷ rest) =
     ap (λ more. (if is_transaction a then [] else repeated before (attribute_word a ∷ []))
     ++ (repeated_words_inside a ++ more)) (by_shape (attribute_word a ∷ before) rest)
 
-module _ (unit : Description Path) where
-  keeps_part : (p : TypePart Path) (q : TypePart Target) → resolved_type_part unit p ≡ Some q
+module _ (names : Reading) where
+  keeps_part : (p : TypePart Path) (q : TypePart Target) → resolved_type_part names p ≡ Some q
       → type_part_words q ≡ type_part_words p
   keeps_part (item.DefaultValue c) q h =
-      made type_part_words (resolved_cond (at_attribute unit) (resolved_expr (at_attribute unit)) c)
+      made type_part_words (resolved_cond (at_attribute names) (resolved_expr (at_attribute names))
+      c)
       item.DefaultValue q _ (λ x is. refl) h
   keeps_part (item.MinValue c) q h =
-      made type_part_words (resolved_cond (at_attribute unit) (resolved_expr (at_attribute unit)) c)
+      made type_part_words (resolved_cond (at_attribute names) (resolved_expr (at_attribute names))
+      c)
       item.MinValue q _ (λ x is. refl) h
   keeps_part (item.MaxValue c) q h =
-      made type_part_words (resolved_cond (at_attribute unit) (resolved_expr (at_attribute unit)) c)
+      made type_part_words (resolved_cond (at_attribute names) (resolved_expr (at_attribute names))
+      c)
       item.MaxValue q _ (λ x is. refl) h
   keeps_part (item.DisplayFormat c) q h =
-      made type_part_words (resolved_cond (at_attribute unit) unchanged c) item.DisplayFormat q _
+      made type_part_words (resolved_cond (at_attribute names) unchanged c) item.DisplayFormat q _
       (λ x is. refl) h
   keeps_part (item.EditFormat c) q h =
-      made type_part_words (resolved_cond (at_attribute unit) unchanged c) item.EditFormat q _
+      made type_part_words (resolved_cond (at_attribute names) unchanged c) item.EditFormat q _
       (λ x is. refl) h
   keeps_part (item.Element c) q h =
-      made type_part_words (resolved_cond (at_attribute unit) unchanged c) item.Element q _
+      made type_part_words (resolved_cond (at_attribute names) unchanged c) item.Element q _
       (λ x is. refl) h
 
   keeps_transaction_part : (p : TransactionPart Path) (q : TransactionPart Target)
-      → resolved_transaction_part unit p ≡ Some q → transaction_part_word q
+      → resolved_transaction_part names p ≡ Some q → transaction_part_word q
       ≡ transaction_part_word p
   keeps_transaction_part (item.Request all) q h =
-      made transaction_part_word (resolved_conds (at_attribute unit) (resolved_data unit) all)
+      made transaction_part_word (resolved_conds (at_attribute names) (resolved_data names) all)
       item.Request q _ (λ x is. refl) h
   keeps_transaction_part (item.Reply all) q h =
-      made transaction_part_word (resolved_conds (at_attribute unit) (resolved_data unit) all)
+      made transaction_part_word (resolved_conds (at_attribute names) (resolved_data names) all)
       item.Reply q _ (λ x is. refl) h
 
   keeps_shape : (sort : ItemKind) (a : Attribute Path) (b : Attribute Target)
-      → resolved_attribute unit sort a ≡ Some b → shape b ≡ shape a
+      → resolved_attribute names sort a ≡ Some b → shape b ≡ shape a
   keeps_shape sort (item.OneText which c) b h =
-      made shape (resolved_cond (at_attribute unit) unchanged c) (item.OneText which) b _
+      made shape (resolved_cond (at_attribute names) unchanged c) (item.OneText which) b _
       (λ x is. refl) h
   keeps_shape sort (item.Class words) b h = stays shape (item.Class words) b h
   keeps_shape sort (item.Handling c) b h =
-      made shape (resolved_cond (at_attribute unit) unchanged c) item.Handling b _ (λ x is. refl) h
+      made shape (resolved_cond (at_attribute names) unchanged c) item.Handling b _ (λ x is. refl) h
   keeps_shape sort (item.Validity c) b h =
-      made shape (resolved_cond (at_attribute unit) unchanged c) item.Validity b _ (λ x is. refl) h
+      made shape (resolved_cond (at_attribute names) unchanged c) item.Validity b _ (λ x is. refl) h
   keeps_shape sort (item.TypeOf word parts) b h =
-      made shape (each (resolved_type_part unit) parts) (item.TypeOf word) b _
+      made shape (each (resolved_type_part names) parts) (item.TypeOf word) b _
       (λ x is. ap (λ words. record {
         word = attribute_word (item.TypeOf word parts);
         may_repeat = false;
         inside = repeated [] words;
       })
       (of_mapped type_part_words x
-      ∙ ap (flat_map (λ ys. ys)) (each_keeps (resolved_type_part unit) type_part_words
+      ∙ ap (flat_map (λ ys. ys)) (each_keeps (resolved_type_part names) type_part_words
       type_part_words keeps_part parts x is)
       ∙ sym (of_mapped type_part_words parts))) h
   keeps_shape sort (item.Number n) b h = stays shape (item.Number n) b h
   keeps_shape sort (item.Operation o) b h = stays shape (item.Operation o) b h
   keeps_shape sort (item.Transaction number parts) b h =
-      made shape (each (resolved_transaction_part unit) parts) (item.Transaction number) b _
+      made shape (each (resolved_transaction_part names) parts) (item.Transaction number) b _
       (λ x is. ap (λ words. record {
         word = attribute_word (item.Transaction number parts);
         may_repeat = true;
         inside = repeated [] words;
       })
-      (each_keeps (resolved_transaction_part unit) transaction_part_word transaction_part_word
+      (each_keeps (resolved_transaction_part names) transaction_part_word transaction_part_word
       keeps_transaction_part parts x is)) h
   keeps_shape sort (item.ResponseCodes responses) b h = stays shape (item.ResponseCodes responses) b
       h
   keeps_shape sort (item.Items entries) b h =
-      made shape (resolved_conds (at_attribute unit) (resolved_entry unit) entries) item.Items b _
+      made shape (resolved_conds (at_attribute names) (resolved_entry names) entries) item.Items b _
       (λ x is. refl) h
   keeps_shape sort (item.Members members) b h =
-      made shape (each (resolved_member unit (member_kinds sort)) members) item.Members b _
+      made shape (each (resolved_member names (member_kinds sort)) members) item.Members b _
       (λ x is. refl) h
   keeps_shape sort (item.Elements elements) b h =
-      made shape (each (resolved_element unit) elements) item.Elements b _ (λ x is. refl) h
-  keeps_shape sort (item.Definition body) b h = made shape (resolved_body unit body [] 0)
+      made shape (each (resolved_element names) elements) item.Elements b _ (λ x is. refl) h
+  keeps_shape sort (item.Definition body) b h = made shape (resolved_body names body [] 0)
       item.Definition b _ (λ x is. refl) h
 
   abbrev item_repeats : {R : Type 0} → Item R → List Name
   item_repeats i = repeated_words [] i.attributes
 
-  keeps_repeats : (i : Item Path) (j : Item Target) → resolved_item unit i ≡ Some j
+  keeps_repeats : (i : Item Path) (j : Item Target) → resolved_item names i ≡ Some j
       → item_repeats j ≡ item_repeats i
   keeps_repeats i j h =
-      made item_repeats (each (resolved_attribute unit i.sort) i.attributes)
+      made item_repeats (each (resolved_attribute names i.sort) i.attributes)
       (λ attributes. record { sort = i.sort; name = i.name; attributes = attributes }) j _
       (λ x is. by_shape [] x ∙ ap (repeated_shapes [])
-      (each_keeps (resolved_attribute unit i.sort) shape shape (keeps_shape i.sort) i.attributes
+      (each_keeps (resolved_attribute names i.sort) shape shape (keeps_shape i.sort) i.attributes
       x is) ∙ sym (by_shape [] i.attributes)) h
 
 -- ---- a checked description
@@ -172,8 +175,9 @@ once d checked =
     let u = r.unit in
     all_once d.items
     (of_mapped (λ i. repeated_words [] i.attributes) d.items
-    ∙ ap (flat_map (λ ys. ys)) (each_keeps (resolved_item u) (item_repeats u) (item_repeats u)
-    (keeps_repeats u) u.items d.items (items_meant d r))
+    ∙ ap (flat_map (λ ys. ys))
+    (each_keeps (resolved_item (meant_in u)) (item_repeats (meant_in u)) (item_repeats (meant_in u))
+    (keeps_repeats (meant_in u)) u.items d.items (items_meant d r))
     ∙ sym (of_mapped (λ i. repeated_words [] i.attributes) u.items)
     ∙ none_mapped DuplicateAttribute (flat_map (λ i. repeated_words [] i.attributes) u.items)
     (no_front (duplicate_attributes u) _

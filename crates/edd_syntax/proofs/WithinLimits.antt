@@ -12,7 +12,7 @@ use Rattle.edd_syntax.specs.Item as item
 use Rattle.edd_syntax.specs.Item.{ItemKind, kind_of_item, Attribute, Item, Description}
 use Rattle.edd_syntax.specs.Numbers.{same_kind}
 use Rattle.edd_syntax.specs.Resolution.{count_of, kinds, member_kinds}
-use Rattle.edd_syntax.specs.ResolvedTrees.{◌>>=◌, each, unchanged, resolved_cond, resolved_conds, resolved_body, at_attribute, resolved_entry, resolved_member, resolved_element, resolved_type_part, resolved_transaction_part, resolved_attribute, resolved_item, resolved_unit}
+use Rattle.edd_syntax.specs.ResolvedTrees.{◌>>=◌, each, unchanged, resolved_cond, resolved_conds, resolved_body, at_attribute, resolved_entry, resolved_member, resolved_element, resolved_type_part, resolved_transaction_part, resolved_attribute, resolved_item, resolved_unit, meant_in, Reading}
 use Rattle.edd_syntax.specs.NameRules.{is_transaction, transaction_count}
 use Rattle.edd_syntax.specs.NameRules.{too_many}
 use Rattle.edd_syntax.specs.Resolved.{IsResolved, IsChecked}
@@ -57,67 +57,68 @@ made : {A : Type 0} (o : Option A) (make : A → Attribute Target) (b : Attribut
 made None make b v same h = absurd (none-some b h)
 made (Some x) make b v same h = sym (at_some is_transaction v (make x) b h) ∙ same x
 
-keeps_transaction : (unit : Description Path) (sort : ItemKind) (a : Attribute Path)
-    (b : Attribute Target) → resolved_attribute unit sort a ≡ Some b
+keeps_transaction : (names : Reading) (sort : ItemKind) (a : Attribute Path)
+    (b : Attribute Target) → resolved_attribute names sort a ≡ Some b
     → is_transaction b ≡ is_transaction a
-keeps_transaction unit sort (item.OneText which c) b h =
-    made (resolved_cond (at_attribute unit) unchanged c) (item.OneText which) b false (λ x. refl) h
-keeps_transaction unit sort (item.Class words) b h =
+keeps_transaction names sort (item.OneText which c) b h =
+    made (resolved_cond (at_attribute names) unchanged c) (item.OneText which) b false (λ x. refl) h
+keeps_transaction names sort (item.Class words) b h =
     sym (at_some is_transaction false (item.Class words) b h)
-keeps_transaction unit sort (item.Handling c) b h =
-    made (resolved_cond (at_attribute unit) unchanged c) item.Handling b false (λ x. refl) h
-keeps_transaction unit sort (item.Validity c) b h =
-    made (resolved_cond (at_attribute unit) unchanged c) item.Validity b false (λ x. refl) h
-keeps_transaction unit sort (item.TypeOf word parts) b h =
-    made (each (resolved_type_part unit) parts) (item.TypeOf word) b false (λ x. refl) h
-keeps_transaction unit sort (item.Number n) b h =
+keeps_transaction names sort (item.Handling c) b h =
+    made (resolved_cond (at_attribute names) unchanged c) item.Handling b false (λ x. refl) h
+keeps_transaction names sort (item.Validity c) b h =
+    made (resolved_cond (at_attribute names) unchanged c) item.Validity b false (λ x. refl) h
+keeps_transaction names sort (item.TypeOf word parts) b h =
+    made (each (resolved_type_part names) parts) (item.TypeOf word) b false (λ x. refl) h
+keeps_transaction names sort (item.Number n) b h =
     sym (at_some is_transaction false (item.Number n) b h)
-keeps_transaction unit sort (item.Operation o) b h =
+keeps_transaction names sort (item.Operation o) b h =
     sym (at_some is_transaction false (item.Operation o) b h)
-keeps_transaction unit sort (item.Transaction number parts) b h =
-    made (each (resolved_transaction_part unit) parts) (item.Transaction number) b true (λ x. refl)
+keeps_transaction names sort (item.Transaction number parts) b h =
+    made (each (resolved_transaction_part names) parts) (item.Transaction number) b true (λ x. refl)
     h
-keeps_transaction unit sort (item.ResponseCodes responses) b h =
+keeps_transaction names sort (item.ResponseCodes responses) b h =
     sym (at_some is_transaction false (item.ResponseCodes responses) b h)
-keeps_transaction unit sort (item.Items entries) b h =
-    made (resolved_conds (at_attribute unit) (resolved_entry unit) entries) item.Items b false
+keeps_transaction names sort (item.Items entries) b h =
+    made (resolved_conds (at_attribute names) (resolved_entry names) entries) item.Items b false
     (λ x. refl) h
-keeps_transaction unit sort (item.Members members) b h =
-    made (each (resolved_member unit (member_kinds sort)) members) item.Members b false (λ x. refl)
+keeps_transaction names sort (item.Members members) b h =
+    made (each (resolved_member names (member_kinds sort)) members) item.Members b false (λ x. refl)
     h
-keeps_transaction unit sort (item.Elements elements) b h =
-    made (each (resolved_element unit) elements) item.Elements b false (λ x. refl) h
-keeps_transaction unit sort (item.Definition body) b h = made (resolved_body unit body [] 0)
+keeps_transaction names sort (item.Elements elements) b h =
+    made (each (resolved_element names) elements) item.Elements b false (λ x. refl) h
+keeps_transaction names sort (item.Definition body) b h = made (resolved_body names body [] 0)
     item.Definition b false (λ x. refl) h
 
-keeps_sort : (unit : Description Path) (i : Item Path) (y : Item Target)
-    → resolved_item unit i ≡ Some y → y.sort ≡ i.sort
-keeps_sort unit i y h = let x = bind_some (each (resolved_attribute unit i.sort) i.attributes)
+keeps_sort : (names : Reading) (i : Item Path) (y : Item Target)
+    → resolved_item names i ≡ Some y → y.sort ≡ i.sort
+keeps_sort names i y h = let x = bind_some (each (resolved_attribute names i.sort) i.attributes)
     (λ attributes. Some (record { sort = i.sort; name = i.name; attributes = attributes })) y
     h in sym (at_some (λ z. z.sort) i.sort
     (record { sort = i.sort; name = i.name; attributes = x.0 }) y x.2)
 
-keeps_count : (unit : Description Path) (i : Item Path) (y : Item Target)
-    → resolved_item unit i ≡ Some y → transaction_count y ≡ transaction_count i
-keeps_count unit i y h =
-    let x = bind_some (each (resolved_attribute unit i.sort) i.attributes)
+keeps_count : (names : Reading) (i : Item Path) (y : Item Target)
+    → resolved_item names i ≡ Some y → transaction_count y ≡ transaction_count i
+keeps_count names i y h =
+    let x = bind_some (each (resolved_attribute names i.sort) i.attributes)
     (λ attributes. Some (record { sort = i.sort; name = i.name; attributes = attributes })) y
     h in
     sym (at_some transaction_count 0 (record { sort = i.sort; name = i.name; attributes = x.0 }) y
     x.2)
     ∙ filtered is_transaction (λ b. b) x.0
     ∙ ap (λ bs. length (filter (λ b. b) bs))
-    (each_keeps (resolved_attribute unit i.sort) is_transaction is_transaction
-    (keeps_transaction unit i.sort) i.attributes x.0 x.1)
+    (each_keeps (resolved_attribute names i.sort) is_transaction is_transaction
+    (keeps_transaction names i.sort) i.attributes x.0 x.1)
     ∙ sym (filtered is_transaction (λ b. b) i.attributes)
 
 module _ (unit : Description Path) (items : List (Item Target))
-    (meant : each (resolved_item unit) unit.items ≡ Some items) where
+    (meant : each (resolved_item (meant_in unit)) unit.items ≡ Some items) where
   pub same_count : (k : Kind) → count_of k items ≡ count_of k unit.items
   same_count k =
       filtered (λ i. i.sort) (λ s. same_kind (kind_of_item s) k) items
       ∙ ap (λ ss. length (filter (λ s. same_kind (kind_of_item s) k) ss))
-      (each_keeps (resolved_item unit) (λ i. i.sort) (λ i. i.sort) (keeps_sort unit) unit.items
+      (each_keeps (resolved_item (meant_in unit)) (λ i. i.sort) (λ i. i.sort)
+      (keeps_sort (meant_in unit)) unit.items
       items meant)
       ∙ sym (filtered (λ i. i.sort) (λ s. same_kind (kind_of_item s) k) unit.items)
 
@@ -125,8 +126,9 @@ module _ (unit : Description Path) (items : List (Item Target))
       ≡ list_all (λ i. nat_le (transaction_count i) 4096) unit.items
   same_transactions =
       all_mapped transaction_count (λ n. nat_le n 4096) items
-      ∙ ap (list_all (λ n. nat_le n 4096)) (each_keeps (resolved_item unit) transaction_count
-      transaction_count (keeps_count unit) unit.items items meant)
+      ∙ ap (list_all (λ n. nat_le n 4096))
+      (each_keeps (resolved_item (meant_in unit)) transaction_count
+      transaction_count (keeps_count (meant_in unit)) unit.items items meant)
       ∙ sym (all_mapped transaction_count (λ n. nat_le n 4096) unit.items)
 
 -- ---- what no breach says
@@ -163,10 +165,10 @@ few_of_kind items kind.Array h = grind (arith, common_steps)
 -- ---- a checked description
 
 pub items_meant : (d : Description Target) (r : IsResolved d)
-    → each (resolved_item r.unit) r.unit.items ≡ Some d.items
+    → each (resolved_item (meant_in r.unit)) r.unit.items ≡ Some d.items
 unfolding resolved_unit
 items_meant d r =
-    let x = bind_some (each (resolved_item r.unit) r.unit.items)
+    let x = bind_some (each (resolved_item (meant_in r.unit)) r.unit.items)
     (λ items. Some (record { identification = r.unit.identification; items = items })) d
     r.meanings in
     x.1 ∙ ap Some (at_some (λ e. e.items) []

@@ -25,12 +25,28 @@ abbrev pub each : {A B : Type 0} → (A → Option B) → List A → Option (Lis
 each of [] = Some []
 each of (x ∷ rest) = do y ← of x; others ← each of rest; Some (y ∷ others)
 
--- what names mean at a place: a reference, a plain reference that is an argument of a function, and
--- the name of an array before an index
+-- what names mean at a place: a reference, a plain reference that is an argument of a function, the
+-- name of an array before an index, and the name of a function
 pub record Meanings : Type 0 where
   pub reference : Path → Option Target
   pub argument : (function : Path) → Path → Option Target
   pub array : Path → Option Target
+  pub function : Path → Option Target
+
+-- what names mean at all places: a reference where items of these kinds may be, the name of an
+-- array before an index, and the name of a function
+pub record Reading : Type 0 where
+  pub reference : Scope → (kinds : List Kind) → Path → Option Target
+  pub array : Scope → Path → Option Target
+  pub function : Path → Option Target
+
+-- what they mean in a unit
+abbrev pub meant_in : Description Path → Reading
+meant_in unit = record {
+  reference = meaning unit;
+  array = array_meant unit;
+  function = function_meant;
+}
 
 -- ---- expressions, at a place where `at` says what names mean
 
@@ -82,7 +98,7 @@ module _ (at : Meanings) where
       Some (CompoundAssign op to' value')
     resolved_by plain (Increment op to) = do to' ← at.reference to; Some (Increment op to')
     resolved_by plain (Call name arguments) = do
-      function ← function_meant name
+      function ← at.function name
       arguments' ← resolved_arguments (at.argument name) arguments
       Some (Call function arguments')
 
@@ -146,15 +162,16 @@ module _ (at : Meanings) where
 abbrev pub unchanged : {V : Type 0} → V → Option V
 unchanged v = Some v
 
-module _ (unit : Description Path) where
+module _ (names : Reading) where
   -- ---- statements: `next` is the slot of the next declarator of the method
 
   -- what names mean where these locals can be used
   abbrev pub at_scope : Scope → Meanings
   at_scope scope = record {
-    reference = meaning unit scope variable_kinds;
-    argument = λ function. meaning unit scope (argument_kinds function);
-    array = array_meant unit scope;
+    reference = names.reference scope variable_kinds;
+    argument = λ function. names.reference scope (argument_kinds function);
+    array = names.array scope;
+    function = names.function;
   }
 
   -- a local can be used after its own declarator
@@ -229,7 +246,7 @@ module _ (unit : Description Path) where
 
   -- what a path means where an item of these kinds may be
   abbrev pub item_among : List Kind → Path → Option Target
-  item_among kinds = meaning unit [] kinds
+  item_among kinds = names.reference [] kinds
 
   -- what names mean in an attribute
   abbrev pub at_attribute : Meanings
@@ -328,5 +345,5 @@ module _ (unit : Description Path) where
 -- the unit with the meaning of each name in its place
 unfoldable pub resolved_unit : Description Path → Option (Description Target)
 resolved_unit unit = do
-  items ← each (resolved_item unit) unit.items
+  items ← each (resolved_item (meant_in unit)) unit.items
   Some (record { identification = unit.identification; items = items })

@@ -4,7 +4,6 @@ ghost use Rattle.std.specs.Prelude.{◌≡◌, ◌++◌, ◌||◌, ◌≤◌, ma
 ghost use Rattle.std.specs.List.{All, list_any, list_all, flat_map};
 ghost use Rattle.edd_syntax.specs.declared.numbers.Attr.{Attr};
 ghost use Rattle.edd_syntax.specs.declared.numbers.Kind.{Kind};
-ghost use Rattle.edd_syntax.specs.Item.{kind_of_item};
 ghost use Rattle.edd_syntax.specs.ItemView.{numbered_items, numbered_attribute, numbered_item, numbered_type_part};
 ghost use Rattle.edd_syntax.specs.Marks.{is_marked};
 ghost use Rattle.edd_syntax.specs.NameRules as rules;

@@ -1,4 +1,4 @@
-use Rattle.std.proofs.Common.{map, Some, subst, arith}
+use Rattle.std.proofs.Common.{sym, ap, ◌∙◌, map, Some, subst, arith}
 use Rattle.std.specs.Prelude.{string_bytes}
 use Rattle.std.proofs.Math.ListN.{drop_of_length-le}
 use Rattle.edd_syntax.specs.NameRules.{faults_along}
@@ -8,7 +8,7 @@ use Rattle.edd_name_meanings.specs.Directory.{description_of}
 use Rattle.edd_name_meanings.specs.Paths.{Reaches}
 use Rattle.edd_name_meanings.specs.Places.{place_along}
 use Rattle.edd_name_rules.proofs.Passing.{passed, weaker_err}
-use Rattle.edd_name_meanings.proofs.PathLaws.{never_known, at_member, at_none, at_some, weaker_ok}
+use Rattle.edd_name_meanings.proofs.PathLaws.{reads_nothing, at_member, at_none, at_some, weaker_ok}
 use Rattle.edd_name_meanings.proofs.follow.follow.Goals as goal
 
 pub returns-in_err-next-clause-refused : goal.returns-in_err-next-clause-refused
@@ -29,8 +29,10 @@ returns-in-None-clause-sound c =
     c.loop-member.here
     c.args.path.now.members.items c.deref-member-items.result.now c.loop-member.member-index
     c.member-item.result c.deref-in-loop-member.result.now c.deref-member-items.ensures.value
-    (omega arith) c.member-item.is c.deref-in-loop-member.ensures c.loop-member.invariant)) in
-    (h.0, never_known (description_of c.args.names.now) _ _ h.1)
+    (omega arith) c.member-item.is c.deref-in-loop-member.ensures c.loop-member.invariant)) in (
+      h.0,
+      reads_nothing c.args.allowed.now _ h.1 ∙ ap (λ t. Some t) (sym c.stand_in.ensures),
+    )
 
 pub loop-member-preserved : goal.loop-member-preserved
 loop-member-preserved c =

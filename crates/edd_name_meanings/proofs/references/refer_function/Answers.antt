@@ -1,9 +1,16 @@
-use Rattle.std.proofs.Common.{rules}
+use Rattle.std.proofs.Common.{ap, sym, ◌∙◌, Some}
+use Rattle.edd_syntax.specs.NameUses.{OfFunction}
+use Rattle.edd_syntax.specs.TreeView.{path_of}
 use Rattle.edd_name_meanings.specs.Directory.{description_of}
+use Rattle.edd_name_meanings.proofs.PathLaws.{weaker_ok}
+use Rattle.edd_name_meanings.proofs.UseCases.{reads_at_fault}
 use Rattle.edd_name_meanings.proofs.references.refer_function.Goals as goal
 
 pub returns-in-Err-clause-sound : goal.returns-in-Err-clause-sound
-returns-in-Err-clause-sound c = search (
-  rules,
-  c.in-Err.ensures.refused (description_of c.args.names.now),
-)
+returns-in-Err-clause-sound c =
+    weaker_ok c.tell.result _ _
+    (λ t is. reads_at_fault (description_of c.args.names.now) c.in-Err.fault
+    (OfFunction (path_of c.args.path.now)) c.args.path.now
+    (c.in-Err.ensures.refused (description_of c.args.names.now))
+    ∙ ap (λ s. Some s) (sym (is ∙ c.stand_in.ensures)))
+    c.tell.ensures.sound

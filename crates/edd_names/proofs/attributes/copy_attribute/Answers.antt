@@ -1,38 +1,27 @@
-use Rattle.std.proofs.Common.{sym, ap, ◌∙◌, map, Some, subst}
+use Rattle.std.proofs.Common.{sym, ap, ◌∙◌, map, Some}
 use Rattle.edd_syntax.specs.Conditional.{conds_from}
 use Rattle.edd_syntax.specs.Item.{Items, Members}
 use Rattle.edd_syntax.specs.ItemView.{attribute_of, cond_of, entry_of, item_of, member_of}
-use Rattle.edd_syntax.specs.NameUses.{attribute_uses}
 use Rattle.edd_syntax.specs.ResolvedTrees.{◌>>=◌, resolved_attribute}
 use Rattle.edd_syntax.specs.TreeView.{path_of}
-use Rattle.edd_name_meanings.specs.Directory.{description_of}
-use Rattle.edd_name_meanings.specs.Meanings.{Means, NoFault}
-use Rattle.edd_name_meanings.specs.Copies.{Meant}
+use Rattle.edd_name_meanings.specs.Directory.{read_by}
 use Rattle.edd_names.proofs.attributes.copy_attribute.Goals as goal
 
 pub returns-in_ok-copy_conds-in-Items-clause-sound :
     goal.returns-in_ok-copy_conds-in-Items-clause-sound
-unfolding Means Meant
-returns-in_ok-copy_conds-in-Items-clause-sound c = λ none known.
+returns-in_ok-copy_conds-in-Items-clause-sound c =
     let is = ap (attribute_of path_of) c.in-Items.is
     ∙ ap (λ xs. Items (conds_from (map (cond_of path_of (entry_of path_of)) xs)))
     (sym c.deref-in-Items.ensures.value) in
-    ap (resolved_attribute (description_of c.args.names.now) (item_of path_of c.args.item.now).sort)
+    ap (resolved_attribute (read_by c.args.names.now) (item_of path_of c.args.item.now).sort)
     is
-    ∙ ap (λ o. o >>= (λ x. Some (Items x)))
-    (c.in_ok-copy_conds-in-Items.ensures.sound
-    (subst (λ a. NoFault (description_of c.args.names.now)
-    (attribute_uses (item_of path_of c.args.item.now).sort a)) is none) known)
+    ∙ ap (λ o. o >>= (λ x. Some (Items x))) c.in_ok-copy_conds-in-Items.ensures.sound
 
 pub returns-in_ok-copy_parts-in-Members-clause-sound :
     goal.returns-in_ok-copy_parts-in-Members-clause-sound
-unfolding Means Meant
-returns-in_ok-copy_parts-in-Members-clause-sound c = λ none known.
+returns-in_ok-copy_parts-in-Members-clause-sound c =
     let is = ap (attribute_of path_of) c.in-Members.is
     ∙ ap (λ xs. Members (map (member_of path_of) xs)) (sym c.deref-in-Members.ensures.value) in
-    ap (resolved_attribute (description_of c.args.names.now) (item_of path_of c.args.item.now).sort)
+    ap (resolved_attribute (read_by c.args.names.now) (item_of path_of c.args.item.now).sort)
     is
-    ∙ ap (λ o. o >>= (λ x. Some (Members x)))
-    (c.in_ok-copy_parts-in-Members.ensures.sound
-    (subst (λ a. NoFault (description_of c.args.names.now)
-    (attribute_uses (item_of path_of c.args.item.now).sort a)) is none) known)
+    ∙ ap (λ o. o >>= (λ x. Some (Members x))) c.in_ok-copy_parts-in-Members.ensures.sound

@@ -1,4 +1,4 @@
-use Rattle.std.proofs.Common.{◌≡◌, ap, ◌∙◌, ◌++◌, subst}
+use Rattle.std.proofs.Common.{◌≡◌, ap, ◌∙◌, ◌++◌, Some, subst}
 use Rattle.std.specs.List.{flat_map}
 use Rattle.edd_breaches.specs.Told as breaches
 use Rattle.edd_breaches.specs.Told.{broken, refusals}
@@ -6,8 +6,10 @@ use Rattle.edd_breaches.proofs.BrokenLaws.{told_broken}
 use Rattle.edd_syntax.specs.ItemView.{named_items, numbered_items}
 use Rattle.edd_syntax.specs.NameUses.{item_uses}
 use Rattle.edd_syntax.specs.ResolvedTrees.{each, resolved_item}
-use Rattle.edd_name_meanings.specs.Copies.{Meant, Tells}
+use Rattle.edd_name_meanings.specs.Copies.{Tells}
 use Rattle.edd_name_meanings.specs.PathsIn.{paths_in_items}
+use Rattle.edd_name_meanings.specs.StandIns.{read_in}
+use Rattle.edd_name_meanings.specs.TokensIn.{tokens_in_items}
 use Rattle.edd_name_rules.specs.RulesTold.{rules_told}
 use Rattle.edd_name_rules.specs.Walks.{described}
 use Rattle.edd_names.specs.Told.{rules_before}
@@ -73,16 +75,20 @@ returns-clause-rules c =
     c.in_ok-names.ensures.identification c.in_ok-names.ensures.items c.deref-2.ensures.value)
     c.in_ok-copy_items.ensures.told)))
 
+pub returns-clause-read : goal.returns-clause-read
+returns-clause-read c =
+    subst (λ xs. each (resolved_item (read_in (unit_view c.args.unit.now))) (named_items xs)
+    ≡ Some (numbered_items c.in_ok-copy_items.field-0.items)) c.deref-3.ensures.value
+    (subst (λ d. each (resolved_item (read_in d)) (named_items c.deref-3.result.now)
+    ≡ Some (numbered_items c.in_ok-copy_items.field-0.items))
+    (same_unit c.in_ok-names.names c.args.unit.now c.deref-2.result.now
+    c.in_ok-names.ensures.identification c.in_ok-names.ensures.items c.deref-2.ensures.value)
+    c.in_ok-copy_items.ensures.sound)
+
 pub returns-clause-sound : goal.returns-clause-sound
 returns-clause-sound c =
     is_meant (unit_view c.args.unit.now) (numbered_items c.in_ok-copy_items.field-0.items)
-    c.args.unit.now.kept
-    (subst (λ xs. Meant (unit_view c.args.unit.now) (flat_map item_uses (named_items xs))
-    (each (resolved_item (unit_view c.args.unit.now)) (named_items xs))
-    (numbered_items c.in_ok-copy_items.field-0.items)) c.deref-3.ensures.value
-    (subst (λ d. Meant d (flat_map item_uses (named_items c.deref-3.result.now))
-    (each (resolved_item d) (named_items c.deref-3.result.now))
-    (numbered_items c.in_ok-copy_items.field-0.items))
-    (same_unit c.in_ok-names.names c.args.unit.now c.deref-2.result.now
-    c.in_ok-names.ensures.identification c.in_ok-names.ensures.items c.deref-2.ensures.value)
-    c.in_ok-copy_items.ensures.sound))
+    c.args.unit.now.kept (returns-clause-read c)
+
+pub returns-clause-kept : goal.returns-clause-kept
+returns-clause-kept c = c.in_ok-copy_items.ensures.kept ∙ ap tokens_in_items c.deref-3.ensures.value
