@@ -2,8 +2,6 @@
 use Rattle.std.specs.Prelude.{◌≡◌, List, Option, Some, None, IfSome, codes, string_bytes}
 use Rattle.edd_breaches.specs.declared.fault.RuleFault.{RuleFault}
 use Rattle.edd_breaches.specs.declared.fault.RuleFault.TheVariants as fault
-use Rattle.edd_breaches.specs.declared.breach.Rule.{Rule}
-use Rattle.edd_breaches.specs.declared.breach.Rule.TheVariants as rule
 use Rattle.edd_syntax.specs.declared.limits.Limit.{Limit}
 use Rattle.edd_syntax.specs.declared.limits.Limit.TheVariants as limit
 use Rattle.edd_syntax.specs.declared.numbers.TokenNo.{TokenNo}
@@ -57,12 +55,12 @@ place_of_fault (fault.DuplicateCase at) = at
 place_of_fault (fault.DuplicateElement at) = at
 place_of_fault _ = None
 
--- what a fault has of the place of a breach of this rule
-abbrev pub place_kept : Rule → (place : Option TokenNo) → Option TokenNo
-place_kept rule.Mismatch place = place
-place_kept rule.FloatValue place = place
-place_kept rule.BreakOutside place = place
-place_kept rule.ConstRange place = place
-place_kept rule.DuplicateCase place = place
-place_kept rule.DuplicateElement place = place
+-- the place that is kept of a refusal
+abbrev pub place_kept : Refusal → (place : Option TokenNo) → Option TokenNo
+place_kept refusal.Mismatch place = place
+place_kept refusal.FloatValue place = place
+place_kept refusal.BreakOutside place = place
+place_kept refusal.ConstRange place = place
+place_kept refusal.DuplicateCase place = place
+place_kept refusal.DuplicateElement place = place
 place_kept _ place = None

@@ -1,3 +1,4 @@
 pub mod Along
 pub mod Faults
 pub mod Told
+pub mod Words

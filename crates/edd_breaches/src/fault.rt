@@ -3,12 +3,14 @@
 ghost use Rattle.std.specs.Prelude.{◌≡◌, Some, IfOk};
 ghost use Rattle.edd_breaches.specs.Faults.{limit_word, place_kept, place_of_fault, refusal_of_fault};
 ghost use Rattle.edd_breaches.specs.Told.{refusal_of};
+ghost use Rattle.edd_breaches.specs.Words.{fault_words};
 
 use crate::breach::{Breach, Rule};
 use edd_syntax::limits::Limit;
 use edd_syntax::numbers::TokenNo;
 use std::alloc::{AllocError, Global};
-use thiserror::Error;
+use std::error::Error;
+use std::fmt;
 
 /// The first rule that is broken, or that memory was refused.
 ///
@@ -28,39 +30,23 @@ use thiserror::Error;
 ///
 /// It prints the rule's number and word, and the names or the word at fault; those without a name
 /// have the token at fault, whose line a refusal says.
-#[derive(Debug, Drop, Error)]
+#[derive(Debug, Drop)]
 pub enum RuleFault {
-    #[error("40 TOO_MANY {}", word_of(.0))]
     TooMany(Limit),
-    #[error("20 DUPLICATE_NAME {0}")]
     DuplicateName(String),
-    #[error("23 DUPLICATE_ATTRIBUTE {0}")]
     DuplicateAttribute(&'static str),
-    #[error("24 MISSING_ATTRIBUTE {item} {word}")]
     MissingAttribute { item: String, word: &'static str },
-    #[error("21 UNKNOWN_NAME {0}")]
     UnknownName(String),
-    #[error("22 WRONG_KIND {0}")]
     WrongKind(String),
-    #[error("30 FLOAT_VARIABLE {0}")]
     FloatVariable(String),
-    #[error("31 OTHER_TYPE {variable} {word}")]
     OtherType { variable: String, word: String },
-    #[error("32 BAD_SIZE {0}")]
     BadSize(String),
-    #[error("33 MISMATCH")]
     Mismatch { at: Option<TokenNo> },
-    #[error("34 FLOAT_VALUE")]
     FloatValue { at: Option<TokenNo> },
-    #[error("35 BREAK_OUTSIDE")]
     BreakOutside { at: Option<TokenNo> },
-    #[error("36 CONST_RANGE")]
     ConstRange { at: Option<TokenNo> },
-    #[error("37 DUPLICATE_CASE")]
     DuplicateCase { at: Option<TokenNo> },
-    #[error("38 DUPLICATE_ELEMENT")]
     DuplicateElement { at: Option<TokenNo> },
-    #[error("no memory")]
     Memory,
 }
 
@@ -77,12 +63,42 @@ fn word_of(limit: &Limit) -> &'static str
     }
 }
 
+impl fmt::Display for RuleFault {
+    ghost output = { λ f. Some (fault_words f) };
+
+    fn fmt<W: fmt::Write>(&self, f: &mut fmt::Formatter<W>) -> fmt::Result {
+        match self {
+            RuleFault::TooMany(limit) => write!(f, "40 TOO_MANY {}", word_of(limit)),
+            RuleFault::DuplicateName(name) => write!(f, "20 DUPLICATE_NAME {name}"),
+            RuleFault::DuplicateAttribute(word) => write!(f, "23 DUPLICATE_ATTRIBUTE {word}"),
+            RuleFault::MissingAttribute { item, word } => write!(
+                f,
+                "24 MISSING_ATTRIBUTE {item} {word}"
+            ),
+            RuleFault::UnknownName(name) => write!(f, "21 UNKNOWN_NAME {name}"),
+            RuleFault::WrongKind(name) => write!(f, "22 WRONG_KIND {name}"),
+            RuleFault::FloatVariable(variable) => write!(f, "30 FLOAT_VARIABLE {variable}"),
+            RuleFault::OtherType { variable, word } => write!(f, "31 OTHER_TYPE {variable} {word}"),
+            RuleFault::BadSize(variable) => write!(f, "32 BAD_SIZE {variable}"),
+            RuleFault::Mismatch { .. } => write!(f, "33 MISMATCH"),
+            RuleFault::FloatValue { .. } => write!(f, "34 FLOAT_VALUE"),
+            RuleFault::BreakOutside { .. } => write!(f, "35 BREAK_OUTSIDE"),
+            RuleFault::ConstRange { .. } => write!(f, "36 CONST_RANGE"),
+            RuleFault::DuplicateCase { .. } => write!(f, "37 DUPLICATE_CASE"),
+            RuleFault::DuplicateElement { .. } => write!(f, "38 DUPLICATE_ELEMENT"),
+            RuleFault::Memory => write!(f, "no memory"),
+        }
+    }
+}
+
+impl Error for RuleFault {}
+
 impl RuleFault {
     /// The fault of a rule that is broken, with copies of its names.
     pub fn of(alloc: Global, breach: &Breach<'_>) -> Result<RuleFault, AllocError>
         ensures sound { IfOk result (λ f. refusal_of_fault f ≡ Some (refusal_of breach.now.rule)) }
         ensures placed { IfOk result
-            (λ f. place_of_fault f ≡ place_kept breach.now.rule breach.now.place) }
+            (λ f. place_of_fault f ≡ place_kept (refusal_of breach.now.rule) breach.now.place) }
     {
         let at = breach.place;
         match breach.rule {

@@ -86,6 +86,9 @@ pub fn image_from(alloc: Global, checked: &Checked) -> Result<Vec<u8>, Fault>
         → IfOk result (λ bytes. IsImageOf text bytes.items) }
     ensures refused { (text : List ℕ) → IsDescriptionOf text (description_of checked.now)
         → IfErr result (Explains text) }
+    ensures over { IfErr result
+        (IsOfLowering (too_many_strings (description_of checked.now) ≡ TooMany limit.Strings
+        ∷ [])) }
 {
     let lowering = lower(alloc, checked)?;
     write_image(alloc, checked, &lowering)

@@ -1,7 +1,8 @@
 //! Why a text is not compiled.
 
-ghost use Rattle.std.specs.Prelude.{◌≡◌};
+ghost use Rattle.std.specs.Prelude.{◌≡◌, Some, IfOk, string_bytes};
 ghost use Rattle.edd_compiler.specs.Faults.{of_lex, of_parse, of_rule, of_lower};
+ghost use Rattle.edd_compiler.specs.Words.{IsRefusalOf, fault_words, refusal_words, token_said};
 
 use edd_breaches::RuleFault;
 use edd_code::LowerFault;
@@ -11,28 +12,42 @@ use edd_lexer::{lex, line_of};
 use edd_parser::fault::ParseFault;
 use edd_syntax::numbers::TokenNo;
 use std::alloc::{AllocError, AllocFailed, Global};
-use thiserror::Error;
+use std::error::Error;
+use std::fmt;
 
 /// Why a text is not compiled. It prints its number, its kind and the names at fault; `refusal` has
 /// its line as well.
-#[derive(Debug, Drop, Error)]
+#[derive(Debug, Drop)]
 pub enum Fault {
-    #[error("{0}")]
     Lex(LexFault),
-    #[error("{0}")]
     Parse(ParseFault),
-    #[error("{0}")]
     Rule(RuleFault),
     /// More than 65,535 different strings.
-    #[error("40 TOO_MANY strings")]
     TooManyStrings,
-    #[error("no memory")]
     Memory,
 }
 
+impl fmt::Display for Fault {
+    ghost output = { λ f. Some (fault_words f) };
+
+    fn fmt<W: fmt::Write>(&self, f: &mut fmt::Formatter<W>) -> fmt::Result {
+        match self {
+            Fault::Lex(fault) => write!(f, "{fault}"),
+            Fault::Parse(fault) => write!(f, "{fault}"),
+            Fault::Rule(fault) => write!(f, "{fault}"),
+            Fault::TooManyStrings => write!(f, "40 TOO_MANY strings"),
+            Fault::Memory => write!(f, "no memory"),
+        }
+    }
+}
+
+impl Error for Fault {}
+
 impl Fault {
     // The token whose line the refusal says, where it says one.
-    fn token(&self) -> Option<TokenNo> {
+    fn token(&self) -> Option<TokenNo>
+        ensures { result ≡ token_said self.now }
+    {
         match self {
             Fault::Parse(ParseFault::Syntax { at } | ParseFault::TooDeep { at }) => Some(*at),
             Fault::Rule(fault) => fault.place(),
@@ -42,7 +57,9 @@ impl Fault {
 
     /// The refusal of the text that has this fault: its number, its kind, and the names or the line
     /// at fault, which counts from 1.
-    pub fn refusal(&self, alloc: Global, text: &[u8]) -> Result<String, AllocError> {
+    pub fn refusal(&self, alloc: Global, text: &[u8]) -> Result<String, AllocError>
+        ensures sound { IfOk result (λ s. IsRefusalOf text.now self.now (string_bytes s)) }
+    {
         if self.token().is_none() {
             return self.to_string(alloc);
         }
@@ -58,7 +75,10 @@ impl Fault {
         alloc: Global,
         text: &[u8],
         tokens: &[Token],
-    ) -> Result<String, AllocError> {
+    ) -> Result<String, AllocError>
+        ensures sound { IfOk result (λ s. string_bytes s ≡ refusal_words text.now tokens.now
+            self.now) }
+    {
         match self.token() {
             Some(at) => {
                 let line = line_of(text, tokens, at);

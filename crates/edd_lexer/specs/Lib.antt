@@ -12,3 +12,4 @@ pub mod Kept
 pub mod Views
 pub mod Parts
 pub mod Worked
+pub mod Words

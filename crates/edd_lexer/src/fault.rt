@@ -1,10 +1,12 @@
 //! Why a text has no tokens.
 
-ghost use Rattle.std.specs.Prelude.{◌≡◌};
+ghost use Rattle.std.specs.Prelude.{◌≡◌, Some};
 ghost use Rattle.edd_lexer.specs.declared.fault.LexFault.TheVariants.{Memory};
+ghost use Rattle.edd_lexer.specs.Words.{words_of};
 
 use std::alloc::{AllocError, AllocFailed};
-use thiserror::Error;
+use std::error::Error;
+use std::fmt;
 
 /// What is wrong with a text.
 #[derive(Clone, Copy, PartialEq, Eq, Debug)]
@@ -20,27 +22,38 @@ pub enum Fault {
 }
 
 /// Why a text was refused. It prints its number, its kind and its line, counted from 1.
-#[derive(Debug, Drop, PartialEq, Eq, Error)]
+#[derive(Debug, Drop, PartialEq, Eq)]
 pub enum LexFault {
-    #[error("2 TOO_LONG")]
     TooLong,
-    #[error("1 NOT_UTF8 line {line}")]
     NotUtf8 { line: u32 },
-    #[error("3 BAD_CHARACTER line {line}")]
     BadCharacter { line: u32 },
-    #[error("4 OPEN_COMMENT line {line}")]
     OpenComment { line: u32 },
-    #[error("5 OPEN_STRING line {line}")]
     OpenString { line: u32 },
-    #[error("6 BAD_ESCAPE line {line}")]
     BadEscape { line: u32 },
-    #[error("7 BAD_NUMBER line {line}")]
     BadNumber { line: u32 },
-    #[error("8 DIRECTIVE line {line}")]
     Directive { line: u32 },
-    #[error("no memory")]
     Memory,
 }
+
+impl fmt::Display for LexFault {
+    ghost output = { λ f. Some (words_of f) };
+
+    fn fmt<W: fmt::Write>(&self, f: &mut fmt::Formatter<W>) -> fmt::Result {
+        match self {
+            LexFault::TooLong => write!(f, "2 TOO_LONG"),
+            LexFault::NotUtf8 { line } => write!(f, "1 NOT_UTF8 line {line}"),
+            LexFault::BadCharacter { line } => write!(f, "3 BAD_CHARACTER line {line}"),
+            LexFault::OpenComment { line } => write!(f, "4 OPEN_COMMENT line {line}"),
+            LexFault::OpenString { line } => write!(f, "5 OPEN_STRING line {line}"),
+            LexFault::BadEscape { line } => write!(f, "6 BAD_ESCAPE line {line}"),
+            LexFault::BadNumber { line } => write!(f, "7 BAD_NUMBER line {line}"),
+            LexFault::Directive { line } => write!(f, "8 DIRECTIVE line {line}"),
+            LexFault::Memory => write!(f, "no memory"),
+        }
+    }
+}
+
+impl Error for LexFault {}
 
 impl From<AllocError> for LexFault {
     ghost from_gives = { λ _ e. e ≡ Memory };

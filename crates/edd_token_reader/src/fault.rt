@@ -1,24 +1,37 @@
 //! Why tokens spell no unit.
 
-ghost use Rattle.std.specs.Prelude.{◌≡◌};
+ghost use Rattle.std.specs.Prelude.{◌≡◌, Some};
 ghost use Rattle.edd_token_reader.specs.declared.fault.ParseFault.TheVariants.{Memory};
+ghost use Rattle.edd_token_reader.specs.Words.{words_of};
 
 use edd_syntax::numbers::TokenNo;
 use std::alloc::{AllocError, AllocFailed, Global};
-use thiserror::Error;
+use std::error::Error;
+use std::fmt;
 
 /// Why tokens were refused, and at which. It prints its number, its kind and the word.
-#[derive(Debug, Drop, Error)]
+#[derive(Debug, Drop)]
 pub enum ParseFault {
-    #[error("10 SYNTAX")]
     Syntax { at: TokenNo },
-    #[error("11 TOO_DEEP")]
     TooDeep { at: TokenNo },
-    #[error("12 UNSUPPORTED {word}")]
     Unsupported { at: TokenNo, word: String },
-    #[error("no memory")]
     Memory,
 }
+
+impl fmt::Display for ParseFault {
+    ghost output = { λ f. Some (words_of f) };
+
+    fn fmt<W: fmt::Write>(&self, f: &mut fmt::Formatter<W>) -> fmt::Result {
+        match self {
+            ParseFault::Syntax { .. } => write!(f, "10 SYNTAX"),
+            ParseFault::TooDeep { .. } => write!(f, "11 TOO_DEEP"),
+            ParseFault::Unsupported { word, .. } => write!(f, "12 UNSUPPORTED {word}"),
+            ParseFault::Memory => write!(f, "no memory"),
+        }
+    }
+}
+
+impl Error for ParseFault {}
 
 impl ParseFault {
     /// The refusal of a word that the profile leaves out.
