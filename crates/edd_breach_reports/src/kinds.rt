@@ -1,6 +1,8 @@
 //! Collections most of whose members are of another kind: there the word after OF is the mistake, and is
 //! told once.
 
+ghost use Rattle.std.specs.Prelude.{◌≡◌};
+
 use crate::sources::Source;
 use edd_breaches::{Breach, Rule};
 use edd_reports::diagnostic::Diagnostic;
@@ -10,12 +12,13 @@ use edd_syntax::symbols::Symbol;
 use indexmap::IndexMap;
 use std::alloc::{AllocError, Global};
 
-/// How many members a collection has, how many of them are of another kind, and whether it was told.
+/// How many members a collection has, how many of them are of another kind, and the number of the
+/// breach that was told for all of these.
 #[derive(Clone, Copy)]
 struct Members {
     all: usize,
     others: usize,
-    is_told: bool,
+    told: Option<usize>,
 }
 
 /// Collections by the tokens of their names.
@@ -82,7 +85,7 @@ impl OtherKinds {
                 let members = Members {
                     all,
                     others: *others,
-                    is_told: false,
+                    told: None,
                 };
                 collections.insert(*name, members)?;
             }
@@ -90,32 +93,31 @@ impl OtherKinds {
         Ok(OtherKinds { collections })
     }
 
-    /// Whether a breach is told already, for all members of its collection.
-    pub fn has_told(&self, source: &Source<'_>, breach: &Breach<'_>) -> bool {
-        let Some(name) = collection_of(source, breach) else {
-            return false;
-        };
-        match self.collections.get(&name) {
-            Some(members) => members.is_told,
-            None => false,
-        }
+    /// The number of the breach that was told for all members of the collection in which one is.
+    pub fn told_by(&self, source: &Source<'_>, breach: &Breach<'_>) -> Option<usize> {
+        let name = collection_of(source, breach)?;
+        self.collections.get(&name)?.told
     }
 
-    /// Has what is said of a member stand at the kind of its collection, for all members.
+    /// Has what is said of a member, whose breach has this number, stand at the kind of its
+    /// collection, for all members.
     pub fn tell(
         &mut self,
         alloc: Global,
         source: &Source<'_>,
         breach: &Breach<'_>,
+        number: usize,
         found: &mut Diagnostic,
-    ) -> Result<(), AllocError> {
+    ) -> Result<(), AllocError>
+        ensures kept { found.new.finding ≡ found.old.finding }
+    {
         let Some(name) = collection_of(source, breach) else {
             return Ok(());
         };
         let Some(members) = self.collections.get_mut(&name) else {
             return Ok(());
         };
-        members.is_told = true;
+        members.told = Some(number);
         let (all, others) = (members.all, members.others);
         let kind = name.saturating_sub(1);
         found.place = source.span(kind);

@@ -1,7 +1,8 @@
 //! What is said of a rule that is broken: the refusal as the compiler prints it, its place, and what
 //! helps.
 //!
-//! Proved is that this is found safely and in bounded time.
+//! Proved is that the refusal has the words and the line of what is told of the breach, and that the
+//! rest is found safely and in bounded time.
 #![tactic(auto)]
 
 mod kinds;
@@ -11,5 +12,5 @@ mod rules;
 mod sources;
 
 pub use kinds::OtherKinds;
-pub use rules::diagnostic;
+pub use rules::{diagnostic, refusal_of};
 pub use sources::Source;

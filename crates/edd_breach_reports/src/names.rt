@@ -1,5 +1,7 @@
 //! What is said of a name that means nothing where it is, or something of another kind.
 
+ghost use Rattle.std.specs.Prelude.{◌≡◌};
+
 use crate::sources::{BUILTINS, LONGEST, Source};
 use edd_reports::diagnostic::Diagnostic;
 use edd_reports::nearest::Nearest;
@@ -69,7 +71,7 @@ pub fn named_kind(kind: Kind) -> &'static str {
 
 /// The function whose argument is at a token, by the token of its name, and how many arguments are
 /// before it.
-pub fn function_around(source: &Source<'_>, number: usize) -> Option<(usize, usize)> {
+fn function_around(source: &Source<'_>, number: usize) -> Option<(usize, usize)> {
     let tokens = source.tokens();
     let mut closed: usize = 0;
     let mut commas: usize = 0;
@@ -187,7 +189,9 @@ fn help_known(
     name: &str,
     number: usize,
     found: &mut Diagnostic,
-) -> Result<bool, AllocError> {
+) -> Result<bool, AllocError>
+    ensures kept { found.new.finding ≡ found.old.finding }
+{
     let is_called = is_sign(
         source.tokens(),
         number.saturating_add(1),
@@ -242,7 +246,9 @@ pub fn help_unknown(
     name: &str,
     number: usize,
     found: &mut Diagnostic,
-) -> Result<(), AllocError> {
+) -> Result<(), AllocError>
+    ensures kept { found.new.finding ≡ found.old.finding }
+{
     let is_member = is_sign(source.tokens(), number.saturating_sub(1), Symbol::Dot);
     if !is_member && help_known(alloc, source, name, number, found)? {
         return Ok(());
@@ -272,7 +278,9 @@ pub fn help_kind(
     name: &str,
     number: usize,
     found: &mut Diagnostic,
-) -> Result<(), AllocError> {
+) -> Result<(), AllocError>
+    ensures kept { found.new.finding ≡ found.old.finding }
+{
     let tokens = source.tokens();
     if is_sign(tokens, number.saturating_sub(1), Symbol::Dot) {
         let text = if is_sign(tokens, number.saturating_add(1), Symbol::Dot) {

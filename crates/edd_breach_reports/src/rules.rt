@@ -1,5 +1,10 @@
 //! What is said of a description that breaks rules.
 
+ghost use Rattle.std.specs.Prelude.{◌≡◌, IfOk, string_bytes};
+ghost use Rattle.edd_breaches.specs.Told.{told_of};
+ghost use Rattle.edd_breaches.specs.Words.{told_words};
+ghost use Rattle.edd_breach_reports.specs.Refusals.{IsRefusal, lines_of};
+
 use crate::names::{function_of, help_kind, help_unknown, named_kind};
 use crate::places::shown_at;
 use crate::sources::Source;
@@ -20,12 +25,15 @@ const TYPES: [&str; 4] = [
     "BIT_ENUMERATED",
 ];
 
-// The refusal for a breach, as the compiler prints it.
-fn refusal_of(
+/// The refusal for a breach, as the compiler prints it.
+pub fn refusal_of(
     alloc: Global,
     source: &Source<'_>,
     breach: &Breach<'_>,
-) -> Result<String, AllocError> {
+) -> Result<String, AllocError>
+    ensures sound { IfOk result (λ s. string_bytes s
+        ≡ told_words (lines_of source.now) (told_of breach.now)) }
+{
     let fault = RuleFault::of(alloc, breach)?;
     match fault.place() {
         Some(at) => format!(in alloc; "{fault} line {}", source.line(at)),
@@ -157,7 +165,9 @@ fn help_beside(
     source: &Source<'_>,
     breach: &Breach<'_>,
     found: &mut Diagnostic,
-) -> Result<(), AllocError> {
+) -> Result<(), AllocError>
+    ensures kept { found.new.finding ≡ found.old.finding }
+{
     if let Some(earlier) = breach.earlier_token() {
         let text = match breach.rule {
             Rule::DuplicateCase => String::from_str(alloc, "this case is there already")?,
@@ -234,7 +244,10 @@ pub fn diagnostic(
     alloc: Global,
     source: &Source<'_>,
     breach: &Breach<'_>,
-) -> Result<Diagnostic, AllocError> {
+) -> Result<Diagnostic, AllocError>
+    ensures sound { IfOk result
+        (λ d. IsRefusal (told_words (lines_of source.now) (told_of breach.now)) d.finding) }
+{
     let refusal = refusal_of(alloc, source, breach)?;
     let mut found = Diagnostic::new(alloc, Finding::Refused(refusal));
     found.place = match shown_at(source, breach) {

@@ -1,5 +1,9 @@
 //! A text that breaks rules, and the names that it declares.
 
+ghost use Rattle.std.specs.Prelude.{◌≡◌, IfOk};
+ghost use Rattle.edd_lexer.specs.Words.{line_at};
+ghost use Rattle.edd_breach_reports.specs.Refusals.{lines_of};
+
 use edd_lexer::line_of;
 use edd_lexer::token::{Token, TokenKind};
 use edd_reports::nearest::Nearest;
@@ -91,11 +95,10 @@ fn names_of<'a>(
 }
 
 impl<'a> Source<'a> {
-    pub fn of(
-        alloc: Global,
-        text: &'a [u8],
-        tokens: &'a [Token],
-    ) -> Result<Source<'a>, AllocError> {
+    /// A text with its tokens, and what they declare.
+    pub fn of(alloc: Global, text: &'a [u8], tokens: &'a [Token]) -> Result<Source<'a>, AllocError>
+        ensures lines { IfOk result (λ s. lines_of s ≡ line_at text.now tokens.now) }
+    {
         let outline = Outline::of(alloc, tokens)?;
         let items = items_of(alloc, text, tokens, &outline)?;
         let names = names_of(alloc, text, tokens, &outline)?;
@@ -114,7 +117,9 @@ impl<'a> Source<'a> {
     }
 
     /// The line on which a token begins, counted from 1.
-    pub fn line(&self, at: TokenNo) -> u32 {
+    pub fn line(&self, at: TokenNo) -> u32
+        ensures { result ≡ lines_of self.now at }
+    {
         line_of(self.text, self.tokens, at)
     }
 

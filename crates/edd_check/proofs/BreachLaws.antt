@@ -20,7 +20,7 @@ use Rattle.edd_names.specs.Units.{unit_view}
 use Rattle.edd_types.specs.declared.sought.Calls.{Calls}
 use Rattle.edd_types.specs.declared.sought.Calls.TheVariants as calls
 use Rattle.edd_types.specs.Rules.{all_told}
-use Rattle.edd_check.specs.Breaches.{Lists, calls_after}
+use Rattle.edd_check.specs.Breaches.{AreItems, Lists, calls_after}
 
 nothing_left : (xs ys : List Refusal) → xs ++ ys ≡ [] → xs ≡ []
 nothing_left [] ys h = refl
@@ -52,6 +52,7 @@ module _ (u : Unit) where
     was_asked = false;
     items = [];
     all = told_now (names_told u false) old new none told ∙ sym (append-nil (names_told u false));
+    are_items = λ is. let clash : false ≡ true = is in absurd cc;
     names = names;
     counted = λ is. counted;
     profile = λ d fine meant. absurd (counted (nothing_left (too_many (unit_view u)) _ fine));
@@ -64,7 +65,7 @@ module _ (u : Unit) where
   module _ (items : List (code.Item Target)) (names : refusals (names_told u true)
       ≡ told_of_names (unit_view u) true) (rules : refusals (all_told calls.All items)
       ≡ subset_breaches (description (identification_of u.identification) (numbered_items items)))
-      (means : IsMeant (unit_view u) (numbered_items items)) where
+      (means : IsMeant (unit_view u) (numbered_items items)) (are : AreItems u items) where
     abbrev whole : Description Target
     whole = description (identification_of u.identification) (numbered_items items)
 
@@ -93,6 +94,7 @@ module _ (u : Unit) where
           was_asked = true;
           items = items;
           all = all;
+          are_items = λ is. are;
           names = names;
           counted = λ is. let clash : true ≡ false = is in absurd cc;
           profile = λ d fine meant. (

@@ -1,2 +1,4 @@
 pub mod BreachLaws
+pub mod RefusedLaws
 pub mod SaidLaws
+pub mod ShownLaws

@@ -3,7 +3,8 @@ use Rattle.std.proofs.Common.{◌≡◌, ℕ, List, [], ◌∷◌, ◌++◌, sym
 use Rattle.std.proofs.lemmas.List.{append-nil, append_assoc}
 use Rattle.std.proofs.lemmas.List.Elements.{All-nil, All-push}
 use Rattle.edd_reports.specs.declared.diagnostic.Diagnostic.{Diagnostic}
-use Rattle.edd_check.specs.Said.{BeginsWith, IsRefusal, IsWarning, SaysMore, WarnsAlone}
+use Rattle.edd_breach_reports.specs.Refusals.{IsRefusal}
+use Rattle.edd_check.specs.Said.{BeginsWith, IsWarning, SaysMore, WarnsAlone}
 
 pub says_nothing : (before : List Diagnostic) → SaysMore before before
 says_nothing before = ([], sym (append-nil before))
@@ -20,7 +21,7 @@ says_then before between after first second = (
 )
 
 -- what is said first stays first
-begins_more : (words : List ℕ) (before more : List Diagnostic) → BeginsWith words before
+pub begins_more : (words : List ℕ) (before more : List Diagnostic) → BeginsWith words before
     → BeginsWith words (before ++ more)
 begins_more words [] more none = absurd none
 begins_more words (d ∷ rest) more first = first

@@ -11,7 +11,7 @@ use Rattle.edd_syntax.specs.Resolved.{description}
 use Rattle.edd_syntax.specs.ResolvedTrees.{resolved_unit}
 use Rattle.edd_syntax.specs.SubsetRules.{subset_breaches}
 use Rattle.edd_breaches.specs.Told.{Told, refusals}
-use Rattle.edd_names.specs.Told.{names_told, told_of_names}
+use Rattle.edd_names.specs.Told.{AreAtTokens, IsRead, names_told, told_of_names}
 use Rattle.edd_names.specs.Units.{unit_view}
 use Rattle.edd_types.specs.declared.sought.Calls.{Calls}
 use Rattle.edd_types.specs.declared.sought.Calls.TheVariants as calls
@@ -22,8 +22,14 @@ abbrev pub calls_after : (names : List Told) → Calls
 calls_after [] = calls.All
 calls_after (t ∷ rest) = calls.Named
 
--- the breaches of the profile in the items of a unit, where something stands for each name that
--- means nothing; it is not asked what names mean where there is too much of something
+-- these are the unit's items: the same trees at the same tokens, with what each name is read as in
+-- its place, which is its meaning or what stands for it
+abbrev pub AreItems : Unit → List (code.Item Target) → Type 0
+AreItems u items = IsRead (unit_view u) (numbered_items items)
+    × AreAtTokens u items
+
+-- the breaches of the profile in the items of a unit; it is not asked what names mean where there
+-- is too much of something
 abbrev pub profile_told : Unit → (was_asked : Bool) → List (code.Item Target) → List Told
 profile_told u true items = all_told (calls_after (names_told u true)) items
 profile_told u false items = []
@@ -34,6 +40,7 @@ pub record Lists (u : Unit) (told : List Told) : Type 0 where
   pub items : List (code.Item Target)
   -- first the breaches of the rules on names, then those of the profile
   pub all : told ≡ names_told u was_asked ++ profile_told u was_asked items
+  pub are_items : was_asked ≡ true → AreItems u items
   -- of rules on names all that are broken, but for those on uses where there is too much
   pub names : refusals (names_told u was_asked) ≡ told_of_names (unit_view u) was_asked
   pub counted : was_asked ≡ false → too_many (unit_view u) ≡ [] → ⊥

@@ -9,6 +9,7 @@ ghost use Rattle.edd_compiler.specs.Faults.{HasFault};
 ghost use Rattle.edd_compiler.specs.Images.{HasImage};
 ghost use Rattle.edd_compiler.specs.Sources.{IsUnitOf, IsDescriptionOf};
 ghost use Rattle.edd_check.specs.Said.{Refuses, WarnsAlone};
+ghost use Rattle.edd_check.specs.Shown.{state_of};
 
 use crate::accepted::of_text;
 use crate::refusals::{of_excess, of_unit, of_words};
@@ -31,7 +32,7 @@ fn accepted(said: Reports) -> Reports
 
 fn refused(said: Reports) -> Reports
     ensures refused { result.is_refused ≡ true }
-    ensures kept { result.shown.items ≡ said.shown.items }
+    ensures kept { state_of result ≡ state_of said }
 {
     let mut made = said;
     made.is_refused = true;
@@ -46,10 +47,11 @@ fn of_description(
     checked: &Checked,
     choices: &Choices,
 ) -> Result<Reports, AllocError>
-    requires { IsDescriptionOf text.now (description_of checked.now) }
+    requires tokens { AreTokens text.now (map (lexeme_of text.now) tokens.now) }
+    requires description { IsDescriptionOf text.now (description_of checked.now) }
     ensures accepted { IfOk result (λ said. said.is_refused ≡ false → HasImage text.now) }
     ensures refused { IfOk result (λ said. said.is_refused ≡ true → HasFault text.now) }
-    ensures first { IfOk result (λ said. said.is_refused ≡ true → Refuses said.shown.items) }
+    ensures first { IfOk result (λ said. said.is_refused ≡ true → Refuses text.now said) }
     ensures alone { IfOk result (λ said. said.is_refused ≡ false → WarnsAlone said.shown.items) }
 {
     match image_from(alloc, checked) {
@@ -70,10 +72,11 @@ fn of_whole(
     unit: &Unit,
     choices: &Choices,
 ) -> Result<Reports, AllocError>
-    requires { IsUnitOf text.now (unit_view unit.now) }
+    requires tokens { AreTokens text.now (map (lexeme_of text.now) tokens.now) }
+    requires unit { IsUnitOf text.now (unit_view unit.now) }
     ensures accepted { IfOk result (λ said. said.is_refused ≡ false → HasImage text.now) }
     ensures refused { IfOk result (λ said. said.is_refused ≡ true → HasFault text.now) }
-    ensures first { IfOk result (λ said. said.is_refused ≡ true → Refuses said.shown.items) }
+    ensures first { IfOk result (λ said. said.is_refused ≡ true → Refuses text.now said) }
     ensures alone { IfOk result (λ said. said.is_refused ≡ false → WarnsAlone said.shown.items) }
 {
     match checked_from(alloc, unit) {
@@ -96,7 +99,7 @@ fn of_tokens(
     requires { AreTokens text.now (map (lexeme_of text.now) tokens.now) }
     ensures accepted { IfOk result (λ said. said.is_refused ≡ false → HasImage text.now) }
     ensures refused { IfOk result (λ said. said.is_refused ≡ true → HasFault text.now) }
-    ensures first { IfOk result (λ said. said.is_refused ≡ true → Refuses said.shown.items) }
+    ensures first { IfOk result (λ said. said.is_refused ≡ true → Refuses text.now said) }
     ensures alone { IfOk result (λ said. said.is_refused ≡ false → WarnsAlone said.shown.items) }
 {
     match unit_from(alloc, text, tokens) {
@@ -113,7 +116,7 @@ fn of_tokens(
 pub fn diagnose(alloc: Global, text: &[u8], choices: &Choices) -> Result<Reports, AllocError>
     ensures accepted { IfOk result (λ said. said.is_refused ≡ false → HasImage text.now) }
     ensures refused { IfOk result (λ said. said.is_refused ≡ true → HasFault text.now) }
-    ensures first { IfOk result (λ said. said.is_refused ≡ true → Refuses said.shown.items) }
+    ensures first { IfOk result (λ said. said.is_refused ≡ true → Refuses text.now said) }
     ensures alone { IfOk result (λ said. said.is_refused ≡ false → WarnsAlone said.shown.items) }
 {
     match tokens_of(alloc, text) {

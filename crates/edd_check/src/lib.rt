@@ -1,11 +1,11 @@
 //! Why a text is refused, at each place, with what helps, and what is surely not meant in one that
 //! is accepted.
 //!
-//! Proved is that a text is refused exactly where the compiler refuses it, that a refusal is said
-//! of it first, that of a text that is accepted nothing but warnings is said, and which broken rules
-//! are told of a unit. That the first refusal is the compiler's holds of each step that is handed
-//! that refusal, and is not in the contract of the whole. Of places, helps, further faults and
-//! warnings nothing is proved but that they are found safely and in bounded time.
+//! Proved is that a text is refused exactly where the compiler refuses it, that its refusal is said
+//! first, in the words that the compiler prints, that of a text that breaks a rule all breaches are
+//! said that repeat none before them, and that of a text that is accepted nothing but warnings is
+//! said. Of places, helps, faults after one of the grammar and warnings nothing is proved but that
+//! they are found safely and in bounded time.
 #![tactic(auto)]
 
 ghost use Rattle.std.specs.Prelude.{◌≡◌, false, IfOk};

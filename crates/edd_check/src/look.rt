@@ -44,7 +44,7 @@ impl<'a> Look<'a> {
         ensures refused { IfOk result
             (λ look. look.reports.is_refused ≡ true → HasFault text.now) }
         ensures first { IfOk result
-            (λ look. look.reports.is_refused ≡ true → Refuses look.reports.shown.items) }
+            (λ look. look.reports.is_refused ≡ true → Refuses text.now look.reports) }
         ensures alone { IfOk result
             (λ look. look.reports.is_refused ≡ false → WarnsAlone look.reports.shown.items) }
     {

@@ -1,12 +1,18 @@
 //! All that is said of a text that is refused. The compiler's refusal comes first.
 
-ghost use Rattle.std.specs.Prelude.{◌≡◌, [], IfOk, IsTrue, OnOk, string_bytes};
-ghost use Rattle.edd_check.specs.Said.{BeginsWith, IsRefusal, SaysMore};
+ghost use Rattle.std.specs.Prelude.{◌≡◌, [], List, IfOk, IsTrue, OnOk, map, string_bytes};
+ghost use Rattle.edd_lexer.specs.Words.{line_at};
+ghost use Rattle.edd_breaches.specs.Told.{Told, told_of};
+ghost use Rattle.edd_breaches.specs.Words.{told_words};
+ghost use Rattle.edd_breach_reports.specs.Refusals.{IsRefusal, lines_of};
+ghost use Rattle.edd_check.specs.Breaches.{Lists};
+ghost use Rattle.edd_check.specs.Said.{BeginsWith, SaysMore};
+ghost use Rattle.edd_check.specs.Shown.{Begins, Repeats, RepeatsOne, Says, SaysAll, SaysFirst, SaysNext, state_of};
 
 use crate::breaches::told_of;
 use crate::grammar::Compiler;
 use crate::reports::Reports;
-use edd_breach_reports::{OtherKinds, Source, diagnostic};
+use edd_breach_reports::{OtherKinds, Source, diagnostic, refusal_of};
 use edd_breaches::{Breach, Rule};
 use edd_compiler::Fault;
 use edd_lexer::token::Token;
@@ -125,59 +131,135 @@ fn of_text(
     show_later(alloc, text, &faults, reports)
 }
 
-// What is said of a breach.
+// Whether the first breach is the compiler's refusal.
+fn says_first(
+    alloc: Global,
+    source: &Source<'_>,
+    found: &[Breach<'_>],
+    refusal: &str,
+) -> Result<bool, AllocError>
+    ensures { IfOk result (λ says. IsTrue says
+        → SaysFirst (lines_of source.now) (map told_of found.now) refusal.now) }
+{
+    match found.first() {
+        Some(first) => Ok(refusal_of(alloc, source, first)?.as_str() == refusal),
+        None => Ok(false),
+    }
+}
+
+// Whether a breach says once more what another one says.
+fn repeats(earlier: &Breach<'_>, later: &Breach<'_>) -> bool
+    ensures { IsTrue result → Repeats (told_of earlier.now).refusal (told_of later.now).refusal }
+{
+    match (earlier.rule, later.rule) {
+        (Rule::UnknownName(first), Rule::UnknownName(second)) => first == second,
+        (Rule::WrongKind(_), Rule::WrongKind(_)) => true,
+        _ => false,
+    }
+}
+
+// Whether a breach is said already by one before it, by that one's number.
+fn is_said(
+    before: &[Breach<'_>],
+    breach: &Breach<'_>,
+    noted: &Noted<'_>,
+    source: &Source<'_>,
+) -> bool
+    ensures { IsTrue result → RepeatsOne (map told_of before.now) (told_of breach.now) }
+{
+    let Some(number) = noted.earlier(source, breach) else {
+        return false;
+    };
+    match before.get(number) {
+        Some(earlier) => repeats(earlier, breach),
+        None => false,
+    }
+}
+
+// What is said of a breach that has a number.
 fn told_about<'a>(
     alloc: Global,
     source: &Source<'_>,
     breach: &Breach<'a>,
-    told: &mut Told<'a>,
-) -> Result<Diagnostic, AllocError> {
+    number: usize,
+    noted: &mut Noted<'a>,
+) -> Result<Diagnostic, AllocError>
+    ensures { IfOk result
+        (λ d. IsRefusal (told_words (lines_of source.now) (told_of breach.now)) d.finding) }
+{
     let mut made = diagnostic(alloc, source, breach)?;
-    told.add(source, breach, &made)?;
-    told.kinds.tell(alloc, source, breach, &mut made)?;
+    noted.add(source, breach, number, &made)?;
+    noted.kinds.tell(alloc, source, breach, number, &mut made)?;
     Ok(made)
 }
 
-// Shows one more breach, unless it was told.
-#[tactic(auto, using(crate::proofs::SaidLaws::says_nothing, crate::proofs::SaidLaws::says_one))]
+// Shows one more breach, unless it is said already.
 fn show_breach<'a>(
     alloc: Global,
     source: &Source<'_>,
+    before: &[Breach<'a>],
     breach: &Breach<'a>,
-    told: &mut Told<'a>,
+    noted: &mut Noted<'a>,
     reports: &mut Reports,
 ) -> Result<(), AllocError>
-    ensures { OnOk result (SaysMore reports.old.shown.items reports.new.shown.items) }
+    ensures { OnOk result (SaysNext (lines_of source.now) (map told_of before.now)
+        (told_of breach.now) (state_of reports.old) (state_of reports.new)) }
 {
-    if told.has(source, breach) {
+    if is_said(before, breach, noted, source) {
         return Ok(());
     }
     if !reports.has_room() {
         reports.pass();
         return Ok(());
     }
-    reports.show(told_about(alloc, source, breach, told)?)
+    reports.show(told_about(alloc, source, breach, before.len(), noted)?)
 }
 
-// Shows breaches after the first.
-#[tactic(auto, using(crate::proofs::SaidLaws::says_nothing, crate::proofs::SaidLaws::says_then))]
-fn show_others<'a>(
+// Shows breaches, each by its number.
+fn show_all<'a>(
     alloc: Global,
     source: &Source<'_>,
-    breaches: &[Breach<'a>],
-    told: &mut Told<'a>,
+    found: &[Breach<'a>],
+    noted: &mut Noted<'a>,
     reports: &mut Reports,
 ) -> Result<(), AllocError>
-    ensures { OnOk result (SaysMore reports.old.shown.items reports.new.shown.items) }
+    ensures { OnOk result (Says (lines_of source.now) [] (map told_of found.now)
+        (state_of reports.old) (state_of reports.new)) }
 {
-    for breach in breaches {
-        show_breach(alloc, source, breach, told, reports)?;
+    for number in 0..found.len() {
+        show_breach(
+            alloc,
+            source,
+            &found[..number],
+            &found[number],
+            noted,
+            reports,
+        )?;
     }
     Ok(())
 }
 
-// Shows breaches. Where the first is not the compiler's refusal, that is shown by itself before it.
-#[tactic(auto, using(crate::proofs::SaidLaws::begins_now, crate::proofs::SaidLaws::begins_still))]
+// Shows the compiler's refusal by itself, unless the first breach is it.
+fn show_start(
+    alloc: Global,
+    source: &Source<'_>,
+    found: &[Breach<'_>],
+    refusal: String,
+    reports: &mut Reports,
+) -> Result<(), AllocError>
+    requires shown { reports.old.shown.items ≡ [] }
+    requires counted { reports.old.more ≡ 0 }
+    ensures begins { OnOk result (Begins (string_bytes refusal) (state_of reports.new)) }
+    ensures first { OnOk result (reports.new.shown.items ≡ []
+        → SaysFirst (lines_of source.now) (map told_of found.now) (string_bytes refusal)) }
+{
+    if says_first(alloc, source, found, refusal.as_str())? {
+        return Ok(());
+    }
+    reports.show(of_limit(alloc, refusal)?)
+}
+
+// Shows breaches after the compiler's refusal, or beginning with it.
 fn show_breaches(
     alloc: Global,
     source: &Source<'_>,
@@ -185,27 +267,32 @@ fn show_breaches(
     refusal: String,
     reports: &mut Reports,
 ) -> Result<(), AllocError>
-    requires { reports.old.shown.items ≡ [] }
-    ensures { OnOk result (BeginsWith (string_bytes refusal) reports.new.shown.items) }
+    requires shown { reports.old.shown.items ≡ [] }
+    requires counted { reports.old.more ≡ 0 }
+    ensures first { OnOk result (BeginsWith (string_bytes refusal) reports.new.shown.items) }
+    ensures listed { OnOk result (SaysAll (lines_of source.now) (string_bytes refusal)
+        (map told_of found.now) (state_of reports.new)) }
 {
-    let [first, others @ ..] = found else {
-        return reports.show(of_limit(alloc, refusal)?);
-    };
-    let mut told = Told {
+    show_start(alloc, source, found, refusal, reports)?;
+    let mut noted = Noted {
         names: IndexMap::new(alloc),
         kinds: OtherKinds::of(alloc, source, found)?,
     };
-    let made = told_about(alloc, source, first, &mut told)?;
-    show_first(alloc, made, refusal, reports)?;
-    show_others(alloc, source, others, &mut told, reports)
+    show_all(alloc, source, found, &mut noted, reports)
+}
+
+/// A name that means nothing: the number of the breach that told it, and the name of the item around
+/// it; none where one change mends all uses.
+#[derive(Clone, Copy)]
+struct Unknown {
+    number: usize,
+    item: Option<usize>,
 }
 
 /// What was told and is not told again.
 #[derive(Drop)]
-struct Told<'a> {
-    /// Names that mean nothing, each with the name of the item around it; with none where one change
-    /// mends all uses.
-    names: IndexMap<&'a str, Option<usize>>,
+struct Noted<'a> {
+    names: IndexMap<&'a str, Unknown>,
     kinds: OtherKinds,
 }
 
@@ -224,16 +311,17 @@ fn has_near(found: &Diagnostic) -> bool {
     false
 }
 
-impl<'a> Told<'a> {
-    // Whether a breach says once more what was told.
-    fn has(&self, source: &Source<'_>, breach: &Breach<'_>) -> bool {
+impl<'a> Noted<'a> {
+    // The number of the breach that says already what one says.
+    fn earlier(&self, source: &Source<'_>, breach: &Breach<'_>) -> Option<usize> {
         let Rule::UnknownName(name) = breach.rule else {
-            return self.kinds.has_told(source, breach);
+            return self.kinds.told_by(source, breach);
         };
-        match self.names.get(name).copied() {
-            Some(None) => true,
-            Some(item) => item == item_of(source, breach),
-            None => false,
+        let known = self.names.get(name).copied()?;
+        if known.item.is_none() || known.item == item_of(source, breach) {
+            Some(known.number)
+        } else {
+            None
         }
     }
 
@@ -241,6 +329,7 @@ impl<'a> Told<'a> {
         &mut self,
         source: &Source<'_>,
         breach: &Breach<'a>,
+        number: usize,
         found: &Diagnostic,
     ) -> Result<(), AllocError> {
         if let Rule::UnknownName(name) = breach.rule {
@@ -249,7 +338,7 @@ impl<'a> Told<'a> {
             } else {
                 item_of(source, breach)
             };
-            self.names.insert(name, item)?;
+            self.names.insert(name, Unknown { number, item })?;
         }
         Ok(())
     }
@@ -263,7 +352,9 @@ pub fn of_unit(
     unit: &Unit,
     refusal: String,
 ) -> Result<Reports, AllocError>
-    ensures { IfOk result (λ said. BeginsWith (string_bytes refusal) said.shown.items) }
+    ensures first { IfOk result (λ said. BeginsWith (string_bytes refusal) said.shown.items) }
+    ensures listed { IfOk result (λ said. (told : List Told) × Lists unit.now told
+        × SaysAll (line_at text.now tokens.now) (string_bytes refusal) told (state_of said)) }
 {
     let mut reports = Reports::new(alloc);
     let source = Source::of(alloc, text, tokens)?;

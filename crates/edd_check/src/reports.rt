@@ -1,6 +1,7 @@
 //! What is shown of a source.
 
-ghost use Rattle.std.specs.Prelude.{◌≡◌, ◌++◌, ◌∷◌, [], OnOk};
+ghost use Rattle.std.specs.Prelude.{◌≡◌, ◌++◌, ◌∷◌, ◌+◌, ◌-◌, ◌^◌, [], OnOk, min};
+ghost use Rattle.edd_check.specs.Shown.{has_room, state_of};
 
 use edd_reports::diagnostic::Diagnostic;
 use std::alloc::{AllocError, Global};
@@ -21,7 +22,8 @@ pub struct Reports {
 impl Reports {
     /// Nothing so far.
     pub fn new(alloc: Global) -> Reports
-        ensures { result.shown.items ≡ [] }
+        ensures shown { result.shown.items ≡ [] }
+        ensures counted { result.more ≡ 0 }
     {
         Reports {
             shown: Vec::new(alloc),
@@ -32,13 +34,16 @@ impl Reports {
     }
 
     /// Whether one more is shown.
-    pub fn has_room(&self) -> bool {
+    pub fn has_room(&self) -> bool
+        ensures { result ≡ has_room (state_of self.now) }
+    {
         self.shown.len() < MOST
     }
 
     /// Shows one more.
     pub fn show(&mut self, found: Diagnostic) -> Result<(), AllocError>
-        ensures { OnOk result (self.new.shown.items ≡ self.old.shown.items ++ found ∷ []) }
+        ensures kept { self.new.more ≡ self.old.more }
+        ensures shown { OnOk result (self.new.shown.items ≡ self.old.shown.items ++ found ∷ []) }
     {
         self.shown.push(found)?;
         Ok(())
@@ -46,7 +51,8 @@ impl Reports {
 
     /// Counts one that is not shown.
     pub fn pass(&mut self)
-        ensures { self.new.shown.items ≡ self.old.shown.items }
+        ensures kept { self.new.shown.items ≡ self.old.shown.items }
+        ensures counted { self.new.more ≡ min (self.old.more + 1) (2 ^ 64 - 1) }
     {
         self.more = self.more.saturating_add(1);
     }

@@ -1,5 +1,7 @@
 //! What is said of a place in a text.
 
+ghost use Rattle.std.specs.Prelude.{◌≡◌};
+
 use crate::words::Span;
 use std::alloc::{AllocError, Global};
 
@@ -34,7 +36,9 @@ pub struct Diagnostic {
 
 impl Diagnostic {
     /// A finding without a place so far.
-    pub fn new(alloc: Global, finding: Finding) -> Diagnostic {
+    pub fn new(alloc: Global, finding: Finding) -> Diagnostic
+        ensures { result.finding ≡ finding }
+    {
         Diagnostic {
             place: None,
             finding,
@@ -43,12 +47,16 @@ impl Diagnostic {
     }
 
     /// Adds a line of help.
-    pub fn help(&mut self, text: String) -> Result<(), AllocError> {
+    pub fn help(&mut self, text: String) -> Result<(), AllocError>
+        ensures kept { self.new.finding ≡ self.old.finding }
+    {
         self.help_at(None, text)
     }
 
     /// Adds a line of help on another place.
-    pub fn help_at(&mut self, place: Option<Span>, text: String) -> Result<(), AllocError> {
+    pub fn help_at(&mut self, place: Option<Span>, text: String) -> Result<(), AllocError>
+        ensures kept { self.new.finding ≡ self.old.finding }
+    {
         self.helps.push(Help { place, text })?;
         Ok(())
     }

@@ -2,7 +2,7 @@ use Rattle.std.proofs.Common.{◌≡◌, sym, ap, ◌∙◌, true, false, ◌++�
 use Rattle.std.specs.Prelude.{IfSome, is_some}
 use Rattle.edd_breaches.specs.Told.{Tells, broken, told_of}
 use Rattle.edd_syntax.specs.ItemView.{identification_of, numbered_items}
-use Rattle.edd_names.specs.Told.{IsMeant, names_told, told_of_names}
+use Rattle.edd_names.specs.Told.{AreAtTokens, IsMeant, IsRead, names_told, told_of_names}
 use Rattle.edd_names.specs.Units.{unit_view}
 use Rattle.edd_check.specs.Breaches.{calls_after}
 use Rattle.edd_check.proofs.BreachLaws.{before_uses, same_rules, with_profile}
@@ -33,7 +33,14 @@ returns-in_ok-tell_profile-in-Some c =
     (c.in_ok-tell_profile-in-Some.ensures.rules (identification_of u.identification))
     (subst (λ xs. IsMeant (unit_view u) (numbered_items xs)) (sym c.deref-in-Some.ensures.value)
     (subst (λ o. IfSome o (λ v. IsMeant (unit_view u) (numbered_items v.items))) c.in-Some.is
-    c.in_ok-tell_names.ensures.sound))
+    c.in_ok-tell_names.ensures.sound)) (
+      subst (λ xs. IsRead (unit_view u) (numbered_items xs)) (sym c.deref-in-Some.ensures.value)
+          (subst (λ o. IfSome o (λ v. IsRead (unit_view u) (numbered_items v.items))) c.in-Some.is
+          c.in_ok-tell_names.ensures.read),
+      subst (AreAtTokens u) (sym c.deref-in-Some.ensures.value)
+          (subst (λ o. IfSome o (λ v. AreAtTokens u v.items)) c.in-Some.is
+          c.in_ok-tell_names.ensures.kept),
+    )
     c.new-told.result.items c.tell_names.new.told.items c.tell_profile.new.told.items
     c.calls_after-which.result c.new-told.ensures.items told
     (c.calls_after-which.ensures ∙ ap (λ bs. calls_after (map told_of bs)) c.deref.ensures.value)
