@@ -1,7 +1,10 @@
 //! Collections most of whose members are of another kind: there the word after OF is the mistake, and is
 //! told once.
 
-ghost use Rattle.std.specs.Prelude.{◌≡◌};
+ghost use Rattle.std.specs.Prelude.{◌≡◌, IsSome, OnOk};
+ghost use Rattle.edd_breaches.specs.Told.{refusal_of, told_of};
+ghost use Rattle.edd_breach_reports.specs.Places.{IsShownAt, MayMove};
+ghost use Rattle.edd_breach_reports.specs.Refusals.{tokens_of};
 
 use crate::sources::Source;
 use edd_breaches::{Breach, Rule};
@@ -29,10 +32,13 @@ pub struct OtherKinds {
 
 // The name of the collection in which a member of another kind is. What a member names stands behind
 // a comma.
-fn collection_of(source: &Source<'_>, breach: &Breach<'_>) -> Option<usize> {
-    let (Rule::WrongKind(_), Some(place)) = (breach.rule, breach.token()) else {
+fn collection_of(source: &Source<'_>, breach: &Breach<'_>) -> Option<usize>
+    ensures { IsSome result → MayMove (refusal_of breach.now.rule) breach.now.place }
+{
+    let (Rule::WrongKind(_), Some(at)) = (breach.rule, breach.place) else {
         return None;
     };
+    let place = at.0 as usize;
     let item = source.item_before(place)?;
     let is_member = item.kind == Kind::Collection
         && is_sign(source.tokens(), place.checked_sub(1)?, Symbol::Comma);
@@ -110,6 +116,9 @@ impl OtherKinds {
         found: &mut Diagnostic,
     ) -> Result<(), AllocError>
         ensures kept { found.new.finding ≡ found.old.finding }
+        ensures placed { OnOk result (IsShownAt (tokens_of source.now) (told_of breach.now)
+            found.old.place → IsShownAt (tokens_of source.now) (told_of breach.now)
+            found.new.place) }
     {
         let Some(name) = collection_of(source, breach) else {
             return Ok(());
@@ -120,10 +129,11 @@ impl OtherKinds {
         members.told = Some(number);
         let (all, others) = (members.all, members.others);
         let kind = name.saturating_sub(1);
-        found.place = source.span(kind);
         let (word, collection) = (source.word(kind), source.word(name));
         found.help(format!(in alloc;
             "{others} of the {all} members of {collection} are of another kind than {word}"
-        )?)
+        )?)?;
+        found.place = source.span(kind);
+        Ok(())
     }
 }

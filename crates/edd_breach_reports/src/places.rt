@@ -1,8 +1,12 @@
 //! Where a breach is shown.
 
+ghost use Rattle.edd_breaches.specs.Told.{told_of};
+ghost use Rattle.edd_breach_reports.specs.Places.{IsShownAt};
+ghost use Rattle.edd_breach_reports.specs.Refusals.{tokens_of};
+
 use crate::sources::{LONGEST, Source};
 use edd_breaches::{Breach, Rule};
-use edd_reports::words::is_sign;
+use edd_reports::words::{Span, is_sign};
 use edd_syntax::operators::Comparison;
 use edd_syntax::symbols::Symbol;
 
@@ -28,14 +32,16 @@ fn mask_or_constant(source: &Source<'_>, number: usize) -> usize {
     }
 }
 
-/// The token at which a breach is shown: of a type its word or its size behind TYPE, of a data item
-/// its mask, else the breach's own.
-pub fn shown_at(source: &Source<'_>, breach: &Breach<'_>) -> Option<usize> {
-    let at = breach.token()?;
+/// Where a breach is shown: of a type at its word or its size behind TYPE, of a data item at its mask,
+/// else at the breach's own token.
+pub fn shown_at(source: &Source<'_>, breach: &Breach<'_>) -> Option<Span>
+    ensures { IsShownAt (tokens_of source.now) (told_of breach.now) result }
+{
+    let at = breach.place?.0 as usize;
     match breach.rule {
-        Rule::FloatVariable(_) | Rule::OtherType { .. } => Some(at.saturating_add(1)),
-        Rule::BadSize(_) => Some(at.saturating_add(3)),
-        Rule::ConstRange => Some(mask_or_constant(source, at)),
-        _ => Some(at),
+        Rule::FloatVariable(_) | Rule::OtherType { .. } => source.span(at.saturating_add(1)),
+        Rule::BadSize(_) => source.span(at.saturating_add(3)),
+        Rule::ConstRange => source.span(mask_or_constant(source, at)),
+        _ => source.span(at),
     }
 }

@@ -3,7 +3,8 @@
 ghost use Rattle.std.specs.Prelude.{◌≡◌, IfOk, string_bytes};
 ghost use Rattle.edd_breaches.specs.Told.{told_of};
 ghost use Rattle.edd_breaches.specs.Words.{told_words};
-ghost use Rattle.edd_breach_reports.specs.Refusals.{IsRefusal, lines_of};
+ghost use Rattle.edd_breach_reports.specs.Places.{IsShownAt};
+ghost use Rattle.edd_breach_reports.specs.Refusals.{IsRefusal, lines_of, tokens_of};
 
 use crate::names::{function_of, help_kind, help_unknown, named_kind};
 use crate::places::shown_at;
@@ -247,13 +248,11 @@ pub fn diagnostic(
 ) -> Result<Diagnostic, AllocError>
     ensures sound { IfOk result
         (λ d. IsRefusal (told_words (lines_of source.now) (told_of breach.now)) d.finding) }
+    ensures placed { IfOk result
+        (λ d. IsShownAt (tokens_of source.now) (told_of breach.now) d.place) }
 {
     let refusal = refusal_of(alloc, source, breach)?;
     let mut found = Diagnostic::new(alloc, Finding::Refused(refusal));
-    found.place = match shown_at(source, breach) {
-        Some(number) => source.span(number),
-        None => None,
-    };
     if let Some(text) = plain_help(&breach.rule) {
         found.help(String::from_str(alloc, text)?)?;
     }
@@ -264,5 +263,6 @@ pub fn diagnostic(
         help_unknown(alloc, source, name, number, &mut found)?;
     }
     help_beside(alloc, source, breach, &mut found)?;
+    found.place = shown_at(source, breach);
     Ok(found)
 }

@@ -1,14 +1,14 @@
 //! A text that breaks rules, and the names that it declares.
 
 ghost use Rattle.std.specs.Prelude.{◌≡◌, IfOk};
-ghost use Rattle.edd_lexer.specs.Words.{line_at};
-ghost use Rattle.edd_breach_reports.specs.Refusals.{lines_of};
+ghost use Rattle.edd_breach_reports.specs.Places.{span_at};
+ghost use Rattle.edd_breach_reports.specs.Refusals.{lines_of, text_of, tokens_of};
 
 use edd_lexer::line_of;
 use edd_lexer::token::{Token, TokenKind};
 use edd_reports::nearest::Nearest;
 use edd_reports::outline::{Declared, Outline, declares};
-use edd_reports::words::{Span, is_sign, span_of, word_of};
+use edd_reports::words::{Span, is_sign, word_of};
 use edd_syntax::numbers::TokenNo;
 use edd_syntax::operators::Builtin;
 use edd_syntax::symbols::Symbol;
@@ -97,7 +97,8 @@ fn names_of<'a>(
 impl<'a> Source<'a> {
     /// A text with its tokens, and what they declare.
     pub fn of(alloc: Global, text: &'a [u8], tokens: &'a [Token]) -> Result<Source<'a>, AllocError>
-        ensures lines { IfOk result (λ s. lines_of s ≡ line_at text.now tokens.now) }
+        ensures text { IfOk result (λ s. text_of s ≡ text.now) }
+        ensures tokens { IfOk result (λ s. tokens_of s ≡ tokens.now) }
     {
         let outline = Outline::of(alloc, tokens)?;
         let items = items_of(alloc, text, tokens, &outline)?;
@@ -112,8 +113,15 @@ impl<'a> Source<'a> {
     }
 
     /// The place of a token.
-    pub fn span(&self, number: usize) -> Option<Span> {
-        Some(span_of(self.tokens.get(number)?))
+    pub fn span(&self, number: usize) -> Option<Span>
+        ensures { result ≡ span_at (tokens_of self.now) number }
+    {
+        if number < self.tokens.len() {
+            let token = &self.tokens[number];
+            let (start, end) = (token.start as usize, token.end as usize);
+            return Some(Span { start, end });
+        }
+        None
     }
 
     /// The line on which a token begins, counted from 1.

@@ -11,8 +11,9 @@ use Rattle.edd_breaches.specs.Words.{told_words}
 use Rattle.edd_check.specs.Said.{BeginsWith}
 use Rattle.edd_check.specs.Shown.{Begins, IsAlone, Repeats, RepeatsOne, Says, SaysFirst, SaysNext, State, has_room}
 use Rattle.edd_check.proofs.SaidLaws.{begins_more}
+use Rattle.edd_lexer.specs.declared.token.Token.{Token}
+use Rattle.edd_lexer.specs.Words.{line_at}
 use Rattle.edd_reports.specs.declared.diagnostic.Diagnostic.{Diagnostic}
-use Rattle.edd_syntax.specs.declared.numbers.TokenNo.{TokenNo}
 
 -- one before it, by its number, says it already
 pub repeats_at : (before : List Breach) (number : ℕ) (earlier : Breach) (t : Told)
@@ -29,14 +30,15 @@ on_ok (Ok t) P Q w h = w h
 on_ok (Err e) P Q w h = tt
 
 -- the first has these words
-pub starts : (lines : TokenNo → ℕ) (found : List Breach) (b : Breach) (words own : List ℕ)
-    → Some b ≡ slice_get found 0 → own ≡ told_words lines (told_of b) → IsTrue (bytes_eq own words)
-    → SaysFirst lines (map told_of found) words
-starts lines [] b words own is said same = let clash : Some b ≡ None = is in absurd cc
-starts lines (x ∷ rest) b words own is said same =
+pub starts : (text : List ℕ) (tokens : List Token) (found : List Breach) (b : Breach)
+    (words own : List ℕ) → Some b ≡ slice_get found 0 → own ≡ told_words (line_at text tokens) (told_of b)
+    → IsTrue (bytes_eq own words)
+    → SaysFirst text tokens (map told_of found) words
+starts text tokens [] b words own is said same = let clash : Some b ≡ None = is in absurd cc
+starts text tokens (x ∷ rest) b words own is said same =
     let e : Some b ≡ Some x = is in
     let f : b ≡ x = cc in
-    sym (said ∙ ap (λ y. told_words lines (told_of y)) f)
+    sym (said ∙ ap (λ y. told_words (line_at text tokens) (told_of y)) f)
     ∙ (bytes_eq-Decides own words).0 same
 
 -- those before the next one, and it
@@ -55,29 +57,29 @@ told_more found number other here =
     let next : number + 1 ≡ suc number = omega arith in
     ap (λ n. map told_of (take n found)) next ∙ told_next found number other here
 
-module _ (lines : TokenNo → ℕ) where
+module _ (text : List ℕ) (tokens : List Token) where
   -- one more after those that were said
   pub says_one_more : (before told : List Told) (t : Told) (old mid new : State)
-      → Says lines before told old mid → SaysNext lines (before ++ told) t mid new
-      → Says lines before (told ++ t ∷ []) old new
+      → Says text tokens before told old mid → SaysNext text tokens (before ++ told) t mid new
+      → Says text tokens before (told ++ t ∷ []) old new
   says_one_more before [] t old mid new says next = (
     new,
-    subst (λ r. SaysNext lines before t r new) (sym says)
-        (subst (λ all. SaysNext lines all t mid new) (append-nil before) next),
+    subst (λ r. SaysNext text tokens before t r new) (sym says)
+        (subst (λ all. SaysNext text tokens all t mid new) (append-nil before) next),
     refl,
   )
   says_one_more before (s ∷ rest) t old mid new says next = (
     says.0,
     says.1,
     says_one_more (before ++ s ∷ []) rest t says.0 mid new says.2
-        (subst (λ all. SaysNext lines all t mid new) (sym (append_assoc before (s ∷ []) rest))
+        (subst (λ all. SaysNext text tokens all t mid new) (sym (append_assoc before (s ∷ []) rest))
         next),
   )
 
   -- ---- what is said first stays first
 
   next_keeps : (words : List ℕ) (before : List Told) (t : Told) (old new : State)
-      → SaysNext lines before t old new → BeginsWith words old.0
+      → SaysNext text tokens before t old new → BeginsWith words old.0
       → BeginsWith words new.0
   next_keeps words before t old new (inl same) begins =
       subst (λ r. BeginsWith words r.0) same.1 begins
@@ -87,7 +89,7 @@ module _ (lines : TokenNo → ℕ) where
       subst (BeginsWith words) (sym counts.1) begins
 
   pub says_keeps : (words : List ℕ) (before told : List Told) (old new : State)
-      → Says lines before told old new → BeginsWith words old.0
+      → Says text tokens before told old new → BeginsWith words old.0
       → BeginsWith words new.0
   says_keeps words before [] old new says begins =
       subst (λ r. BeginsWith words r.0) says begins
@@ -102,17 +104,18 @@ module _ (lines : TokenNo → ℕ) where
       cc
 
   first_next : (words : List ℕ) (t : Told) (old new : State) → old.0 ≡ []
-      → told_words lines t ≡ words → SaysNext lines [] t old new → BeginsWith words new.0
+      → told_words (line_at text tokens) t ≡ words → SaysNext text tokens [] t old new
+      → BeginsWith words new.0
   first_next words t old new none says (inl same) = absurd same.0
   first_next words t old new none says (inr (inl shows)) =
       subst (BeginsWith words) (sym (shows.2 ∙ ap (λ ds. ds ++ shows.0 ∷ []) none))
-      (subst (λ ws. IsRefusal ws shows.0.finding) says shows.3)
+      (subst (λ ws. IsRefusal ws shows.0.finding) says shows.3.0)
   first_next words t old new none says (inr (inr counts)) =
       absurd (none_full old none counts.0)
 
   -- the first that is told is the compiler's refusal
   pub says_first : (words : List ℕ) (told : List Told) (old new : State)
-      → old.0 ≡ [] → SaysFirst lines told words → Says lines [] told old new
+      → old.0 ≡ [] → SaysFirst text tokens told words → Says text tokens [] told old new
       → BeginsWith words new.0
   says_first words [] old new none first says = absurd first
   says_first words (t ∷ rest) old new none first says =
@@ -140,10 +143,10 @@ shown_some (x ∷ rest) after d is none =
     let clash : x ∷ (rest ++ d ∷ []) ≡ [] = sym is ∙ none in cc
 
 -- the compiler's refusal is first, alone or with the first that is told
-pub begins_all : (lines : TokenNo → ℕ) (words : List ℕ) (told : List Told) (start new : State)
-    → Begins words start → (start.0 ≡ [] → SaysFirst lines told words)
-    → Says lines [] told start new → BeginsWith words new.0
-begins_all lines words told start new (inl none, counted) first says =
-    says_first lines words told start new none (first none) says
-begins_all lines words told start new (inr alone, counted) first says =
-    says_keeps lines words [] told start new says (alone_begins words start.0 alone)
+pub begins_all : (text : List ℕ) (tokens : List Token) (words : List ℕ) (told : List Told)
+    (start new : State) → Begins words start → (start.0 ≡ [] → SaysFirst text tokens told words)
+    → Says text tokens [] told start new → BeginsWith words new.0
+begins_all text tokens words told start new (inl none, counted) first says =
+    says_first text tokens words told start new none (first none) says
+begins_all text tokens words told start new (inr alone, counted) first says =
+    says_keeps text tokens words [] told start new says (alone_begins words start.0 alone)

@@ -15,7 +15,6 @@ use Rattle.edd_compiler.specs.Words.{IsRefusalOf}
 use Rattle.edd_lexer.specs.declared.token.Token.{Token}
 use Rattle.edd_lexer.specs.Tokens.{AreTokens}
 use Rattle.edd_lexer.specs.Views.{lexeme_of}
-use Rattle.edd_lexer.specs.Words.{line_at}
 use Rattle.edd_names.specs.Units.{unit_view}
 use Rattle.edd_syntax.specs.declared.unit.Unit.{Unit}
 use Rattle.edd_reports.specs.declared.diagnostic.Finding.{Finding}
@@ -44,8 +43,7 @@ SaysMore before after = (more : List Diagnostic) × (after ≡ before ++ more)
 abbrev pub SaysRules : (text words : List ℕ) → Reports → Type 0
 SaysRules text words said = (unit : Unit) × IsUnitOf text (unit_view unit)
     × (tokens : List Token) × AreTokens text (map (lexeme_of text) tokens)
-    × (told : List Told) × Lists unit told × SaysAll (line_at text tokens) words told
-    (state_of said)
+    × (told : List Told) × Lists unit told × SaysAll text tokens words told (state_of said)
 
 -- the same where a broken rule is the fault
 abbrev pub SaysRest : (text words : List ℕ) → Fault → Reports → Type 0

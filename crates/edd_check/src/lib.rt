@@ -3,9 +3,9 @@
 //!
 //! Proved is that a text is refused exactly where the compiler refuses it, that its refusal is said
 //! first, in the words that the compiler prints, that of a text that breaks a rule all breaches are
-//! said that repeat none before them, and that of a text that is accepted nothing but warnings is
-//! said. Of places, helps, faults after one of the grammar and warnings nothing is proved but that
-//! they are found safely and in bounded time.
+//! said that repeat none before them, each at its token, and that of a text that is accepted nothing
+//! but warnings is said. Of helps, faults after one of the grammar and what warnings say nothing is
+//! proved but that they are found safely and in bounded time.
 #![tactic(auto)]
 
 ghost use Rattle.std.specs.Prelude.{◌≡◌, false, IfOk};

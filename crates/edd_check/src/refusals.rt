@@ -1,10 +1,8 @@
 //! All that is said of a text that is refused. The compiler's refusal comes first.
 
 ghost use Rattle.std.specs.Prelude.{◌≡◌, [], List, IfOk, IsTrue, OnOk, map, string_bytes};
-ghost use Rattle.edd_lexer.specs.Words.{line_at};
 ghost use Rattle.edd_breaches.specs.Told.{Told, told_of};
-ghost use Rattle.edd_breaches.specs.Words.{told_words};
-ghost use Rattle.edd_breach_reports.specs.Refusals.{IsRefusal, lines_of};
+ghost use Rattle.edd_breach_reports.specs.Refusals.{IsRefusal, IsToldOf, text_of, tokens_of};
 ghost use Rattle.edd_check.specs.Breaches.{Lists};
 ghost use Rattle.edd_check.specs.Said.{BeginsWith, SaysMore};
 ghost use Rattle.edd_check.specs.Shown.{Begins, Repeats, RepeatsOne, Says, SaysAll, SaysFirst, SaysNext, state_of};
@@ -139,7 +137,8 @@ fn says_first(
     refusal: &str,
 ) -> Result<bool, AllocError>
     ensures { IfOk result (λ says. IsTrue says
-        → SaysFirst (lines_of source.now) (map told_of found.now) refusal.now) }
+        → SaysFirst (text_of source.now) (tokens_of source.now) (map told_of found.now)
+        refusal.now) }
 {
     match found.first() {
         Some(first) => Ok(refusal_of(alloc, source, first)?.as_str() == refusal),
@@ -185,7 +184,7 @@ fn told_about<'a>(
     noted: &mut Noted<'a>,
 ) -> Result<Diagnostic, AllocError>
     ensures { IfOk result
-        (λ d. IsRefusal (told_words (lines_of source.now) (told_of breach.now)) d.finding) }
+        (λ d. IsToldOf (text_of source.now) (tokens_of source.now) (told_of breach.now) d) }
 {
     let mut made = diagnostic(alloc, source, breach)?;
     noted.add(source, breach, number, &made)?;
@@ -202,8 +201,9 @@ fn show_breach<'a>(
     noted: &mut Noted<'a>,
     reports: &mut Reports,
 ) -> Result<(), AllocError>
-    ensures { OnOk result (SaysNext (lines_of source.now) (map told_of before.now)
-        (told_of breach.now) (state_of reports.old) (state_of reports.new)) }
+    ensures { OnOk result (SaysNext (text_of source.now) (tokens_of source.now)
+        (map told_of before.now) (told_of breach.now)
+        (state_of reports.old) (state_of reports.new)) }
 {
     if is_said(before, breach, noted, source) {
         return Ok(());
@@ -223,8 +223,8 @@ fn show_all<'a>(
     noted: &mut Noted<'a>,
     reports: &mut Reports,
 ) -> Result<(), AllocError>
-    ensures { OnOk result (Says (lines_of source.now) [] (map told_of found.now)
-        (state_of reports.old) (state_of reports.new)) }
+    ensures { OnOk result (Says (text_of source.now) (tokens_of source.now) []
+        (map told_of found.now) (state_of reports.old) (state_of reports.new)) }
 {
     for number in 0..found.len() {
         show_breach(
@@ -251,7 +251,8 @@ fn show_start(
     requires counted { reports.old.more ≡ 0 }
     ensures begins { OnOk result (Begins (string_bytes refusal) (state_of reports.new)) }
     ensures first { OnOk result (reports.new.shown.items ≡ []
-        → SaysFirst (lines_of source.now) (map told_of found.now) (string_bytes refusal)) }
+        → SaysFirst (text_of source.now) (tokens_of source.now) (map told_of found.now)
+        (string_bytes refusal)) }
 {
     if says_first(alloc, source, found, refusal.as_str())? {
         return Ok(());
@@ -270,8 +271,8 @@ fn show_breaches(
     requires shown { reports.old.shown.items ≡ [] }
     requires counted { reports.old.more ≡ 0 }
     ensures first { OnOk result (BeginsWith (string_bytes refusal) reports.new.shown.items) }
-    ensures listed { OnOk result (SaysAll (lines_of source.now) (string_bytes refusal)
-        (map told_of found.now) (state_of reports.new)) }
+    ensures listed { OnOk result (SaysAll (text_of source.now) (tokens_of source.now)
+        (string_bytes refusal) (map told_of found.now) (state_of reports.new)) }
 {
     show_start(alloc, source, found, refusal, reports)?;
     let mut noted = Noted {
@@ -354,7 +355,7 @@ pub fn of_unit(
 ) -> Result<Reports, AllocError>
     ensures first { IfOk result (λ said. BeginsWith (string_bytes refusal) said.shown.items) }
     ensures listed { IfOk result (λ said. (told : List Told) × Lists unit.now told
-        × SaysAll (line_at text.now tokens.now) (string_bytes refusal) told (state_of said)) }
+        × SaysAll text.now tokens.now (string_bytes refusal) told (state_of said)) }
 {
     let mut reports = Reports::new(alloc);
     let source = Source::of(alloc, text, tokens)?;

@@ -1,6 +1,5 @@
 use Rattle.std.proofs.Common.{rules, subst, sym}
 use Rattle.std.specs.Prelude.{string_bytes}
-use Rattle.edd_lexer.specs.Words.{line_at}
 use Rattle.edd_check.specs.Shown.{SaysAll}
 use Rattle.edd_check.proofs.RefusedLaws.{begins_there, refusal_among, refused_by_rules}
 use Rattle.edd_check.proofs.diagnosing.of_whole.Goals as goal
@@ -30,6 +29,6 @@ returns-in_ok-of_unit-in-Err-clause-first c = λ is.
       c.requires.tokens,
       told.0,
       told.1,
-      subst (SaysAll (line_at c.args.text.now c.args.tokens.now)
+      subst (SaysAll c.args.text.now c.args.tokens.now
           (string_bytes c.in_ok-refusal-in-Err.refusal) told.0) (sym c.refused.ensures.kept) told.2,
     )
