@@ -2,17 +2,18 @@
 
 use crate::answers::Signature;
 use crate::comments::is_unread;
-use crate::functions::Function;
+use crate::functions::{Written, as_called};
 use edd_document::Document;
 use edd_document::spots::Place;
 use edd_lexer::token::TokenKind;
+use edd_syntax::operators::Builtin;
 use edd_syntax::symbols::Symbol;
 use std::alloc::{AllocError, Global};
 
 /// A call that is not closed before a token.
 #[derive(Clone, Copy)]
 pub struct Call {
-    pub function: Function,
+    pub function: Builtin,
     /// How many commas of its own come before the token.
     pub argument: usize,
 }
@@ -25,12 +26,12 @@ struct Way {
 }
 
 // The function whose parentheses a token opens.
-fn called(document: &Document<'_>, open: usize) -> Option<Function> {
+fn called(document: &Document<'_>, open: usize) -> Option<Builtin> {
     let name = open.checked_sub(1)?;
     if document.kind(name) != Some(TokenKind::Name) {
         return None;
     }
-    Function::named(document.word(name))
+    Builtin::named(document.word(name))
 }
 
 /// The innermost call of a function whose parentheses are open before a token.
@@ -81,10 +82,10 @@ pub fn signature(
     let Some(call) = call_before(document, token) else {
         return Ok(None);
     };
-    let written = call.function.written(alloc)?;
+    let Written { label, parameters } = as_called(alloc, call.function)?;
     Ok(Some(Signature {
-        label: written.label,
-        parameters: written.parameters,
+        label,
+        parameters,
         active: call.argument,
     }))
 }

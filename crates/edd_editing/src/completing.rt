@@ -273,7 +273,7 @@ impl Offers<'_, '_> {
     // The names of an expression in a method, and the words of a statement where one may begin.
     fn add_body(&mut self, token: usize) -> Result<(), AllocError> {
         let call = call_before(self.document, token);
-        match call.and_then(|call| call.function.parameter(call.argument)) {
+        match call.and_then(|call| call.function.parameters().get(call.argument).copied()) {
             Some(Parameter::Text) => return Ok(()),
             Some(Parameter::Method) => return self.add_items(Kind::Method),
             Some(Parameter::DeviceVariable) => {

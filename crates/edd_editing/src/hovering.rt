@@ -4,7 +4,7 @@ use crate::answers::Hover;
 use crate::comments::is_unread;
 use crate::constant::{constant_around, told};
 use crate::described::described;
-use crate::functions::Function;
+use crate::functions::{Written, as_called, effect_of};
 use crate::keyword_terms::{Section, meaning_of, section_of};
 use crate::markdown::{push_escaped, push_paragraph};
 use crate::place_terms::meaning_at;
@@ -12,6 +12,7 @@ use edd_document::Document;
 use edd_instructions::Sort;
 use edd_lexer::token::TokenKind;
 use edd_reports::words::Span;
+use edd_syntax::operators::Builtin;
 use std::alloc::{AllocError, Global};
 
 /// The page that tells of the language.
@@ -44,15 +45,10 @@ fn undeclared(
     if let Some(meaning) = meaning_at(place, word) {
         return term(alloc, word, meaning, Section::Attributes);
     }
-    match Function::named(word) {
+    match Builtin::named(word) {
         Some(function) if place.is_in_body() => {
-            let written = function.written(alloc)?;
-            term(
-                alloc,
-                written.label.as_str(),
-                function.meaning,
-                Section::Methods,
-            )
+            let Written { label, .. } = as_called(alloc, function)?;
+            term(alloc, label.as_str(), effect_of(function), Section::Methods)
         }
         _ => Ok(None),
     }

@@ -2,13 +2,14 @@
 
 use crate::answers::{Completion, CompletionKind};
 use crate::described::label_of;
-use crate::functions::FUNCTIONS;
+use crate::functions::{Written, as_called};
 use crate::keyword_terms::meaning_of;
 use crate::place_terms::{CLASS_MEANING, Role, TERMS};
 use edd_document::Document;
 use edd_document::declarations::Sort;
 use edd_lints::classes::CLASSES;
 use edd_syntax::numbers::Kind;
+use edd_syntax::operators::BUILTINS;
 use edd_syntax::symbols::Keyword;
 use indexmap::IndexMap;
 use std::alloc::{AllocError, Global};
@@ -84,13 +85,9 @@ impl<'d, 'a> Offers<'d, 'a> {
 
     /// The functions that methods may call.
     pub fn add_functions(&mut self) -> Result<(), AllocError> {
-        for function in FUNCTIONS {
-            let written = function.written(self.alloc)?;
-            self.add(
-                function.builtin.name(),
-                CompletionKind::Builtin,
-                written.label,
-            )?;
+        for function in BUILTINS {
+            let Written { label, .. } = as_called(self.alloc, function)?;
+            self.add(function.name(), CompletionKind::Builtin, label)?;
         }
         Ok(())
     }

@@ -1,5 +1,4 @@
 pub mod Gathering
-pub mod LookingUp
 pub mod MapLaws
 pub mod PathLaws
 pub mod UseCases

@@ -1,13 +1,12 @@
 //! What references and the names of functions mean.
 
-ghost use Rattle.std.specs.Prelude.{◌≡◌, [], ◌∷◌, None, Some, IfErr, IfOk, if◌then◌else◌, option_map};
-ghost use Rattle.std.specs.Str.{bytes_eq};
+ghost use Rattle.std.specs.Prelude.{◌≡◌, [], ◌∷◌, None, Some, IfErr, IfOk, option_map};
 ghost use Rattle.edd_syntax.specs.Item.{Description};
 ghost use Rattle.edd_syntax.specs.NameRules.{faults_of_local, faults_of_item};
 ghost use Rattle.edd_syntax.specs.NameUses.{OfItem, OfArray, OfFunction};
 ghost use Rattle.edd_syntax.specs.Reference as pure;
 ghost use Rattle.edd_syntax.specs.Resolution as resolution;
-ghost use Rattle.edd_syntax.specs.Resolution.{look_up, builtin_name, builtins, local_meant, item_meant, function_meant};
+ghost use Rattle.edd_syntax.specs.Resolution.{look_up, local_meant, item_meant, function_meant};
 ghost use Rattle.edd_syntax.specs.Refusal.{first_of};
 ghost use Rattle.edd_syntax.specs.TreeView.{path_of};
 ghost use Rattle.edd_name_meanings.specs.Copies.{Copies, Told};
@@ -122,45 +121,12 @@ fn find_array<'b>(names: &Names, scope: &[Local], path: &'b Path) -> Result<Targ
     }
 }
 
-// The function, where this is its name: else what was found.
-fn if_named(name: &str, function: Builtin, otherwise: Option<Builtin>) -> Option<Builtin>
-    ensures { result ≡ (if bytes_eq (builtin_name function) name.now then Some function else
-        otherwise) }
-{
-    if function.name() == name {
-        Some(function)
-    } else {
-        otherwise
-    }
-}
-
-/// The function of a name.
-pub fn builtin(name: &str) -> Option<Builtin>
-    ensures { result ≡ look_up name.now builtins }
-{
-    let found = if_named(name, Builtin::AddAbortMethod, None);
-    let found = if_named(name, Builtin::ProcessAbort, found);
-    let found = if_named(name, Builtin::Abort, found);
-    let found = if_named(name, Builtin::Lassign, found);
-    let found = if_named(name, Builtin::Iassign, found);
-    let found = if_named(name, Builtin::LvarValue, found);
-    let found = if_named(name, Builtin::IvarValue, found);
-    let found = if_named(name, Builtin::SaveValues, found);
-    let found = if_named(name, Builtin::SendCommandTrans, found);
-    let found = if_named(name, Builtin::SendCommand, found);
-    let found = if_named(name, Builtin::SelectFromList, found);
-    let found = if_named(name, Builtin::GetDevVarValue, found);
-    let found = if_named(name, Builtin::Delay, found);
-    let found = if_named(name, Builtin::Acknowledge, found);
-    if_named(name, Builtin::PutMessage, found)
-}
-
 /// The kinds of items that a plain reference may name as an argument of a function: all for one that
 /// does not exist.
 pub fn argument_kinds(function: &Path) -> &'static [Kind]
     ensures { result.now ≡ resolution.argument_kinds (path_of function.now) }
 {
-    match builtin(&function.base) {
+    match Builtin::named(&function.base) {
         Some(Builtin::AddAbortMethod) => &[Kind::Method],
         Some(_) => &[Kind::Variable],
         None => &KINDS,
@@ -176,7 +142,7 @@ fn find_function<'b>(path: &'b Path) -> Result<Target, Breach<'b>>
     ensures refused { IfErr result (λ b. (unit : Description pure.Path)
         → IsFaultOf b unit (OfFunction (path_of path.now)) path.now) }
 {
-    match builtin(&path.base) {
+    match Builtin::named(&path.base) {
         Some(function) => Ok(Target::Function(function)),
         None => Err(unknown_name(&path.base, path.at)),
     }

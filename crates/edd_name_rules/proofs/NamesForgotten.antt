@@ -20,7 +20,7 @@ use Rattle.edd_syntax.specs.Text.{Name}
 use Rattle.edd_syntax.specs.TreeView.{declarator_of, part_of, parts_in, path_of, stmt_of}
 use Rattle.edd_breaches.specs.Along.{told_along, after_all}
 use Rattle.edd_name_rules.specs.NamesTold.{inside_told, locals_told, part_told, local_told, with_local, with_locals, member_told, with_member, members_told, with_members, item_told, with_item, name_told}
-use Rattle.edd_name_rules.specs.Places.{item_at}
+use Rattle.edd_syntax.specs.Places.{name_at}
 use Rattle.edd_name_rules.proofs.Repeating.{map_append}
 use Rattle.edd_name_rules.proofs.SameNames.{SameNames, with_one, after_one}
 
@@ -151,8 +151,8 @@ items_are b d h [] = refl
 items_are b d h (i ∷ rest) =
     let inside = told_along members_told with_members [] (attributes_of i) in
     let others = told_along item_told with_item (name_of i ∷ b) rest in
-    ap refusals (append_assoc (name_told b (name_of i) (item_at i)) inside others)
-    ∙ both DuplicateName (name_told b (name_of i) (item_at i)) (inside ++ others) _ _
-    (one_name DuplicateName b d h (name_of i) (item_at i))
+    ap refusals (append_assoc (name_told b (name_of i) (name_at i)) inside others)
+    ∙ both DuplicateName (name_told b (name_of i) (name_at i)) (inside ++ others) _ _
+    (one_name DuplicateName b d h (name_of i) (name_at i))
     (both DuplicateName inside others _ _ (members_are [] [] (λ q. refl) (attributes_of i))
     (items_are (name_of i ∷ b) (name_of i ∷ d) (with_one (name_of i) b d h) rest))

@@ -16,7 +16,7 @@ use Rattle.edd_syntax.specs.Refusal.{Refusal, MissingAttribute, TooMany, refused
 use Rattle.edd_syntax.specs.Text.{Name}
 use Rattle.edd_syntax.specs.TreeView.{path_of}
 use Rattle.edd_name_rules.specs.NamesTold.{names_told}
-use Rattle.edd_name_rules.specs.Places.{item_at}
+use Rattle.edd_syntax.specs.Places.{name_at}
 use Rattle.edd_name_rules.specs.RulesTold.{excess_told, lacks, missing_in, missing_told, rules_told, too_many_told}
 use Rattle.edd_name_rules.specs.Walks.{described}
 use Rattle.edd_name_rules.specs.WordsTold.{words_told}
@@ -38,7 +38,7 @@ missing_are : (items : List (Item Path)) → refusals (missing_told items)
     ≡ flat_map (λ i. map (MissingAttribute i.name) (missing_words i)) (map (item_of path_of) items)
 missing_are [] = refl
 missing_are (i ∷ rest) = joined (missing_in i) (missing_told rest) _ _
-    (words_missing (MissingAttribute (name_of i)) (lacks i) (item_at i)
+    (words_missing (MissingAttribute (name_of i)) (lacks i) (name_at i)
     (required_words (kind_of_item (sort_of i)))) (missing_are rest)
 
 excess_is : (t : Bool) (what : Limit) → refusals (excess_told t what) ≡ refused_if t (TooMany what)

@@ -15,7 +15,7 @@ use Rattle.edd_syntax.specs.NameRules.{attribute_word}
 use Rattle.edd_syntax.specs.Refusal.{Refusal, MissingAttribute, is_name_in}
 use Rattle.edd_syntax.specs.Text.{Name}
 use Rattle.edd_syntax.specs.TreeView.{path_of}
-use Rattle.edd_name_rules.specs.Places.{item_at}
+use Rattle.edd_syntax.specs.Places.{name_at}
 use Rattle.edd_name_rules.specs.RulesTold.{excess_told, lacks, missing_among}
 
 pub told_not : (b : Bool) (why : Refusal) (at : TokenNo) (old : List Breach) → b ≡ false
@@ -46,18 +46,18 @@ pub one_there : (i : Item Path) (word : Name) (b : Bool) (old : List Breach)
     → b ≡ is_name_in (map attribute_word (map (attribute_of path_of) (attributes_of i))) word
     → b ≡ true → Tells (missing_among i (word ∷ [])) old old
 one_there i word b old is there =
-    tells_append (told_if (lacks i word) (MissingAttribute (name_of i) word) (item_at i)) [] old old
-    old (told_not (lacks i word) (MissingAttribute (name_of i) word) (item_at i) old
+    tells_append (told_if (lacks i word) (MissingAttribute (name_of i) word) (name_at i)) [] old old
+    old (told_not (lacks i word) (MissingAttribute (name_of i) word) (name_at i) old
     (ap not (sym is ∙ there))) (tells_none old)
 
 pub one_missing : (i : Item Path) (word : Name) (b : Bool) (old new : List Breach)
     → b ≡ is_name_in (map attribute_word (map (attribute_of path_of) (attributes_of i))) word
     → b ≡ false
-    → Tells (told_at (MissingAttribute (name_of i) word) (item_at i) ∷ []) old new
+    → Tells (told_at (MissingAttribute (name_of i) word) (name_at i) ∷ []) old new
     → Tells (missing_among i (word ∷ [])) old new
 one_missing i word b old new is lack tells =
-    tells_append (told_if (lacks i word) (MissingAttribute (name_of i) word) (item_at i)) [] old new
-    new (told_so (lacks i word) (MissingAttribute (name_of i) word) (item_at i) old new
+    tells_append (told_if (lacks i word) (MissingAttribute (name_of i) word) (name_at i)) [] old new
+    new (told_so (lacks i word) (MissingAttribute (name_of i) word) (name_at i) old new
     (ap not (sym is ∙ lack)) tells) (tells_none new)
 
 pub ruleset one_word = (one_there, one_missing)
@@ -66,5 +66,5 @@ pub more_words : (i : Item Path) (w v : Name) (ws : List Name) (old mid new : Li
     → Tells (missing_among i (w ∷ [])) old mid → Tells (missing_among i (v ∷ ws)) mid new
     → Tells (missing_among i (w ∷ v ∷ ws)) old new
 more_words i w v ws old mid new h k = subst (λ ys. Tells (ys ++ missing_among i (v ∷ ws)) old new)
-    (append-nil (told_if (lacks i w) (MissingAttribute (name_of i) w) (item_at i)))
+    (append-nil (told_if (lacks i w) (MissingAttribute (name_of i) w) (name_at i)))
     (tells_append (missing_among i (w ∷ [])) (missing_among i (v ∷ ws)) old mid new h k)

@@ -19,7 +19,7 @@ use Rattle.edd_syntax.specs.Refusal.{DuplicateAttribute, repeated}
 use Rattle.edd_syntax.specs.Text.{Name}
 use Rattle.edd_syntax.specs.TreeView.{path_of}
 use Rattle.edd_breaches.specs.Along.{told_along}
-use Rattle.edd_name_rules.specs.Places.{attribute_at}
+use Rattle.edd_syntax.specs.Places.{word_at}
 use Rattle.edd_name_rules.specs.WordsTold.{option_told, with_option, part_told, with_part, braces_told, own_word_told, attribute_told, with_attribute, words_told, words_told_in, word_told}
 use Rattle.edd_name_rules.proofs.NamesForgotten.{both, one_more, one_name}
 use Rattle.edd_name_rules.proofs.SameNames.{SameNames, with_one}
@@ -95,8 +95,8 @@ attributes_are b d h (x ∷ rest) =
     let others = told_along attribute_told with_attribute (word ∷ b) rest in
     ap refusals (append_assoc (own_word_told b x) (braces_told x) others)
     ∙ both DuplicateAttribute (own_word_told b x) (braces_told x ++ others) _ _
-    (unless (is_transaction (attribute_of path_of x)) (word_told b word (attribute_at x)) _
-    (one_name DuplicateAttribute b d h word (attribute_at x)))
+    (unless (is_transaction (attribute_of path_of x)) (word_told b word (word_at x)) _
+    (one_name DuplicateAttribute b d h word (word_at x)))
     (both DuplicateAttribute (braces_told x) others _ _ (braces_are x)
     (attributes_are (word ∷ b) (word ∷ d) (with_one word b d h) rest))
 

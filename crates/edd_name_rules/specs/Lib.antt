@@ -1,5 +1,4 @@
 pub mod NamesTold
-pub mod Places
 pub mod RulesTold
 pub mod Seen
 pub mod Spending

@@ -16,7 +16,7 @@ use Rattle.edd_syntax.specs.ItemView.{name_of, attributes_of}
 use Rattle.edd_syntax.specs.Refusal.{DuplicateName, is_name_in}
 use Rattle.edd_syntax.specs.Text.{Name}
 use Rattle.edd_breaches.specs.Along.{told_along, after_all}
-use Rattle.edd_name_rules.specs.Places.{item_at}
+use Rattle.edd_syntax.specs.Places.{name_at}
 
 -- a name at a token
 abbrev pub name_told : (before : List Name) → Name → TokenNo → List Told
@@ -85,7 +85,7 @@ members_told before _ = []
 
 -- an item, and what is in it
 abbrev pub item_told : (before : List Name) → Item Path → List Told
-item_told before i = name_told before (name_of i) (item_at i)
+item_told before i = name_told before (name_of i) (name_at i)
     ++ told_along members_told with_members [] (attributes_of i)
 
 -- the names of items after it

@@ -17,7 +17,7 @@ use Rattle.edd_syntax.specs.Size.{unit_nodes}
 use Rattle.edd_syntax.specs.Text.{Name}
 use Rattle.edd_syntax.specs.TreeView.{path_of}
 use Rattle.edd_name_rules.specs.NamesTold.{names_told}
-use Rattle.edd_name_rules.specs.Places.{item_at}
+use Rattle.edd_syntax.specs.Places.{name_at}
 use Rattle.edd_name_rules.specs.Walks.{described}
 use Rattle.edd_name_rules.specs.WordsTold.{words_told}
 
@@ -29,7 +29,7 @@ lacks i word = not (is_name_in (map attribute_word (map (attribute_of path_of) (
 -- those of some words that an item lacks
 abbrev pub missing_among : Item Path → List Name → List Told
 missing_among i words = flat_map (λ word.
-    told_if (lacks i word) (MissingAttribute (name_of i) word) (item_at i)) words
+    told_if (lacks i word) (MissingAttribute (name_of i) word) (name_at i)) words
 
 -- the attributes that an item lacks
 abbrev pub missing_in : Item Path → List Told

@@ -19,7 +19,7 @@ use Rattle.edd_syntax.specs.Refusal.{DuplicateAttribute, is_name_in}
 use Rattle.edd_syntax.specs.Text.{Name}
 use Rattle.edd_syntax.specs.TreeView.{path_of}
 use Rattle.edd_breaches.specs.Along.{told_along}
-use Rattle.edd_name_rules.specs.Places.{attribute_at}
+use Rattle.edd_syntax.specs.Places.{word_at}
 
 -- a word at a token
 abbrev pub word_told : (before : List Name) → Name → TokenNo → List Told
@@ -57,7 +57,7 @@ braces_told _ = []
 -- the word of an attribute, of which only that of a transaction may be there twice
 abbrev pub own_word_told : (before : List Name) → Attribute Path → List Told
 own_word_told before a = if is_transaction (attribute_of path_of a) then [] else
-    word_told before (attribute_word (attribute_of path_of a)) (attribute_at a)
+    word_told before (attribute_word (attribute_of path_of a)) (word_at a)
 
 -- an attribute, and what is in its braces
 abbrev pub attribute_told : (before : List Name) → Attribute Path → List Told

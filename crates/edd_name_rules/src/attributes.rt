@@ -9,7 +9,6 @@ ghost use Rattle.edd_syntax.specs.Refusal.{is_name_in};
 ghost use Rattle.edd_syntax.specs.TreeView.{path_of};
 ghost use Rattle.edd_name_rules.specs.RulesTold.{missing_among, missing_in, missing_told};
 
-use crate::places::item_at;
 use edd_breaches::{Breach, Rule, tell};
 use edd_syntax::item::{Attribute, Item};
 use edd_syntax::numbers::{Attr, Kind};
@@ -68,7 +67,7 @@ fn tell_word<'a>(
         item: item.name(),
         word,
     };
-    tell(rule, item_at(item), told)
+    tell(rule, item.at(), told)
 }
 
 #[tactic(auto, using(crate::proofs::Telling::more_words))]

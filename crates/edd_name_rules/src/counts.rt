@@ -8,7 +8,6 @@ ghost use Rattle.edd_syntax.specs.Resolution.{count_of, kinds};
 ghost use Rattle.edd_syntax.specs.TreeView.{path_of};
 ghost use Rattle.edd_name_rules.specs.Spending.{spent, transactions_in};
 
-use crate::places::item_at;
 use edd_syntax::item::{Attribute, Item};
 use edd_syntax::numbers::{Kind, TokenNo};
 use edd_syntax::reference::Path;
@@ -86,7 +85,7 @@ pub fn first_extra_item(items: &[Item<Path>], is_over: bool) -> Option<TokenNo> 
         if let Some(count) = counts.get_mut(item.kind() as usize) {
             *count = count.saturating_add(1);
             if *count > 4096 {
-                return Some(item_at(item));
+                return Some(item.at());
             }
         }
     }

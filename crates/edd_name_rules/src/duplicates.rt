@@ -7,7 +7,6 @@ ghost use Rattle.edd_breaches.specs.Along.{told_along, after_all};
 ghost use Rattle.edd_name_rules.specs.NamesTold.{local_told, with_local, with_locals, inside_told, part_told, member_told, with_member, with_members, members_told, item_told, with_item, names_told};
 ghost use Rattle.edd_name_rules.specs.Seen.{HasSeen};
 
-use crate::places::item_at;
 use crate::seen::{Seen, note_name};
 use edd_breaches::Breach;
 use edd_syntax::item::{Attribute, Item, Member};
@@ -187,7 +186,7 @@ fn tell_item<'a>(
     ensures known { OnOk result ((before : List Name) → HasSeen before seen.old
         → HasSeen (with_item before item.now) seen.new) }
 {
-    note_name(seen, item.name(), item_at(item), told)?;
+    note_name(seen, item.name(), item.at(), told)?;
     tell_attributes(item.attributes(), alloc, told)?;
     Ok(())
 }

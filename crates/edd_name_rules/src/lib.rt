@@ -8,7 +8,6 @@ mod counts;
 mod duplicates;
 mod excess;
 mod nodes;
-mod places;
 mod repeats;
 mod rules;
 mod seen;

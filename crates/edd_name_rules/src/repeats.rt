@@ -11,7 +11,6 @@ ghost use Rattle.edd_name_rules.specs.Seen.{HasSeen};
 ghost use Rattle.edd_name_rules.specs.WordsTold.{part_told, with_part, option_told, with_option, braces_told, own_word_told, attribute_told, with_attribute, words_told_in, words_told};
 
 use crate::attributes::word_of;
-use crate::places::attribute_at;
 use crate::seen::{Seen, add, note_word};
 use edd_breaches::Breach;
 use edd_syntax::item::{Attribute, Item, TransactionPart, TypePart};
@@ -126,7 +125,7 @@ fn tell_own_word<'a>(
     ensures known { OnOk result ((before : List Name) → HasSeen before seen.old
         → HasSeen (with_attribute before attribute.now) seen.new) }
 {
-    let at = attribute_at(attribute);
+    let at = attribute.at();
     if is_transaction(attribute) {
         add(seen, word_of(attribute), at)?;
         return Ok(());

@@ -9,7 +9,6 @@ ghost use Rattle.edd_syntax.specs.TreeView.{path_of, stmt_of, part_of};
 ghost use Rattle.edd_name_rules.specs.Spending.{spent, locals_in};
 
 use crate::counts::spend_transactions;
-use crate::places::item_at;
 use edd_syntax::item::{Attribute, Item};
 use edd_syntax::numbers::TokenNo;
 use edd_syntax::reference::Path;
@@ -98,7 +97,7 @@ pub fn first_with_locals(items: &[Item<Path>]) -> Option<TokenNo>
 {
     for item in items {
         if are_locals_over(item) {
-            return Some(item_at(item));
+            return Some(item.at());
         }
     }
     None
@@ -118,7 +117,7 @@ pub fn first_with_transactions(items: &[Item<Path>]) -> Option<TokenNo>
 {
     for item in items {
         if are_transactions_over(item) {
-            return Some(item_at(item));
+            return Some(item.at());
         }
     }
     None

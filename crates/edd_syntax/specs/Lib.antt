@@ -23,6 +23,7 @@ pub mod NameRules
 pub mod NameUses
 pub mod Names
 pub mod Numbers
+pub mod Places
 pub mod Reference
 pub mod ReferenceOrder
 pub mod Refusal

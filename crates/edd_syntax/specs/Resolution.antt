@@ -164,9 +164,13 @@ all_builtins =
     builtin.Iassign ∷ builtin.Lassign ∷ builtin.Abort ∷ builtin.ProcessAbort
     ∷ builtin.AddAbortMethod ∷ []
 
+-- functions by their names
+abbrev pub by_name : List Builtin → List (Name × Builtin)
+by_name functions = map (λ f. (builtin_name f, f)) functions
+
 -- the functions that a method may call, by their names
 abbrev pub builtins : List (Name × Builtin)
-builtins = map (λ f. (builtin_name f, f)) all_builtins
+builtins = by_name all_builtins
 
 -- the function that a call means, by its name
 abbrev pub function_meant : Path → Option Target

@@ -3,6 +3,7 @@
 ghost use Rattle.std.specs.Prelude.{◌≡◌};
 ghost use Rattle.edd_syntax.specs.Item.{kind_of_item};
 ghost use Rattle.edd_syntax.specs.ItemView.{sort_of, name_of, attributes_of};
+ghost use Rattle.edd_syntax.specs.Places.{name_at, word_at};
 
 use crate::cond::Cond;
 use crate::expr::Expr;
@@ -156,6 +157,29 @@ pub enum Attribute<R> {
     Elements(TokenNo, Vec<ArrayElement<R>>),
 }
 
+impl<R> Attribute<R> {
+    /// Where its word is.
+    pub fn at(&self) -> TokenNo
+        ensures { result ≡ word_at self.now }
+    {
+        match self {
+            Attribute::OneText(at, _, _)
+            | Attribute::Class(at, _)
+            | Attribute::Handling(at, _)
+            | Attribute::Validity(at, _)
+            | Attribute::TypeOf { at, .. }
+            | Attribute::Number(at, _)
+            | Attribute::Operation(at, _)
+            | Attribute::Transaction { at, .. }
+            | Attribute::ResponseCodes(at, _)
+            | Attribute::Items(at, _)
+            | Attribute::Members(at, _)
+            | Attribute::Definition(at, _)
+            | Attribute::Elements(at, _) => *at,
+        }
+    }
+}
+
 #[derive(Drop)]
 pub struct VariableDef<R> {
     /// Where its name is.
@@ -243,6 +267,20 @@ impl<R> Item<R> {
             Item::Collection(d) => &d.name,
             Item::Method(d) => &d.name,
             Item::Array(d) => &d.name,
+        }
+    }
+
+    /// Where its name is.
+    pub fn at(&self) -> TokenNo
+        ensures { result ≡ name_at self.now }
+    {
+        match self {
+            Item::Variable(d) => d.at,
+            Item::Command(d) => d.at,
+            Item::Menu(d) => d.at,
+            Item::Collection(d) => d.at,
+            Item::Method(d) => d.at,
+            Item::Array(d) => d.at,
         }
     }
 

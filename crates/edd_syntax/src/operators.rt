@@ -64,6 +64,25 @@ pub enum Builtin {
     AddAbortMethod,
 }
 
+/// All of them.
+pub const BUILTINS: [Builtin; 15] = [
+    Builtin::PutMessage,
+    Builtin::Acknowledge,
+    Builtin::Delay,
+    Builtin::GetDevVarValue,
+    Builtin::SelectFromList,
+    Builtin::SendCommand,
+    Builtin::SendCommandTrans,
+    Builtin::SaveValues,
+    Builtin::IvarValue,
+    Builtin::LvarValue,
+    Builtin::Iassign,
+    Builtin::Lassign,
+    Builtin::Abort,
+    Builtin::ProcessAbort,
+    Builtin::AddAbortMethod,
+];
+
 /// What a function takes in a place: a text, a number, or a plain reference to a device variable or
 /// a METHOD.
 #[derive(Clone, Copy, PartialEq, Eq, Debug)]

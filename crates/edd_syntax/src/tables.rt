@@ -3,13 +3,13 @@
 ghost use Rattle.std.specs.Prelude.{◌≡◌};
 ghost use Rattle.edd_syntax.specs.Attributes as attributes;
 ghost use Rattle.edd_syntax.specs.Numbers as numbers;
-ghost use Rattle.edd_syntax.specs.Resolution.{builtin_name};
+ghost use Rattle.edd_syntax.specs.Resolution.{builtin_name, builtins, by_name, look_up};
 ghost use Rattle.edd_syntax.specs.SubsetRules.{parameters};
 
 use crate::numbers::{
     ArrNo, Attr, CmdNo, CollNo, ItemNo, Kind, MenuNo, MethNo, TextAttribute, VarNo,
 };
-use crate::operators::{Builtin, Parameter};
+use crate::operators::{BUILTINS, Builtin, Parameter};
 use crate::symbols::Keyword;
 
 impl Kind {
@@ -230,6 +230,18 @@ impl TextAttribute {
     }
 }
 
+// The first of these functions with a name.
+fn first_named(functions: &[Builtin], name: &str) -> Option<Builtin>
+    ensures { result ≡ look_up name.now (by_name functions.now) }
+{
+    for function in functions {
+        if function.name() == name {
+            return Some(*function);
+        }
+    }
+    None
+}
+
 impl Builtin {
     /// The name of the function, as EDDL has it (IEC 61804-3).
     pub fn name(self) -> &'static str
@@ -252,6 +264,13 @@ impl Builtin {
             Builtin::ProcessAbort => "process_abort",
             Builtin::AddAbortMethod => "add_abort_method",
         }
+    }
+
+    /// The function of a name.
+    pub fn named(name: &str) -> Option<Builtin>
+        ensures { result ≡ look_up name.now builtins }
+    {
+        first_named(&BUILTINS, name)
     }
 
     /// What the function takes, place by place (this profile of EDDL).

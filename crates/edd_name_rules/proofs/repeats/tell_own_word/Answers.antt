@@ -5,13 +5,13 @@ use Rattle.edd_breaches.specs.Told.{Tells}
 use Rattle.edd_syntax.specs.ItemView.{attribute_of}
 use Rattle.edd_syntax.specs.NameRules.{attribute_word}
 use Rattle.edd_syntax.specs.TreeView.{path_of}
-use Rattle.edd_name_rules.specs.Places.{attribute_at}
+use Rattle.edd_syntax.specs.Places.{word_at}
 use Rattle.edd_name_rules.specs.WordsTold.{word_told}
 use Rattle.edd_name_rules.proofs.repeats.tell_own_word.Goals as goal
 
 pub returns-then-is_transaction-clause-told : goal.returns-then-is_transaction-clause-told
 returns-then-is_transaction-clause-told c = λ before h.
     subst (λ t. Tells (if t then [] else word_told before
-    (attribute_word (attribute_of path_of c.args.attribute.now)) (attribute_at c.args.attribute.now))
+    (attribute_word (attribute_of path_of c.args.attribute.now)) (word_at c.args.attribute.now))
     c.args.told.now.items c.args.told.now.items)
     (sym c.if-is_transaction.true ∙ c.is_transaction.ensures) (tells_none c.args.told.now.items)
