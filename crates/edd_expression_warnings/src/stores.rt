@@ -136,7 +136,7 @@ pub fn check_wrapped(
     // No tokens are passed: this number is the next one of its kind.
     let mut ahead = walk.tokens_left;
     let at = ahead.to(TokenKind::Integer(*number));
-    if at.word().unwrap_or("0").starts_with('0') {
+    if at.word().starts_with('0') {
         return Ok(());
     }
     let Known::Number(kept) = evaluate(value, walk.sort) else {

@@ -1,2 +1,3 @@
 pub mod KnownForms
 pub mod KnownParts
+pub mod TreeRows

@@ -1,10 +1,10 @@
 //! What is known of the items of a description, by their numbers.
 
 use crate::facts::{Facts, type_parts};
-use crate::listed::add_enumerators;
 use crate::names::Names;
 use crate::range::Range;
 use crate::sorted::Sorted;
+use crate::values::enumerators_of;
 use edd_syntax::item::{Attribute, Item, VariableDef};
 use edd_syntax::numbers::{Element, ItemNo};
 use edd_syntax::reference::Target;
@@ -64,7 +64,7 @@ impl<'i> Instrument<'i> {
             names: Names::of(alloc, items)?,
         };
         for item in items {
-            known.add_item(item)?;
+            known.add_item(alloc, item)?;
         }
         known.add_elements(elements)?;
         known.sort()?;
@@ -80,17 +80,23 @@ impl<'i> Instrument<'i> {
         self.transactions.sort()
     }
 
-    fn add_item(&mut self, item: &'i Item<Target>) -> Result<(), AllocError> {
+    fn add_item(&mut self, alloc: Global, item: &'i Item<Target>) -> Result<(), AllocError> {
         match item {
-            Item::Variable(variable) => self.add_variable(variable),
+            Item::Variable(variable) => self.add_variable(alloc, variable),
             Item::Command(command) => self.add_command(&command.attributes),
             _ => Ok(()),
         }
     }
 
-    fn add_variable(&mut self, variable: &'i VariableDef<Target>) -> Result<(), AllocError> {
+    fn add_variable(
+        &mut self,
+        alloc: Global,
+        variable: &'i VariableDef<Target>,
+    ) -> Result<(), AllocError> {
         let number = u16::try_from(self.variables.len()).unwrap_or(u16::MAX);
-        add_enumerators(type_parts(variable), number, &mut self.listed)?;
+        for (_, enumerator) in &enumerators_of(alloc, type_parts(variable))? {
+            self.listed.add((number, enumerator.value))?;
+        }
         self.variables.push(Facts::of(variable))?;
         Ok(())
     }

@@ -25,19 +25,8 @@ pub struct Remarks {
 
 // Whether a token is at a byte: then it is in no comment.
 fn is_in_token(tokens: &[Token], place: usize) -> bool {
-    let mut low: usize = 0;
-    let mut high = tokens.len();
-    for _ in 0..=usize::BITS {
-        let middle = (high.saturating_sub(low) / 2).saturating_add(low);
-        match tokens.get(middle) {
-            Some(token) if low < high && (token.end as usize) <= place => {
-                low = middle.saturating_add(1);
-            }
-            Some(_) if low < high => high = middle,
-            _ => break,
-        }
-    }
-    match tokens.get(low) {
+    let number = tokens.partition_point(|token| token.end as usize <= place);
+    match tokens.get(number) {
         Some(token) => (token.start as usize) <= place,
         None => false,
     }
@@ -107,25 +96,13 @@ impl Remarks {
 
     // The number of the first remark on a line or after it.
     fn first_from(&self, line: u32) -> usize {
-        let mut low: usize = 0;
-        let mut high = self.remarks.len();
-        for _ in 0..=usize::BITS {
-            let middle = (high.saturating_sub(low) / 2).saturating_add(low);
-            match self.remarks.get(middle) {
-                Some(remark) if low < high && remark.line < line => {
-                    low = middle.saturating_add(1);
-                }
-                Some(_) if low < high => high = middle,
-                _ => break,
-            }
-        }
-        low
+        self.remarks.partition_point(|remark| remark.line < line)
     }
 
     /// Whether a comment on the line of the warning, or on the one before it, allows its lint.
     pub fn allow(&self, warning: &Warning) -> bool {
-        let first = self.first_from(warning.line.saturating_sub(1));
-        let behind = self.first_from(warning.line.saturating_add(1));
+        let first = self.first_from(warning.at.line.saturating_sub(1));
+        let behind = self.first_from(warning.at.line.saturating_add(1));
         for number in first..behind {
             match self.remarks.get(number) {
                 Some(remark) if remark.lint.is_none() || remark.lint == Some(warning.lint) =>

@@ -4,35 +4,31 @@ use edd_lexer::token::{Token, TokenKind};
 use edd_syntax::symbols::{Keyword, Symbol};
 use std::alloc::{AllocError, Global};
 
-/// A token by its line, the bytes of its text and the byte at which it begins. Without a start it is
-/// the first token of the line with this text, without a text the first of the line.
+/// A token, or a character of a comment, by its line, its bytes and the byte at which it begins.
 #[derive(Clone, Copy)]
 pub struct Mark<'a> {
     pub line: u32,
-    pub bytes: Option<&'a [u8]>,
-    pub start: Option<u32>,
+    pub bytes: &'a [u8],
+    pub start: u32,
 }
 
 impl<'a> Mark<'a> {
     /// The text of the token.
-    pub fn word(self) -> Option<&'a str> {
-        match self.bytes {
-            Some(bytes) => Some(str::from_utf8(bytes).unwrap_or("")),
-            None => None,
-        }
+    pub fn word(self) -> &'a str {
+        str::from_utf8(self.bytes).unwrap_or("")
     }
 
-    /// The text of the token, which is nothing where it is not known.
-    pub fn name(self) -> &'a str {
-        self.word().unwrap_or("")
+    /// Where it ends.
+    pub fn end(self) -> usize {
+        (self.start as usize).saturating_add(self.bytes.len())
     }
 }
 
 /// The place of a text that has no tokens.
 pub const NOWHERE: Mark<'static> = Mark {
     line: 1,
-    bytes: None,
-    start: None,
+    bytes: b"",
+    start: 0,
 };
 
 /// The bytes of a token.
@@ -45,8 +41,8 @@ pub fn bytes_of<'a>(text: &'a [u8], token: &Token) -> &'a [u8] {
 pub fn mark_of<'a>(text: &'a [u8], token: &Token) -> Mark<'a> {
     Mark {
         line: token.line,
-        bytes: Some(bytes_of(text, token)),
-        start: Some(token.start),
+        bytes: bytes_of(text, token),
+        start: token.start,
     }
 }
 
@@ -143,18 +139,13 @@ impl<'a> TokensLeft<'a> {
 
     /// What is in the text between the last token that was passed and the next one.
     pub fn gap(&self) -> &'a [u8] {
-        let Some(next) = self.rest.first() else {
-            return b"";
-        };
-        let text = self.text;
-        let start = (self.last.start.unwrap_or(next.start) as usize).saturating_add(
-            self.last.bytes.unwrap_or(b"").len(),
-        );
-        let end = next.start as usize;
-        if end < start || text.len() < end {
-            return b"";
+        match self.rest.first() {
+            Some(next) => self
+                .text
+                .get(self.last.end()..next.start as usize)
+                .unwrap_or(b""),
+            None => b"",
         }
-        &text[start..end]
     }
 
     /// Passes a token with this text that is among the next ones, and gives its place; where there

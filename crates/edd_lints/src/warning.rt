@@ -6,36 +6,31 @@ use edd_lexer::token::Token;
 use edd_syntax::numbers::TokenNo;
 use std::alloc::{AllocError, Global};
 
-/// A token by its line, counted from 1, its text and the byte at which it begins. Without a byte it
-/// is the first token of the line with this text, without a text the first of the line.
-#[derive(Drop)]
+/// A token, or a character of a comment: its line, counted from 1, and the bytes from `start` up to
+/// `end`.
+#[derive(Clone, Copy)]
 pub struct Spot {
     pub line: u32,
-    pub word: Option<String>,
-    pub start: Option<u32>,
+    pub start: usize,
+    pub end: usize,
 }
 
 /// Something that is in the language and surely not meant.
 #[derive(Drop)]
 pub struct Warning {
     pub lint: Lint,
-    /// The line of the token that the warning points at, counted from 1.
-    pub line: u32,
-    /// The text of that token. Without one it is the first token of the line.
-    pub word: Option<String>,
-    /// The byte at which that token begins. Without one it is the first with this text on the line.
-    pub start: Option<u32>,
+    pub at: Spot,
     /// One line of plain words.
     pub message: String,
     /// The place of what is in conflict with it, if there is one.
     pub other: Option<Spot>,
 }
 
-// The owned text of a word.
-fn owned(alloc: Global, word: Option<&str>) -> Result<Option<String>, AllocError> {
-    match word {
-        Some(word) => Ok(Some(String::from_str(alloc, word)?)),
-        None => Ok(None),
+fn spot_of(mark: Mark<'_>) -> Spot {
+    Spot {
+        line: mark.line,
+        start: mark.start as usize,
+        end: mark.end(),
     }
 }
 
@@ -68,13 +63,13 @@ impl<'t> Findings<'t> {
 
     /// Adds a warning.
     pub fn add(&mut self, lint: Lint, at: Mark<'_>, message: String) -> Result<(), AllocError> {
+        let at = spot_of(at);
+        let other = None;
         self.warnings.push(Warning {
             lint,
-            line: at.line,
-            word: owned(self.alloc, at.word())?,
-            start: at.start,
+            at,
             message,
-            other: None,
+            other,
         })?;
         Ok(())
     }
@@ -87,18 +82,13 @@ impl<'t> Findings<'t> {
         message: String,
         other: Mark<'_>,
     ) -> Result<(), AllocError> {
-        let spot = Spot {
-            line: other.line,
-            word: owned(self.alloc, other.word())?,
-            start: other.start,
-        };
+        let at = spot_of(at);
+        let other = Some(spot_of(other));
         self.warnings.push(Warning {
             lint,
-            line: at.line,
-            word: owned(self.alloc, at.word())?,
-            start: at.start,
+            at,
             message,
-            other: Some(spot),
+            other,
         })?;
         Ok(())
     }
@@ -107,7 +97,7 @@ impl<'t> Findings<'t> {
     pub fn sorted(self) -> Result<Vec<Warning>, AllocError> {
         let Findings { warnings, .. } = self;
         let mut warnings = warnings;
-        warnings.sort_by_key(|warning| (warning.line, warning.lint as u8))?;
+        warnings.sort_by_key(|warning| (warning.at.line, warning.lint as u8))?;
         Ok(warnings)
     }
 }

@@ -14,15 +14,15 @@ use edd_syntax::reference::Target;
 use std::alloc::AllocError;
 
 /// Finds the warnings on menus and on the uses of items, whose tokens are given one by one.
-pub fn check_uses(
-    text: &[u8],
+pub fn check_uses<'a>(
+    text: &'a [u8],
     tokens: &[Token],
     items: &[Item<Target>],
-    item_tokens: &[&[Token]],
+    item_tokens: &[&'a [Token]],
     names: &Names<'_>,
-    findings: &mut Findings,
+    findings: &mut Findings<'a>,
 ) -> Result<(), AllocError> {
-    menus::check_menus(text, items, item_tokens, findings)?;
+    menus::check_menus(items, findings)?;
     entries::check_entries(text, items, item_tokens, findings)?;
-    unused::check_uses(text, tokens, items, item_tokens, names, findings)
+    unused::check_uses(text, tokens, items, names, findings)
 }

@@ -1,16 +1,13 @@
 //! Menus that contain themselves.
 
-use crate::entries::entries_of;
-use crate::unused::name_of_item;
-use edd_lexer::token::Token;
+use crate::entries::{entries_of, item_shown};
 use edd_lints::lint::Lint;
-use edd_lints::tokens_left::{Mark, TokensLeft};
+use edd_lints::tokens_left::Mark;
 use edd_lints::warning::Findings;
-use edd_syntax::item::{Attribute, Item};
+use edd_syntax::item::{Item, MenuDef};
 use edd_syntax::numbers::ItemNo;
 use edd_syntax::reference::Target;
-use edd_syntax::symbols::Keyword;
-use std::alloc::{AllocError, Global};
+use std::alloc::AllocError;
 
 /// How far the walk has come with a menu.
 #[derive(Clone, Copy, PartialEq, Eq)]
@@ -34,21 +31,16 @@ struct Menu<'a> {
 }
 
 // A menu that the walk has not reached.
-fn menu_of<'a>(
-    alloc: Global,
-    attributes: &[Attribute<Target>],
-    tokens_left: TokensLeft<'a>,
-) -> Result<Menu<'a>, AllocError> {
-    let mut tokens_left = tokens_left;
-    let name = name_of_item(Keyword::Menu, &mut tokens_left);
+fn menu_of<'a>(menu: &MenuDef<Target>, findings: &Findings<'a>) -> Result<Menu<'a>, AllocError> {
+    let alloc = findings.alloc;
     let mut inner = Vec::new(alloc);
-    for entry in &entries_of(alloc, attributes)? {
-        if let Target::Item(ItemNo::Menu(number)) = entry.to {
+    for (_, entry) in &entries_of(alloc, &menu.attributes)? {
+        if let Some((ItemNo::Menu(number), _)) = item_shown(entry) {
             inner.push(usize::from(number.0))?;
         }
     }
     Ok(Menu {
-        name,
+        name: findings.mark(menu.at),
         inner,
         state: State::New,
         passed: 0,
@@ -57,15 +49,13 @@ fn menu_of<'a>(
 
 // The menus by their numbers.
 fn menus_of<'a>(
-    alloc: Global,
-    text: &'a [u8],
     items: &[Item<Target>],
-    item_tokens: &[&'a [Token]],
+    findings: &Findings<'a>,
 ) -> Result<Vec<Menu<'a>>, AllocError> {
-    let mut menus = Vec::new(alloc);
-    for (item, own) in items.iter().zip(item_tokens) {
+    let mut menus = Vec::new(findings.alloc);
+    for item in items {
         if let Item::Menu(menu) = item {
-            menus.push(menu_of(alloc, &menu.attributes, TokensLeft::new(text, own))?)?;
+            menus.push(menu_of(menu, findings)?)?;
         }
     }
     Ok(menus)
@@ -103,7 +93,7 @@ fn enter(
         }
         State::Open => {
             menu.state = State::Said;
-            let name = menu.name.name();
+            let name = menu.name.word();
             let message = format!(in findings.alloc; "the menu {name} contains itself")?;
             let at = menu.name;
             findings.add_beside(Lint::CyclicMenu, at, message, by)?;
@@ -151,13 +141,8 @@ fn walk_from(
 }
 
 /// The menus of a description. Each menu and each entry is passed once.
-pub fn check_menus<'a>(
-    text: &'a [u8],
-    items: &[Item<Target>],
-    item_tokens: &[&'a [Token]],
-    findings: &mut Findings,
-) -> Result<(), AllocError> {
-    let mut menus = menus_of(findings.alloc, text, items, item_tokens)?;
+pub fn check_menus(items: &[Item<Target>], findings: &mut Findings) -> Result<(), AllocError> {
+    let mut menus = menus_of(items, findings)?;
     let mut steps = menus.len();
     for menu in &menus {
         steps = steps.saturating_add(menu.inner.len());

@@ -3,31 +3,12 @@
 use edd_lexer::token::{Token, TokenKind};
 use edd_lints::lint::Lint;
 use edd_lints::names::Names;
-use edd_lints::tokens_left::{Mark, TokensLeft, bytes_of};
+use edd_lints::tokens_left::bytes_of;
 use edd_lints::warning::Findings;
 use edd_syntax::item::{Attribute, Item};
 use edd_syntax::numbers::Kind;
 use edd_syntax::reference::Target;
-use edd_syntax::symbols::Keyword;
 use std::alloc::{AllocError, Global};
-
-/// The word with which an item begins.
-pub fn keyword_of(item: &Item<Target>) -> Keyword {
-    match item {
-        Item::Variable(_) => Keyword::Variable,
-        Item::Command(_) => Keyword::Command,
-        Item::Menu(_) => Keyword::Menu,
-        Item::Collection(_) => Keyword::Collection,
-        Item::Method(_) => Keyword::Method,
-        Item::Array(_) => Keyword::Array,
-    }
-}
-
-/// Passes the name of an item at its declaration, which begins with this word, and gives its place.
-pub fn name_of_item<'a>(word: Keyword, tokens_left: &mut TokensLeft<'a>) -> Mark<'a> {
-    tokens_left.to_word(word);
-    tokens_left.to(TokenKind::Name)
-}
 
 // How often each name of an item is in a text.
 fn uses_of(
@@ -106,40 +87,36 @@ fn lint_of(kind: Kind, number: usize, around: Around) -> Option<(Lint, &'static 
 }
 
 // What is told of an item to which nothing refers.
-fn add_unused<'a>(
-    item: &'a Item<Target>,
+fn add_unused(
+    item: &Item<Target>,
     lint: (Lint, &'static str),
-    tokens_left: TokensLeft<'a>,
     findings: &mut Findings,
 ) -> Result<(), AllocError> {
-    let name = item.name();
-    let mut tokens_left = tokens_left;
-    let at = name_of_item(keyword_of(item), &mut tokens_left);
     let (lint, what) = lint;
-    let message = format!(in findings.alloc; "{what} {name}")?;
+    let message = format!(in findings.alloc; "{what} {}", item.name())?;
+    let at = findings.mark(item.at());
     findings.add(lint, at, message)
 }
 
 /// The items whose names are nowhere but at their declarations. Where there are neither menus nor
 /// commands, as where a device is simulated, variables are for who reads the description.
-pub fn check_uses<'a>(
-    text: &'a [u8],
-    tokens: &'a [Token],
-    items: &'a [Item<Target>],
-    item_tokens: &[&'a [Token]],
+pub fn check_uses(
+    text: &[u8],
+    tokens: &[Token],
+    items: &[Item<Target>],
     names: &Names<'_>,
     findings: &mut Findings,
 ) -> Result<(), AllocError> {
     let uses = uses_of(findings.alloc, text, tokens, names)?;
     let around = around_items(items);
-    for (number, (item, own)) in items.iter().zip(item_tokens).enumerate() {
+    for (number, item) in items.iter().enumerate() {
         let used = names.number_of(item.name().as_bytes());
         let is_used = matches!(used.and_then(|name| uses.get(name)), Some(count) if 1 < *count);
         if is_used {
             continue;
         }
         if let Some(lint) = lint_of(item.kind(), number, around) {
-            add_unused(item, lint, TokensLeft::new(text, own), findings)?;
+            add_unused(item, lint, findings)?;
         }
     }
     Ok(())

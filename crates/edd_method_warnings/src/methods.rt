@@ -56,7 +56,7 @@ fn check_local(
     walk: &Walk<'_>,
     findings: &mut Findings,
 ) -> Result<(), AllocError> {
-    let name = at.name();
+    let name = at.word();
     let alloc = findings.alloc;
     if !walk.reads.contains(slot) {
         let message = format!(in alloc; "the local {name} is never read")?;

@@ -99,7 +99,7 @@ fn check_declarators(
 }
 
 fn warn_unreached(end: Mark<'_>, findings: &mut Findings) -> Result<(), AllocError> {
-    let word = end.word().unwrap_or("statement");
+    let word = end.word();
     let message = format!(in findings.alloc; "what stands behind this {word} is never reached")?;
     findings.add(Lint::UnreachableStatement, end, message)
 }

@@ -53,7 +53,7 @@ pub fn check_classes(
             TokenKind::Symbol(Symbol::Semicolon) => is_inside = false,
             TokenKind::Name if is_inside => {
                 let at = mark_of(text, token);
-                check_class(at.name(), at, findings)?;
+                check_class(at.word(), at, findings)?;
             }
             _ => {}
         }

@@ -52,11 +52,10 @@ fn check_gap(text: &[u8], gap: Gap, findings: &mut Findings) -> Result<(), Alloc
         if gap.start <= place && told != line {
             if let Some((word, number)) = turn_of(behind) {
                 told = line;
-                let start = u32::try_from(place).ok();
                 let at = Mark {
                     line,
-                    bytes: Some(word),
-                    start,
+                    bytes: word,
+                    start: u32::try_from(place).unwrap_or(u32::MAX),
                 };
                 add_turn(at, number, findings)?;
             }

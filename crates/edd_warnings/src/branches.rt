@@ -158,7 +158,7 @@ impl<'a> Brackets<'a> {
                 _ => {}
             }
             is_after_name = token.kind == TokenKind::Name;
-            written.push_str(mark_of(self.text, token).name())?;
+            written.push_str(mark_of(self.text, token).word())?;
             written.push_str(" ")?;
         }
         Ok(Some(written))

@@ -5,17 +5,13 @@ use crate::variables::check_range;
 use edd_lints::lint::Lint;
 use edd_lints::range::Range;
 use edd_lints::tokens_left::Mark;
+use edd_lints::values::enumerators_of;
 use edd_lints::warning::Findings;
-use edd_syntax::cond::{Arm, Cond};
 use edd_syntax::item::{Enumerator, TypePart};
 use edd_syntax::numbers::TokenNo;
 use edd_syntax::reference::Target;
 use edd_syntax::types::VarType;
 use std::alloc::{AllocError, Global};
-
-fn new_list<'a>(alloc: Global) -> Numbers<'a> {
-    Numbers::new(alloc, Lint::RepeatedEnumerator, "the enumerator")
-}
 
 fn check_enumerator<'a>(
     enumerator: &Enumerator,
@@ -58,71 +54,27 @@ fn check_bit(
     findings.add(Lint::EnumeratorBits, at, message)
 }
 
-// An element of a list. The lists of its branches are lists of their own.
-#[cycle(enumerators)]
-fn check_element<'a>(
-    c: &Cond<Target, Enumerator>,
-    range: Range,
-    kind: VarType,
-    list: &mut Numbers<'a>,
-    findings: &mut Findings<'a>,
-) -> Result<(), AllocError> {
-    match c {
-        Cond::Value(enumerator) => { check_enumerator(enumerator, range, kind, list, findings) }
-        Cond::If {
-            first,
-            otherwise,
-            ..
-        } => {
-            check_list(first, range, kind, findings)?;
-            check_list(otherwise, range, kind, findings)
-        }
-        Cond::Select { arms, .. } => check_arms(arms, range, kind, findings),
-    }
-}
-
-#[cycle(enumerators)]
-fn check_list(
-    elements: &[Cond<Target, Enumerator>],
-    range: Range,
-    kind: VarType,
-    findings: &mut Findings,
-) -> Result<(), AllocError> {
-    let mut list = new_list(findings.alloc);
-    for c in elements {
-        check_element(c, range, kind, &mut list, findings)?;
+// Has so many lists that there is one of this number.
+fn grow<'a>(alloc: Global, number: usize, lists: &mut Vec<Numbers<'a>>) -> Result<(), AllocError> {
+    for _ in lists.len()..=number {
+        lists.push(Numbers::new(alloc, Lint::RepeatedEnumerator, "the enumerator"))?;
     }
     Ok(())
 }
 
-#[cycle(enumerators)]
-fn check_arms(
-    arms: &[Arm<Target, Enumerator>],
-    range: Range,
-    kind: VarType,
-    findings: &mut Findings,
-) -> Result<(), AllocError> {
-    for arm in arms {
-        match arm {
-            Arm::Case { body, .. } | Arm::Default { body, .. } => {
-                check_list(body, range, kind, findings)?;
-            }
-        }
-    }
-    Ok(())
-}
-
-/// The enumerators of a type.
+/// The enumerators of a type. The lists of branches are lists of their own.
 pub fn check_enumerators(
     parts: &[TypePart<Target>],
     range: Range,
     kind: VarType,
     findings: &mut Findings,
 ) -> Result<(), AllocError> {
-    let mut list = new_list(findings.alloc);
-    for part in parts {
-        if let TypePart::Element(c) = part {
-            check_element(c, range, kind, &mut list, findings)?;
+    let alloc = findings.alloc;
+    let mut lists = Vec::new(alloc);
+    for (number, enumerator) in &enumerators_of(alloc, parts)? {
+        grow(alloc, *number, &mut lists)?;
+        if let Some(list) = lists.get_mut(*number) {
+            check_enumerator(enumerator, range, kind, list, findings)?;
         }
     }
     Ok(())

@@ -1,7 +1,7 @@
 //! Formats that mean nothing.
 
-use crate::steps::{Step, push_cond};
 use edd_lints::lint::Lint;
+use edd_lints::values::values_in;
 use edd_lints::warning::Findings;
 use edd_syntax::cond::Cond;
 use edd_syntax::item::TypePart;
@@ -66,15 +66,8 @@ fn check_format(
     format: &Cond<Target, Text>,
     findings: &mut Findings,
 ) -> Result<(), AllocError> {
-    if let Cond::Value(text) = format {
-        return check_text(at, text, findings);
-    }
-    let mut steps = Vec::new(findings.alloc);
-    push_cond(format, &mut steps)?;
-    for step in &steps {
-        if let Step::Value(text) = step {
-            check_text(at, text, findings)?;
-        }
+    for (_, text) in &values_in(findings.alloc, format)? {
+        check_text(at, text, findings)?;
     }
     Ok(())
 }

@@ -3,8 +3,9 @@
 use edd_lints::instrument::{Instrument, variable_of};
 use edd_lints::lint::Lint;
 use edd_lints::tokens_left::Mark;
+use edd_lints::values::values_of;
 use edd_lints::warning::Findings;
-use edd_syntax::cond::{Arm, Cond};
+use edd_syntax::cond::Cond;
 use edd_syntax::item::{DataItem, TransactionPart};
 use edd_syntax::numbers::TokenNo;
 use edd_syntax::reference::Target;
@@ -20,6 +21,10 @@ struct Carried<'a> {
     /// Whether it is there without a mask, and not for information alone.
     is_whole: bool,
 }
+
+/// What the lists of a message have so far, by the number of the list and that of the variable. The
+/// lists of branches are lists of their own.
+type Lists<'a> = BTreeMap<(usize, u16), Carried<'a>>;
 
 /// A message of a command.
 #[derive(Clone, Copy)]
@@ -61,11 +66,12 @@ impl Message<'_, '_> {
         variable: u16,
         mask: Option<u32>,
         is_info: bool,
-        list: &mut BTreeMap<u16, Carried<'a>>,
+        list: usize,
+        carried: &mut Lists<'a>,
         findings: &mut Findings<'a>,
     ) -> Result<(), AllocError> {
         let at = findings.mark(at);
-        let before = list.get(&variable).copied();
+        let before = carried.get(&(list, variable)).copied();
         let bits = before.map(|carried| carried.bits).unwrap_or(0);
         if let (Some(mask), Some(range)) = (mask, self.instrument.range(variable)) {
             let most = range.high.saturating_sub(range.low);
@@ -86,8 +92,8 @@ impl Message<'_, '_> {
             }
             _ => {}
         }
-        list.insert(
-            variable,
+        carried.insert(
+            (list, variable),
             Carried {
                 at,
                 bits: bits | mask.unwrap_or(0),
@@ -100,7 +106,8 @@ impl Message<'_, '_> {
     fn check_item<'a>(
         &self,
         item: &DataItem<Target>,
-        list: &mut BTreeMap<u16, Carried<'a>>,
+        list: usize,
+        carried: &mut Lists<'a>,
         findings: &mut Findings<'a>,
     ) -> Result<(), AllocError> {
         let DataItem::Variable {
@@ -114,60 +121,22 @@ impl Message<'_, '_> {
         };
         match variable_of(*variable) {
             Some(number) => {
-                self.check_variable(*at, number, *mask, qualifiers.info, list, findings)
+                self.check_variable(*at, number, *mask, qualifiers.info, list, carried, findings)
             }
             None => Ok(()),
         }
     }
 }
 
-// An element of a list. The lists of its branches are lists of their own.
-#[cycle(messages)]
-fn check_element<'a>(
-    c: &Cond<Target, DataItem<Target>>,
-    message: Message<'_, '_>,
-    list: &mut BTreeMap<u16, Carried<'a>>,
-    findings: &mut Findings<'a>,
-) -> Result<(), AllocError> {
-    match c {
-        Cond::Value(item) => message.check_item(item, list, findings),
-        Cond::If {
-            first,
-            otherwise,
-            ..
-        } => {
-            check_list(first, message, findings)?;
-            check_list(otherwise, message, findings)
-        }
-        Cond::Select { arms, .. } => check_arms(arms, message, findings),
-    }
-}
-
-#[cycle(messages)]
-fn check_list(
-    elements: &[Cond<Target, DataItem<Target>>],
+fn check_message(
+    items: &[Cond<Target, DataItem<Target>>],
     message: Message<'_, '_>,
     findings: &mut Findings,
 ) -> Result<(), AllocError> {
-    let mut list = BTreeMap::new(findings.alloc);
-    for c in elements {
-        check_element(c, message, &mut list, findings)?;
-    }
-    Ok(())
-}
-
-#[cycle(messages)]
-fn check_arms(
-    arms: &[Arm<Target, DataItem<Target>>],
-    message: Message<'_, '_>,
-    findings: &mut Findings,
-) -> Result<(), AllocError> {
-    for arm in arms {
-        match arm {
-            Arm::Case { body, .. } | Arm::Default { body, .. } => {
-                check_list(body, message, findings)?;
-            }
-        }
+    let alloc = findings.alloc;
+    let mut carried = BTreeMap::new(alloc);
+    for (list, item) in &values_of(alloc, items)? {
+        message.check_item(item, *list, &mut carried, findings)?;
     }
     Ok(())
 }
@@ -187,7 +156,7 @@ pub fn check_messages(
             instrument,
             is_reply,
         };
-        check_list(items, message, findings)?;
+        check_message(items, message, findings)?;
     }
     Ok(())
 }

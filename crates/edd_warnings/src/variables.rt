@@ -2,15 +2,15 @@
 
 use crate::enumerators::check_enumerators;
 use crate::formats::check_formats;
-use crate::steps::{Step, push_cond};
 use edd_instructions::Sort;
 use edd_lints::constants::{Known, evaluate};
 use edd_lints::instrument::Instrument;
 use edd_lints::lint::Lint;
 use edd_lints::range::Range;
 use edd_lints::tokens_left::Mark;
+use edd_lints::values::{enumerators_of, values_in};
 use edd_lints::warning::Findings;
-use edd_syntax::cond::{Arm, Cond};
+use edd_syntax::cond::Cond;
 use edd_syntax::expr::Expr;
 use edd_syntax::item::{Attribute, TypePart, TypeWord};
 use edd_syntax::numbers::{Attr, TokenNo};
@@ -35,66 +35,12 @@ pub fn check_range(
     findings.add(Lint::ValueOutOfRange, at, message)
 }
 
-// An option of a type with its place.
-#[derive(Clone, Copy)]
-struct Placed<'a> {
-    what: &'a str,
-    at: Mark<'a>,
-}
-
-// The constants of an option, in all its branches.
-#[cycle(constants)]
-fn check_constants(
-    c: &Cond<Target, Expr<Target>>,
-    range: Range,
-    option: Placed<'_>,
-    findings: &mut Findings,
-) -> Result<(), AllocError> {
-    match c {
-        Cond::Value(e) => match evaluate(e, Sort::Attribute) {
-            Known::Number(n) => check_range(range, option.what, n, option.at, findings),
-            Known::Traps(_) | Known::Nothing => Ok(()),
-        },
-        Cond::If {
-            first,
-            otherwise,
-            ..
-        } => {
-            check_branch(first, range, option, findings)?;
-            check_branch(otherwise, range, option, findings)
-        }
-        Cond::Select { arms, .. } => check_arms(arms, range, option, findings),
+// The number that an expression of an attribute always is.
+fn number_of(e: &Expr<Target>) -> Option<i64> {
+    match evaluate(e, Sort::Attribute) {
+        Known::Number(number) => Some(number),
+        Known::Traps(_) | Known::Nothing => None,
     }
-}
-
-#[cycle(constants)]
-fn check_branch(
-    branch: &[Cond<Target, Expr<Target>>],
-    range: Range,
-    option: Placed<'_>,
-    findings: &mut Findings,
-) -> Result<(), AllocError> {
-    for c in branch {
-        check_constants(c, range, option, findings)?;
-    }
-    Ok(())
-}
-
-#[cycle(constants)]
-fn check_arms(
-    arms: &[Arm<Target, Expr<Target>>],
-    range: Range,
-    option: Placed<'_>,
-    findings: &mut Findings,
-) -> Result<(), AllocError> {
-    for arm in arms {
-        match arm {
-            Arm::Case { body, .. } | Arm::Default { body, .. } => {
-                check_branch(body, range, option, findings)?;
-            }
-        }
-    }
-    Ok(())
 }
 
 // An option that is one constant, with its place.
@@ -116,10 +62,8 @@ fn constant_of(c: &Cond<Target, Expr<Target>>, at: TokenNo) -> Option<Constant> 
     let Cond::Value(e) = c else {
         return None;
     };
-    match evaluate(e, Sort::Attribute) {
-        Known::Number(number) => Some(Constant { number, at }),
-        Known::Traps(_) | Known::Nothing => None,
-    }
+    let number = number_of(e)?;
+    Some(Constant { number, at })
 }
 
 fn options_of(parts: &[TypePart<Target>]) -> Options {
@@ -193,26 +137,20 @@ fn check_option(
             return Ok(());
         }
     };
-    let option = Placed {
-        what: attr.word(),
-        at: findings.mark(at),
-    };
-    check_constants(value, range, option, findings)
+    let at = findings.mark(at);
+    for (_, e) in &values_in(findings.alloc, value)? {
+        if let Some(number) = number_of(e) {
+            check_range(range, attr.word(), number, at, findings)?;
+        }
+    }
+    Ok(())
 }
 
 // All bits of the enumerators of a type; nothing where it has none.
 fn bits_of(alloc: Global, parts: &[TypePart<Target>]) -> Result<Option<i64>, AllocError> {
-    let mut steps = Vec::new(alloc);
-    for part in parts {
-        if let TypePart::Element(c) = part {
-            push_cond(c, &mut steps)?;
-        }
-    }
     let mut bits = None;
-    for step in &steps {
-        if let Step::Value(enumerator) = step {
-            bits = Some(bits.unwrap_or(0) | enumerator.value);
-        }
+    for (_, enumerator) in &enumerators_of(alloc, parts)? {
+        bits = Some(bits.unwrap_or(0) | enumerator.value);
     }
     Ok(bits)
 }
@@ -249,10 +187,8 @@ fn check_named(
         return Ok(());
     };
     let alloc = findings.alloc;
-    let mut steps = Vec::new(alloc);
-    push_cond(value, &mut steps)?;
-    for step in &steps {
-        let message = match (default_of(step), instrument.range(variable)) {
+    for (_, e) in &values_in(alloc, value)? {
+        let message = match (number_of(e), instrument.range(variable)) {
             (Some(number), Some(range)) if range.holds(number) => {
                 unnamed(number, variable, bits, instrument, alloc)?
             }
@@ -264,17 +200,6 @@ fn check_named(
         }
     }
     Ok(())
-}
-
-// The constant that a step of an option has.
-fn default_of(step: &Step<'_, Expr<Target>>) -> Option<i64> {
-    match step {
-        Step::Value(e) => match evaluate(e, Sort::Attribute) {
-            Known::Number(number) => Some(number),
-            Known::Traps(_) | Known::Nothing => None,
-        },
-        _ => None,
-    }
 }
 
 // The default values of a type that no enumerator names.

@@ -4,7 +4,7 @@
 
 use edd_compiler::checked_of;
 use edd_lexer::lex;
-use edd_warnings::{LINTS, Lint, Warning, warnings};
+use edd_warnings::{LINTS, Lint, Spot, Warning, warnings};
 use std::alloc::{AllocError, Global};
 
 const HEAD: &str = "MANUFACTURER 1 DEVICE_TYPE 2 DEVICE_REVISION 3 DD_REVISION 4\n";
@@ -31,33 +31,32 @@ fn warnings_of(alloc: Global, text: &[u8]) -> Option<Vec<Warning>> {
     warnings(alloc, text, &tokens, &checked).ok()
 }
 
-fn word_of(word: &Option<String>) -> &str {
-    match word {
-        Some(word) => word.as_str(),
-        None => "-",
-    }
+// The line and the word of a place.
+fn line_and_word(alloc: Global, text: &[u8], at: Spot) -> Result<String, AllocError> {
+    let bytes = text.get(at.start..at.end).unwrap_or(b"");
+    format!(in alloc; "{} {}", at.line, str::from_utf8(bytes).unwrap_or(""))
 }
 
 // A warning's line, its word, its lint, and the line and the word of its other place.
-fn written(alloc: Global, warning: &Warning) -> Result<String, AllocError> {
-    let (line, word, name) = (warning.line, word_of(&warning.word), warning.lint.name());
-    match &warning.other {
+fn written(alloc: Global, text: &[u8], warning: &Warning) -> Result<String, AllocError> {
+    let (at, name) = (line_and_word(alloc, text, warning.at)?, warning.lint.name());
+    match warning.other {
         Some(other) => {
-            let (other_line, other_word) = (other.line, word_of(&other.word));
-            format!(in alloc; "{line} {word} {name} at {other_line} {other_word}")
+            let other = line_and_word(alloc, text, other)?;
+            format!(in alloc; "{at} {name} at {other}")
         }
-        None => format!(in alloc; "{line} {word} {name}"),
+        None => format!(in alloc; "{at} {name}"),
     }
 }
 
 // Each warning, with semicolons between.
-fn list(alloc: Global, warnings: &[Warning]) -> Result<String, AllocError> {
+fn list(alloc: Global, text: &[u8], warnings: &[Warning]) -> Result<String, AllocError> {
     let mut lines = String::new(alloc);
     for warning in warnings {
         if !lines.is_empty() {
             lines.push_str("; ")?;
         }
-        lines.push_str(written(alloc, warning)?.as_str())?;
+        lines.push_str(written(alloc, text, warning)?.as_str())?;
     }
     Ok(lines)
 }
@@ -69,15 +68,15 @@ fn message_of_first(alloc: Global, warnings: &[Warning]) -> Result<String, Alloc
     }
 }
 
-// The warnings of items.
-fn found(alloc: Global, items: &str) -> Result<Option<Vec<Warning>>, AllocError> {
-    let text = format!(in alloc; "{HEAD}{items}")?;
-    Ok(warnings_of(alloc, text.as_bytes()))
+// A description with these items.
+fn text_with(alloc: Global, items: &str) -> Result<String, AllocError> {
+    format!(in alloc; "{HEAD}{items}")
 }
 
 pub fn warnings_of_items(alloc: Global, items: &str) -> Result<String, AllocError> {
-    match found(alloc, items)? {
-        Some(warnings) => list(alloc, &warnings),
+    let text = text_with(alloc, items)?;
+    match warnings_of(alloc, text.as_bytes()) {
+        Some(warnings) => list(alloc, text.as_bytes(), &warnings),
         None => String::from_str(alloc, "refused"),
     }
 }
@@ -103,7 +102,8 @@ pub fn message_of_body(alloc: Global, asked: &str, body: &str) -> Result<String,
 }
 
 pub fn first_message(alloc: Global, items: &str) -> Result<String, AllocError> {
-    match found(alloc, items)? {
+    let text = text_with(alloc, items)?;
+    match warnings_of(alloc, text.as_bytes()) {
         Some(warnings) => message_of_first(alloc, &warnings),
         None => String::from_str(alloc, "refused"),
     }
