@@ -2,22 +2,16 @@
 
 ghost use Rattle.std.specs.Prelude.{◌≡◌};
 
-use crate::sources::{BUILTINS, LONGEST, Source};
+use crate::sources::Source;
 use edd_reports::diagnostic::Diagnostic;
 use edd_reports::nearest::Nearest;
-use edd_reports::words::{is_sign, item_kind, kind_word};
+use edd_reports::words::{is_sign, kind_word};
 use edd_slips::help_of_left_out;
+use edd_syntax::item::Item;
 use edd_syntax::numbers::Kind;
 use edd_syntax::operators::{Builtin, Parameter};
 use edd_syntax::symbols::Symbol;
 use std::alloc::{AllocError, Global};
-
-pub fn function_of(word: &str) -> Option<Builtin> {
-    BUILTINS
-        .iter()
-        .copied()
-        .find(|function| function.name() == word)
-}
 
 // What is said of a word that other languages have, or EDDL elsewhere.
 fn foreign_help(word: &str) -> Option<&'static str> {
@@ -69,6 +63,9 @@ pub fn named_kind(kind: Kind) -> &'static str {
     }
 }
 
+/// How many tokens are looked at for the function whose argument one is.
+const LONGEST: usize = 64;
+
 /// The function whose argument is at a token, by the token of its name, and how many arguments are
 /// before it.
 fn function_around(source: &Source<'_>, number: usize) -> Option<(usize, usize)> {
@@ -94,7 +91,7 @@ fn function_around(source: &Source<'_>, number: usize) -> Option<(usize, usize)>
 // What the argument at a token is to be, where it is one of a function.
 fn parameter_at(source: &Source<'_>, number: usize) -> Option<Parameter> {
     let (function, before) = function_around(source, number)?;
-    let function = function_of(source.word(function))?;
+    let function = Builtin::named(source.word(function))?;
     function.parameters().get(before).copied()
 }
 
@@ -114,10 +111,8 @@ fn kind_wanted(source: &Source<'_>, number: usize) -> Option<Kind> {
             _ => None,
         };
     }
-    match source.item_before(number) {
-        Some(item) if item.kind == Kind::Collection => {
-            item_kind(source.tokens().get(item.name.checked_sub(1)?)?)
-        }
+    match source.around(number) {
+        Some((_, Item::Collection(collection))) => Some(collection.of),
         _ => Some(Kind::Variable),
     }
 }
@@ -198,7 +193,7 @@ fn help_known(
         Symbol::OpenParenthesis,
     );
     if let Some(item) = source.item(name) {
-        let text = match item.kind {
+        let text = match item.kind() {
             Kind::Method if parameter_at(source, number).is_some() => format!(in alloc;
                 "a METHOD is named here without parentheses; {name} is declared"
             )?,
@@ -214,7 +209,7 @@ fn help_known(
             }
             _ => format!(in alloc; "{name} means nothing here, but is declared")?,
         };
-        found.help_at(source.span(item.name), text)?;
+        found.help_at(source.span(item.at().0 as usize), text)?;
         return Ok(true);
     }
     if let Some(declared) = source.declared(name) {
@@ -226,7 +221,7 @@ fn help_known(
         found.help(String::from_str(alloc, text)?)?;
         return Ok(true);
     }
-    let Some(function) = function_of(name) else {
+    let Some(function) = Builtin::named(name) else {
         return Ok(false);
     };
     let name = function.name();
@@ -296,7 +291,7 @@ pub fn help_kind(
         return Ok(());
     };
     let is_read = source.is_in_body(number) && parameter_at(source, number).is_none();
-    let text = match item.kind {
+    let text = match item.kind() {
         Kind::Array if is_read => format!(in alloc;
             "an element of an ARRAY is read as {name}[..]; {name} is declared"
         )?,
@@ -311,5 +306,5 @@ pub fn help_kind(
             format!(in alloc; "{name} is {kind}, which is declared")?
         }
     };
-    found.help_at(source.span(item.name), text)
+    found.help_at(source.span(item.at().0 as usize), text)
 }

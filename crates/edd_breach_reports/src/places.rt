@@ -1,47 +1,80 @@
 //! Where a breach is shown.
 
+ghost use Rattle.std.specs.Prelude.{◌≡◌, option_map};
 ghost use Rattle.edd_breaches.specs.Told.{told_of};
-ghost use Rattle.edd_breach_reports.specs.Places.{IsShownAt};
-ghost use Rattle.edd_breach_reports.specs.Refusals.{tokens_of};
+ghost use Rattle.edd_breach_reports.specs.Places as places;
+ghost use Rattle.edd_breach_reports.specs.Places.{IsShownAt, mask_behind};
+ghost use Rattle.edd_breach_reports.specs.Refusals.{text_of};
 
-use crate::sources::{LONGEST, Source};
+use crate::sources::Source;
 use edd_breaches::{Breach, Rule};
-use edd_reports::words::{Span, is_sign};
+use edd_lexer::token::{Token, TokenKind};
+use edd_reports::words::{Span, span_of};
 use edd_syntax::operators::Comparison;
 use edd_syntax::symbols::Symbol;
 
-// The last token of the path that begins at a token, or the token itself.
-fn last_of_path(source: &Source<'_>, number: usize) -> usize {
-    let mut last = number;
-    for _ in 0..LONGEST {
-        if !is_sign(source.tokens(), last.saturating_add(1), Symbol::Dot) {
-            return last;
-        }
-        last = last.saturating_add(2);
-    }
-    last
+fn is_dot(token: &Token) -> bool
+    ensures { result ≡ places.is_dot token.now.kind }
+{
+    matches!(token.kind, TokenKind::Symbol(Symbol::Dot))
 }
 
-// The mask of a data item that begins at a token, in `<` and `>`; a constant has none.
-fn mask_or_constant(source: &Source<'_>, number: usize) -> usize {
-    let sign = last_of_path(source, number).saturating_add(1);
-    if is_sign(source.tokens(), sign, Symbol::Comparison(Comparison::Less)) {
-        sign.saturating_add(1)
-    } else {
-        number
+fn is_less(token: &Token) -> bool
+    ensures { result ≡ places.is_less token.now.kind }
+{
+    matches!(
+        token.kind,
+        TokenKind::Symbol(Symbol::Comparison(Comparison::Less))
+    )
+}
+
+// From the last name of a path on, where these tokens begin with its first.
+#[tactic(auto, unfolding(crate::specs::Places::last_of_path))]
+fn last_of_path(tokens: &[Token]) -> &[Token]
+    ensures { result.now ≡ places.last_of_path tokens.now }
+{
+    let mut path = tokens;
+    while let [_, dot, rest @ ..] = path {
+        if !is_dot(dot) {
+            break;
+        }
+        path = rest;
+    }
+    path
+}
+
+// The token behind the `<` that follows a name.
+fn mask_of(tokens: &[Token]) -> Option<&Token>
+    ensures { option_map (λ t. t.now) result ≡ mask_behind tokens.now }
+{
+    match tokens {
+        [_, less, mask, ..] if is_less(less) => Some(mask),
+        _ => None,
+    }
+}
+
+// Where a data item is shown that begins at a token: at its mask in `<` and `>`; a constant has none.
+fn data_item_shown(source: &Source<'_>, at: usize) -> Option<Span>
+    ensures { result ≡ places.mask_at (text_of source.now).tokens at }
+{
+    let tokens = source.tokens();
+    let start = at.min(tokens.len());
+    match mask_of(last_of_path(&tokens[start..])) {
+        Some(mask) => Some(span_of(mask)),
+        None => source.span(at),
     }
 }
 
 /// Where a breach is shown: of a type at its word or its size behind TYPE, of a data item at its mask,
 /// else at the breach's own token.
 pub fn shown_at(source: &Source<'_>, breach: &Breach<'_>) -> Option<Span>
-    ensures { IsShownAt (tokens_of source.now) (told_of breach.now) result }
+    ensures { IsShownAt (text_of source.now) (told_of breach.now) result }
 {
     let at = breach.place?.0 as usize;
     match breach.rule {
         Rule::FloatVariable(_) | Rule::OtherType { .. } => source.span(at.saturating_add(1)),
         Rule::BadSize(_) => source.span(at.saturating_add(3)),
-        Rule::ConstRange => source.span(mask_or_constant(source, at)),
+        Rule::ConstRange => data_item_shown(source, at),
         _ => source.span(at),
     }
 }

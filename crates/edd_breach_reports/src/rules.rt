@@ -2,11 +2,10 @@
 
 ghost use Rattle.std.specs.Prelude.{◌≡◌, IfOk, string_bytes};
 ghost use Rattle.edd_breaches.specs.Told.{told_of};
-ghost use Rattle.edd_breaches.specs.Words.{told_words};
 ghost use Rattle.edd_breach_reports.specs.Places.{IsShownAt};
-ghost use Rattle.edd_breach_reports.specs.Refusals.{IsRefusal, lines_of, tokens_of};
+ghost use Rattle.edd_breach_reports.specs.Refusals.{IsRefusal, text_of, words_in};
 
-use crate::names::{function_of, help_kind, help_unknown, named_kind};
+use crate::names::{help_kind, help_unknown, named_kind};
 use crate::places::shown_at;
 use crate::sources::Source;
 use edd_breaches::{Breach, Rule, RuleFault};
@@ -32,8 +31,8 @@ pub fn refusal_of(
     source: &Source<'_>,
     breach: &Breach<'_>,
 ) -> Result<String, AllocError>
-    ensures sound { IfOk result (λ s. string_bytes s
-        ≡ told_words (lines_of source.now) (told_of breach.now)) }
+    ensures sound { IfOk result
+        (λ s. string_bytes s ≡ words_in (text_of source.now) (told_of breach.now)) }
 {
     let fault = RuleFault::of(alloc, breach)?;
     match fault.place() {
@@ -68,7 +67,7 @@ fn function_help(alloc: Global, function: Builtin) -> Result<String, AllocError>
 
 // What helps at a function with other arguments, at the brace of an enumerator, or at an option.
 fn mismatch_help(alloc: Global, word: &str) -> Result<String, AllocError> {
-    match function_of(word) {
+    match Builtin::named(word) {
         Some(Builtin::Abort | Builtin::ProcessAbort) => {
             format!(in alloc; "{word} takes nothing and is a statement of its own")
         }
@@ -151,7 +150,7 @@ fn excess_help(
 ) -> Result<String, AllocError> {
     let name = source.word(item);
     let kind = match source.item_at(item) {
-        Some(item) => kind_word(item.kind),
+        Some(item) => kind_word(item.kind()),
         None => "item",
     };
     match limit {
@@ -195,7 +194,7 @@ fn missing_help(
         return Ok(None);
     };
     match source.item_at(name) {
-        Some(item) => Ok(Some(format!(in alloc; "{} needs {word}", named_kind(item.kind))?)),
+        Some(item) => Ok(Some(format!(in alloc; "{} needs {word}", named_kind(item.kind()))?)),
         None => Ok(None),
     }
 }
@@ -247,9 +246,9 @@ pub fn diagnostic(
     breach: &Breach<'_>,
 ) -> Result<Diagnostic, AllocError>
     ensures sound { IfOk result
-        (λ d. IsRefusal (told_words (lines_of source.now) (told_of breach.now)) d.finding) }
+        (λ d. IsRefusal (words_in (text_of source.now) (told_of breach.now)) d.finding) }
     ensures placed { IfOk result
-        (λ d. IsShownAt (tokens_of source.now) (told_of breach.now) d.place) }
+        (λ d. IsShownAt (text_of source.now) (told_of breach.now) d.place) }
 {
     let refusal = refusal_of(alloc, source, breach)?;
     let mut found = Diagnostic::new(alloc, Finding::Refused(refusal));

@@ -1,56 +1,45 @@
 //! A text that breaks rules, and the names that it declares.
 
-ghost use Rattle.std.specs.Prelude.{◌≡◌, IfOk};
-ghost use Rattle.edd_breach_reports.specs.Places.{span_at};
-ghost use Rattle.edd_breach_reports.specs.Refusals.{lines_of, text_of, tokens_of};
+ghost use Rattle.std.specs.Prelude.{◌≡◌, ◌<◌, ◌≤◌, Some, IfOk, IfSome, IsNone, IsTrue, slice_get};
+ghost use Rattle.edd_breach_reports.specs.Places.{AreInOneItem, IsAround, span_at};
+ghost use Rattle.edd_breach_reports.specs.Refusals.{lines_of, text_of};
+ghost use Rattle.edd_syntax.specs.Places.{name_at};
 
 use edd_lexer::line_of;
 use edd_lexer::token::{Token, TokenKind};
 use edd_reports::nearest::Nearest;
-use edd_reports::outline::{Declared, Outline, declares};
-use edd_reports::words::{Span, is_sign, word_of};
+use edd_reports::outline::{Outline, declares};
+use edd_reports::words::{Span, is_sign, span_of, word_of};
+use edd_syntax::item::{Attribute, Item};
 use edd_syntax::numbers::TokenNo;
-use edd_syntax::operators::Builtin;
+use edd_syntax::operators::BUILTINS;
+use edd_syntax::reference::Path;
 use edd_syntax::symbols::Symbol;
+use edd_syntax::unit::Unit;
 use indexmap::IndexMap;
 use std::alloc::{AllocError, Global};
-
-/// The functions that methods may call.
-pub const BUILTINS: [Builtin; 15] = [
-    Builtin::PutMessage,
-    Builtin::Acknowledge,
-    Builtin::Delay,
-    Builtin::GetDevVarValue,
-    Builtin::SelectFromList,
-    Builtin::SendCommand,
-    Builtin::SendCommandTrans,
-    Builtin::SaveValues,
-    Builtin::IvarValue,
-    Builtin::LvarValue,
-    Builtin::Iassign,
-    Builtin::Lassign,
-    Builtin::Abort,
-    Builtin::ProcessAbort,
-    Builtin::AddAbortMethod,
-];
 
 /// How many names of a sort one that is unknown is compared with, so that many of both take no long
 /// time.
 const MOST_NAMES: usize = 10_000;
 
-/// How many tokens are looked at around one, for a path or the function whose argument one is.
-pub const LONGEST: usize = 64;
-
-/// A text, its tokens, and what they declare.
+/// A text that spells a unit, its tokens, the unit's items, and the names that these declare.
 #[derive(Drop)]
 pub struct Source<'a> {
     text: &'a [u8],
     tokens: &'a [Token],
-    outline: Outline,
+    items: &'a [Item<Path>],
     /// The items by their names; of two with one name the first.
-    items: IndexMap<&'a str, Declared>,
+    named: IndexMap<&'a str, &'a Item<Path>>,
     /// The names of members and locals, and of items.
     names: IndexMap<&'a str, usize>,
+}
+
+// The number of the token that is an item's name.
+fn name_of(item: &Item<Path>) -> usize
+    ensures { result ≡ (name_at item.now).0 }
+{
+    item.at().0 as usize
 }
 
 fn word_at<'a>(text: &'a [u8], tokens: &[Token], number: usize) -> &'a str {
@@ -62,29 +51,26 @@ fn word_at<'a>(text: &'a [u8], tokens: &[Token], number: usize) -> &'a str {
 
 fn items_of<'a>(
     alloc: Global,
-    text: &'a [u8],
-    tokens: &[Token],
-    outline: &Outline,
-) -> Result<IndexMap<&'a str, Declared>, AllocError> {
-    let mut items = IndexMap::new(alloc);
-    for item in &outline.items {
-        let name = word_at(text, tokens, item.name);
-        if items.get(name).is_none() {
-            items.insert(name, *item)?;
+    items: &'a [Item<Path>],
+) -> Result<IndexMap<&'a str, &'a Item<Path>>, AllocError> {
+    let mut named = IndexMap::new(alloc);
+    for item in items {
+        if named.get(item.name()).is_none() {
+            named.insert(item.name(), item)?;
         }
     }
-    Ok(items)
+    Ok(named)
 }
 
 fn names_of<'a>(
     alloc: Global,
     text: &'a [u8],
     tokens: &[Token],
-    outline: &Outline,
 ) -> Result<IndexMap<&'a str, usize>, AllocError> {
+    let outline = Outline::of(alloc, tokens)?;
     let mut names = IndexMap::new(alloc);
     for (number, token) in tokens.iter().enumerate() {
-        if token.kind == TokenKind::Name && declares(tokens, outline, number) {
+        if token.kind == TokenKind::Name && declares(tokens, &outline, number) {
             let name = word_of(text, token);
             if names.get(name).is_none() {
                 names.insert(name, number)?;
@@ -95,38 +81,40 @@ fn names_of<'a>(
 }
 
 impl<'a> Source<'a> {
-    /// A text with its tokens, and what they declare.
-    pub fn of(alloc: Global, text: &'a [u8], tokens: &'a [Token]) -> Result<Source<'a>, AllocError>
-        ensures text { IfOk result (λ s. text_of s ≡ text.now) }
-        ensures tokens { IfOk result (λ s. tokens_of s ≡ tokens.now) }
+    /// A text with its tokens and the unit that they spell.
+    pub fn of(
+        alloc: Global,
+        text: &'a [u8],
+        tokens: &'a [Token],
+        unit: &'a Unit,
+    ) -> Result<Source<'a>, AllocError>
+        ensures text { IfOk result (λ s. (text_of s).text ≡ text.now) }
+        ensures tokens { IfOk result (λ s. (text_of s).tokens ≡ tokens.now) }
+        ensures items { IfOk result (λ s. (text_of s).items ≡ unit.now.items.items) }
     {
-        let outline = Outline::of(alloc, tokens)?;
-        let items = items_of(alloc, text, tokens, &outline)?;
-        let names = names_of(alloc, text, tokens, &outline)?;
+        let items = unit.items.as_slice();
         Ok(Source {
             text,
             tokens,
-            outline,
             items,
-            names,
+            named: items_of(alloc, items)?,
+            names: names_of(alloc, text, tokens)?,
         })
     }
 
-    /// The place of a token.
+    /// The place of a token by its number.
     pub fn span(&self, number: usize) -> Option<Span>
-        ensures { result ≡ span_at (tokens_of self.now) number }
+        ensures { result ≡ span_at (text_of self.now).tokens number }
     {
         if number < self.tokens.len() {
-            let token = &self.tokens[number];
-            let (start, end) = (token.start as usize, token.end as usize);
-            return Some(Span { start, end });
+            return Some(span_of(&self.tokens[number]));
         }
         None
     }
 
     /// The line on which a token begins, counted from 1.
     pub fn line(&self, at: TokenNo) -> u32
-        ensures { result ≡ lines_of self.now at }
+        ensures { result ≡ lines_of (text_of self.now) at }
     {
         line_of(self.text, self.tokens, at)
     }
@@ -136,8 +124,8 @@ impl<'a> Source<'a> {
     }
 
     /// The first item with a name.
-    pub fn item(&self, name: &str) -> Option<Declared> {
-        self.items.get(name).copied()
+    pub fn item(&self, name: &str) -> Option<&'a Item<Path>> {
+        self.named.get(name).copied()
     }
 
     /// The token that first declares a name, as an item, a member or a local.
@@ -146,21 +134,65 @@ impl<'a> Source<'a> {
     }
 
     /// The item whose name is a token.
-    pub fn item_at(&self, name: usize) -> Option<Declared> {
-        self.outline.item_at(name)
+    pub fn item_at(&self, name: usize) -> Option<&'a Item<Path>> {
+        self.items.iter().find(|item| name_of(item) == name)
     }
 
-    /// The last item that is declared before a token.
-    pub fn item_before(&self, number: usize) -> Option<Declared> {
-        self.outline.item_before(number)
+    // The item of a number, where its name is before a token.
+    fn begun(&self, index: usize, number: usize) -> Option<&'a Item<Path>>
+        ensures sound { IfSome result
+            (λ item. (slice_get (text_of self.now).items index ≡ Some item.now)
+            × ((name_at item.now).0 < number)) }
+        ensures complete { IsNone result → IfSome (slice_get (text_of self.now).items index)
+            (λ item. number ≤ (name_at item).0) }
+    {
+        if index < self.items.len() {
+            let item = &self.items[index];
+            if name_of(item) < number {
+                return Some(item);
+            }
+        }
+        None
+    }
+
+    /// The item around a token, the last whose name is before it, with its number.
+    pub fn around(&self, number: usize) -> Option<(usize, &'a Item<Path>)>
+        ensures { IfSome result
+            (λ found. IsAround (text_of self.now).items number found.0 found.1.now) }
+    {
+        let items = self.items;
+        let begun = items.partition_point(|item| name_of(item) < number);
+        let index = begun.checked_sub(1)?;
+        let item = self.begun(index, number)?;
+        if self.begun(index + 1, number).is_some() {
+            return None;
+        }
+        Some((index, item))
+    }
+
+    /// Whether two tokens are in one item.
+    pub fn are_in_one_item(&self, one: usize, other: usize) -> bool
+        ensures { IsTrue result → AreInOneItem (text_of self.now).items one other }
+    {
+        match (self.around(one), self.around(other)) {
+            (Some((first, _)), Some((second, _))) => first == second,
+            _ => false,
+        }
     }
 
     /// Whether a token is in the body of a method.
     pub fn is_in_body(&self, number: usize) -> bool {
-        self.outline.is_in_body(self.tokens, number)
+        let Some((_, item)) = self.around(number) else {
+            return false;
+        };
+        let mut written = item.attributes().iter().rev();
+        let around = written.find(|attribute| (attribute.at().0 as usize) < number);
+        matches!(around, Some(Attribute::Definition(..)))
     }
 
-    pub fn tokens(&self) -> &'a [Token] {
+    pub fn tokens(&self) -> &'a [Token]
+        ensures { result.now ≡ (text_of self.now).tokens }
+    {
         self.tokens
     }
 

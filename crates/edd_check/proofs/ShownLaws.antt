@@ -4,41 +4,41 @@ use Rattle.std.specs.Prelude.{IsTrue, OnOk, Result, Ok, Err, nat_lt, slice_get}
 use Rattle.std.specs.Str.{bytes_eq}
 use Rattle.std.proofs.lemmas.List.{append-nil}
 use Rattle.std.proofs.lemmas.Slice.Eq.{bytes_eq-Decides}
-use Rattle.edd_breach_reports.specs.Refusals.{IsRefusal}
+use Rattle.edd_breach_reports.specs.Places.{UnitText}
+use Rattle.edd_breach_reports.specs.Refusals.{IsRefusal, words_in}
 use Rattle.edd_breaches.specs.declared.breach.Breach.{Breach}
 use Rattle.edd_breaches.specs.Told.{Told, told_of}
-use Rattle.edd_breaches.specs.Words.{told_words}
 use Rattle.edd_check.specs.Said.{BeginsWith}
 use Rattle.edd_check.specs.Shown.{Begins, IsAlone, Repeats, RepeatsOne, Says, SaysFirst, SaysNext, State, has_room}
 use Rattle.edd_check.proofs.SaidLaws.{begins_more}
-use Rattle.edd_lexer.specs.declared.token.Token.{Token}
-use Rattle.edd_lexer.specs.Words.{line_at}
 use Rattle.edd_reports.specs.declared.diagnostic.Diagnostic.{Diagnostic}
+use Rattle.edd_syntax.specs.declared.item.Item.{Item}
+use Rattle.edd_syntax.specs.declared.reference.Path.{Path}
 
 -- one before it, by its number, says it already
-pub repeats_at : (before : List Breach) (number : ℕ) (earlier : Breach) (t : Told)
-    → number < length before → earlier ≡ get_or before number earlier
-    → Repeats (told_of earlier).refusal t.refusal → RepeatsOne (map told_of before) t
-repeats_at [] number earlier t here is repeats = absurd (omega arith)
-repeats_at (b ∷ rest) zero earlier t here is repeats =
-    inl (subst (λ x. Repeats (told_of x).refusal t.refusal) is repeats)
-repeats_at (b ∷ rest) (suc number) earlier t here is repeats =
-    inr (repeats_at rest number earlier t (omega arith) is repeats)
+pub repeats_at : (items : List (Item Path)) (before : List Breach) (number : ℕ) (earlier : Breach)
+    (t : Told) → number < length before → earlier ≡ get_or before number earlier
+    → Repeats items (told_of earlier) t → RepeatsOne items (map told_of before) t
+repeats_at items [] number earlier t here is repeats = absurd (omega arith)
+repeats_at items (b ∷ rest) zero earlier t here is repeats =
+    inl (subst (λ x. Repeats items (told_of x) t) is repeats)
+repeats_at items (b ∷ rest) (suc number) earlier t here is repeats =
+    inr (repeats_at items rest number earlier t (omega arith) is repeats)
 
 pub on_ok : {T E : Type 0} (r : Result T E) (P Q : Type 0) → (P → Q) → OnOk r P → OnOk r Q
 on_ok (Ok t) P Q w h = w h
 on_ok (Err e) P Q w h = tt
 
 -- the first has these words
-pub starts : (text : List ℕ) (tokens : List Token) (found : List Breach) (b : Breach)
-    (words own : List ℕ) → Some b ≡ slice_get found 0 → own ≡ told_words (line_at text tokens) (told_of b)
+pub starts : (u : UnitText) (found : List Breach) (b : Breach)
+    (words own : List ℕ) → Some b ≡ slice_get found 0 → own ≡ words_in u (told_of b)
     → IsTrue (bytes_eq own words)
-    → SaysFirst text tokens (map told_of found) words
-starts text tokens [] b words own is said same = let clash : Some b ≡ None = is in absurd cc
-starts text tokens (x ∷ rest) b words own is said same =
+    → SaysFirst u (map told_of found) words
+starts u [] b words own is said same = let clash : Some b ≡ None = is in absurd cc
+starts u (x ∷ rest) b words own is said same =
     let e : Some b ≡ Some x = is in
     let f : b ≡ x = cc in
-    sym (said ∙ ap (λ y. told_words (line_at text tokens) (told_of y)) f)
+    sym (said ∙ ap (λ y. words_in u (told_of y)) f)
     ∙ (bytes_eq-Decides own words).0 same
 
 -- those before the next one, and it
@@ -57,29 +57,29 @@ told_more found number other here =
     let next : number + 1 ≡ suc number = omega arith in
     ap (λ n. map told_of (take n found)) next ∙ told_next found number other here
 
-module _ (text : List ℕ) (tokens : List Token) where
+module _ (u : UnitText) where
   -- one more after those that were said
   pub says_one_more : (before told : List Told) (t : Told) (old mid new : State)
-      → Says text tokens before told old mid → SaysNext text tokens (before ++ told) t mid new
-      → Says text tokens before (told ++ t ∷ []) old new
+      → Says u before told old mid → SaysNext u (before ++ told) t mid new
+      → Says u before (told ++ t ∷ []) old new
   says_one_more before [] t old mid new says next = (
     new,
-    subst (λ r. SaysNext text tokens before t r new) (sym says)
-        (subst (λ all. SaysNext text tokens all t mid new) (append-nil before) next),
+    subst (λ r. SaysNext u before t r new) (sym says)
+        (subst (λ all. SaysNext u all t mid new) (append-nil before) next),
     refl,
   )
   says_one_more before (s ∷ rest) t old mid new says next = (
     says.0,
     says.1,
     says_one_more (before ++ s ∷ []) rest t says.0 mid new says.2
-        (subst (λ all. SaysNext text tokens all t mid new) (sym (append_assoc before (s ∷ []) rest))
+        (subst (λ all. SaysNext u all t mid new) (sym (append_assoc before (s ∷ []) rest))
         next),
   )
 
   -- ---- what is said first stays first
 
   next_keeps : (words : List ℕ) (before : List Told) (t : Told) (old new : State)
-      → SaysNext text tokens before t old new → BeginsWith words old.0
+      → SaysNext u before t old new → BeginsWith words old.0
       → BeginsWith words new.0
   next_keeps words before t old new (inl same) begins =
       subst (λ r. BeginsWith words r.0) same.1 begins
@@ -89,7 +89,7 @@ module _ (text : List ℕ) (tokens : List Token) where
       subst (BeginsWith words) (sym counts.1) begins
 
   pub says_keeps : (words : List ℕ) (before told : List Told) (old new : State)
-      → Says text tokens before told old new → BeginsWith words old.0
+      → Says u before told old new → BeginsWith words old.0
       → BeginsWith words new.0
   says_keeps words before [] old new says begins =
       subst (λ r. BeginsWith words r.0) says begins
@@ -104,7 +104,7 @@ module _ (text : List ℕ) (tokens : List Token) where
       cc
 
   first_next : (words : List ℕ) (t : Told) (old new : State) → old.0 ≡ []
-      → told_words (line_at text tokens) t ≡ words → SaysNext text tokens [] t old new
+      → words_in u t ≡ words → SaysNext u [] t old new
       → BeginsWith words new.0
   first_next words t old new none says (inl same) = absurd same.0
   first_next words t old new none says (inr (inl shows)) =
@@ -115,7 +115,7 @@ module _ (text : List ℕ) (tokens : List Token) where
 
   -- the first that is told is the compiler's refusal
   pub says_first : (words : List ℕ) (told : List Told) (old new : State)
-      → old.0 ≡ [] → SaysFirst text tokens told words → Says text tokens [] told old new
+      → old.0 ≡ [] → SaysFirst u told words → Says u [] told old new
       → BeginsWith words new.0
   says_first words [] old new none first says = absurd first
   says_first words (t ∷ rest) old new none first says =
@@ -143,10 +143,10 @@ shown_some (x ∷ rest) after d is none =
     let clash : x ∷ (rest ++ d ∷ []) ≡ [] = sym is ∙ none in cc
 
 -- the compiler's refusal is first, alone or with the first that is told
-pub begins_all : (text : List ℕ) (tokens : List Token) (words : List ℕ) (told : List Told)
-    (start new : State) → Begins words start → (start.0 ≡ [] → SaysFirst text tokens told words)
-    → Says text tokens [] told start new → BeginsWith words new.0
-begins_all text tokens words told start new (inl none, counted) first says =
-    says_first text tokens words told start new none (first none) says
-begins_all text tokens words told start new (inr alone, counted) first says =
-    says_keeps text tokens words [] told start new says (alone_begins words start.0 alone)
+pub begins_all : (u : UnitText) (words : List ℕ) (told : List Told)
+    (start new : State) → Begins words start → (start.0 ≡ [] → SaysFirst u told words)
+    → Says u [] told start new → BeginsWith words new.0
+begins_all u words told start new (inl none, counted) first says =
+    says_first u words told start new none (first none) says
+begins_all u words told start new (inr alone, counted) first says =
+    says_keeps u words [] told start new says (alone_begins words start.0 alone)

@@ -2,6 +2,7 @@
 -- alone.
 use Rattle.std.specs.Prelude.{◌≡◌, ◌≢◌, ⊤, ℕ, List, [], ◌∷◌, ◌++◌, map}
 use Rattle.std.specs.List.{All}
+use Rattle.edd_breach_reports.specs.Places.{UnitText}
 use Rattle.edd_breach_reports.specs.Refusals.{IsRefusal}
 use Rattle.edd_breaches.specs.Told.{Told}
 use Rattle.edd_check.specs.Breaches.{Lists}
@@ -39,11 +40,16 @@ WarnsAlone said = All (λ d. IsWarning d.finding) said
 abbrev pub SaysMore : (before after : List Diagnostic) → Type 0
 SaysMore before after = (more : List Diagnostic) × (after ≡ before ++ more)
 
+-- a text with its tokens and the items of its unit
+abbrev pub unit_text : (text : List ℕ) → List Token → Unit → UnitText
+unit_text text tokens unit = record { text = text; tokens = tokens; items = unit.items.items }
+
 -- the text spells a unit, and all rules that it breaks are said
 abbrev pub SaysRules : (text words : List ℕ) → Reports → Type 0
 SaysRules text words said = (unit : Unit) × IsUnitOf text (unit_view unit)
     × (tokens : List Token) × AreTokens text (map (lexeme_of text) tokens)
-    × (told : List Told) × Lists unit told × SaysAll text tokens words told (state_of said)
+    × (told : List Told) × Lists unit told
+    × SaysAll (unit_text text tokens unit) words told (state_of said)
 
 -- the same where a broken rule is the fault
 abbrev pub SaysRest : (text words : List ℕ) → Fault → Reports → Type 0

@@ -2,9 +2,9 @@
 
 ghost use Rattle.std.specs.Prelude.{◌≡◌, [], List, IfOk, IsTrue, OnOk, map, string_bytes};
 ghost use Rattle.edd_breaches.specs.Told.{Told, told_of};
-ghost use Rattle.edd_breach_reports.specs.Refusals.{IsRefusal, IsToldOf, text_of, tokens_of};
+ghost use Rattle.edd_breach_reports.specs.Refusals.{IsRefusal, IsToldOf, text_of};
 ghost use Rattle.edd_check.specs.Breaches.{Lists};
-ghost use Rattle.edd_check.specs.Said.{BeginsWith, SaysMore};
+ghost use Rattle.edd_check.specs.Said.{BeginsWith, SaysMore, unit_text};
 ghost use Rattle.edd_check.specs.Shown.{Begins, Repeats, RepeatsOne, Says, SaysAll, SaysFirst, SaysNext, state_of};
 
 use crate::breaches::told_of;
@@ -15,7 +15,7 @@ use edd_breaches::{Breach, Rule};
 use edd_compiler::Fault;
 use edd_lexer::token::Token;
 use edd_repairs::{LaterFault, TextFault, explained, found_in, later_faults};
-use edd_reports::diagnostic::{Diagnostic, Finding, Help};
+use edd_reports::diagnostic::{Diagnostic, Finding};
 use edd_reports::words::Span;
 use edd_syntax::unit::Unit;
 use indexmap::IndexMap;
@@ -39,14 +39,10 @@ fn with_help(
 ) -> Result<Diagnostic, AllocError>
     ensures { IfOk result (λ d. IsRefusal (string_bytes refusal) d.finding) }
 {
-    let text = String::from_str(alloc, help)?;
-    let mut helps = Vec::new(alloc);
-    helps.push(Help { place: None, text })?;
-    Ok(Diagnostic {
-        place,
-        finding: Finding::Refused(refusal),
-        helps,
-    })
+    let mut found = Diagnostic::new(alloc, Finding::Refused(refusal));
+    found.help(String::from_str(alloc, help)?)?;
+    found.place = place;
+    Ok(found)
 }
 
 // A refusal that belongs to no token.
@@ -88,7 +84,10 @@ fn show_fault(
         reports.pass();
         return Ok(());
     }
-    reports.show(explained::<Compiler>(alloc, text, fault)?)
+    match explained::<Compiler>(alloc, text, fault)? {
+        Some(found) => reports.show(found),
+        None => Ok(()),
+    }
 }
 
 // Shows the faults of later items.
@@ -137,8 +136,7 @@ fn says_first(
     refusal: &str,
 ) -> Result<bool, AllocError>
     ensures { IfOk result (λ says. IsTrue says
-        → SaysFirst (text_of source.now) (tokens_of source.now) (map told_of found.now)
-        refusal.now) }
+        → SaysFirst (text_of source.now) (map told_of found.now) refusal.now) }
 {
     match found.first() {
         Some(first) => Ok(refusal_of(alloc, source, first)?.as_str() == refusal),
@@ -147,12 +145,16 @@ fn says_first(
 }
 
 // Whether a breach says once more what another one says.
-fn repeats(earlier: &Breach<'_>, later: &Breach<'_>) -> bool
-    ensures { IsTrue result → Repeats (told_of earlier.now).refusal (told_of later.now).refusal }
+fn repeats(source: &Source<'_>, earlier: &Breach<'_>, later: &Breach<'_>) -> bool
+    ensures { IsTrue result → Repeats (text_of source.now).items (told_of earlier.now)
+        (told_of later.now) }
 {
     match (earlier.rule, later.rule) {
         (Rule::UnknownName(first), Rule::UnknownName(second)) => first == second,
-        (Rule::WrongKind(_), Rule::WrongKind(_)) => true,
+        (Rule::WrongKind(_), Rule::WrongKind(_)) => match (earlier.place, later.place) {
+            (Some(one), Some(other)) => source.are_in_one_item(one.0 as usize, other.0 as usize),
+            _ => false,
+        },
         _ => false,
     }
 }
@@ -164,13 +166,14 @@ fn is_said(
     noted: &Noted<'_>,
     source: &Source<'_>,
 ) -> bool
-    ensures { IsTrue result → RepeatsOne (map told_of before.now) (told_of breach.now) }
+    ensures { IsTrue result → RepeatsOne (text_of source.now).items (map told_of before.now)
+        (told_of breach.now) }
 {
     let Some(number) = noted.earlier(source, breach) else {
         return false;
     };
     match before.get(number) {
-        Some(earlier) => repeats(earlier, breach),
+        Some(earlier) => repeats(source, earlier, breach),
         None => false,
     }
 }
@@ -183,8 +186,7 @@ fn told_about<'a>(
     number: usize,
     noted: &mut Noted<'a>,
 ) -> Result<Diagnostic, AllocError>
-    ensures { IfOk result
-        (λ d. IsToldOf (text_of source.now) (tokens_of source.now) (told_of breach.now) d) }
+    ensures { IfOk result (λ d. IsToldOf (text_of source.now) (told_of breach.now) d) }
 {
     let mut made = diagnostic(alloc, source, breach)?;
     noted.add(source, breach, number, &made)?;
@@ -201,9 +203,8 @@ fn show_breach<'a>(
     noted: &mut Noted<'a>,
     reports: &mut Reports,
 ) -> Result<(), AllocError>
-    ensures { OnOk result (SaysNext (text_of source.now) (tokens_of source.now)
-        (map told_of before.now) (told_of breach.now)
-        (state_of reports.old) (state_of reports.new)) }
+    ensures { OnOk result (SaysNext (text_of source.now) (map told_of before.now)
+        (told_of breach.now) (state_of reports.old) (state_of reports.new)) }
 {
     if is_said(before, breach, noted, source) {
         return Ok(());
@@ -223,8 +224,8 @@ fn show_all<'a>(
     noted: &mut Noted<'a>,
     reports: &mut Reports,
 ) -> Result<(), AllocError>
-    ensures { OnOk result (Says (text_of source.now) (tokens_of source.now) []
-        (map told_of found.now) (state_of reports.old) (state_of reports.new)) }
+    ensures { OnOk result (Says (text_of source.now) [] (map told_of found.now)
+        (state_of reports.old) (state_of reports.new)) }
 {
     for number in 0..found.len() {
         show_breach(
@@ -251,8 +252,7 @@ fn show_start(
     requires counted { reports.old.more ≡ 0 }
     ensures begins { OnOk result (Begins (string_bytes refusal) (state_of reports.new)) }
     ensures first { OnOk result (reports.new.shown.items ≡ []
-        → SaysFirst (text_of source.now) (tokens_of source.now) (map told_of found.now)
-        (string_bytes refusal)) }
+        → SaysFirst (text_of source.now) (map told_of found.now) (string_bytes refusal)) }
 {
     if says_first(alloc, source, found, refusal.as_str())? {
         return Ok(());
@@ -271,8 +271,8 @@ fn show_breaches(
     requires shown { reports.old.shown.items ≡ [] }
     requires counted { reports.old.more ≡ 0 }
     ensures first { OnOk result (BeginsWith (string_bytes refusal) reports.new.shown.items) }
-    ensures listed { OnOk result (SaysAll (text_of source.now) (tokens_of source.now)
-        (string_bytes refusal) (map told_of found.now) (state_of reports.new)) }
+    ensures listed { OnOk result (SaysAll (text_of source.now) (string_bytes refusal)
+        (map told_of found.now) (state_of reports.new)) }
 {
     show_start(alloc, source, found, refusal, reports)?;
     let mut noted = Noted {
@@ -282,8 +282,8 @@ fn show_breaches(
     show_all(alloc, source, found, &mut noted, reports)
 }
 
-/// A name that means nothing: the number of the breach that told it, and the name of the item around
-/// it; none where one change mends all uses.
+/// A name that means nothing: the number of the breach that told it, and that of the item around it;
+/// none where one change mends all uses.
 #[derive(Clone, Copy)]
 struct Unknown {
     number: usize,
@@ -297,9 +297,9 @@ struct Noted<'a> {
     kinds: OtherKinds,
 }
 
-// The name of the item around a breach.
+// The number of the item around a breach.
 fn item_of(source: &Source<'_>, breach: &Breach<'_>) -> Option<usize> {
-    Some(source.item_before(breach.token()?)?.name)
+    Some(source.around(breach.token()?)?.0)
 }
 
 // Whether a near name is told, as where it is misspelled at its declaration.
@@ -355,10 +355,11 @@ pub fn of_unit(
 ) -> Result<Reports, AllocError>
     ensures first { IfOk result (λ said. BeginsWith (string_bytes refusal) said.shown.items) }
     ensures listed { IfOk result (λ said. (told : List Told) × Lists unit.now told
-        × SaysAll text.now tokens.now (string_bytes refusal) told (state_of said)) }
+        × SaysAll (unit_text text.now tokens.now unit.now) (string_bytes refusal) told
+        (state_of said)) }
 {
     let mut reports = Reports::new(alloc);
-    let source = Source::of(alloc, text, tokens)?;
+    let source = Source::of(alloc, text, tokens, unit)?;
     let mut items = Vec::new(alloc);
     let told = told_of(alloc, unit, &mut items)?;
     show_breaches(alloc, &source, &told, refusal, &mut reports)?;

@@ -1,5 +1,6 @@
 use Rattle.std.proofs.Common.{rules, subst, sym}
 use Rattle.std.specs.Prelude.{string_bytes}
+use Rattle.edd_check.specs.Said.{unit_text}
 use Rattle.edd_check.specs.Shown.{SaysAll}
 use Rattle.edd_check.proofs.RefusedLaws.{begins_there, refusal_among, refused_by_rules}
 use Rattle.edd_check.proofs.diagnosing.of_whole.Goals as goal
@@ -29,6 +30,6 @@ returns-in_ok-of_unit-in-Err-clause-first c = λ is.
       c.requires.tokens,
       told.0,
       told.1,
-      subst (SaysAll c.args.text.now c.args.tokens.now
+      subst (SaysAll (unit_text c.args.text.now c.args.tokens.now c.args.unit.now)
           (string_bytes c.in_ok-refusal-in-Err.refusal) told.0) (sym c.refused.ensures.kept) told.2,
     )
