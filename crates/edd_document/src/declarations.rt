@@ -185,22 +185,10 @@ impl Declarations {
 
     /// The first member or element of an item that has this key.
     pub fn inner(&self, item: usize, key: usize) -> Option<usize> {
-        let mut low: usize = 0;
-        let mut high = self.inner.len();
-        for _ in 0..=usize::BITS {
-            let middle = (high.saturating_sub(low) / 2).saturating_add(low);
-            match self.inner.get(middle) {
-                Some(inner) if low < high => {
-                    if (inner.item, inner.key) < (item, key) {
-                        low = middle.saturating_add(1);
-                    } else {
-                        high = middle;
-                    }
-                }
-                _ => break,
-            }
-        }
-        let found = self.inner.get(low)?;
+        let number = self
+            .inner
+            .partition_point(|inner| (inner.item, inner.key) < (item, key));
+        let found = self.inner.get(number)?;
         if found.item == item && found.key == key {
             return Some(found.declaration);
         }

@@ -157,22 +157,8 @@ impl<'a> Document<'a> {
 
     /// The first token that ends behind a byte.
     pub fn token_from(&self, byte: usize) -> usize {
-        let mut low: usize = 0;
-        let mut high = self.tokens.len();
-        for _ in 0..=usize::BITS {
-            let middle = (high.saturating_sub(low) / 2).saturating_add(low);
-            match self.tokens.get(middle) {
-                Some(token) if low < high => {
-                    if token.end as usize <= byte {
-                        low = middle.saturating_add(1);
-                    } else {
-                        high = middle;
-                    }
-                }
-                _ => break,
-            }
-        }
-        low
+        self.tokens
+            .partition_point(|token| token.end as usize <= byte)
     }
 
     /// The token at a byte, or else the one that ends there. A word that ends there comes before a

@@ -32,21 +32,6 @@ struct Sound {
     line: u32,
 }
 
-// The line of a fault; nothing where it is that of the whole text.
-fn line_of(fault: LexFault) -> Result<Option<u32>, AllocError> {
-    match fault {
-        LexFault::Memory => Err(AllocError),
-        LexFault::TooLong => Ok(None),
-        LexFault::NotUtf8 { line }
-        | LexFault::BadCharacter { line }
-        | LexFault::OpenComment { line }
-        | LexFault::OpenString { line }
-        | LexFault::BadEscape { line }
-        | LexFault::BadNumber { line }
-        | LexFault::Directive { line } => Ok(Some(line)),
-    }
-}
-
 // Where a line begins that is counted from 1; the end of the text where it has fewer.
 fn start_of(text: &[u8], line: u32) -> usize {
     let mut current: u32 = 1;
@@ -84,7 +69,8 @@ fn sound_before(alloc: Global, text: &[u8], fault: u32) -> Result<Sound, AllocEr
                 }
                 return Ok(Sound { tokens, line });
             }
-            Err(fault) => line = line_of(fault)?.unwrap_or(1),
+            Err(LexFault::Memory) => return Err(AllocError),
+            Err(fault) => line = fault.line().unwrap_or(1),
         }
     }
     let tokens = Vec::new(alloc);
@@ -160,9 +146,10 @@ pub fn tokens_of(alloc: Global, text: &[u8]) -> Result<Vec<Token>, AllocError> {
                 append(&mut tokens, &found, part)?;
                 return Ok(tokens);
             }
+            Err(LexFault::Memory) => return Err(AllocError),
             Err(fault) => fault,
         };
-        let Some(line) = line_of(fault)? else {
+        let Some(line) = fault.line() else {
             return Ok(tokens);
         };
         part = append_sound(alloc, &mut tokens, rest, part, line)?;

@@ -27,10 +27,7 @@ pub fn print_field<W: Write>(
         return print(alloc, out, format_args!("fault {} header", bytes.len()));
     }
     match FIELDS.get(spot.number) {
-        Some(field) => {
-            let (place, name) = (field.place, field.name);
-            print(alloc, out, format_args!("fault {place} header {name}"))
-        }
+        Some((name, place, _)) => print(alloc, out, format_args!("fault {place} header {name}")),
         None => print(alloc, out, "fault 0 header"),
     }
 }

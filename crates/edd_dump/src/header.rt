@@ -25,8 +25,8 @@ fn print_field<W: Write>(
     number: u32,
     out: &mut W,
 ) -> Result<(), ShowFault> {
-    let name = field.name;
-    if field.place == 0 {
+    let (name, place, _) = field;
+    if place == 0 {
         let [a, b, c, d] = number.to_be_bytes();
         return print(
             alloc,

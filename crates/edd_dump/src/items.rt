@@ -6,17 +6,6 @@ use edd_syntax::numbers::{ItemNo, KINDS, Kind};
 use std::alloc::Global;
 use std::io::Write;
 
-fn count_of(sections: &Sections<'_>, kind: Kind) -> u16 {
-    match kind {
-        Kind::Variable => sections.counts.variables,
-        Kind::Command => sections.counts.commands,
-        Kind::Menu => sections.counts.menus,
-        Kind::Collection => sections.counts.collections,
-        Kind::Method => sections.counts.methods,
-        Kind::Array => sections.counts.arrays,
-    }
-}
-
 fn print_item<W: Write>(
     alloc: Global,
     sections: &Sections<'_>,
@@ -50,7 +39,7 @@ fn print_kind<W: Write>(
     most: usize,
     out: &mut W,
 ) -> Result<(), ShowFault> {
-    for number in 0..count_of(sections, kind) {
+    for number in 0..sections.count_of(kind) {
         if most <= usize::from(number) {
             return Ok(());
         }
@@ -69,7 +58,7 @@ pub fn print_items<W: Write>(
     let mut left = count;
     for kind in KINDS {
         print_kind(alloc, sections, kind, left, out)?;
-        left = left.saturating_sub(usize::from(count_of(sections, kind)));
+        left = left.saturating_sub(usize::from(sections.count_of(kind)));
     }
     Ok(())
 }

@@ -21,9 +21,7 @@ pub fn print_whole<W: Write>(alloc: Global, bytes: &[u8], out: &mut W) -> Result
     };
     print_header(alloc, bytes, FIELDS.len(), out)?;
     print_sections(alloc, bytes, out)?;
-    print_items(alloc, &sections, sections.item_count(), out)?;
-    print_elements(alloc, &sections, sections.element_count(), out)?;
-    print_strings(alloc, &sections, sections.string_count(), out)?;
+    print_parts(alloc, &sections, ALL, out)?;
     print_units(alloc, &sections, out)
 }
 
@@ -48,6 +46,25 @@ pub fn print_refused<W: Write>(
     print_spot(alloc, bytes, &sections, spot, out)
 }
 
+/// How many items, attribute rows without their units, elements and strings are printed.
+type Parts = (usize, usize, usize, usize);
+
+/// All, where each row is printed with its unit later.
+const ALL: Parts = (usize::MAX, 0, usize::MAX, usize::MAX);
+
+fn print_parts<W: Write>(
+    alloc: Global,
+    sections: &Sections<'_>,
+    parts: Parts,
+    out: &mut W,
+) -> Result<(), ShowFault> {
+    let (items, rows, elements, strings) = parts;
+    print_items(alloc, sections, items, out)?;
+    print_rows(alloc, sections, rows, out)?;
+    print_elements(alloc, sections, elements.min(sections.element_count()), out)?;
+    print_strings(alloc, sections, strings.min(sections.string_count()), out)
+}
+
 // What comes before the fault after the sections.
 fn print_before<W: Write>(
     alloc: Global,
@@ -55,44 +72,16 @@ fn print_before<W: Write>(
     spot: Spot,
     out: &mut W,
 ) -> Result<(), ShowFault> {
-    match spot {
-        Spot::VariableRow(number) | Spot::NameRow(number) | Spot::Name(number) => {
-            print_items(alloc, sections, number, out)
-        }
-        _ => print_after_items(alloc, sections, spot, out),
-    }
-}
-
-// All items, and what comes after them before the fault.
-fn print_after_items<W: Write>(
-    alloc: Global,
-    sections: &Sections<'_>,
-    spot: Spot,
-    out: &mut W,
-) -> Result<(), ShowFault> {
-    print_items(alloc, sections, sections.item_count(), out)?;
-    match spot {
-        Spot::AttributeRow(number) => print_rows(alloc, sections, number, out),
-        Spot::ElementRow(number) => print_elements(alloc, sections, number, out),
-        _ => print_after_elements(alloc, sections, spot, out),
-    }
-}
-
-// All elements, and what comes after them before the fault.
-fn print_after_elements<W: Write>(
-    alloc: Global,
-    sections: &Sections<'_>,
-    spot: Spot,
-    out: &mut W,
-) -> Result<(), ShowFault> {
-    print_elements(alloc, sections, sections.element_count(), out)?;
-    match spot {
-        Spot::StringRow(number) | Spot::String(number) => {
-            print_strings(alloc, sections, number, out)
-        }
+    let all = usize::MAX;
+    let parts = match spot {
+        Spot::VariableRow(number) | Spot::NameRow(number) | Spot::Name(number) => (number, 0, 0, 0),
+        Spot::AttributeRow(number) => (all, number, 0, 0),
+        Spot::ElementRow(number) => (all, 0, number, 0),
+        Spot::StringRow(number) | Spot::String(number) => (all, 0, all, number),
         _ => {
-            print_strings(alloc, sections, sections.string_count(), out)?;
-            print_units(alloc, sections, out)
+            print_parts(alloc, sections, ALL, out)?;
+            return print_units(alloc, sections, out);
         }
-    }
+    };
+    print_parts(alloc, sections, parts, out)
 }

@@ -16,120 +16,31 @@ pub enum Width {
 }
 
 /// A field of the header: its name, its place and its width.
-#[derive(Clone, Copy)]
-pub struct Field {
-    pub name: &'static str,
-    pub place: usize,
-    pub width: Width,
-}
+pub type Field = (&'static str, usize, Width);
 
 /// The fields by their places. The last three are those of the second version alone.
 pub const FIELDS: [Field; 21] = [
-    Field {
-        name: "magic",
-        place: 0,
-        width: Width::Four,
-    },
-    Field {
-        name: "version",
-        place: 4,
-        width: Width::Two,
-    },
-    Field {
-        name: "zero",
-        place: 6,
-        width: Width::Two,
-    },
-    Field {
-        name: "length",
-        place: 8,
-        width: Width::Four,
-    },
-    Field {
-        name: "manufacturer",
-        place: 12,
-        width: Width::Four,
-    },
-    Field {
-        name: "device_type",
-        place: 16,
-        width: Width::Four,
-    },
-    Field {
-        name: "device_revision",
-        place: 20,
-        width: Width::Four,
-    },
-    Field {
-        name: "dd_revision",
-        place: 24,
-        width: Width::Four,
-    },
-    Field {
-        name: "variables",
-        place: 28,
-        width: Width::Two,
-    },
-    Field {
-        name: "commands",
-        place: 30,
-        width: Width::Two,
-    },
-    Field {
-        name: "menus",
-        place: 32,
-        width: Width::Two,
-    },
-    Field {
-        name: "collections",
-        place: 34,
-        width: Width::Two,
-    },
-    Field {
-        name: "methods",
-        place: 36,
-        width: Width::Two,
-    },
-    Field {
-        name: "strings",
-        place: 38,
-        width: Width::Two,
-    },
-    Field {
-        name: "attribute_rows",
-        place: 40,
-        width: Width::Four,
-    },
-    Field {
-        name: "name_bytes",
-        place: 44,
-        width: Width::Four,
-    },
-    Field {
-        name: "code",
-        place: 48,
-        width: Width::Four,
-    },
-    Field {
-        name: "string_bytes",
-        place: 52,
-        width: Width::Four,
-    },
-    Field {
-        name: "arrays",
-        place: 56,
-        width: Width::Two,
-    },
-    Field {
-        name: "second_zero",
-        place: 58,
-        width: Width::Two,
-    },
-    Field {
-        name: "element_rows",
-        place: 60,
-        width: Width::Four,
-    },
+    ("magic", 0, Width::Four),
+    ("version", 4, Width::Two),
+    ("zero", 6, Width::Two),
+    ("length", 8, Width::Four),
+    ("manufacturer", 12, Width::Four),
+    ("device_type", 16, Width::Four),
+    ("device_revision", 20, Width::Four),
+    ("dd_revision", 24, Width::Four),
+    ("variables", 28, Width::Two),
+    ("commands", 30, Width::Two),
+    ("menus", 32, Width::Two),
+    ("collections", 34, Width::Two),
+    ("methods", 36, Width::Two),
+    ("strings", 38, Width::Two),
+    ("attribute_rows", 40, Width::Four),
+    ("name_bytes", 44, Width::Four),
+    ("code", 48, Width::Four),
+    ("string_bytes", 52, Width::Four),
+    ("arrays", 56, Width::Two),
+    ("second_zero", 58, Width::Two),
+    ("element_rows", 60, Width::Four),
 ];
 
 /// How many fields the first version has.
@@ -214,16 +125,11 @@ pub fn whole_fields(bytes: &[u8]) -> usize {
 
 /// The number in a field, where the bytes reach so far.
 pub fn number_in_field(bytes: &[u8], field: Field) -> Option<u32> {
-    let width = match field.width {
-        Width::Two => 2,
-        Width::Four => 4,
-    };
-    let end = field.place.checked_add(width)?;
-    if bytes.len() < end {
-        return None;
-    }
-    match field.width {
-        Width::Two => Some(u32::from(u16_at(bytes, field.place))),
-        Width::Four => Some(u32_at(bytes, field.place)),
+    let (_, place, width) = field;
+    let rest = bytes.get(place..)?;
+    match width {
+        Width::Two if 2 <= rest.len() => Some(u32::from(u16_at(rest, 0))),
+        Width::Four if 4 <= rest.len() => Some(u32_at(rest, 0)),
+        _ => None,
     }
 }

@@ -2,16 +2,15 @@
 
 ghost use Rattle.std.specs.Prelude.{◌≤◌, IfSome, length};
 
+use crate::fields::{Section, bounds};
 use edd_image::{
     ATTRIBUTE_ROW, Counts, ELEMENT_ROW, HEADER_LENGTH, NAME_ROW, STRING_ROW, VARIABLE_ROW, VarKind,
-    Version, attribute_item, attribute_kind, attribute_length, attribute_number,
-    attribute_rows_start, attribute_start, attribute_sub, code_start, counts, element_array,
-    element_number, element_rows_start, element_variable, name_bytes_start, name_length,
-    name_rows_start, name_start, sections_end, string_bytes_start, string_length,
-    string_rows_start, string_start, type_of, variable_padding, variable_rows_start, variable_size,
+    Version, attribute_item, attribute_kind, attribute_length, attribute_number, attribute_start,
+    attribute_sub, counts, element_array, element_number, element_variable, name_length,
+    name_start, string_length, string_start, type_of, variable_padding, variable_size,
     variable_type, version,
 };
-use edd_syntax::numbers::{ArrNo, Attr, Element, ItemNo, VarNo};
+use edd_syntax::numbers::{ArrNo, Attr, Element, ItemNo, KINDS, Kind, VarNo};
 
 /// How many bytes a name has at most.
 const LONGEST_NAME: usize = 255;
@@ -64,6 +63,11 @@ fn between(bytes: &[u8], start: u64, end: u64) -> Option<&[u8]> {
     Some(&bytes[start as usize..end as usize])
 }
 
+fn section_of(bytes: &[u8], section: Section) -> Option<&[u8]> {
+    let (start, end) = bounds(bytes, section);
+    between(bytes, start, end)
+}
+
 // The row of a number, each row having this width.
 fn row_at(rows: &[u8], width: usize, number: usize) -> Option<&[u8]>
     ensures { IfSome result (λ row. width ≤ length row.now) }
@@ -74,59 +78,6 @@ fn row_at(rows: &[u8], width: usize, number: usize) -> Option<&[u8]>
         return None;
     }
     Some(&rows[start..end])
-}
-
-fn name_span(row: &[u8]) -> Span
-    requires { NAME_ROW ≤ length row.now }
-{
-    Span {
-        start: name_start(row, 0) as usize,
-        length: usize::from(name_length(row, 0)),
-    }
-}
-
-fn string_span(row: &[u8]) -> Span
-    requires { STRING_ROW ≤ length row.now }
-{
-    Span {
-        start: string_start(row, 0) as usize,
-        length: string_length(row, 0) as usize,
-    }
-}
-
-fn fields(row: &[u8]) -> RowFields
-    requires { ATTRIBUTE_ROW ≤ length row.now }
-{
-    RowFields {
-        kind: attribute_kind(row, 0),
-        attribute: attribute_number(row, 0),
-        item: attribute_item(row, 0),
-        sub: attribute_sub(row, 0),
-        unit: Span {
-            start: attribute_start(row, 0) as usize,
-            length: attribute_length(row, 0) as usize,
-        },
-    }
-}
-
-fn element(row: &[u8]) -> Element
-    requires { ELEMENT_ROW ≤ length row.now }
-{
-    Element {
-        array: ArrNo(element_array(row, 0)),
-        number: element_number(row, 0),
-        var: VarNo(element_variable(row, 0)),
-    }
-}
-
-fn variable_fields(row: &[u8]) -> VariableFields
-    requires { VARIABLE_ROW ≤ length row.now }
-{
-    VariableFields {
-        kind: variable_type(row, 0),
-        size: variable_size(row, 0),
-        zero: variable_padding(row, 0),
-    }
 }
 
 /// The part of a section, where it lies inside.
@@ -142,25 +93,17 @@ impl<'a> Sections<'a> {
         if bytes.len() < HEADER_LENGTH {
             return None;
         }
-        let variables = variable_rows_start(bytes) as u64;
-        let names = name_rows_start(bytes) as u64;
-        let attributes = attribute_rows_start(bytes) as u64;
-        let elements = element_rows_start(bytes);
-        let code = code_start(bytes);
-        let strings = string_rows_start(bytes);
-        let name_bytes = name_bytes_start(bytes);
-        let string_bytes = string_bytes_start(bytes);
         Some(Sections {
             version: version(bytes)?,
             counts: counts(bytes),
-            variable_rows: between(bytes, variables, names)?,
-            name_rows: between(bytes, names, attributes)?,
-            attribute_rows: between(bytes, attributes, elements)?,
-            element_rows: between(bytes, elements, code)?,
-            code: between(bytes, code, strings)?,
-            string_rows: between(bytes, strings, name_bytes)?,
-            names: between(bytes, name_bytes, string_bytes)?,
-            strings: between(bytes, string_bytes, sections_end(bytes))?,
+            variable_rows: section_of(bytes, Section::VariableRows)?,
+            name_rows: section_of(bytes, Section::NameRows)?,
+            attribute_rows: section_of(bytes, Section::AttributeRows)?,
+            element_rows: section_of(bytes, Section::ElementRows)?,
+            code: section_of(bytes, Section::Code)?,
+            string_rows: section_of(bytes, Section::StringRows)?,
+            names: section_of(bytes, Section::NameBytes)?,
+            strings: section_of(bytes, Section::StringBytes)?,
         })
     }
 
@@ -183,7 +126,11 @@ impl<'a> Sections<'a> {
     /// The fields of a variable row.
     pub fn variable_row(&self, number: usize) -> Option<VariableFields> {
         let row = row_at(self.variable_rows, VARIABLE_ROW, number)?;
-        Some(variable_fields(row))
+        Some(VariableFields {
+            kind: variable_type(row, 0),
+            size: variable_size(row, 0),
+            zero: variable_padding(row, 0),
+        })
     }
 
     /// The type and the size of a variable, where its row is one.
@@ -198,7 +145,11 @@ impl<'a> Sections<'a> {
 
     /// Where the name of the item at a place is, by kind and number.
     pub fn name_span(&self, place: usize) -> Option<Span> {
-        Some(name_span(row_at(self.name_rows, NAME_ROW, place)?))
+        let row = row_at(self.name_rows, NAME_ROW, place)?;
+        Some(Span {
+            start: name_start(row, 0) as usize,
+            length: usize::from(name_length(row, 0)),
+        })
     }
 
     // The name of the item at a place, by kind and number, where it can be read. No longer one is
@@ -219,37 +170,59 @@ impl<'a> Sections<'a> {
         self.name_at(self.place_of(item))
     }
 
+    /// How many items of a kind there are.
+    pub fn count_of(&self, kind: Kind) -> u16 {
+        match kind {
+            Kind::Variable => self.counts.variables,
+            Kind::Command => self.counts.commands,
+            Kind::Menu => self.counts.menus,
+            Kind::Collection => self.counts.collections,
+            Kind::Method => self.counts.methods,
+            Kind::Array => self.counts.arrays,
+        }
+    }
+
     // How many names there are before that of an item.
     fn place_of(&self, item: ItemNo) -> usize {
-        let commands = usize::from(self.counts.variables);
-        let menus = commands + usize::from(self.counts.commands);
-        let collections = menus + usize::from(self.counts.menus);
-        let methods = collections + usize::from(self.counts.collections);
-        let arrays = methods + usize::from(self.counts.methods);
-        let before = match item {
-            ItemNo::Variable(_) => 0,
-            ItemNo::Command(_) => commands,
-            ItemNo::Menu(_) => menus,
-            ItemNo::Collection(_) => collections,
-            ItemNo::Method(_) => methods,
-            ItemNo::Array(_) => arrays,
-        };
-        before + usize::from(item.index())
+        let mut place = usize::from(item.index());
+        for kind in KINDS.iter().take_while(|kind| **kind != item.kind()) {
+            place = place.saturating_add(usize::from(self.count_of(*kind)));
+        }
+        place
     }
 
     /// The fields of an attribute row.
     pub fn row(&self, number: usize) -> Option<RowFields> {
-        Some(fields(row_at(self.attribute_rows, ATTRIBUTE_ROW, number)?))
+        let row = row_at(self.attribute_rows, ATTRIBUTE_ROW, number)?;
+        Some(RowFields {
+            kind: attribute_kind(row, 0),
+            attribute: attribute_number(row, 0),
+            item: attribute_item(row, 0),
+            sub: attribute_sub(row, 0),
+            unit: Span {
+                start: attribute_start(row, 0) as usize,
+                length: attribute_length(row, 0) as usize,
+            },
+        })
     }
 
     /// The fields of an element row, whether or not there are such an array and such a variable.
     pub fn element(&self, number: usize) -> Option<Element> {
-        Some(element(row_at(self.element_rows, ELEMENT_ROW, number)?))
+        let row = row_at(self.element_rows, ELEMENT_ROW, number)?;
+        Some(Element {
+            array: ArrNo(element_array(row, 0)),
+            number: element_number(row, 0),
+            var: VarNo(element_variable(row, 0)),
+        })
     }
 
     /// Where a string is.
     pub fn string_span(&self, number: usize) -> Option<Span> {
-        Some(string_span(row_at(self.string_rows, STRING_ROW, number)?))
+        let row = row_at(self.string_rows, STRING_ROW, number)?;
+        Some(Span {
+            start: string_start(row, 0) as usize,
+            length: string_length(row, 0) as usize,
+        })
     }
 
     /// The bytes of a string.

@@ -53,6 +53,22 @@ impl fmt::Display for LexFault {
     }
 }
 
+impl LexFault {
+    /// The line that it says, counted from 1.
+    pub fn line(&self) -> Option<u32> {
+        match self {
+            LexFault::TooLong | LexFault::Memory => None,
+            LexFault::NotUtf8 { line }
+            | LexFault::BadCharacter { line }
+            | LexFault::OpenComment { line }
+            | LexFault::OpenString { line }
+            | LexFault::BadEscape { line }
+            | LexFault::BadNumber { line }
+            | LexFault::Directive { line } => Some(*line),
+        }
+    }
+}
+
 impl Error for LexFault {}
 
 impl From<AllocError> for LexFault {

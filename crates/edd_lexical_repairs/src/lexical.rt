@@ -254,19 +254,6 @@ fn help_of(fault: &LexFault, word: &str, before: u8, after: u8) -> &'static str 
     }
 }
 
-// The line of a fault that is found by a scan over its line.
-fn line_of(fault: &LexFault) -> Option<u32> {
-    match fault {
-        LexFault::TooLong | LexFault::Memory | LexFault::NotUtf8 { .. } => None,
-        LexFault::BadCharacter { line }
-        | LexFault::OpenComment { line }
-        | LexFault::OpenString { line }
-        | LexFault::BadEscape { line }
-        | LexFault::BadNumber { line }
-        | LexFault::Directive { line } => Some(*line),
-    }
-}
-
 // The part of a piece that the fault is.
 fn narrowed(text: &[u8], span: Span, fault: &LexFault) -> Span {
     match fault {
@@ -454,13 +441,14 @@ pub fn found_in(
     refusal: String,
 ) -> Result<Found, AllocError> {
     let mut diagnostic = Diagnostic::new(alloc, Finding::Refused(refusal));
-    if let LexFault::NotUtf8 { .. } = fault {
-        let start = valid_length(text);
-        diagnostic.place = Some(Span { start, end: start });
-    }
-    let goes_on = match line_of(fault) {
-        Some(line) => place_on(alloc, text, line, fault, &mut diagnostic)?,
-        None => None,
+    let goes_on = match (fault, fault.line()) {
+        (LexFault::NotUtf8 { .. }, _) => {
+            let start = valid_length(text);
+            diagnostic.place = Some(Span { start, end: start });
+            None
+        }
+        (_, Some(line)) => place_on(alloc, text, line, fault, &mut diagnostic)?,
+        (_, None) => None,
     };
     let word = match diagnostic.place {
         Some(place) => text_in(text, place),

@@ -12,122 +12,28 @@ pub const BEHIND: [&str; 5] = [";", ",", ")", "}", "]"];
 pub const BEFORE: [&str; 4] = ["(", "{", "[", ":"];
 
 /// What may be missing before a token: how it could be written, and what it is called.
-#[derive(Clone, Copy)]
-pub struct Missing {
-    pub spelling: &'static str,
-    pub name: &'static str,
-}
+pub type Missing = (&'static str, &'static str);
 
-const NAME: Missing = Missing {
-    spelling: "x",
-    name: "a name",
-};
+const NAME: Missing = ("x", "a name");
 
-const VALUE: Missing = Missing {
-    spelling: "1",
-    name: "a value",
-};
+const VALUE: Missing = ("1", "a value");
 
-const TEXT: Missing = Missing {
-    spelling: "\"\"",
-    name: "a text",
-};
+const TEXT: Missing = ("\"\"", "a text");
 
-const OF: Missing = Missing {
-    spelling: "OF VARIABLE",
-    name: "OF with a kind of item",
-};
-
-const KIND: Missing = Missing {
-    spelling: "VARIABLE",
-    name: "a kind of item such as VARIABLE",
-};
-
-const OF_VARIABLE: Missing = Missing {
-    spelling: "OF VARIABLE",
-    name: "OF VARIABLE",
-};
-
-const TYPE: Missing = Missing {
-    spelling: "TYPE",
-    name: "TYPE",
-};
-
-const DEFINITION: Missing = Missing {
-    spelling: "DEFINITION",
-    name: "DEFINITION",
-};
-
-const BODY: Missing = Missing {
-    spelling: "DEFINITION {",
-    name: "DEFINITION {",
-};
-
-const TYPE_WORD: Missing = Missing {
-    spelling: "INTEGER",
-    name: "a type",
-};
-
-const CASE: Missing = Missing {
-    spelling: "CASE",
-    name: "CASE",
-};
-
-const NUMBER: Missing = Missing {
-    spelling: "NUMBER",
-    name: "NUMBER",
-};
-
-const LIMIT: Missing = Missing {
-    spelling: "MAX_VALUE",
-    name: "a word such as MAX_VALUE",
-};
-
-const LABEL: Missing = Missing {
-    spelling: "LABEL",
-    name: "a word such as LABEL",
-};
-
-const AFTER_TYPE: &[Missing] = &[TYPE_WORD];
-
-const BEFORE_NUMBER: &[Missing] = &[CASE, NUMBER, LIMIT];
-
-const BEFORE_TEXT: &[Missing] = &[LABEL];
-
-const AFTER_COLLECTION: &[Missing] = &[OF, NAME];
-
-const AFTER_ARRAY: &[Missing] = &[OF_VARIABLE, NAME];
-
-const AFTER_OF: &[Missing] = &[KIND];
-
-const AFTER_NAMED: &[Missing] = &[NAME];
-
-const BEFORE_TYPE: &[Missing] = &[TYPE];
-
-const BEFORE_BRACE: &[Missing] = &[DEFINITION, VALUE, TEXT];
-
-const BEFORE_STATEMENT: &[Missing] = &[BODY];
-
-const BEFORE_OTHER: &[Missing] = &[VALUE, TEXT];
+const STATEMENT: Missing = ("DEFINITION {", "DEFINITION {");
 
 // What may be missing after a token, whatever comes.
 fn missing_after(before: Option<TokenKind>) -> Option<&'static [Missing]> {
-    match before {
-        Some(TokenKind::Keyword(Keyword::Collection)) => Some(AFTER_COLLECTION),
-        Some(TokenKind::Keyword(Keyword::Array)) => Some(AFTER_ARRAY),
-        Some(TokenKind::Keyword(Keyword::Of)) => Some(AFTER_OF),
-        Some(TokenKind::Keyword(Keyword::Type)) => Some(AFTER_TYPE),
-        Some(
-            TokenKind::Keyword(
-                Keyword::Variable
-                | Keyword::Command
-                | Keyword::Menu
-                | Keyword::Method
-                | Keyword::Int
-                | Keyword::Long
-                | Keyword::Class,
-            ),
-        ) => Some(AFTER_NAMED),
+    let Some(TokenKind::Keyword(word)) = before else {
+        return None;
+    };
+    match word {
+        Keyword::Collection => Some(&[("OF VARIABLE", "OF with a kind of item"), NAME]),
+        Keyword::Array => Some(&[("OF VARIABLE", "OF VARIABLE"), NAME]),
+        Keyword::Of => Some(&[("VARIABLE", "a kind of item such as VARIABLE")]),
+        Keyword::Type => Some(&[("INTEGER", "a type")]),
+        Keyword::Variable | Keyword::Command | Keyword::Menu | Keyword::Method => Some(&[NAME]),
+        Keyword::Int | Keyword::Long | Keyword::Class => Some(&[NAME]),
         _ => None,
     }
 }
@@ -141,61 +47,40 @@ pub fn missing_before(
     if let Some(found) = missing_after(before) {
         return found;
     }
-    match kind {
-        TokenKind::Name => match word {
-            "INTEGER" | "UNSIGNED_INTEGER" | "ENUMERATED" | "BIT_ENUMERATED" => BEFORE_TYPE,
-            _ => BEFORE_STATEMENT,
-        },
-        TokenKind::Symbol(Symbol::OpenBrace) => BEFORE_BRACE,
-        TokenKind::Keyword(_) => BEFORE_STATEMENT,
-        TokenKind::Integer(_) => BEFORE_NUMBER,
-        TokenKind::String => BEFORE_TEXT,
-        _ => BEFORE_OTHER,
+    match (kind, word) {
+        (_, "INTEGER" | "UNSIGNED_INTEGER" | "ENUMERATED" | "BIT_ENUMERATED") => &[(
+            "TYPE", "TYPE",
+        )],
+        (TokenKind::Name | TokenKind::Keyword(_), _) => &[STATEMENT],
+        (TokenKind::Symbol(Symbol::OpenBrace), _) => &[("DEFINITION", "DEFINITION"), VALUE, TEXT],
+        (TokenKind::Integer(_), _) => &[
+            ("CASE", "CASE"),
+            ("NUMBER", "NUMBER"),
+            ("MAX_VALUE", "a word such as MAX_VALUE"),
+        ],
+        (TokenKind::String, _) => &[("LABEL", "a word such as LABEL")],
+        _ => &[VALUE, TEXT],
     }
 }
-
-const FOR_EQUALS: &[&str] = &[","];
-
-const FOR_EQUAL: &[&str] = &["="];
-
-const FOR_SEMICOLON: &[&str] = &[",", ":"];
-
-const FOR_COMMA: &[&str] = &[";", ":"];
-
-const FOR_COLON: &[&str] = &[";", ","];
-
-const FOR_OPEN_PARENTHESIS: &[&str] = &["{", "["];
-
-const FOR_OPEN_BRACE: &[&str] = &["(", "["];
-
-const FOR_OPEN_BRACKET: &[&str] = &["(", "{"];
-
-const FOR_CLOSE_PARENTHESIS: &[&str] = &["}", "]"];
-
-const FOR_CLOSE_BRACE: &[&str] = &[")", "]"];
-
-const FOR_CLOSE_BRACKET: &[&str] = &[")", "}"];
-
-const FOR_NOTHING: &[&str] = &[];
 
 /// The signs that may be meant by a sign.
 pub fn signs_for(kind: TokenKind) -> &'static [&'static str] {
     let TokenKind::Symbol(sign) = kind else {
-        return FOR_NOTHING;
+        return &[];
     };
     match sign {
-        Symbol::Equals => FOR_EQUALS,
-        Symbol::Comparison(Comparison::Equal) => FOR_EQUAL,
-        Symbol::Semicolon => FOR_SEMICOLON,
-        Symbol::Comma => FOR_COMMA,
-        Symbol::Colon => FOR_COLON,
-        Symbol::OpenParenthesis => FOR_OPEN_PARENTHESIS,
-        Symbol::OpenBrace => FOR_OPEN_BRACE,
-        Symbol::OpenBracket => FOR_OPEN_BRACKET,
-        Symbol::CloseParenthesis => FOR_CLOSE_PARENTHESIS,
-        Symbol::CloseBrace => FOR_CLOSE_BRACE,
-        Symbol::CloseBracket => FOR_CLOSE_BRACKET,
-        _ => FOR_NOTHING,
+        Symbol::Equals => &[","],
+        Symbol::Comparison(Comparison::Equal) => &["="],
+        Symbol::Semicolon => &[",", ":"],
+        Symbol::Comma => &[";", ":"],
+        Symbol::Colon => &[";", ","],
+        Symbol::OpenParenthesis => &["{", "["],
+        Symbol::OpenBrace => &["(", "["],
+        Symbol::OpenBracket => &["(", "{"],
+        Symbol::CloseParenthesis => &["}", "]"],
+        Symbol::CloseBrace => &[")", "]"],
+        Symbol::CloseBracket => &[")", "}"],
+        _ => &[],
     }
 }
 

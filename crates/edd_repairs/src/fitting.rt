@@ -86,32 +86,19 @@ fn called(spelling: &'static str) -> &'static str {
     }
 }
 
-/// What fits in the place of a token.
-#[derive(Drop)]
-struct Fitting {
-    names: Vec<&'static str>,
-}
-
-impl Fitting {
-    fn add(&mut self, spelling: &'static str) -> Result<(), AllocError> {
-        self.names.push(called(spelling))?;
-        Ok(())
+// The names of what fits in one line, if they are few enough to be of use.
+fn line_of(alloc: Global, names: &[&str]) -> Result<Option<String>, AllocError> {
+    if names.is_empty() || MOST < names.len() {
+        return Ok(None);
     }
-
-    // The names in one line, if they are few enough to be of use.
-    fn line(&self, alloc: Global) -> Result<Option<String>, AllocError> {
-        if self.names.is_empty() || MOST < self.names.len() {
-            return Ok(None);
+    let mut text = String::new(alloc);
+    for name in names {
+        if !text.is_empty() {
+            text.push_str(" or ")?;
         }
-        let mut text = String::new(alloc);
-        for (number, name) in self.names.iter().enumerate() {
-            if number != 0 {
-                text.push_str(" or ")?;
-            }
-            text.push_str(name)?;
-        }
-        Ok(Some(text))
+        text.push_str(name)?;
     }
+    Ok(Some(text))
 }
 
 // Adds what fits of some words and signs.
@@ -119,11 +106,11 @@ fn look<G: Grammar>(
     alloc: Global,
     at: Misfit<'_>,
     spellings: &[&'static str],
-    found: &mut Fitting,
+    found: &mut Vec<&'static str>,
 ) -> Result<(), AllocError> {
     for spelling in spellings {
         if at.takes::<G>(alloc, spelling)? {
-            found.add(*spelling)?;
+            found.push(called(spelling))?;
         }
     }
     Ok(())
@@ -131,9 +118,7 @@ fn look<G: Grammar>(
 
 /// What fits in the place of a token, in words; nothing where that is too much or not known.
 pub fn what_fits<G: Grammar>(alloc: Global, at: Misfit<'_>) -> Result<Option<String>, AllocError> {
-    let mut found = Fitting {
-        names: Vec::new(alloc),
-    };
+    let mut found = Vec::new(alloc);
     if at.takes::<G>(alloc, ITEM)? {
         return Ok(Some(String::from_str(alloc, called(ITEM))?));
     }
@@ -148,20 +133,20 @@ pub fn what_fits<G: Grammar>(alloc: Global, at: Misfit<'_>) -> Result<Option<Str
         return Ok(Some(String::from_str(alloc, "a value")?));
     }
     if has_name {
-        found.add(NAME)?;
+        found.push(called(NAME))?;
     } else {
         look::<G>(alloc, at, &WORDS, &mut found)?;
     }
     if has_number {
-        found.add(NUMBER)?;
+        found.push(called(NUMBER))?;
     }
     look::<G>(alloc, at, &[TEXT, OPERATOR], &mut found)?;
     if has_end {
-        found.add(SEMICOLON)?;
+        found.push(SEMICOLON)?;
     }
     if has_brace {
-        found.add(OPEN)?;
+        found.push(OPEN)?;
     }
     look::<G>(alloc, at, &OTHERS, &mut found)?;
-    found.line(alloc)
+    line_of(alloc, &found)
 }

@@ -147,7 +147,7 @@ fn help_change(
             format!(in alloc; "a {sign} is missing here")?
         }
         Change::Before(sign) => format!(in alloc; "a {sign} is missing before {word}")?,
-        Change::Missing(what) => format!(in alloc; "{} is missing before {word}", what.name)?,
+        Change::Missing((_, name)) => format!(in alloc; "{name} is missing before {word}")?,
         Change::Instead(other) => {
             found.place = Some(span_of(token));
             format!(in alloc; "{other} may be meant in place of {word}")?

@@ -48,7 +48,7 @@ struct Best<'a> {
 fn edit_of<'a>(number: usize, change: Change<'a>) -> Edit<'a> {
     let (before, instead) = match change {
         Change::Behind(sign) | Change::Before(sign) => (sign, None),
-        Change::Missing(what) => (what.spelling, None),
+        Change::Missing((spelling, _)) => (spelling, None),
         Change::Instead(word) => ("", Some(word)),
         Change::LeaveOut => ("", Some("")),
         Change::Quoted => ("", Some("\"\"")),

@@ -128,17 +128,8 @@ impl<'a> Marks<'a> {
 
     /// From where a line is that is counted from 0; nothing where no mark comes before it.
     pub fn origin(&self, line: usize) -> Option<Origin<'a>> {
-        let mut low: usize = 0;
-        let mut high = self.marks.len();
-        for _ in 0..=usize::BITS {
-            let middle = (high.saturating_sub(low) / 2).saturating_add(low);
-            match self.marks.get(middle) {
-                Some(mark) if low < high && mark.line < line => low = middle.saturating_add(1),
-                Some(_) if low < high => high = middle,
-                _ => break,
-            }
-        }
-        let mark = self.marks.get(low.checked_sub(1)?)?;
+        let behind = self.marks.partition_point(|mark| mark.line < line);
+        let mark = self.marks.get(behind.checked_sub(1)?)?;
         let behind = line.saturating_sub(mark.line).saturating_sub(1);
         Some(Origin {
             file: mark.file,

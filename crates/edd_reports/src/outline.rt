@@ -6,9 +6,6 @@ use edd_syntax::numbers::Kind;
 use edd_syntax::symbols::{Keyword, Symbol};
 use std::alloc::{AllocError, Global};
 
-/// More braces stand in no text inside one another that has a tree.
-const DEEPEST: usize = 200;
-
 /// An item by the number of the token that is its name.
 #[derive(Clone, Copy)]
 pub struct Declared {
@@ -87,46 +84,6 @@ impl Outline {
         let before = self.items.iter().take_while(|item| item.name < brace);
         let last = before.last()?;
         Some(last.kind)
-    }
-
-    /// The last item that is declared before a token.
-    pub fn item_before(&self, number: usize) -> Option<Declared> {
-        let mut low: usize = 0;
-        let mut high = self.items.len();
-        for _ in 0..=usize::BITS {
-            let middle = (high.saturating_sub(low) / 2).saturating_add(low);
-            match self.items.get(middle) {
-                Some(item) if low < high => {
-                    if item.name < number {
-                        low = middle.saturating_add(1);
-                    } else {
-                        high = middle;
-                    }
-                }
-                _ => break,
-            }
-        }
-        self.items.get(low.checked_sub(1)?).copied()
-    }
-
-    /// Whether a token is in the braces of DEFINITION.
-    pub fn is_in_body(&self, tokens: &[Token], number: usize) -> bool {
-        let mut inner = number;
-        for _ in 0..DEEPEST {
-            let Some(brace) = self.opened(tokens, inner) else {
-                return false;
-            };
-            if is_word(tokens, brace.saturating_sub(1), Keyword::Definition) {
-                return true;
-            }
-            inner = brace;
-        }
-        false
-    }
-
-    /// The item whose name is a token.
-    pub fn item_at(&self, name: usize) -> Option<Declared> {
-        self.items.iter().copied().find(|item| item.name == name)
     }
 }
 

@@ -1,5 +1,7 @@
 //! The tokens of a text as words.
 
+ghost use Rattle.std.specs.Prelude.{◌≡◌};
+
 use edd_lexer::token::{Token, TokenKind};
 use edd_syntax::numbers::Kind;
 use edd_syntax::symbols::{Keyword, Symbol};
@@ -20,7 +22,10 @@ pub fn text_in(text: &[u8], place: Span) -> &str {
 }
 
 /// The bytes of a token.
-pub fn span_of(token: &Token) -> Span {
+pub fn span_of(token: &Token) -> Span
+    ensures start { result.start ≡ token.now.start }
+    ensures end { result.end ≡ token.now.end }
+{
     Span {
         start: token.start as usize,
         end: token.end as usize,
@@ -75,20 +80,5 @@ pub fn kind_word(kind: Kind) -> &'static str {
 
 /// How many tokens begin before a line, which is the number of the line's first token.
 pub fn tokens_before(tokens: &[Token], line: u32) -> usize {
-    let mut low: usize = 0;
-    let mut high = tokens.len();
-    for _ in 0..=usize::BITS {
-        let middle = (high.saturating_sub(low) / 2).saturating_add(low);
-        match tokens.get(middle) {
-            Some(token) if low < high => {
-                if token.line < line {
-                    low = middle.saturating_add(1);
-                } else {
-                    high = middle;
-                }
-            }
-            _ => break,
-        }
-    }
-    low
+    tokens.partition_point(|token| token.line < line)
 }

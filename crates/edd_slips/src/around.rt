@@ -123,18 +123,28 @@ impl<'a> Around<'a> {
     }
 }
 
-/// The number of the sign that opened what the token of a number closes.
-pub fn opener(tokens: &[Token], closing: usize, opens: Symbol, closes: Symbol) -> Option<usize> {
+/// Two signs between which others stand: one opens, the other closes.
+pub type Pair = (Symbol, Symbol);
+
+pub const PARENTHESES: Pair = (Symbol::OpenParenthesis, Symbol::CloseParenthesis);
+
+pub const BRACKETS: Pair = (Symbol::OpenBracket, Symbol::CloseBracket);
+
+pub const BRACES: Pair = (Symbol::OpenBrace, Symbol::CloseBrace);
+
+/// The number of the last sign before the token of a number that opens and is not closed before it,
+/// from another number on.
+pub fn opened(tokens: &[Token], number: usize, from: usize, pair: Pair) -> Option<usize> {
+    let (opens, closes) = pair;
     let mut closed: usize = 0;
-    for count in 0..=closing {
-        let number = closing.saturating_sub(count);
-        if is_sign(tokens, number, closes) {
+    for place in (from..number).rev() {
+        if is_sign(tokens, place, closes) {
             closed = closed.saturating_add(1);
-        } else if is_sign(tokens, number, opens) {
-            closed = closed.saturating_sub(1);
+        } else if is_sign(tokens, place, opens) {
             if closed == 0 {
-                return Some(number);
+                return Some(place);
             }
+            closed = closed.saturating_sub(1);
         }
     }
     None
@@ -145,55 +155,27 @@ pub fn word_before(tokens: &[Token], closing: usize) -> Option<&Token> {
     if !is_sign(tokens, closing, Symbol::CloseParenthesis) {
         return None;
     }
-    let open = opener(
-        tokens,
-        closing,
-        Symbol::OpenParenthesis,
-        Symbol::CloseParenthesis,
-    )?;
+    let open = opened(tokens, closing, 0, PARENTHESES)?;
     tokens.get(open.checked_sub(1)?)
 }
 
 /// The number of the innermost brace that is open before the token of a number.
 pub fn open_brace(tokens: &[Token], number: usize) -> Option<usize> {
-    let mut closed: usize = 0;
-    for count in 1..=number {
-        let place = number.saturating_sub(count);
-        if is_sign(tokens, place, Symbol::CloseBrace) {
-            closed = closed.saturating_add(1);
-        } else if is_sign(tokens, place, Symbol::OpenBrace) {
-            if closed == 0 {
-                return Some(place);
-            }
-            closed = closed.saturating_sub(1);
-        }
-    }
-    None
+    opened(tokens, number, 0, BRACES)
 }
 
 /// The last parenthesis of the statement before a token that is not closed.
 pub fn open_parenthesis(at: At<'_>) -> Option<Span> {
-    open_sign(at, Symbol::OpenParenthesis, Symbol::CloseParenthesis)
+    open_sign(at, PARENTHESES)
 }
 
 /// The last bracket of the statement before a token that is not closed.
 pub fn open_bracket(at: At<'_>) -> Option<Span> {
-    open_sign(at, Symbol::OpenBracket, Symbol::CloseBracket)
+    open_sign(at, BRACKETS)
 }
 
-fn open_sign(at: At<'_>, opens: Symbol, closes: Symbol) -> Option<Span> {
-    let around = Around::of(at)?;
-    let mut closed: usize = 0;
-    for count in 1..=at.number.saturating_sub(around.statement()) {
-        let token = around.back(count)?;
-        if is_symbol(token, closes) {
-            closed = closed.saturating_add(1);
-        } else if is_symbol(token, opens) {
-            if closed == 0 {
-                return Some(span_of(token));
-            }
-            closed = closed.saturating_sub(1);
-        }
-    }
-    None
+fn open_sign(at: At<'_>, pair: Pair) -> Option<Span> {
+    let from = Around::of(at)?.statement();
+    let open = opened(at.tokens, at.number, from, pair)?;
+    at.tokens.get(open).map(span_of)
 }

@@ -1,7 +1,8 @@
 //! Slips in the bodies of methods that are known by the tokens around them.
 
 use crate::around::{
-    Around, At, Slip, behind, is_joined, is_symbol, on, open_brace, opener, word_before,
+    Around, At, BRACES, PARENTHESES, Slip, behind, is_joined, is_symbol, on, open_brace, opened,
+    word_before,
 };
 use crate::branches::{lone_else, no_condition, no_word};
 use crate::values::value_slip;
@@ -97,7 +98,7 @@ fn ends_do(around: &Around<'_>) -> bool {
         let Some(brace) = number.checked_sub(1) else {
             return false;
         };
-        return match opener(tokens, brace, Symbol::OpenBrace, Symbol::CloseBrace) {
+        return match opened(tokens, brace, 0, BRACES) {
             Some(open) if is_sign(tokens, brace, Symbol::CloseBrace) => is_word(
                 tokens,
                 open.saturating_sub(1),
@@ -150,11 +151,11 @@ fn half_of_do(around: &Around<'_>) -> Option<Slip> {
     if !is_symbol(around.before, Symbol::CloseBrace) {
         return None;
     }
-    let open = opener(
+    let open = opened(
         around.at.tokens,
         around.at.number.checked_sub(1)?,
-        Symbol::OpenBrace,
-        Symbol::CloseBrace,
+        0,
+        BRACES,
     )?;
     let word = open.checked_sub(1)?;
     if !is_word(around.at.tokens, word, Keyword::Do) {
@@ -253,12 +254,7 @@ fn after_call(around: &Around<'_>, word: &Token) -> Option<Slip> {
         }
     }
     let closing = around.at.number.checked_sub(1)?;
-    let open = opener(
-        around.at.tokens,
-        closing,
-        Symbol::OpenParenthesis,
-        Symbol::CloseParenthesis,
-    )?;
+    let open = opened(around.at.tokens, closing, 0, PARENTHESES)?;
     let is_first = around.statement().saturating_add(1) == open;
     if is_first && is_symbol(around.token, Symbol::OpenBrace) {
         return on(

@@ -1,6 +1,8 @@
 //! Slips at `else` and at conditions.
 
-use crate::around::{Around, Slip, behind, is_symbol, on, open_brace, opener, word_before};
+use crate::around::{
+    Around, PARENTHESES, Slip, behind, is_symbol, on, open_brace, opened, word_before,
+};
 use edd_lexer::token::{Token, TokenKind};
 use edd_syntax::symbols::{Keyword, Symbol};
 
@@ -114,11 +116,11 @@ pub fn no_word(around: &Around<'_>) -> Option<Slip> {
     {
         return None;
     }
-    let open = opener(
+    let open = opened(
         around.at.tokens,
         around.at.number.checked_sub(1)?,
-        Symbol::OpenParenthesis,
-        Symbol::CloseParenthesis,
+        0,
+        PARENTHESES,
     )?;
     if around.statement() == open {
         return on(

@@ -367,35 +367,16 @@ impl<'a> Around<'a> {
 /// A slip that is known by the tokens around the one that does not fit.
 pub fn slip_at(at: At<'_>) -> Option<Slip> {
     let around = Around::of(at)?;
-    if let Some(slip) = around.neighbours() {
-        return Some(slip);
-    }
-    if let Some(slip) = around.marks() {
-        return Some(slip);
-    }
-    if let Some(slip) = shape_slip(&around) {
-        return Some(slip);
-    }
-    if let Some(slip) = list_slip(&around) {
-        return Some(slip);
-    }
-    if let Some(slip) = around.signs() {
-        return Some(slip);
-    }
-    if let Some(slip) = around.words() {
-        return Some(slip);
-    }
-    if let Some(slip) = around.names() {
-        return Some(slip);
-    }
-    if let Some(slip) = statement_slip(&around) {
-        return Some(slip);
-    }
-    if let Some(slip) = around.value() {
-        return Some(slip);
-    }
-    if let Some(slip) = around.operand() {
-        return Some(slip);
-    }
-    bracket_slip(&around)
+    around
+        .neighbours()
+        .or_else(|| around.marks())
+        .or_else(|| shape_slip(&around))
+        .or_else(|| list_slip(&around))
+        .or_else(|| around.signs())
+        .or_else(|| around.words())
+        .or_else(|| around.names())
+        .or_else(|| statement_slip(&around))
+        .or_else(|| around.value())
+        .or_else(|| around.operand())
+        .or_else(|| bracket_slip(&around))
 }

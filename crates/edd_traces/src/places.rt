@@ -101,19 +101,8 @@ pub fn places_of(
 impl Places {
     /// What the instruction at a place does, and the number of its token, where that is told.
     pub fn at(&self, place: usize) -> Option<(Effect, usize)> {
-        let mut low: usize = 0;
-        let mut high = self.known.len();
-        for _ in 0..=usize::BITS {
-            let middle = (high.saturating_sub(low) / 2).saturating_add(low);
-            match self.known.get(middle) {
-                Some(known) if low < high && known.place < place => {
-                    low = middle.saturating_add(1);
-                }
-                Some(_) if low < high => high = middle,
-                _ => break,
-            }
-        }
-        let known = self.known.get(low)?;
+        let number = self.known.partition_point(|known| known.place < place);
+        let known = self.known.get(number)?;
         if known.place == place {
             Some((known.effect, known.token))
         } else {
