@@ -48,7 +48,10 @@ impl<'a> Look<'a> {
         ensures alone { IfOk result
             (λ look. look.reports.is_refused ≡ false → WarnsAlone look.reports.shown.items) }
     {
-        Look::of(alloc, name, text, diagnose(alloc, text, choices)?)
+        let reports = diagnose(alloc, text, choices)?;
+        // Where nothing is said no line of the text is shown.
+        let said: &'a [u8] = if reports.shown.is_empty() { b"" } else { text };
+        Look::of(alloc, name, said, reports)
     }
 
     /// A text of which this is said.
