@@ -73,7 +73,7 @@ abbrev pub AreInOneItem : List (Item Path) → (one other : ℕ) → Type 0
 AreInOneItem items one other = (index : ℕ) × (item : Item Path)
     × IsAround items one index item × IsAround items other index item
 
--- at the kind of the collection around a token, which stands before its name
+-- at the token before the name of the item around a token, as the kind of a collection's members is
 abbrev pub IsAtKind : UnitText → (at : ℕ) → Option Span → Type 0
 IsAtKind u at place = (index : ℕ) × (item : Item Path) × IsAround u.items at index item
     × (place ≡ span_at u.tokens ((name_at item).0 - 1))
@@ -81,8 +81,8 @@ IsAtKind u at place = (index : ℕ) × (item : Item Path) × IsAround u.items at
 -- ---- breaches
 
 -- Where a rule that is broken at a token is shown: a type at its word, which follows TYPE, or at
--- its size behind the word and a sign; a data item at its mask; what is of another kind also at the
--- kind of its collection.
+-- its size behind the word and a sign; a data item at its mask; what is of another kind also before
+-- the name of its item.
 abbrev pub IsShownFor : UnitText → Refusal → (at : ℕ) → Option Span → Type 0
 IsShownFor u (refusal.FloatVariable name) at place = place ≡ span_at u.tokens (at + 1)
 IsShownFor u (refusal.OtherType name word) at place = place ≡ span_at u.tokens (at + 1)

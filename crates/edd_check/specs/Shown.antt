@@ -17,7 +17,7 @@ abbrev pub AreTogether : List (Item Path) → (one other : Option TokenNo) → T
 AreTogether items (Some one) (Some other) = AreInOneItem items one.0 other.0
 AreTogether items _ _ = ⊥
 
--- both say the same: that nothing has a name, or that members of one collection are of another kind
+-- both say the same: that nothing has a name, or of one item that something in it is of another kind
 abbrev pub SaySame : List (Item Path) → (earlier later : Refusal) → (one other : Option TokenNo)
     → Type 0
 SaySame items (UnknownName a) (UnknownName b) one other = a ≡ b
