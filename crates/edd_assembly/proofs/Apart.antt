@@ -5,33 +5,30 @@ use Rattle.std.specs.Str.{bytes_eq}
 use Rattle.std.specs.List.{list_all, list_any}
 use Rattle.std.proofs.lemmas.Bool.{false≢true, and_parts, or_cases, or_parts}
 use Rattle.std.proofs.lemmas.Slice.Eq.{bytes_eq-Decides}
+use Rattle.edd_syntax.specs.declared.numbers.Home.TheVariants as home
+use Rattle.edd_syntax.specs.declared.numbers.FormatOption.TheVariants as format_option
+use Rattle.edd_syntax.specs.declared.numbers.NumberOption.TheVariants as number_option
 use Rattle.edd_syntax.specs.declared.numbers.Attr.{Attr}
 use Rattle.edd_syntax.specs.declared.numbers.Attr.TheVariants as attr
 use Rattle.edd_syntax.specs.declared.numbers.TextAttribute.{TextAttribute}
+use Rattle.edd_syntax.specs.declared.numbers.TextAttribute.TheVariants as text
 use Rattle.edd_syntax.specs.declared.reference.Target.{Target}
 use Rattle.edd_syntax.specs.Text.{Name}
 use Rattle.edd_syntax.specs.Item as item
 use Rattle.edd_syntax.specs.Item.{TypePart, Attribute}
-use Rattle.edd_syntax.specs.Numbers.{same_attr, attr_word, text_attr}
+use Rattle.edd_syntax.specs.Numbers.{same_attr, attr_word, text_attr, shape_of}
 use Rattle.edd_syntax.specs.Refusal.{is_name_in, repeated}
 use Rattle.edd_syntax.specs.NameRules.{is_transaction, attribute_word, repeated_words_inside, repeated_words}
 use Rattle.edd_syntax.specs.Rows.{part_attr, written_attrs, stands_for, is_written}
-use Rattle.edd_syntax.proofs.EveryAttribute.{every_text}
 use Rattle.edd_attrs.specs.Trees.{Tree, Named, trees_of_parts, trees_of_attribute, trees_of, first_tree}
 use Rattle.edd_syntax.proofs.KnownByNumber.{same_attrs}
 use Rattle.edd_syntax.proofs.WithinLimits.{no_front, no_rest}
 
 -- the word under which an attribute is written
 abbrev pub word_of : Attr → Name
-word_of attr.DefaultValue = codes "TYPE"
-word_of attr.MinValue = codes "TYPE"
-word_of attr.MaxValue = codes "TYPE"
-word_of attr.DisplayFormat = codes "TYPE"
-word_of attr.EditFormat = codes "TYPE"
-word_of attr.Enumerators = codes "TYPE"
 word_of attr.Request = codes "TRANSACTION"
 word_of attr.Reply = codes "TRANSACTION"
-word_of a = attr_word a
+word_of a = elim (shape_of a).home [ home.Type ↦ codes "TYPE" | _ ↦ attr_word a ]
 
 pub same_name : (n : Name) → bytes_eq n n ≡ true
 same_name n = (bytes_eq-Decides n n).1 refl
@@ -53,59 +50,33 @@ repeated_parts before n rest h = here (is_name_in before n) refl h
 parts_under : (parts : List (TypePart Target)) → list_all (λ b. bytes_eq (codes "TYPE") (word_of b))
     (map part_attr parts) ≡ true
 parts_under [] = refl
-parts_under (item.DefaultValue c ∷ ps) = parts_under ps
-parts_under (item.MinValue c ∷ ps) = parts_under ps
-parts_under (item.MaxValue c ∷ ps) = parts_under ps
-parts_under (item.DisplayFormat c ∷ ps) = parts_under ps
-parts_under (item.EditFormat c ∷ ps) = parts_under ps
-parts_under (item.Element c ∷ ps) = parts_under ps
+parts_under (item.OneNumber number_option.DefaultValue c ∷ ps) = parts_under ps
+parts_under (item.OneFormat format_option.DisplayFormat c ∷ ps) = parts_under ps
+parts_under (_ ∷ ps) = parts_under ps
 
 under_its_word : (which : TextAttribute)
     → (bytes_eq (attr_word (text_attr which)) (word_of (text_attr which)) && true) ≡ true
-under_its_word = every_text (λ t. bytes_eq (attr_word (text_attr t)) (word_of (text_attr t))
-    && true) (λ t. true) refl
+under_its_word text.Label = refl
+under_its_word _ = refl
 
 written_under : (a : Attribute Target) → list_all (λ b. bytes_eq (attribute_word a) (word_of b))
     (written_attrs a) ≡ true
 written_under (item.OneText which c) = under_its_word which
-written_under (item.Class words) = refl
-written_under (item.Handling c) = refl
-written_under (item.Validity c) = refl
 written_under (item.TypeOf word parts) = parts_under parts
-written_under (item.Number n) = refl
-written_under (item.Operation o) = refl
-written_under (item.Transaction number parts) = refl
-written_under (item.ResponseCodes responses) = refl
-written_under (item.Items entries) = refl
-written_under (item.Members members) = refl
-written_under (item.Elements elements) = refl
-written_under (item.Definition body) = refl
+written_under _ = refl
 
 trees_of_parts_under : (parts : List (TypePart Target))
     → list_all (λ x. bytes_eq (codes "TYPE") (word_of x.0)) (trees_of_parts parts) ≡ true
 trees_of_parts_under [] = refl
-trees_of_parts_under (item.DefaultValue c ∷ ps) = trees_of_parts_under ps
-trees_of_parts_under (item.MinValue c ∷ ps) = trees_of_parts_under ps
-trees_of_parts_under (item.MaxValue c ∷ ps) = trees_of_parts_under ps
-trees_of_parts_under (item.DisplayFormat c ∷ ps) = trees_of_parts_under ps
-trees_of_parts_under (item.EditFormat c ∷ ps) = trees_of_parts_under ps
-trees_of_parts_under (item.Element c ∷ ps) = trees_of_parts_under ps
+trees_of_parts_under (item.OneNumber number_option.DefaultValue c ∷ ps) = trees_of_parts_under ps
+trees_of_parts_under (item.OneFormat format_option.DisplayFormat c ∷ ps) = trees_of_parts_under ps
+trees_of_parts_under (_ ∷ ps) = trees_of_parts_under ps
 
 trees_under : (a : Attribute Target) → list_all (λ x. bytes_eq (attribute_word a) (word_of x.0))
     (trees_of_attribute a) ≡ true
 trees_under (item.OneText which c) = under_its_word which
-trees_under (item.Class words) = refl
-trees_under (item.Handling c) = refl
-trees_under (item.Validity c) = refl
 trees_under (item.TypeOf word parts) = trees_of_parts_under parts
-trees_under (item.Number n) = refl
-trees_under (item.Operation o) = refl
-trees_under (item.Transaction number parts) = refl
-trees_under (item.ResponseCodes responses) = refl
-trees_under (item.Items entries) = refl
-trees_under (item.Members members) = refl
-trees_under (item.Elements elements) = refl
-trees_under (item.Definition body) = refl
+trees_under _ = refl
 
 one_of : (b : Attr) (word : Name) (all : List Attr) → list_all (λ x. bytes_eq word (word_of x)) all
     ≡ true → list_any (same_attr b) all ≡ true → bytes_eq word (word_of b) ≡ true

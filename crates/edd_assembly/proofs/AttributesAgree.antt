@@ -111,11 +111,7 @@ module _ (unit : Description Target) (lowered : List Lowered) (strings : List Wo
       ≡ nat_lt (index_of i) (count_of (kind_of i) unit.items)
   unfolding assembled
   existing (items_no.Variable n) = refl
-  existing (items_no.Command n) = refl
-  existing (items_no.Menu n) = refl
-  existing (items_no.Collection n) = refl
-  existing (items_no.Method n) = refl
-  existing (items_no.Array n) = refl
+  existing _ = refl
 
   module _ (ref : AttrRef) (values : List ℤ)
       (in_range : AreDeviceValues (environment unit).variables values) where

@@ -70,35 +70,7 @@ module _ (unit : Description Target) (strings : List Words) (lowered : List Lowe
     adds context same (instruction.AddAbortMethod m) h =
         stands m (slice_get (of_kind kind.Method unit.items) m.0) refl
         (ap (λ n. method_exists n m) (sym same) ∙ h)
-    adds context same instruction.End h = refl
-    adds context same (instruction.Push n) h = refl
-    adds context same (instruction.Variable v) h = refl
-    adds context same (instruction.Store v) h = refl
-    adds context same (instruction.GetLocal slot) h = refl
-    adds context same (instruction.SetLocal slot) h = refl
-    adds context same instruction.Pop h = refl
-    adds context same instruction.Duplicate h = refl
-    adds context same (instruction.ReadElement a) h = refl
-    adds context same (instruction.Operate op) h = refl
-    adds context same (instruction.Compare by) h = refl
-    adds context same instruction.Negate h = refl
-    adds context same instruction.Not h = refl
-    adds context same instruction.Complement h = refl
-    adds context same (instruction.Jump to) h = refl
-    adds context same (instruction.JumpIfZero to) h = refl
-    adds context same (instruction.JumpIfNotZero to) h = refl
-    adds context same (instruction.Case label to) h = refl
-    adds context same (instruction.Text s) h = refl
-    adds context same instruction.Number h = refl
-    adds context same (instruction.Item item quals) h = refl
-    adds context same (instruction.DataConst n) h = refl
-    adds context same (instruction.DataVar v mask quals) h = refl
-    adds context same (instruction.Enumerator n text help) h = refl
-    adds context same (instruction.Response n class text) h = refl
-    adds context same (instruction.Member name item label help) h = refl
-    adds context same (instruction.Element n v label help) h = refl
-    adds context same (instruction.Ask request) h = refl
-    adds context same instruction.Abort h = refl
+    adds context same _ h = refl
 
     all_add : (context : Context) → context.counts ≡ c.counts → (xs : List Placed)
         → list_all (λ x. names_exist context x.instruction) xs ≡ true

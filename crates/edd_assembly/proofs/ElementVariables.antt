@@ -64,11 +64,7 @@ module _ (unit : Description Path) where
   numbered : (i : ItemNo) → is_among variable_kinds i ≡ true → exists_in unit i ≡ true
       → nat_lt (variable_of (target.Item i)).0 count ≡ true
   numbered (item_no.Variable v) among there = there
-  numbered (item_no.Command n) among there = absurd cc
-  numbered (item_no.Menu n) among there = absurd cc
-  numbered (item_no.Collection n) among there = absurd cc
-  numbered (item_no.Method n) among there = absurd cc
-  numbered (item_no.Array n) among there = absurd cc
+  numbered _ among there = absurd cc
 
   element_has : (e : ArrayElement Path) (f : ArrayElement Target) → resolved_element (meant_in unit)
       e ≡ Some f

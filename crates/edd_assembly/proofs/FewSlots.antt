@@ -208,18 +208,7 @@ module _ {R : Type 0} (sort : ItemKind) (name : Name) where
   of_one : (a : Attribute R) → locals_of (record { sort = sort; name = name; attributes = a ∷ [] })
       ≡ sum (map locals_in (a ∷ []))
   of_one (item.OneText which c) = refl
-  of_one (item.Class words) = refl
-  of_one (item.Handling c) = refl
-  of_one (item.Validity c) = refl
-  of_one (item.TypeOf word parts) = refl
-  of_one (item.Number n) = refl
-  of_one (item.Operation o) = refl
-  of_one (item.Transaction number parts) = refl
-  of_one (item.ResponseCodes responses) = refl
-  of_one (item.Items entries) = refl
-  of_one (item.Members members) = refl
-  of_one (item.Elements elements) = refl
-  of_one (item.Definition body) = refl
+  of_one _ = refl
 
   -- they are those of the rule on counts
   locals_are : (attributes : List (Attribute R))
@@ -232,20 +221,9 @@ first_body : (attributes : List (Attribute Target)) → slots_in (body_in attrib
     ≤ sum (map locals_in attributes)
 unfolding slots_of
 first_body [] = omega arith
-first_body (item.OneText which c ∷ rest) = first_body rest
-first_body (item.Class words ∷ rest) = first_body rest
-first_body (item.Handling c ∷ rest) = first_body rest
-first_body (item.Validity c ∷ rest) = first_body rest
-first_body (item.TypeOf word parts ∷ rest) = first_body rest
-first_body (item.Number n ∷ rest) = first_body rest
-first_body (item.Operation o ∷ rest) = first_body rest
-first_body (item.Transaction number parts ∷ rest) = first_body rest
-first_body (item.ResponseCodes responses ∷ rest) = first_body rest
-first_body (item.Items entries ∷ rest) = first_body rest
-first_body (item.Members members ∷ rest) = first_body rest
-first_body (item.Elements elements ∷ rest) = first_body rest
 first_body (item.Definition body ∷ rest) =
     omega (arith, sum_from (0 + slots_in body) (map locals_in rest))
+first_body (_ ∷ rest) = first_body rest
 
 -- ---- a checked description
 

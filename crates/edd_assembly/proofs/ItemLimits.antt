@@ -3,18 +3,20 @@ use Rattle.std.proofs.Common.{◌≡◌, refl, sym, ap, ◌∙◌, ℕ, suc, ◌
 use Rattle.std.specs.Prelude.{◌||◌, slice_get, is_some, sum, if◌then◌else◌}
 use Rattle.std.specs.List.{list_any}
 use Rattle.std.proofs.lemmas.Bool.{false≢true, or_cases, or_left, or_right, eq-eqb}
+use Rattle.edd_syntax.specs.declared.numbers.NumberOption.TheVariants as number_option
+use Rattle.edd_syntax.specs.declared.numbers.FormatOption.TheVariants as format_option
 use Rattle.edd_syntax.specs.declared.numbers.Attr.{Attr}
 use Rattle.edd_syntax.specs.declared.numbers.Attr.TheVariants as attr
 use Rattle.edd_syntax.specs.declared.numbers.TextAttribute.{TextAttribute}
+use Rattle.edd_syntax.specs.declared.numbers.TextAttribute.TheVariants as text
 use Rattle.edd_syntax.specs.declared.reference.Target.{Target}
 use Rattle.edd_syntax.specs.Attributes.{is_of_transaction}
 use Rattle.edd_syntax.specs.Execution.{body_in}
 use Rattle.edd_syntax.specs.Item as item
 use Rattle.edd_syntax.specs.Item.{TypePart, TransactionPart, Attribute, Item}
-use Rattle.edd_syntax.specs.Numbers.{attr_number, same_attr, text_attr}
+use Rattle.edd_syntax.specs.Numbers.{attr_number, same_attr, text_attr, number_attr, format_attr}
 use Rattle.edd_syntax.specs.Rows.{part_attr, stands_for, is_written, transaction_positions, positions, attributes_in_order}
 use Rattle.edd_syntax.specs.Size.{type_part_nodes, transaction_part_nodes, attribute_nodes, item_nodes}
-use Rattle.edd_syntax.proofs.EveryAttribute.{every_text}
 use Rattle.edd_attrs.specs.Trees as trees
 use Rattle.edd_attrs.specs.Trees.{Tree, Named, trees_of_part, trees_of_parts, trees_of_attribute, trees_of, tree_of_transaction_part, transaction_trees, first_tree, tree_in}
 use Rattle.edd_attrs.specs.Sizes.{element_nodes, tree_nodes, length_limit}
@@ -33,19 +35,10 @@ parts_named : (a : Attr) (parts : List (TypePart Target))
     → (same_attr a attr.Enumerators
     || list_any (same_attr a) (map (λ x. x.0) (trees_of_parts parts))) ≡ true
 parts_named a [] h = absurd (false≢true h)
-parts_named a (item.DefaultValue c ∷ ps) h = behind (same_attr a attr.DefaultValue)
+parts_named a (item.OneNumber which c ∷ ps) h = behind (same_attr a (number_attr which))
     (list_any (same_attr a) (map part_attr ps)) (same_attr a attr.Enumerators)
     (list_any (same_attr a) (map (λ x. x.0) (trees_of_parts ps))) h (parts_named a ps)
-parts_named a (item.MinValue c ∷ ps) h = behind (same_attr a attr.MinValue)
-    (list_any (same_attr a) (map part_attr ps)) (same_attr a attr.Enumerators)
-    (list_any (same_attr a) (map (λ x. x.0) (trees_of_parts ps))) h (parts_named a ps)
-parts_named a (item.MaxValue c ∷ ps) h = behind (same_attr a attr.MaxValue)
-    (list_any (same_attr a) (map part_attr ps)) (same_attr a attr.Enumerators)
-    (list_any (same_attr a) (map (λ x. x.0) (trees_of_parts ps))) h (parts_named a ps)
-parts_named a (item.DisplayFormat c ∷ ps) h = behind (same_attr a attr.DisplayFormat)
-    (list_any (same_attr a) (map part_attr ps)) (same_attr a attr.Enumerators)
-    (list_any (same_attr a) (map (λ x. x.0) (trees_of_parts ps))) h (parts_named a ps)
-parts_named a (item.EditFormat c ∷ ps) h = behind (same_attr a attr.EditFormat)
+parts_named a (item.OneFormat which c ∷ ps) h = behind (same_attr a (format_attr which))
     (list_any (same_attr a) (map part_attr ps)) (same_attr a attr.Enumerators)
     (list_any (same_attr a) (map (λ x. x.0) (trees_of_parts ps))) h (parts_named a ps)
 parts_named a (item.Element c ∷ ps) h =
@@ -113,16 +106,14 @@ body_weight _ = 0
 no_body_part : (parts : List (TypePart Target))
     → list_any (same_attr attr.Definition) (map part_attr parts) ≡ false
 no_body_part [] = refl
-no_body_part (item.DefaultValue c ∷ ps) = no_body_part ps
-no_body_part (item.MinValue c ∷ ps) = no_body_part ps
-no_body_part (item.MaxValue c ∷ ps) = no_body_part ps
-no_body_part (item.DisplayFormat c ∷ ps) = no_body_part ps
-no_body_part (item.EditFormat c ∷ ps) = no_body_part ps
-no_body_part (item.Element c ∷ ps) = no_body_part ps
+no_body_part (item.OneNumber number_option.DefaultValue c ∷ ps) = no_body_part ps
+no_body_part (item.OneFormat format_option.DisplayFormat c ∷ ps) = no_body_part ps
+no_body_part (_ ∷ ps) = no_body_part ps
 
 no_body_text : (which : TextAttribute) → (same_attr attr.Definition (text_attr which) || false)
     ≡ false
-no_body_text = every_text (λ t. same_attr attr.Definition (text_attr t) || false) (λ t. false) refl
+no_body_text text.Label = refl
+no_body_text _ = refl
 
 body_first : (ws : List (Attribute Target)) → is_written attr.Definition ws ≡ true
     → 32 * attribute_nodes (item.Definition (body_in ws)) ≤ total body_weight ws
@@ -242,11 +233,11 @@ parts_weigh parts =
     each_part : (ps : List (TypePart Target)) → weight (trees_of_parts ps)
         + 32 * total element_nodes ps ≤ 32 * total type_part_nodes ps
     each_part [] = omega arith
-    each_part (item.DefaultValue c ∷ ps) = omega (arith, each_part ps)
-    each_part (item.MinValue c ∷ ps) = omega (arith, each_part ps)
-    each_part (item.MaxValue c ∷ ps) = omega (arith, each_part ps)
-    each_part (item.DisplayFormat c ∷ ps) = omega (arith, each_part ps)
-    each_part (item.EditFormat c ∷ ps) = omega (arith, each_part ps)
+    each_part (item.OneNumber number_option.DefaultValue c ∷ ps) = omega (arith, each_part ps)
+    each_part (item.OneNumber number_option.MinValue c ∷ ps) = omega (arith, each_part ps)
+    each_part (item.OneNumber number_option.MaxValue c ∷ ps) = omega (arith, each_part ps)
+    each_part (item.OneFormat format_option.DisplayFormat c ∷ ps) = omega (arith, each_part ps)
+    each_part (item.OneFormat format_option.EditFormat c ∷ ps) = omega (arith, each_part ps)
     each_part (item.Element c ∷ ps) = omega (arith, each_part ps)
 
 transaction_weighs : (parts : List (TransactionPart Target))
@@ -269,10 +260,6 @@ all_weigh : (ws : List (Attribute Target))
     ≤ 32 * total attribute_nodes ws
 unfolding length_limit tree_nodes
 all_weigh [] = omega arith
-all_weigh (item.OneText which c ∷ rest) = omega (arith, all_weigh rest)
-all_weigh (item.Class names ∷ rest) = omega (arith, all_weigh rest)
-all_weigh (item.Handling c ∷ rest) = omega (arith, all_weigh rest)
-all_weigh (item.Validity c ∷ rest) = omega (arith, all_weigh rest)
 all_weigh (item.TypeOf word parts ∷ rest) =
     omega (
       arith,
@@ -280,8 +267,6 @@ all_weigh (item.TypeOf word parts ∷ rest) =
       total-append weight_of (trees_of_parts parts) (trees_of rest),
       parts_weigh parts,
     )
-all_weigh (item.Number n ∷ rest) = omega (arith, all_weigh rest)
-all_weigh (item.Operation o ∷ rest) = omega (arith, all_weigh rest)
 all_weigh (item.Transaction number parts ∷ rest) =
     omega (
       arith,
@@ -290,11 +275,7 @@ all_weigh (item.Transaction number parts ∷ rest) =
       sum_is_total transaction_part_nodes
           parts,
     )
-all_weigh (item.ResponseCodes responses ∷ rest) = omega (arith, all_weigh rest)
-all_weigh (item.Items entries ∷ rest) = omega (arith, all_weigh rest)
-all_weigh (item.Members members ∷ rest) = omega (arith, all_weigh rest)
-all_weigh (item.Elements elements ∷ rest) = omega (arith, all_weigh rest)
-all_weigh (item.Definition body ∷ rest) = omega (arith, all_weigh rest)
+all_weigh (_ ∷ rest) = omega (arith, all_weigh rest)
 
 pub item_limit : (i : Item Target) → total (rows_limit i.attributes) attributes_in_order
     ≤ 32 * item_nodes i

@@ -106,13 +106,8 @@ module _ (w : Words) where
   of_first (item.OneText which c) rest once h = of_text which c rest h
   of_first (item.Class words) rest once h =
       record { attribute = attr.Class; plain = refl; written = refl; held = h }
-  of_first (item.Handling c) rest once h = absurd (false≢true h)
-  of_first (item.Validity c) rest once h = absurd (false≢true h)
   of_first (item.TypeOf word parts) rest once h =
       of_type word parts rest (in_parts w [] parts once h)
-  of_first (item.Number n) rest once h = absurd (false≢true h)
-  of_first (item.Operation o) rest once h = absurd (false≢true h)
-  of_first (item.Transaction number parts) rest once h = absurd (false≢true h)
   of_first (item.ResponseCodes responses) rest once h =
       record { attribute = attr.ResponseCodes; plain = refl; written = refl; held = h }
   of_first (item.Items entries) rest once h =
@@ -123,6 +118,7 @@ module _ (w : Words) where
       record { attribute = attr.Elements; plain = refl; written = refl; held = h }
   of_first (item.Definition body) rest once h =
       record { attribute = attr.Definition; plain = refl; written = refl; held = h }
+  of_first _ rest once h = absurd (false≢true h)
 
   pub of_item : (before : List Name) (ws : List (Attribute Target)) → repeated_words before ws ≡ []
       → has w (flat_map attribute_strings ws) ≡ true → Found ws

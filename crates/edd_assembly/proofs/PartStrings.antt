@@ -5,6 +5,8 @@ use Rattle.std.specs.List.{list_any, flat_map}
 use Rattle.std.proofs.lemmas.Bool.{false≢true, or_cases, or_left, or_right}
 use Rattle.std.proofs.lemmas.List.{map-append}
 use Rattle.std.proofs.lemmas.List.Folds.{list_any-append}
+use Rattle.edd_syntax.specs.declared.numbers.NumberOption.TheVariants as number_option
+use Rattle.edd_syntax.specs.declared.numbers.FormatOption.TheVariants as format_option
 use Rattle.edd_syntax.specs.declared.numbers.Attr.{Attr}
 use Rattle.edd_syntax.specs.declared.numbers.Attr.TheVariants as attr
 use Rattle.edd_syntax.specs.declared.reference.Target.{Target}
@@ -13,7 +15,7 @@ use Rattle.edd_syntax.specs.Text.{Name}
 use Rattle.edd_syntax.specs.Words.{Words, words_of}
 use Rattle.edd_syntax.specs.Item as item
 use Rattle.edd_syntax.specs.Item.{TypePart}
-use Rattle.edd_syntax.specs.Numbers.{same_attr}
+use Rattle.edd_syntax.specs.Numbers.{same_attr, attr_word, number_attr}
 use Rattle.edd_syntax.specs.SubsetRules.{values_in}
 use Rattle.edd_syntax.specs.Strings.{same_words, enumerator_texts, type_part_texts, strings_of_texts}
 use Rattle.edd_syntax.specs.Refusal.{is_name_in, repeated}
@@ -81,18 +83,15 @@ display_not_before : (before : List Name) (parts : List (TypePart Target))
     → repeated before (flat_map type_part_words parts) ≡ [] → has_part attr.DisplayFormat parts
     ≡ true → is_name_in before (codes "DISPLAY_FORMAT") ≡ false
 display_not_before before [] once h = absurd (false≢true h)
-display_not_before before (item.DefaultValue c ∷ ps) once h =
+display_not_before before (item.OneNumber number_option.DefaultValue c ∷ ps) once h =
     display_not_before (codes "DEFAULT_VALUE" ∷ before) ps
     (repeated_parts before (codes "DEFAULT_VALUE") (flat_map type_part_words ps) once).1 h
-display_not_before before (item.MinValue c ∷ ps) once h =
-    display_not_before (codes "MIN_VALUE" ∷ before) ps
-    (repeated_parts before (codes "MIN_VALUE") (flat_map type_part_words ps) once).1 h
-display_not_before before (item.MaxValue c ∷ ps) once h =
-    display_not_before (codes "MAX_VALUE" ∷ before) ps
-    (repeated_parts before (codes "MAX_VALUE") (flat_map type_part_words ps) once).1 h
-display_not_before before (item.DisplayFormat c ∷ ps) once h =
+display_not_before before (item.OneNumber which c ∷ ps) once h =
+    display_not_before (attr_word (number_attr which) ∷ before) ps
+    (repeated_parts before (attr_word (number_attr which)) (flat_map type_part_words ps) once).1 h
+display_not_before before (item.OneFormat format_option.DisplayFormat c ∷ ps) once h =
     (repeated_parts before (codes "DISPLAY_FORMAT") (flat_map type_part_words ps) once).0
-display_not_before before (item.EditFormat c ∷ ps) once h =
+display_not_before before (item.OneFormat format_option.EditFormat c ∷ ps) once h =
     display_not_before (codes "EDIT_FORMAT" ∷ before) ps
     (repeated_parts before (codes "EDIT_FORMAT") (flat_map type_part_words ps) once).1 h
 display_not_before before (item.Element c ∷ ps) once h = display_not_before before ps once h
@@ -101,17 +100,16 @@ edit_not_before : (before : List Name) (parts : List (TypePart Target))
     → repeated before (flat_map type_part_words parts) ≡ [] → has_part attr.EditFormat parts ≡ true
     → is_name_in before (codes "EDIT_FORMAT") ≡ false
 edit_not_before before [] once h = absurd (false≢true h)
-edit_not_before before (item.DefaultValue c ∷ ps) once h =
+edit_not_before before (item.OneNumber number_option.DefaultValue c ∷ ps) once h =
     edit_not_before (codes "DEFAULT_VALUE" ∷ before) ps
     (repeated_parts before (codes "DEFAULT_VALUE") (flat_map type_part_words ps) once).1 h
-edit_not_before before (item.MinValue c ∷ ps) once h = edit_not_before (codes "MIN_VALUE" ∷ before)
-    ps (repeated_parts before (codes "MIN_VALUE") (flat_map type_part_words ps) once).1 h
-edit_not_before before (item.MaxValue c ∷ ps) once h = edit_not_before (codes "MAX_VALUE" ∷ before)
-    ps (repeated_parts before (codes "MAX_VALUE") (flat_map type_part_words ps) once).1 h
-edit_not_before before (item.DisplayFormat c ∷ ps) once h =
+edit_not_before before (item.OneNumber which c ∷ ps) once h =
+    edit_not_before (attr_word (number_attr which) ∷ before) ps
+    (repeated_parts before (attr_word (number_attr which)) (flat_map type_part_words ps) once).1 h
+edit_not_before before (item.OneFormat format_option.DisplayFormat c ∷ ps) once h =
     edit_not_before (codes "DISPLAY_FORMAT" ∷ before) ps
     (repeated_parts before (codes "DISPLAY_FORMAT") (flat_map type_part_words ps) once).1 h
-edit_not_before before (item.EditFormat c ∷ ps) once h =
+edit_not_before before (item.OneFormat format_option.EditFormat c ∷ ps) once h =
     (repeated_parts before (codes "EDIT_FORMAT") (flat_map type_part_words ps) once).0
 edit_not_before before (item.Element c ∷ ps) once h = edit_not_before before ps once h
 
@@ -135,13 +133,11 @@ module _ (w : Words) where
       → has w (strings_of_texts (flat_map type_part_texts parts)) ≡ true → InParts parts
   unfolding tree_strings
   in_parts before [] once h = absurd (false≢true h)
-  in_parts before (item.DefaultValue c ∷ ps) once h = in_parts (codes "DEFAULT_VALUE" ∷ before) ps
+  in_parts before (item.OneNumber number_option.DefaultValue c ∷ ps) once h = in_parts (codes "DEFAULT_VALUE" ∷ before) ps
       (repeated_parts before (codes "DEFAULT_VALUE") (flat_map type_part_words ps) once).1 h
-  in_parts before (item.MinValue c ∷ ps) once h = in_parts (codes "MIN_VALUE" ∷ before) ps
-      (repeated_parts before (codes "MIN_VALUE") (flat_map type_part_words ps) once).1 h
-  in_parts before (item.MaxValue c ∷ ps) once h = in_parts (codes "MAX_VALUE" ∷ before) ps
-      (repeated_parts before (codes "MAX_VALUE") (flat_map type_part_words ps) once).1 h
-  in_parts before (item.DisplayFormat c ∷ ps) once h =
+  in_parts before (item.OneNumber which c ∷ ps) once h = in_parts (attr_word (number_attr which) ∷ before) ps
+      (repeated_parts before (attr_word (number_attr which)) (flat_map type_part_words ps) once).1 h
+  in_parts before (item.OneFormat format_option.DisplayFormat c ∷ ps) once h =
       let later = (repeated_parts before (codes "DISPLAY_FORMAT") (flat_map type_part_words ps)
       once).1 in
       elim (either_text w (values_in c) (flat_map type_part_texts ps) h) [
@@ -158,7 +154,7 @@ module _ (w : Words) where
                   ]
             ]
       ]
-  in_parts before (item.EditFormat c ∷ ps) once h =
+  in_parts before (item.OneFormat format_option.EditFormat c ∷ ps) once h =
       let later = (repeated_parts before (codes "EDIT_FORMAT") (flat_map type_part_words ps) once).1
       in
       elim (either_text w (values_in c) (flat_map type_part_texts ps) h) [

@@ -80,10 +80,6 @@ module _ (f g : StrNo → Option Words) (kept : (n : StrNo) (w : Words) → f n 
 
     record_kept : (x : source.Record) (r : Record) → SameRecord f x r → SameRecord g x r
     record_kept (source.Words w) r h = (h.0, h.1, kept h.0 w h.2)
-    record_kept (source.Number z) r h = h
-    record_kept (source.Entry item quals) r h = h
-    record_kept (source.DataConst n) r h = h
-    record_kept (source.DataVar var mask quals) r h = h
     record_kept (source.Enumerator value text help) r h =
         (h.0, h.1, h.2, kept h.0 text h.3, optional_kept help h.1 h.4)
     record_kept (source.Response number class text) r h = (h.0, h.1, kept h.0 text h.2)
@@ -98,6 +94,7 @@ module _ (f g : StrNo → Option Words) (kept : (n : StrNo) (w : Words) → f n 
     )
     record_kept (source.Element number var label help) r h =
         (h.0, h.1, h.2, optional_kept label h.0 h.3, optional_kept help h.1 h.4)
+    record_kept _ r h = h
 
     records_kept : (xs : List source.Record) (rs : List Record) → SameRecords f xs rs
         → SameRecords g xs rs

@@ -8,7 +8,7 @@ use Rattle.edd_syntax.specs.declared.numbers.Kind.{Kind}
 use Rattle.edd_syntax.specs.declared.reference.Target.{Target}
 use Rattle.edd_syntax.specs.Execution.{body_in}
 use Rattle.edd_syntax.specs.Item as item
-use Rattle.edd_syntax.specs.Item.{ItemKind, VariableItem, CommandItem, MenuItem, CollectionItem, MethodItem, ArrayItem, kind_of_item, Item, Description}
+use Rattle.edd_syntax.specs.Item.{ItemKind, VariableItem, kind_of_item, Item, Description}
 use Rattle.edd_syntax.specs.Resolution.{kinds}
 use Rattle.edd_syntax.specs.Numbers.{index_of, item_number, same_kind, same_attr}
 use Rattle.edd_syntax.specs.Rows.{positions, rows_at, item_rows, rows_from, of_kind, rows_of_attr, rows_of_kind, attributes_in_order, rows}
@@ -91,11 +91,7 @@ with_first f i rest sort k =
 one_kind : (f : Item Target → ℕ) (i : Item Target) (rest : List (Item Target)) (sort : ItemKind)
     → total (with_first f i rest sort) kinds ≡ f i + total (λ k. total f (of_kind k rest)) kinds
 one_kind f i rest VariableItem = omega arith
-one_kind f i rest CommandItem = omega arith
-one_kind f i rest MenuItem = omega arith
-one_kind f i rest (CollectionItem of) = omega arith
-one_kind f i rest MethodItem = omega arith
-one_kind f i rest ArrayItem = omega arith
+one_kind f i rest _ = omega arith
 
 of_all_kinds : (f : Item Target → ℕ) (items : List (Item Target))
     → total (λ k. total f (of_kind k items)) kinds ≡ total f items

@@ -140,11 +140,7 @@ module _ (ref : AttrRef) where
 
 every_kind : (k : Kind) → list_any (same_kind k) kinds ≡ true
 every_kind kind.Variable = refl
-every_kind kind.Command = refl
-every_kind kind.Menu = refl
-every_kind kind.Collection = refl
-every_kind kind.Method = refl
-every_kind kind.Array = refl
+every_kind _ = refl
 
 every_attribute : (a : Attr) → list_any (same_attr a) attributes_in_order ≡ true
 every_attribute = every_attr (λ a. list_any (same_attr a) attributes_in_order) (λ a. true) refl

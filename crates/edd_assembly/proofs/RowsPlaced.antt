@@ -7,10 +7,8 @@ use Rattle.std.proofs.lemmas.List.Folds.{list_all-append, list_all-map}
 use Rattle.edd_syntax.specs.declared.numbers.Kind.{Kind}
 use Rattle.edd_syntax.specs.declared.numbers.Kind.TheVariants as kind
 use Rattle.edd_syntax.specs.declared.numbers.Attr.{Attr}
-use Rattle.edd_syntax.specs.declared.numbers.Attr.TheVariants as attr
 use Rattle.edd_syntax.specs.declared.numbers.AttrRef.{AttrRef}
 use Rattle.edd_syntax.specs.declared.reference.Target.{Target}
-use Rattle.edd_syntax.specs.Item as item
 use Rattle.edd_syntax.specs.Item.{Attribute, Item, Identification}
 use Rattle.edd_syntax.specs.Numbers.{kind_of, item_number, has_attr}
 use Rattle.edd_syntax.specs.Resolution.{count_of, kinds}
@@ -45,11 +43,7 @@ module _ (identification : Identification) (items : List (Item Target)) (strings
   pub exists : (k : Kind) (n : ℕ) → n < count_of k items → item_exists counts (item_number k n)
       ≡ true
   exists kind.Variable n h = lt-ltb n (count_of kind.Variable items) h
-  exists kind.Command n h = lt-ltb n (count_of kind.Command items) h
-  exists kind.Menu n h = lt-ltb n (count_of kind.Menu items) h
-  exists kind.Collection n h = lt-ltb n (count_of kind.Collection items) h
-  exists kind.Method n h = lt-ltb n (count_of kind.Method items) h
-  exists kind.Array n h = lt-ltb n (count_of kind.Array items) h
+  exists x n h = lt-ltb n (count_of x items) h
 
   module _ (k : Kind) (a : Attr) where
     item_placed : (n : ℕ) → n < count_of k items → (ws : List (Attribute Target))

@@ -36,19 +36,11 @@ key r = record {
 
 kind_back : (k : Kind) (n : ℕ) → kind_number (kind_of (item_number k n)) ≡ kind_number k
 kind_back kind.Variable n = refl
-kind_back kind.Command n = refl
-kind_back kind.Menu n = refl
-kind_back kind.Collection n = refl
-kind_back kind.Method n = refl
-kind_back kind.Array n = refl
+kind_back _ n = refl
 
 index_back : (k : Kind) (n : ℕ) → index_of (item_number k n) ≡ n
 index_back kind.Variable n = refl
-index_back kind.Command n = refl
-index_back kind.Menu n = refl
-index_back kind.Collection n = refl
-index_back kind.Method n = refl
-index_back kind.Array n = refl
+index_back _ n = refl
 
 not_body : (a : Attr) → is_of_transaction a ≡ true → same_attr a attr.Definition ≡ false
 not_body attr.Transaction h = refl
@@ -131,19 +123,8 @@ module _ (slots : AttrRef → ℕ) where
   position_step : (next : ℕ) (x : Attribute Target) (rest : List (Attribute Target))
       → (transaction_positions next (x ∷ rest) ≡ next ∷ transaction_positions (suc next) rest)
       ⊎ (transaction_positions next (x ∷ rest) ≡ transaction_positions next rest)
-  position_step next (item.OneText which c) rest = inr refl
-  position_step next (item.Class words) rest = inr refl
-  position_step next (item.Handling c) rest = inr refl
-  position_step next (item.Validity c) rest = inr refl
-  position_step next (item.TypeOf word parts) rest = inr refl
-  position_step next (item.Number n) rest = inr refl
-  position_step next (item.Operation o) rest = inr refl
   position_step next (item.Transaction number parts) rest = inl refl
-  position_step next (item.ResponseCodes responses) rest = inr refl
-  position_step next (item.Items entries) rest = inr refl
-  position_step next (item.Members members) rest = inr refl
-  position_step next (item.Elements elements) rest = inr refl
-  position_step next (item.Definition body) rest = inr refl
+  position_step next _ rest = inr refl
 
   abbrev FromOn : ℕ → List ℕ → Type 0
   FromOn m subs = AllByRecursion (λ s. m ≤ s) subs

@@ -19,9 +19,7 @@ module _ (f g : StrNo → Option Words) (kept : (n : StrNo) (w : Words) → f n 
     request_kept (source.GetDevVarValue text variable) r h = (h.0, h.1, kept h.0 text h.2)
     request_kept (source.SelectFromList text choices) r h =
         (h.0, h.1, h.2, kept h.0 text h.3, kept h.1 choices h.4)
-    request_kept (source.SendCommand number) r h = h
-    request_kept (source.SendCommandTrans number transaction) r h = h
-    request_kept source.SaveValues r h = h
+    request_kept _ r h = h
 
     requests_kept : (xs : List source.Request) (rs : List Request) → SameRequests f xs rs
         → SameRequests g xs rs

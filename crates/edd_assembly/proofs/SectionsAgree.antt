@@ -32,11 +32,7 @@ module _ (unit : Description Target) (lowered : List Lowered) (strings : List Wo
       ≡ count_of k unit.items
   unfolding assembled
   counts_agree kind.Variable = refl
-  counts_agree kind.Command = refl
-  counts_agree kind.Menu = refl
-  counts_agree kind.Collection = refl
-  counts_agree kind.Method = refl
-  counts_agree kind.Array = refl
+  counts_agree _ = refl
 
   types_agree : (environment_of (contents_of (assembled unit lowered strings))).types
       ≡ (environment unit).variables

@@ -20,9 +20,7 @@ use Rattle.edd_assembly.specs.Assembly.{kind_of_type, variable_kinds, is_small_v
 type_is_known : (t : VarType) (size : ℕ) → is_within 1 4 size ≡ true
     → is_variable_row (fields_of_variable (record { var_type = t; size = size })) ≡ true
 type_is_known var_type.Integer size h = ap (λ b. b && true) h
-type_is_known var_type.UnsignedInteger size h = ap (λ b. b && true) h
-type_is_known var_type.Enumerated size h = ap (λ b. b && true) h
-type_is_known var_type.BitEnumerated size h = ap (λ b. b && true) h
+type_is_known _ size h = ap (λ b. b && true) h
 
 left_of : (a b : Bool) → (a && b) ≡ true → a ≡ true
 left_of true b h = refl

@@ -62,12 +62,7 @@ module _ (w : Words) where
       → has w (attribute_strings (item.TypeOf (item.Other []) parts)) ≡ true
   unfolding tree_strings
   elements_in [] h = h
-  elements_in (item.DefaultValue c ∷ ps) h = elements_in ps h
-  elements_in (item.MinValue c ∷ ps) h = elements_in ps h
-  elements_in (item.MaxValue c ∷ ps) h = elements_in ps h
-  elements_in (item.DisplayFormat c ∷ ps) h =
-      in_rest_text w (values_in c) (flat_map type_part_texts ps) (elements_in ps h)
-  elements_in (item.EditFormat c ∷ ps) h =
+  elements_in (item.OneFormat which c ∷ ps) h =
       in_rest_text w (values_in c) (flat_map type_part_texts ps) (elements_in ps h)
   elements_in (item.Element c ∷ ps) h =
       elim (either_text w (flat_map enumerator_texts (values_in c)) (flat_map element_texts ps) h) [
@@ -77,21 +72,13 @@ module _ (w : Words) where
             (flat_map type_part_texts ps)
             (elements_in ps e)
       ]
+  elements_in (_ ∷ ps) h = elements_in ps h
 
   options_in : (parts : List (TypePart Target)) → list_any tree_has (trees_of_parts parts) ≡ true
       → has w (attribute_strings (item.TypeOf (item.Other []) parts)) ≡ true
   unfolding tree_strings
   options_in [] h = h
-  options_in (item.DefaultValue c ∷ ps) h = options_in ps h
-  options_in (item.MinValue c ∷ ps) h = options_in ps h
-  options_in (item.MaxValue c ∷ ps) h = options_in ps h
-  options_in (item.DisplayFormat c ∷ ps) h =
-      elim (or_cases (has w (tree_strings (trees.Texts c))) (list_any tree_has (trees_of_parts ps))
-      h) [
-        | inl e ↦ in_first_text w (values_in c) (flat_map type_part_texts ps) e
-        | inr e ↦ in_rest_text w (values_in c) (flat_map type_part_texts ps) (options_in ps e)
-      ]
-  options_in (item.EditFormat c ∷ ps) h =
+  options_in (item.OneFormat which c ∷ ps) h =
       elim (or_cases (has w (tree_strings (trees.Texts c))) (list_any tree_has (trees_of_parts ps))
       h) [
         | inl e ↦ in_first_text w (values_in c) (flat_map type_part_texts ps) e
@@ -99,6 +86,7 @@ module _ (w : Words) where
       ]
   options_in (item.Element c ∷ ps) h = in_rest_text w (flat_map enumerator_texts (values_in c))
       (flat_map type_part_texts ps) (options_in ps h)
+  options_in (_ ∷ ps) h = options_in ps h
 
   alone : (xs : List Words) → (has w xs || false) ≡ true → has w xs ≡ true
   alone xs h = elim (or_cases (has w xs) false h) [ inl e ↦ e | inr e ↦ absurd (false≢true e) ]
@@ -108,23 +96,19 @@ module _ (w : Words) where
   unfolding tree_strings
   in_attribute (item.OneText which c) h = alone (attribute_strings (item.OneText which c)) h
   in_attribute (item.Class words) h = alone (attribute_strings {R = Target} (item.Class words)) h
-  in_attribute (item.Handling c) h = h
-  in_attribute (item.Validity c) h = h
   in_attribute (item.TypeOf word parts) h =
       elim (or_cases (has w (tree_strings (trees.Enumerators parts)))
       (list_any tree_has (trees_of_parts parts)) h) [
         | inl e ↦ elements_in parts e
         | inr e ↦ options_in parts e
       ]
-  in_attribute (item.Number n) h = h
-  in_attribute (item.Operation o) h = h
-  in_attribute (item.Transaction number parts) h = h
   in_attribute (item.ResponseCodes responses) h =
       alone (attribute_strings {R = Target} (item.ResponseCodes responses)) h
   in_attribute (item.Items entries) h = alone (attribute_strings (item.Items entries)) h
   in_attribute (item.Members members) h = alone (attribute_strings (item.Members members)) h
   in_attribute (item.Elements elements) h = alone (attribute_strings (item.Elements elements)) h
   in_attribute (item.Definition body) h = absurd (false≢true h)
+  in_attribute _ h = h
 
   in_attributes : (ws : List (Attribute Target)) → list_any tree_has (trees_of ws) ≡ true
       → has w (flat_map attribute_strings ws) ≡ true

@@ -16,9 +16,7 @@ type_read : (t : VarType) (size : ℕ)
     → variable_type_of (fields_of_variable (kind_of_type (record { type = t; size = size })))
     ≡ Some (record { type = t; size = size })
 type_read var_type.Integer size = refl
-type_read var_type.UnsignedInteger size = refl
-type_read var_type.Enumerated size = refl
-type_read var_type.BitEnumerated size = refl
+type_read _ size = refl
 
 found : {A B : Type 0} (f : A → Option B) (x : A) (y : B) (rest : List A) → f x ≡ Some y
     → filter_map f (x ∷ rest) ≡ y ∷ filter_map f rest

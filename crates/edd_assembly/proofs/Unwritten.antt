@@ -11,7 +11,7 @@ use Rattle.edd_syntax.specs.Conditional.{Nil}
 use Rattle.edd_syntax.specs.Item as item
 use Rattle.edd_syntax.specs.Item.{TypePart, Attribute}
 use Rattle.edd_syntax.specs.Words.{name_words}
-use Rattle.edd_syntax.specs.Numbers.{attr_number, same_attr, text_attr}
+use Rattle.edd_syntax.specs.Numbers.{attr_number, same_attr, text_attr, number_attr, format_attr}
 use Rattle.edd_syntax.specs.Device.{Environment}
 use Rattle.edd_syntax.specs.AttributeValue.{all_chosen}
 use Rattle.edd_syntax.specs.Attributes.{Meaning, Named, Words, Number, constant, each, entry, enumerator, response, member, element, one, list, texts, expressions, elements, of_parts, of_attribute, of_attributes, transactions, meaning_of, handling_number, operation_number, bit}
@@ -35,30 +35,15 @@ module _ (env : Environment) (a : Attr) (d : List ℤ) where
       → list_any (same_attr a) (map part_attr parts) ≡ false
       → meaning_of a (of_parts env parts ++ rest) d ≡ meaning_of a rest d
   parts_passed [] rest h = refl
-  parts_passed (item.DefaultValue c ∷ ps) rest h =
-      let both = or_parts (same_attr a attr.DefaultValue)
+  parts_passed (item.OneNumber which c ∷ ps) rest h =
+      let both = or_parts (same_attr a (number_attr which))
       (list_any (same_attr a) (map part_attr ps)) h in
-      passed attr.DefaultValue (expressions env c) (of_parts env ps ++ rest) both.0
+      passed (number_attr which) (expressions env c) (of_parts env ps ++ rest) both.0
       ∙ parts_passed ps rest both.1
-  parts_passed (item.MinValue c ∷ ps) rest h =
-      let both = or_parts (same_attr a attr.MinValue) (list_any (same_attr a) (map part_attr ps))
-      h in
-      passed attr.MinValue (expressions env c) (of_parts env ps ++ rest) both.0
-      ∙ parts_passed ps rest both.1
-  parts_passed (item.MaxValue c ∷ ps) rest h =
-      let both = or_parts (same_attr a attr.MaxValue) (list_any (same_attr a) (map part_attr ps))
-      h in
-      passed attr.MaxValue (expressions env c) (of_parts env ps ++ rest) both.0
-      ∙ parts_passed ps rest both.1
-  parts_passed (item.DisplayFormat c ∷ ps) rest h =
-      let both = or_parts (same_attr a attr.DisplayFormat)
+  parts_passed (item.OneFormat which c ∷ ps) rest h =
+      let both = or_parts (same_attr a (format_attr which))
       (list_any (same_attr a) (map part_attr ps)) h in
-      passed attr.DisplayFormat (texts env c) (of_parts env ps ++ rest) both.0
-      ∙ parts_passed ps rest both.1
-  parts_passed (item.EditFormat c ∷ ps) rest h =
-      let both = or_parts (same_attr a attr.EditFormat) (list_any (same_attr a) (map part_attr ps))
-      h in
-      passed attr.EditFormat (texts env c) (of_parts env ps ++ rest) both.0
+      passed (format_attr which) (texts env c) (of_parts env ps ++ rest) both.0
       ∙ parts_passed ps rest both.1
   parts_passed (item.Element c ∷ ps) rest h =
       parts_passed ps rest (or_parts (same_attr a attr.Enumerators)
@@ -68,20 +53,11 @@ module _ (env : Environment) (a : Attr) (d : List ℤ) where
   no_elements : (parts : List (TypePart Target)) → list_any (same_attr a) (map part_attr parts)
       ≡ false → same_attr a attr.Enumerators ≡ true → elements env parts ≡ Nil
   no_elements [] h is = refl
-  no_elements (item.DefaultValue c ∷ ps) h is =
-      no_elements ps (or_parts (same_attr a attr.DefaultValue)
+  no_elements (item.OneNumber which c ∷ ps) h is =
+      no_elements ps (or_parts (same_attr a (number_attr which))
       (list_any (same_attr a) (map part_attr ps)) h).1 is
-  no_elements (item.MinValue c ∷ ps) h is =
-      no_elements ps (or_parts (same_attr a attr.MinValue)
-      (list_any (same_attr a) (map part_attr ps)) h).1 is
-  no_elements (item.MaxValue c ∷ ps) h is =
-      no_elements ps (or_parts (same_attr a attr.MaxValue)
-      (list_any (same_attr a) (map part_attr ps)) h).1 is
-  no_elements (item.DisplayFormat c ∷ ps) h is =
-      no_elements ps (or_parts (same_attr a attr.DisplayFormat)
-      (list_any (same_attr a) (map part_attr ps)) h).1 is
-  no_elements (item.EditFormat c ∷ ps) h is =
-      no_elements ps (or_parts (same_attr a attr.EditFormat)
+  no_elements (item.OneFormat which c ∷ ps) h is =
+      no_elements ps (or_parts (same_attr a (format_attr which))
       (list_any (same_attr a) (map part_attr ps)) h).1 is
   no_elements (item.Element c ∷ ps) h is =
       absurd (false≢true (sym (or_parts (same_attr a attr.Enumerators)
@@ -123,7 +99,6 @@ module _ (env : Environment) (a : Attr) (d : List ℤ) where
   gives_nothing (item.Operation o) rest h others =
       passed attr.Operation (constant (Number (pos (operation_number o)) ∷ [])) rest
       (or_parts (same_attr a attr.Operation) false h).0 ∙ others
-  gives_nothing (item.Transaction number parts) rest h others = others
   gives_nothing (item.ResponseCodes responses) rest h others =
       passed attr.ResponseCodes (constant (map response responses)) rest
       (or_parts (same_attr a attr.ResponseCodes) false h).0 ∙ others
@@ -135,7 +110,7 @@ module _ (env : Environment) (a : Attr) (d : List ℤ) where
   gives_nothing (item.Elements all) rest h others =
       passed attr.Elements (constant (map element all)) rest
       (or_parts (same_attr a attr.Elements) false h).0 ∙ others
-  gives_nothing (item.Definition body) rest h others = others
+  gives_nothing _ rest h others = others
 
   pub unwritten : (ws : List (Attribute Target)) → is_written a ws ≡ false
       → meaning_of a (of_attributes env ws) d ≡ Ok []

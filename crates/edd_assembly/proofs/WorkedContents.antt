@@ -1,6 +1,7 @@
 -- What the rows of a small description hold, worked out by hand.
 use Rattle.std.proofs.Common.{◌≡◌, refl, pos, List, [], ◌∷◌, map}
 use Rattle.std.specs.Prelude.{Some, None, codes}
+use Rattle.edd_syntax.specs.declared.numbers.NumberOption.TheVariants as number_option
 use Rattle.edd_syntax.specs.declared.numbers.TextAttribute.TheVariants as text_attribute
 use Rattle.edd_syntax.specs.declared.operators.Builtin.TheVariants as builtin
 use Rattle.edd_syntax.specs.declared.reference.Target.{Target}
@@ -43,7 +44,7 @@ small = record {
         text = texts.Key (codes "b");
         help = Some (texts.Key (codes "k"));
       }))
-      ∷ item.DefaultValue (Value (Literal 5)) ∷ [])
+      ∷ (item.OneNumber number_option.DefaultValue) (Value (Literal 5)) ∷ [])
       ∷ [])
       ∷ item_with item.CommandItem (item.Number 1 ∷ item.Operation operation.Read
       ∷ item.Transaction None [] ∷ [])

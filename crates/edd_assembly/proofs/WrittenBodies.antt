@@ -7,12 +7,15 @@ use Rattle.std.proofs.lemmas.Option.{none-some, same_Some}
 use Rattle.std.proofs.lemmas.Bool.{and_parts, and_from, or_right}
 use Rattle.std.proofs.Math.Logic.{∥∥₁_elim}
 use Rattle.std.proofs.Math.Bool.{Bool-set}
+use Rattle.edd_syntax.specs.declared.numbers.FormatOption.TheVariants as format_option
+use Rattle.edd_syntax.specs.declared.numbers.NumberOption.TheVariants as number_option
 use Rattle.edd_syntax.specs.Reference.{Path}
 use Rattle.edd_syntax.specs.declared.reference.Target.{Target}
 use Rattle.edd_syntax.specs.declared.numbers.Kind.{Kind}
 use Rattle.edd_syntax.specs.declared.numbers.Kind.TheVariants as kind
 use Rattle.edd_syntax.specs.declared.numbers.Attr.TheVariants as attr
 use Rattle.edd_syntax.specs.declared.numbers.TextAttribute.{TextAttribute}
+use Rattle.edd_syntax.specs.declared.numbers.TextAttribute.TheVariants as text
 use Rattle.edd_syntax.specs.Text.{Name}
 use Rattle.edd_syntax.specs.Item as item
 use Rattle.edd_syntax.specs.Item.{ItemKind, kind_of_item, TypePart, Attribute, Item, Description}
@@ -23,7 +26,6 @@ use Rattle.edd_syntax.specs.Resolution.{member_kinds}
 use Rattle.edd_syntax.specs.ResolvedTrees.{each, unchanged, resolved_cond, resolved_conds, resolved_body, at_attribute, resolved_entry, resolved_member, resolved_element, resolved_type_part, resolved_transaction_part, resolved_attribute, resolved_item, resolved_unit, meant_in, Reading}
 use Rattle.edd_syntax.specs.Resolved.{IsChecked}
 use Rattle.edd_syntax.specs.Rows.{part_attr, stands_for, is_written, of_kind}
-use Rattle.edd_syntax.proofs.EveryAttribute.{every_text}
 use Rattle.edd_syntax.proofs.WithinLimits.{each_keeps, not_empty, no_front, no_rest}
 use Rattle.edd_syntax.proofs.Repeats.{none_mapped}
 use Rattle.edd_syntax.proofs.Made.{bind_some}
@@ -40,17 +42,14 @@ has_body i = not (same_kind (kind_of_item i.sort) kind.Method) || is_written att
 no_body_in_parts : {R : Type 0} (parts : List (TypePart R))
     → list_any (same_attr attr.Definition) (map part_attr parts) ≡ false
 no_body_in_parts [] = refl
-no_body_in_parts (item.DefaultValue c ∷ rest) = no_body_in_parts rest
-no_body_in_parts (item.MinValue c ∷ rest) = no_body_in_parts rest
-no_body_in_parts (item.MaxValue c ∷ rest) = no_body_in_parts rest
-no_body_in_parts (item.DisplayFormat c ∷ rest) = no_body_in_parts rest
-no_body_in_parts (item.EditFormat c ∷ rest) = no_body_in_parts rest
-no_body_in_parts (item.Element c ∷ rest) = no_body_in_parts rest
+no_body_in_parts (item.OneNumber number_option.DefaultValue c ∷ rest) = no_body_in_parts rest
+no_body_in_parts (item.OneFormat format_option.DisplayFormat c ∷ rest) = no_body_in_parts rest
+no_body_in_parts (_ ∷ rest) = no_body_in_parts rest
 
 other_word : (which : TextAttribute) → bytes_eq (attr_word (text_attr which)) (codes "DEFINITION")
     ≡ false
-other_word = every_text (λ t. bytes_eq (attr_word (text_attr t)) (codes "DEFINITION")) (λ t. false)
-    refl
+other_word text.Label = refl
+other_word _ = refl
 
 written : {R : Type 0} (attributes : List (Attribute R))
     → is_name_in (map attribute_word attributes) (codes "DEFINITION") ≡ true
@@ -61,20 +60,11 @@ written (item.OneText which c ∷ rest) h =
     or_right (stands_for attr.Definition (item.OneText which c)) (is_written attr.Definition rest)
     (written rest (ap (λ b. b || is_name_in (map attribute_word rest) (codes "DEFINITION"))
     (sym (other_word which)) ∙ h))
-written (item.Class words ∷ rest) h = written rest h
-written (item.Handling c ∷ rest) h = written rest h
-written (item.Validity c ∷ rest) h = written rest h
 written (item.TypeOf word parts ∷ rest) h =
     or_right (stands_for attr.Definition (item.TypeOf word parts)) (is_written attr.Definition rest)
     (written rest h)
-written (item.Number n ∷ rest) h = written rest h
-written (item.Operation o ∷ rest) h = written rest h
-written (item.Transaction number parts ∷ rest) h = written rest h
-written (item.ResponseCodes responses ∷ rest) h = written rest h
-written (item.Items entries ∷ rest) h = written rest h
-written (item.Members members ∷ rest) h = written rest h
-written (item.Elements elements ∷ rest) h = written rest h
 written (item.Definition body ∷ rest) h = refl
+written (_ ∷ rest) h = written rest h
 
 -- ---- no word is missing
 
@@ -88,14 +78,10 @@ module _ {R : Type 0} where
       (required_words (kind_of_item sort)) ≡ []
       → (not (same_kind (kind_of_item sort) kind.Method) || is_written attr.Definition attributes)
       ≡ true
-  with_word item.VariableItem attributes h = refl
-  with_word item.CommandItem attributes h = refl
-  with_word item.MenuItem attributes h = refl
-  with_word (item.CollectionItem of) attributes h = refl
-  with_word item.ArrayItem attributes h = refl
   with_word item.MethodItem attributes h =
       written attributes (not_missing
       (is_name_in (map attribute_word attributes) (codes "DEFINITION")) (codes "DEFINITION") h)
+  with_word _ attributes h = refl
 
   with_bodies : (items : List (Item R))
       → flat_map (λ i. map (MissingAttribute i.name) (missing_words i)) items ≡ []
@@ -118,7 +104,6 @@ unfolding stands_for
 keeps_body names sort (item.OneText which c) b h =
     made is_body (resolved_cond (at_attribute names) unchanged c) (item.OneText which) b _
     (λ x. refl) h
-keeps_body names sort (item.Class words) b h = sym (at_some is_body false (item.Class words) b h)
 keeps_body names sort (item.Handling c) b h =
     made is_body (resolved_cond (at_attribute names) unchanged c) item.Handling b false (λ x. refl)
     h
@@ -128,13 +113,9 @@ keeps_body names sort (item.Validity c) b h =
 keeps_body names sort (item.TypeOf word parts) b h =
     made is_body (each (resolved_type_part names) parts) (item.TypeOf word) b false no_body_in_parts
     h ∙ sym (no_body_in_parts parts)
-keeps_body names sort (item.Number n) b h = sym (at_some is_body false (item.Number n) b h)
-keeps_body names sort (item.Operation o) b h = sym (at_some is_body false (item.Operation o) b h)
 keeps_body names sort (item.Transaction number parts) b h =
     made is_body (each (resolved_transaction_part names) parts) (item.Transaction number) b false
     (λ x. refl) h
-keeps_body names sort (item.ResponseCodes responses) b h =
-    sym (at_some is_body false (item.ResponseCodes responses) b h)
 keeps_body names sort (item.Items entries) b h =
     made is_body (resolved_conds (at_attribute names) (resolved_entry names) entries) item.Items b
     false (λ x. refl) h
@@ -145,6 +126,11 @@ keeps_body names sort (item.Elements elements) b h =
     made is_body (each (resolved_element names) elements) item.Elements b false (λ x. refl) h
 keeps_body names sort (item.Definition body) b h = made is_body (resolved_body names body [] 0)
     item.Definition b true (λ x. refl) h
+keeps_body names sort (item.Class words) b h = sym (at_some is_body false (item.Class words) b h)
+keeps_body names sort (item.Number n) b h = sym (at_some is_body false (item.Number n) b h)
+keeps_body names sort (item.Operation o) b h = sym (at_some is_body false (item.Operation o) b h)
+keeps_body names sort (item.ResponseCodes responses) b h =
+    sym (at_some is_body false (item.ResponseCodes responses) b h)
 
 keeps_bodies : (names : Reading) (i : Item Path) (y : Item Target)
     → resolved_item names i ≡ Some y → has_body y ≡ has_body i

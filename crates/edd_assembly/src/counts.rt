@@ -9,7 +9,7 @@ ghost use Rattle.edd_syntax.specs.Resolution.{count_of};
 ghost use Rattle.edd_assembly.specs.Assembly as assembly;
 
 use edd_image::VarKind;
-use edd_syntax::item::{Attribute, Item, TypeWord};
+use edd_syntax::item::{Attribute, Item, ItemKind, TypeWord};
 use edd_syntax::numbers::Kind;
 use edd_syntax::reference::Target;
 use edd_syntax::types::VarType;
@@ -59,10 +59,13 @@ fn variable_attributes(item: &Item<Target>) -> Option<&[Attribute<Target>]>
     ensures { option_map (λ a. map numbered_attribute a.now) result ≡ assembly.variable_attributes
         (numbered_item item.now) }
 {
-    match item {
-        Item::Variable(d) => Some(&d.attributes),
-        Item::Command(_) | Item::Menu(_) | Item::Collection(_) | Item::Method(_) | Item::Array(_) =>
-            None,
+    match item.sort {
+        ItemKind::Variable => Some(&item.attributes),
+        ItemKind::Command
+        | ItemKind::Menu
+        | ItemKind::Collection(_)
+        | ItemKind::Method
+        | ItemKind::Array => None,
     }
 }
 

@@ -77,28 +77,18 @@ none_is : (rs : List Refusal) → rs ≡ [] → no_breach rs ≡ true
 none_is rs h = ap no_breach h
 
 abbrev pub ruled_element : TypePart Target → Bool
-ruled_element (item.DefaultValue c) = true
-ruled_element (item.MinValue c) = true
-ruled_element (item.MaxValue c) = true
-ruled_element (item.DisplayFormat c) = true
-ruled_element (item.EditFormat c) = true
 ruled_element (item.Element c) = no_breach (cond_defaults c)
+ruled_element _ = true
 
 abbrev pub is_ruled : Tree → Bool
 is_ruled (trees.Texts c) = no_breach (cond_defaults c)
-is_ruled (trees.Class names) = true
 is_ruled (trees.Handling c) = no_breach (cond_defaults c)
 is_ruled (trees.Validity c) = no_breach (cond_defaults c)
 is_ruled (trees.Expressions c) = no_breach (cond_defaults c)
 is_ruled (trees.Enumerators parts) = list_all ruled_element parts
-is_ruled (trees.Number n) = true
-is_ruled (trees.Operation o) = true
-is_ruled (trees.Transaction number) = true
 is_ruled (trees.Data all) = list_all kept_data (values_of all) && no_breach (conds_defaults all)
-is_ruled (trees.ResponseCodes responses) = true
 is_ruled (trees.Items entries) = no_breach (conds_defaults entries)
-is_ruled (trees.Members members) = true
-is_ruled (trees.Elements all) = true
+is_ruled _ = true
 
 part_ruled : (p : TransactionPart Target) → transaction_part_breaches p ≡ []
     → transaction_part_defaults p ≡ [] → named is_ruled (tree_of_transaction_part p) ≡ true
@@ -122,11 +112,8 @@ abbrev ruled_part : TypePart Target → Bool
 ruled_part p = list_all (named is_ruled) (trees_of_part p) && ruled_element p
 
 type_part_ruled : (p : TypePart Target) → type_part_defaults p ≡ [] → ruled_part p ≡ true
-type_part_ruled (item.DefaultValue c) k = rw (none_is (cond_defaults c) k) refl
-type_part_ruled (item.MinValue c) k = rw (none_is (cond_defaults c) k) refl
-type_part_ruled (item.MaxValue c) k = rw (none_is (cond_defaults c) k) refl
-type_part_ruled (item.DisplayFormat c) k = rw (none_is (cond_defaults c) k) refl
-type_part_ruled (item.EditFormat c) k = rw (none_is (cond_defaults c) k) refl
+type_part_ruled (item.OneNumber which c) k = rw (none_is (cond_defaults c) k) refl
+type_part_ruled (item.OneFormat which c) k = rw (none_is (cond_defaults c) k) refl
 type_part_ruled (item.Element c) k = none_is (cond_defaults c) k
 
 type_parts_ruled : (parts : List (TypePart Target)) → flat_map type_part_defaults parts ≡ []
@@ -148,18 +135,12 @@ alone h = rw h refl
 attribute_ruled : (a : Attribute Target) → attribute_data_breaches a ≡ [] → repeated_cases a ≡ []
     → throughout is_ruled a ≡ true
 attribute_ruled (item.OneText which c) h k = alone (none_is (cond_defaults c) k)
-attribute_ruled (item.Class words) h k = refl
 attribute_ruled (item.Handling c) h k = alone (none_is (cond_defaults c) k)
 attribute_ruled (item.Validity c) h k = alone (none_is (cond_defaults c) k)
 attribute_ruled (item.TypeOf word parts) h k = rw (type_parts_ruled parts k) refl
-attribute_ruled (item.Number n) h k = refl
-attribute_ruled (item.Operation o) h k = refl
 attribute_ruled (item.Transaction number parts) h k = parts_ruled parts h k
-attribute_ruled (item.ResponseCodes responses) h k = refl
 attribute_ruled (item.Items entries) h k = alone (none_is (conds_defaults entries) k)
-attribute_ruled (item.Members members) h k = refl
-attribute_ruled (item.Elements elements) h k = refl
-attribute_ruled (item.Definition body) h k = refl
+attribute_ruled _ h k = refl
 
 attributes_ruled : (attributes : List (Attribute Target))
     → flat_map attribute_data_breaches attributes ≡ [] → flat_map repeated_cases attributes ≡ []
@@ -238,12 +219,10 @@ reads_of count t = reads_existing (counts_with count) t
 
 item_readable : (count : Kind → ℕ) (i : ItemNo) → is_item_of count i ≡ true
     → reads_of count (target.Item i) ≡ true
-item_readable count (item_no.Variable v) h = h
 item_readable count (item_no.Command n) h = refl
 item_readable count (item_no.Menu n) h = refl
 item_readable count (item_no.Collection n) h = refl
-item_readable count (item_no.Method n) h = h
-item_readable count (item_no.Array n) h = h
+item_readable count _ h = h
 
 abbrev pub is_whole : Description Target → Tree → Bool
 is_whole d t = is_good (λ k. count_of k d.items) (reads_of (λ k. count_of k d.items)) t

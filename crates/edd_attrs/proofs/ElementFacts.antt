@@ -7,6 +7,7 @@ use Rattle.std.proofs.lemmas.Bool.{leb-true}
 use Rattle.std.proofs.lemmas.Grind.{flat_map-append}
 use Rattle.std.proofs.lemmas.List.{map-append}
 use Rattle.std.proofs.lemmas.List.Sums.{sum_by-cons}
+use Rattle.edd_syntax.specs.declared.numbers.NumberOption.TheVariants as number_option
 use Rattle.edd_syntax.specs.declared.numbers.ItemNo.{ItemNo}
 use Rattle.edd_syntax.specs.declared.numbers.ItemNo.TheVariants as item_no
 use Rattle.edd_syntax.specs.declared.numbers.Kind.{Kind}
@@ -136,25 +137,16 @@ module _ (count : Kind → ℕ) (reads : Target → Bool) where
   pub elements_tested : (parts : List (TypePart Target)) → list_all (good_element count reads) parts
       ≡ true → are_conds reads reads good_enumerator (elements parts) ≡ true
   elements_tested [] h = refl
-  elements_tested (item.DefaultValue c ∷ rest) h = elements_tested rest h
-  elements_tested (item.MinValue c ∷ rest) h = elements_tested rest h
-  elements_tested (item.MaxValue c ∷ rest) h = elements_tested rest h
-  elements_tested (item.DisplayFormat c ∷ rest) h = elements_tested rest h
-  elements_tested (item.EditFormat c ∷ rest) h = elements_tested rest h
   elements_tested (item.Element c ∷ rest) h =
       let parts = both_of (good_cond reads good_enumerator leaf c)
       (list_all (good_element count reads) rest) h in
       both_true (both_of (is_cond reads reads good_enumerator c) (is_low (cond_height leaf c))
       parts.0).0 (elements_tested rest parts.1)
+  elements_tested (_ ∷ rest) h = elements_tested rest h
 
   pub elements_low : (parts : List (TypePart Target)) → list_all (good_element count reads) parts
       ≡ true → conds_height leaf (elements parts) ≤ 100
   elements_low [] h = omega arith
-  elements_low (item.DefaultValue c ∷ rest) h = elements_low rest h
-  elements_low (item.MinValue c ∷ rest) h = elements_low rest h
-  elements_low (item.MaxValue c ∷ rest) h = elements_low rest h
-  elements_low (item.DisplayFormat c ∷ rest) h = elements_low rest h
-  elements_low (item.EditFormat c ∷ rest) h = elements_low rest h
   elements_low (item.Element c ∷ rest) h =
       let parts = both_of (good_cond reads good_enumerator leaf c)
       (list_all (good_element count reads) rest) h in
@@ -166,85 +158,46 @@ module _ (count : Kind → ℕ) (reads : Target → Bool) where
     where
       max_low : (m n : ℕ) → m ≤ 100 → n ≤ 100 → max m n ≤ 100
       max_low m n h k = omega (arith, h, k)
+  elements_low (_ ∷ rest) h = elements_low rest h
 
 pub elements_ruled : (parts : List (TypePart Target)) → list_all ruled_element parts ≡ true
     → conds_defaults (elements parts) ≡ []
 elements_ruled [] h = refl
-elements_ruled (item.DefaultValue c ∷ rest) h = elements_ruled rest h
-elements_ruled (item.MinValue c ∷ rest) h = elements_ruled rest h
-elements_ruled (item.MaxValue c ∷ rest) h = elements_ruled rest h
-elements_ruled (item.DisplayFormat c ∷ rest) h = elements_ruled rest h
-elements_ruled (item.EditFormat c ∷ rest) h = elements_ruled rest h
 elements_ruled (item.Element c ∷ rest) h =
     let parts = both_of (no_breach (cond_defaults c)) (list_all ruled_element rest) h in
     ap (λ (rs : List Refusal). rs ++ conds_defaults (elements rest))
     (none_broken (cond_defaults c) parts.0) ∙ elements_ruled rest parts.1
+elements_ruled (_ ∷ rest) h = elements_ruled rest h
 
 pub elements_same : (env : Environment) (parts : List (TypePart Target)) → source.elements env parts
     ≡ elements parts
 elements_same env [] = refl
-elements_same env (item.DefaultValue c ∷ rest) = elements_same env rest
-elements_same env (item.MinValue c ∷ rest) = elements_same env rest
-elements_same env (item.MaxValue c ∷ rest) = elements_same env rest
-elements_same env (item.DisplayFormat c ∷ rest) = elements_same env rest
-elements_same env (item.EditFormat c ∷ rest) = elements_same env rest
 elements_same env (item.Element c ∷ rest) = ap (Cons c) (elements_same env rest)
+elements_same env (_ ∷ rest) = elements_same env rest
 
 pub elements_texts : (parts : List (TypePart Target)) → flat_map element_texts parts
     ≡ flat_map enumerator_texts (values_of (elements parts))
 elements_texts [] = refl
-elements_texts (item.DefaultValue c ∷ rest) = elements_texts rest
-elements_texts (item.MinValue c ∷ rest) = elements_texts rest
-elements_texts (item.MaxValue c ∷ rest) = elements_texts rest
-elements_texts (item.DisplayFormat c ∷ rest) = elements_texts rest
-elements_texts (item.EditFormat c ∷ rest) = elements_texts rest
 elements_texts (item.Element c ∷ rest) = ap (λ ts. flat_map enumerator_texts (values_in c) ++ ts)
     (elements_texts rest) ∙ sym
     (flat_map-append enumerator_texts (values_in c) (values_of (elements rest)))
+elements_texts (_ ∷ rest) = elements_texts rest
 
 pub elements_nodes : (parts : List (TypePart Target)) → sum (map element_nodes parts)
     ≡ conds_nodes leaf (elements parts)
 elements_nodes [] = refl
-elements_nodes (item.DefaultValue c ∷ rest) =
+elements_nodes (item.OneNumber number_option.DefaultValue c ∷ rest) =
     omega (
       arith,
       elements_nodes rest,
-      sum_by-cons (λ x. x) (element_nodes (item.DefaultValue c))
+      sum_by-cons (λ x. x) (element_nodes (item.OneNumber number_option.DefaultValue c))
           (map element_nodes rest),
     )
-elements_nodes (item.MinValue c ∷ rest) =
+elements_nodes (w ∷ rest) =
     omega (
       arith,
       elements_nodes rest,
-      sum_by-cons (λ x. x) (element_nodes (item.MinValue c))
-          (map element_nodes rest),
-    )
-elements_nodes (item.MaxValue c ∷ rest) =
-    omega (
-      arith,
-      elements_nodes rest,
-      sum_by-cons (λ x. x) (element_nodes (item.MaxValue c))
-          (map element_nodes rest),
-    )
-elements_nodes (item.DisplayFormat c ∷ rest) =
-    omega (
-      arith,
-      elements_nodes rest,
-      sum_by-cons (λ x. x) (element_nodes (item.DisplayFormat c))
-          (map element_nodes rest),
-    )
-elements_nodes (item.EditFormat c ∷ rest) =
-    omega (
-      arith,
-      elements_nodes rest,
-      sum_by-cons (λ x. x) (element_nodes (item.EditFormat c))
-          (map element_nodes rest),
-    )
-elements_nodes (item.Element c ∷ rest) =
-    omega (
-      arith,
-      elements_nodes rest,
-      sum_by-cons (λ x. x) (element_nodes (item.Element c))
+      sum_by-cons (λ x. x) (element_nodes w)
           (map element_nodes rest),
     )
 
@@ -257,11 +210,7 @@ module _ (unit : Description Target) (reads : Target → Bool) where
   -- an item that is one of so many exists
   item_there : (i : ItemNo) → is_item_of count i ≡ true → item_exists (counts_in unit) i ≡ true
   item_there (item_no.Variable n) h = h
-  item_there (item_no.Command n) h = h
-  item_there (item_no.Menu n) h = h
-  item_there (item_no.Collection n) h = h
-  item_there (item_no.Method n) h = h
-  item_there (item_no.Array n) h = h
+  item_there _ h = h
 
   listed_there : (i : ItemNo) → (is_listed i && is_item_of count i) ≡ true
       → (is_listed i && item_exists (counts_in unit) i) ≡ true

@@ -154,13 +154,9 @@ module _ {V : Type 0} (p : V → Bool) where
 part_values : (q : TypePart Target) (rest : List (TypePart Target))
     → conds_strings enumerator_strings (elements (q ∷ rest)) ≡ element_strings q
     ++ conds_strings enumerator_strings (elements rest)
-part_values (item.DefaultValue c) rest = refl
-part_values (item.MinValue c) rest = refl
-part_values (item.MaxValue c) rest = refl
-part_values (item.DisplayFormat c) rest = refl
-part_values (item.EditFormat c) rest = refl
 part_values (item.Element c) rest = flat_map-append enumerator_strings (values_in c)
     (values_of (elements rest))
+part_values _ rest = refl
 
 pub element_strings_are : (parts : List (TypePart Target)) → flat_map element_strings parts
     ≡ conds_strings enumerator_strings (elements parts)
@@ -172,13 +168,9 @@ parts_kept : (parts : List (TypePart Target))
     → list_all kept_enumerator (values_of (elements parts)) ≡ true → list_all is_kept_part parts
     ≡ true
 parts_kept [] h = refl
-parts_kept (item.DefaultValue c ∷ rest) h = parts_kept rest h
-parts_kept (item.MinValue c ∷ rest) h = parts_kept rest h
-parts_kept (item.MaxValue c ∷ rest) h = parts_kept rest h
-parts_kept (item.DisplayFormat c ∷ rest) h = parts_kept rest h
-parts_kept (item.EditFormat c ∷ rest) h = parts_kept rest h
 parts_kept (item.Element c ∷ rest) h = let both = all_parts kept_enumerator (values_in c)
     (values_of (elements rest)) h in rw both.0 (parts_kept rest both.1)
+parts_kept (_ ∷ rest) h = parts_kept rest h
 
 pub part_kept : (parts : List (TypePart Target)) (i : ℕ) (q : TypePart Target) → i < length parts
     → q ≡ get_or parts i q → list_all kept_enumerator (values_of (elements parts)) ≡ true

@@ -122,26 +122,21 @@ module _ (count : Kind → ℕ) (reads : Target → Bool) where
   good_expression e = is_pure_expr reads reads e
 
   abbrev pub good_element : TypePart Target → Bool
-  good_element (item.DefaultValue c) = true
-  good_element (item.MinValue c) = true
-  good_element (item.MaxValue c) = true
-  good_element (item.DisplayFormat c) = true
-  good_element (item.EditFormat c) = true
   good_element (item.Element c) = good_cond reads good_enumerator leaf c
+  good_element _ = true
 
   abbrev pub is_good : Tree → Bool
   is_good (trees.Texts c) = good_cond reads is_text leaf c
-  is_good (trees.Class names) = true
   is_good (trees.Handling c) = good_cond reads any_value leaf c
   is_good (trees.Validity c) = good_cond reads any_value leaf c
   is_good (trees.Expressions c) = good_cond reads good_expression height c
       && is_single reads reads c
   is_good (trees.Enumerators parts) = list_all good_element parts
   is_good (trees.Number n) = is_small n
-  is_good (trees.Operation o) = true
   is_good (trees.Transaction number) = if_some is_small number
   is_good (trees.Data all) = good_conds reads good_data leaf all
   is_good (trees.ResponseCodes responses) = list_all good_response responses
   is_good (trees.Items entries) = good_conds reads good_entry leaf entries
   is_good (trees.Members members) = list_all good_member members
   is_good (trees.Elements all) = list_all good_array_element all
+  is_good _ = true

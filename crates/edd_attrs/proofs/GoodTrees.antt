@@ -17,7 +17,7 @@ use Rattle.edd_syntax.specs.Expression.{Expr}
 use Rattle.edd_syntax.specs.Conditional.{Cond, Conds}
 use Rattle.edd_syntax.specs.Size.{leaf, height, cond_height, conds_height, type_part_height, transaction_part_height, attribute_height}
 use Rattle.edd_syntax.specs.Item as item
-use Rattle.edd_syntax.specs.Item.{ItemKind, VariableItem, CommandItem, MenuItem, CollectionItem, MethodItem, ArrayItem, kind_of_item, DataItem, MenuEntry, TypePart, TransactionPart, Attribute, Item, Description}
+use Rattle.edd_syntax.specs.Item.{ItemKind, CollectionItem, ArrayItem, kind_of_item, DataItem, MenuEntry, TypePart, TransactionPart, Attribute, Item, Description}
 use Rattle.edd_syntax.specs.Targets.{item_of, variable_of}
 use Rattle.edd_syntax.specs.Resolution.{count_of, variable_kinds, entry_kinds, array_kinds, member_kinds, is_among}
 use Rattle.edd_syntax.specs.WellFormed.{is_pure_expr, is_text, if_some, is_path, is_plain, is_cond, are_conds, is_single, is_type_part, is_type, is_attribute, is_enumerator, is_entry, is_data_item, is_response_code, is_member, is_array_element, may_list, is_transaction_part, belongs_to, stands_in, is_item}
@@ -40,19 +40,11 @@ same_value p v w h e = along_some p v w e h
 kind_variable : (i : ItemNo) → is_among variable_kinds i ≡ true
     → item_no.Variable (variable_of (target.Item i)) ≡ i
 kind_variable (item_no.Variable v) h = refl
-kind_variable (item_no.Command n) h = absurd cc
-kind_variable (item_no.Menu n) h = absurd cc
-kind_variable (item_no.Collection n) h = absurd cc
-kind_variable (item_no.Method n) h = absurd cc
-kind_variable (item_no.Array n) h = absurd cc
+kind_variable _ h = absurd cc
 
 entry_listed : (i : ItemNo) → is_among entry_kinds i ≡ true → is_listed i ≡ true
-entry_listed (item_no.Variable v) h = refl
-entry_listed (item_no.Command n) h = refl
-entry_listed (item_no.Menu n) h = refl
-entry_listed (item_no.Collection n) h = refl
-entry_listed (item_no.Method n) h = refl
 entry_listed (item_no.Array n) h = absurd cc
+entry_listed _ h = refl
 
 -- no member is an array
 collected_listed : (of : Kind) → may_list (CollectionItem of) ≡ true → (i : ItemNo)
@@ -63,11 +55,7 @@ collected_listed of may (item_no.Menu n) h = refl
 collected_listed of may (item_no.Collection n) h = refl
 collected_listed of may (item_no.Method n) h = refl
 collected_listed kind.Variable may (item_no.Array n) h = absurd cc
-collected_listed kind.Command may (item_no.Array n) h = absurd cc
-collected_listed kind.Menu may (item_no.Array n) h = absurd cc
-collected_listed kind.Collection may (item_no.Array n) h = absurd cc
-collected_listed kind.Method may (item_no.Array n) h = absurd cc
-collected_listed kind.Array may (item_no.Array n) h = absurd cc
+collected_listed _ may (item_no.Array n) h = absurd cc
 
 -- an array is one of the arrays that there are
 abbrev pub has_arrays : (Kind → ℕ) → ItemKind → Bool
@@ -77,21 +65,13 @@ has_arrays count sort = if same_kind (kind_of_item sort) kind.Array then nat_lt 
 counted : (count : Kind → ℕ) (sort : ItemKind)
     → has_attr (kind_of_item sort) attr.Elements ≡ true → has_arrays count sort ≡ true
     → nat_lt 0 (count kind.Array) ≡ true
-counted count VariableItem belongs some = absurd cc
-counted count CommandItem belongs some = absurd cc
-counted count MenuItem belongs some = absurd cc
-counted count (CollectionItem of) belongs some = absurd cc
-counted count MethodItem belongs some = absurd cc
 counted count ArrayItem belongs some = some
+counted count _ belongs some = absurd cc
 
 members_listed : (sort : ItemKind) → may_list sort ≡ true → (i : ItemNo)
     → is_among (member_kinds sort) i ≡ true → is_listed i ≡ true
-members_listed VariableItem may i h = absurd cc
-members_listed CommandItem may i h = absurd cc
-members_listed MenuItem may i h = absurd cc
 members_listed (CollectionItem of) may i h = collected_listed of may i h
-members_listed MethodItem may i h = absurd cc
-members_listed ArrayItem may i h = absurd cc
+members_listed _ may i h = absurd cc
 
 mask_small : (mask : Option ℕ) → if_some is_small mask ≡ true → is_small (mask_number mask) ≡ true
 mask_small None h = refl
@@ -236,33 +216,16 @@ module _ (unit : Description Path) (reads : Target → Bool)
   part_good : (p : TypePart Path) (q : TypePart Target)
       → (is_type_part is_path is_plain p && is_low (type_part_height p)) ≡ true
       → resolved_type_part (meant_in unit) p ≡ Some q → good_part q ≡ true
-  part_good (item.DefaultValue c) q h e =
+  part_good (item.OneNumber which c) q h e =
       let parts = both_of _ (is_low (cond_height height c)) h in
-      let x = bind_some (resolved_cond at (resolved_expr at) c) (λ c'. Some (item.DefaultValue c'))
+      let x = bind_some (resolved_cond at (resolved_expr at) c) (λ c'. Some (item.OneNumber which c'))
       q e in
-      along_some good_part (item.DefaultValue x.0) q x.2
+      along_some good_part (item.OneNumber which x.0) q x.2
       (option_good (expressions_good c x.0 parts.0 parts.1 x.1))
-  part_good (item.MinValue c) q h e =
-      let parts = both_of _ (is_low (cond_height height c)) h in
-      let x = bind_some (resolved_cond at (resolved_expr at) c) (λ c'. Some (item.MinValue c')) q
-      e in
-      along_some good_part (item.MinValue x.0) q x.2
-      (option_good (expressions_good c x.0 parts.0 parts.1 x.1))
-  part_good (item.MaxValue c) q h e =
-      let parts = both_of _ (is_low (cond_height height c)) h in
-      let x = bind_some (resolved_cond at (resolved_expr at) c) (λ c'. Some (item.MaxValue c')) q
-      e in
-      along_some good_part (item.MaxValue x.0) q x.2
-      (option_good (expressions_good c x.0 parts.0 parts.1 x.1))
-  part_good (item.DisplayFormat c) q h e =
+  part_good (item.OneFormat which c) q h e =
       let parts = both_of _ (is_low (cond_height leaf c)) h in
-      let x = bind_some (resolved_cond at unchanged c) (λ c'. Some (item.DisplayFormat c')) q e in
-      along_some good_part (item.DisplayFormat x.0) q x.2
-      (option_good (one_good is_text c x.0 parts.0 parts.1 x.1))
-  part_good (item.EditFormat c) q h e =
-      let parts = both_of _ (is_low (cond_height leaf c)) h in
-      let x = bind_some (resolved_cond at unchanged c) (λ c'. Some (item.EditFormat c')) q e in
-      along_some good_part (item.EditFormat x.0) q x.2
+      let x = bind_some (resolved_cond at unchanged c) (λ c'. Some (item.OneFormat which c')) q e in
+      along_some good_part (item.OneFormat which x.0) q x.2
       (option_good (one_good is_text c x.0 parts.0 parts.1 x.1))
   part_good (item.Element c) q h e =
       let parts = both_of (is_cond is_path is_plain (is_enumerator is_path is_plain) c)

@@ -59,11 +59,7 @@ module _ (unit : Description Target) (strings later : List Words) where
   item_still : (i : ItemNo) → item_exists (attribute_context unit strings).counts i ≡ true
       → item_exists (attribute_context unit (strings ++ later)).counts i ≡ true
   item_still (items.Variable n) h = h
-  item_still (items.Command n) h = h
-  item_still (items.Menu n) h = h
-  item_still (items.Collection n) h = h
-  item_still (items.Method n) h = h
-  item_still (items.Array n) h = h
+  item_still _ h = h
 
   request_still : (a : Ask) → request_exists (attribute_context unit strings).counts a ≡ true
       → request_exists (attribute_context unit (strings ++ later)).counts a ≡ true
@@ -75,33 +71,16 @@ module _ (unit : Description Target) (strings later : List Words) where
   request_still (ask.SelectFromList s t) h =
       let parts = both_of (nat_lt s.0 (length strings)) (nat_lt t.0 (length strings)) h in both_true
       (string_still s parts.0) (string_still t parts.1)
-  request_still ask.SendCommand h = refl
-  request_still ask.SendCommandTrans h = refl
-  request_still ask.SaveValues h = refl
+  request_still _ h = refl
 
   names_still : (i : Instruction) → now i ≡ true → then i ≡ true
-  names_still instruction.End h = refl
-  names_still (instruction.Push n) h = refl
   names_still (instruction.Variable v) h = h
   names_still (instruction.Store v) h = h
   names_still (instruction.GetLocal slot) h = h
   names_still (instruction.SetLocal slot) h = h
-  names_still instruction.Pop h = refl
-  names_still instruction.Duplicate h = refl
   names_still (instruction.ReadElement array) h = h
-  names_still (instruction.Operate op) h = refl
-  names_still (instruction.Compare op) h = refl
-  names_still instruction.Negate h = refl
-  names_still instruction.Not h = refl
-  names_still instruction.Complement h = refl
-  names_still (instruction.Jump to) h = refl
-  names_still (instruction.JumpIfZero to) h = refl
-  names_still (instruction.JumpIfNotZero to) h = refl
-  names_still (instruction.Case label to) h = refl
   names_still (instruction.Text s) h = string_still s h
-  names_still instruction.Number h = refl
   names_still (instruction.Item item quals) h = item_still item h
-  names_still (instruction.DataConst n) h = refl
   names_still (instruction.DataVar v mask quals) h = h
   names_still (instruction.Enumerator n text help) h =
       let parts = both_of (nat_lt text.0 (length strings)) _ h in both_true
@@ -121,8 +100,8 @@ module _ (unit : Description Target) (strings later : List Words) where
       found.1 in
       both_true found.0 (both_true (optional_still label told.0) (optional_still help told.1))
   names_still (instruction.Ask request) h = request_still request h
-  names_still instruction.Abort h = refl
   names_still (instruction.AddAbortMethod m) h = h
+  names_still _ h = refl
 
   stands_still : (i : Instruction) → may_stand (attribute_context unit strings) i ≡ true
       → may_stand (attribute_context unit (strings ++ later)) i ≡ true

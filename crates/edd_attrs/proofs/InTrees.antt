@@ -46,18 +46,7 @@ filtered p q (x ∷ xs) h =
 -- the trees of a transaction
 abbrev pub inside : Attribute Target → List Named
 inside (item.Transaction number parts) = trees_of_transaction number parts
-inside (item.OneText which c) = []
-inside (item.Class words) = []
-inside (item.Handling c) = []
-inside (item.Validity c) = []
-inside (item.TypeOf word parts) = []
-inside (item.Number n) = []
-inside (item.Operation o) = []
-inside (item.ResponseCodes responses) = []
-inside (item.Items entries) = []
-inside (item.Members members) = []
-inside (item.Elements elements) = []
-inside (item.Definition body) = []
+inside _ = []
 
 module _ (p : Tree → Bool) where
   abbrev pub named : Named → Bool
@@ -108,32 +97,10 @@ module _ (p : Tree → Bool) where
   transactions_have : (attributes : List (Attribute Target)) → list_all throughout attributes ≡ true
       → list_all (list_all named) (transaction_trees attributes) ≡ true
   transactions_have [] h = refl
-  transactions_have (item.OneText which c ∷ rest) h =
-      (more (item.OneText which c) rest (transactions_have rest) h).1
-  transactions_have (item.Class names ∷ rest) h =
-      (more (item.Class names) rest (transactions_have rest) h).1
-  transactions_have (item.Handling c ∷ rest) h =
-      (more (item.Handling c) rest (transactions_have rest) h).1
-  transactions_have (item.Validity c ∷ rest) h =
-      (more (item.Validity c) rest (transactions_have rest) h).1
-  transactions_have (item.TypeOf word parts ∷ rest) h =
-      (more (item.TypeOf word parts) rest (transactions_have rest) h).1
-  transactions_have (item.Number n ∷ rest) h =
-      (more (item.Number n) rest (transactions_have rest) h).1
-  transactions_have (item.Operation o ∷ rest) h =
-      (more (item.Operation o) rest (transactions_have rest) h).1
   transactions_have (item.Transaction number parts ∷ rest) h = let both =
       more (item.Transaction number parts) rest (transactions_have rest) h in rw both.0 both.1
-  transactions_have (item.ResponseCodes responses ∷ rest) h =
-      (more (item.ResponseCodes responses) rest (transactions_have rest) h).1
-  transactions_have (item.Items entries ∷ rest) h =
-      (more (item.Items entries) rest (transactions_have rest) h).1
-  transactions_have (item.Members members ∷ rest) h =
-      (more (item.Members members) rest (transactions_have rest) h).1
-  transactions_have (item.Elements elements ∷ rest) h =
-      (more (item.Elements elements) rest (transactions_have rest) h).1
-  transactions_have (item.Definition body ∷ rest) h =
-      (more (item.Definition body) rest (transactions_have rest) h).1
+  transactions_have (x ∷ rest) h =
+      (more x rest (transactions_have rest) h).1
 
   of_transaction : (a : Attr) (o : Option (List Named)) → if_there (list_all named) o ≡ true
       → if_there p (elim o as (λ _. Option Tree) [ Some trees ↦ first_tree a trees | None ↦ None ])

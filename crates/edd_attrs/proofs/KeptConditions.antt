@@ -4,7 +4,7 @@ use Rattle.std.proofs.Common.{◌≡◌, refl, ap, ◌∙◌, ℕ, ◌+◌, Bool
 use Rattle.std.specs.Prelude.{◌&&◌}
 use Rattle.edd_syntax.specs.Reference.{Path}
 use Rattle.edd_syntax.specs.declared.reference.Target.{Target}
-use Rattle.edd_syntax.specs.Expression.{Expr, Literal, Decimal, Reference, Indexed, Parentheses, Unary, Binary, Compare, LogicalAnd, LogicalOr, Conditional, Assign, CompoundAssign, Increment, Call}
+use Rattle.edd_syntax.specs.Expression.{Expr, Literal, Decimal, Reference, Indexed, Parentheses, Unary, Binary, Compare, LogicalAnd, LogicalOr, Conditional}
 use Rattle.edd_syntax.specs.Conditional as cond
 use Rattle.edd_syntax.specs.Conditional.{Cond, Value, If, Select, Conds, Arms, NoArms, ConsArm, Case, Default}
 use Rattle.edd_syntax.specs.ResolvedTrees.{Meanings, resolved_by, resolved_expr, resolved_cond, resolved_conds, resolved_arms}
@@ -69,10 +69,7 @@ module _ (at : Meanings) (reads : Target → Bool)
       (λ x y z q r s. both_true
       (both_true (expr_pure test x front.0 q) (expr_pure first y front.1 r))
       (expr_pure second z parts.1 s)) h
-  expr_pure (Assign to value) e' p h = not_true p
-  expr_pure (CompoundAssign op to value) e' p h = not_true p
-  expr_pure (Increment op to) e' p h = not_true p
-  expr_pure (Call name arguments) e' p h = not_true p
+  expr_pure _ e' p h = not_true p
 
   pub expr_height : (e : Expr Path) (e' : Expr Target) → pure_before e ≡ true
       → resolved_expr at e ≡ Some e' → height e' ≡ height e
@@ -115,10 +112,7 @@ module _ (at : Meanings) (reads : Target → Bool)
         expr_height first y front.1 r,
         expr_height second z parts.1 s,
       ) refl) h
-  expr_height (Assign to value) e' p h = not_true p
-  expr_height (CompoundAssign op to value) e' p h = not_true p
-  expr_height (Increment op to) e' p h = not_true p
-  expr_height (Call name arguments) e' p h = not_true p
+  expr_height _ e' p h = not_true p
 
   -- ---- conditionals, whose values keep theirs
 

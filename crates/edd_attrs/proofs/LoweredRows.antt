@@ -71,19 +71,12 @@ module _ (unit : Description Target) where
   tree_kept (trees.Texts c) h =
       let tests = both_of (good_cond reads is_text leaf c) _ h in
       values_pass reads is_text c (both_of (is_cond reads reads is_text c) _ tests.0).0
-  tree_kept (trees.Class names) h = refl
-  tree_kept (trees.Handling c) h = refl
-  tree_kept (trees.Validity c) h = refl
-  tree_kept (trees.Expressions c) h = refl
   tree_kept (trees.Enumerators parts) h =
       let tests = both_of (list_all (good_element count reads) parts) _ h in
       all_good good_enumerator kept_enumerator (λ e k. (both_of _ (kept_enumerator e) k).1)
       (values_of (elements parts))
       (all_values_pass reads good_enumerator (elements parts)
       (elements_tested count reads parts tests.0))
-  tree_kept (trees.Number n) h = refl
-  tree_kept (trees.Operation o) h = refl
-  tree_kept (trees.Transaction number) h = refl
   tree_kept (trees.Data all) h =
       (both_of (list_all kept_data (values_of all)) (no_breach (conds_defaults all))
       (both_of _ (is_ruled (trees.Data all)) h).1).0
@@ -103,6 +96,7 @@ module _ (unit : Description Target) where
       all_good (good_array_element count reads) kept_array_element
       (λ e k. (both_of _ (kept_array_element e) k).1) all
       (both_of (list_all (good_array_element count reads) all) true h).0
+  tree_kept _ h = refl
 
   row_kept : (t : Option Tree) → if_there (is_whole unit) t ≡ true → is_kept_row t ≡ true
   row_kept None h = refl
@@ -117,20 +111,8 @@ kept_when_checked unit row checked =
 
 limit_small : (t : Tree) (n : ℕ) → tree_nodes t ≤ n → length_limit (Some t) ≤ 32 * n + 30
 unfolding length_limit
-limit_small (trees.Texts c) n h = omega (arith, h)
-limit_small (trees.Class names) n h = omega (arith, h)
-limit_small (trees.Handling c) n h = omega (arith, h)
-limit_small (trees.Validity c) n h = omega (arith, h)
-limit_small (trees.Expressions c) n h = omega (arith, h)
-limit_small (trees.Enumerators parts) n h = omega (arith, h)
-limit_small (trees.Number m) n h = omega (arith, h)
-limit_small (trees.Operation o) n h = omega (arith, h)
 limit_small (trees.Transaction number) n h = omega arith
-limit_small (trees.Data all) n h = omega (arith, h)
-limit_small (trees.ResponseCodes responses) n h = omega (arith, h)
-limit_small (trees.Items entries) n h = omega (arith, h)
-limit_small (trees.Members members) n h = omega (arith, h)
-limit_small (trees.Elements all) n h = omega (arith, h)
+limit_small _ n h = omega (arith, h)
 
 limit_at : (o : Option Tree) (n : ℕ) → ((t : Tree) → o ≡ Some t → tree_nodes t ≤ n)
     → length_limit o ≤ 32 * n + 30

@@ -19,7 +19,7 @@ use Rattle.edd_instructions.specs.Steps.{Environment, act}
 use Rattle.edd_instructions.specs.Agreement.{SameRecords}
 use Rattle.edd_code.specs.Blocks as block
 use Rattle.edd_code.specs.Blocks.{Block}
-use Rattle.edd_code.specs.Outcomes.{Outcome, Goes, Traps, Stuck, after_records, and_then, does}
+use Rattle.edd_code.specs.Outcomes.{Outcome, Goes, Traps, after_records, and_then, does}
 use Rattle.edd_code.specs.Expressions.{expression_block}
 use Rattle.edd_code.specs.ExpressionMeaning.{of_value}
 use Rattle.edd_attrs.specs.TreeBlocks.{IsCondBlock, IsCondsBlock, IsArmsBlock, IsDefaultBlock, IsLineBlock}
@@ -28,8 +28,7 @@ use Rattle.edd_code.proofs.BothTests.{both_of}
 
 behind_nothing : (o : Outcome) → after_records [] o ≡ o
 behind_nothing (Goes records operands) = refl
-behind_nothing (Traps why) = refl
-behind_nothing Stuck = refl
+behind_nothing _ = refl
 
 module _ (string_numbered : StrNo → Option Words) where
   -- the same records, or the same trap

@@ -8,7 +8,7 @@ use Rattle.edd_syntax.specs.declared.reference.Target.{Target}
 use Rattle.edd_syntax.specs.Expression.{Expr}
 use Rattle.edd_syntax.specs.Conditional.{Cond, Conds}
 use Rattle.edd_syntax.specs.Item as item
-use Rattle.edd_syntax.specs.Item.{DataItem, MenuEntry, TypePart, Description}
+use Rattle.edd_syntax.specs.Item.{Description}
 use Rattle.edd_syntax.specs.Resolution.{count_of}
 use Rattle.edd_syntax.specs.Words.{Words}
 use Rattle.edd_syntax.specs.Device as device
@@ -211,18 +211,11 @@ module _ (unit : Description Target) (strings : List Words) where
   tree_held (trees.Texts c) b h is = texts_held c b h is
   tree_held (trees.Class names) b h is = subst (Held strings) (classes_strings names)
       (line_held strings class_record names b is)
-  tree_held (trees.Handling c) b h is = nothing_held
-  tree_held (trees.Validity c) b h is = nothing_held
-  tree_held (trees.Expressions c) b h is = nothing_held
   tree_held (trees.Enumerators parts) b h is =
       subst (Held strings) (strings_by enumerator enumerator_texts enumerator_strings
       (values_of (elements parts)) ∙ ap strings_of_texts (sym (elements_texts parts)))
       (conds_held strings enumerator (elements parts) b is
       (elements_ruled parts (ruled (trees.Enumerators parts) h)))
-  tree_held (trees.Number n) b h is = nothing_held
-  tree_held (trees.Operation o) b h is = nothing_held
-  tree_held (trees.Transaction number) b h is = nothing_held
-  tree_held (trees.Data all) b h is = nothing_held
   tree_held (trees.ResponseCodes responses) b h is =
       subst (Held strings) (responses_strings responses) (line_held strings response responses b is)
   tree_held (trees.Items entries) b h is =
@@ -233,6 +226,7 @@ module _ (unit : Description Target) (strings : List Words) where
       (line_held strings member members b is)
   tree_held (trees.Elements all) b h is =
       subst (Held strings) (array_elements_strings all) (line_held strings element all b is)
+  tree_held _ b h is = nothing_held
 
   pub block_held : (t : Option Tree) (b : Block) → if_there (is_whole unit) t ≡ true
       → IsBlockOf (string_of_table strings) t b → Held strings (strings_of_tree t)

@@ -3,6 +3,7 @@ use Rattle.std.proofs.Common.{◌≡◌, refl, sym, ap, ◌∙◌, ℕ, Bool, tr
 use Rattle.std.specs.Prelude.{option_map, slice_get}
 use Rattle.std.proofs.lemmas.List.{map-append}
 use Rattle.std.proofs.lemmas.Option.{slice_get-map}
+use Rattle.edd_syntax.specs.declared.numbers.NumberOption.TheVariants as number_option
 use Rattle.edd_syntax.specs.declared.numbers.Attr.{Attr}
 use Rattle.edd_syntax.specs.declared.numbers.Attr.TheVariants as attr
 use Rattle.edd_syntax.specs.declared.numbers.AttrRef.{AttrRef}
@@ -38,12 +39,8 @@ module _ (env : Environment) where
   named x = (x.0, meaning x.1)
 
   part_means : (p : TypePart Target) → of_part env p ≡ map named (trees_of_part p)
-  part_means (item.DefaultValue c) = refl
-  part_means (item.MinValue c) = refl
-  part_means (item.MaxValue c) = refl
-  part_means (item.DisplayFormat c) = refl
-  part_means (item.EditFormat c) = refl
-  part_means (item.Element c) = refl
+  part_means (item.OneNumber number_option.DefaultValue c) = refl
+  part_means _ = refl
 
   parts_mean : (parts : List (TypePart Target))
       → of_parts env parts ≡ map named (trees_of_parts parts)
@@ -54,21 +51,10 @@ module _ (env : Environment) where
       ∙ sym (map-append named (trees_of_part p) (trees_of_parts rest))
 
   attribute_means : (a : Attribute Target) → of_attribute env a ≡ map named (trees_of_attribute a)
-  attribute_means (item.OneText which c) = refl
-  attribute_means (item.Class names) = refl
-  attribute_means (item.Handling c) = refl
-  attribute_means (item.Validity c) = refl
   attribute_means (item.TypeOf word parts) =
       ap (λ (xs : List source.Named). named (attr.Enumerators, Enumerators parts) ∷ xs)
       (parts_mean parts)
-  attribute_means (item.Number n) = refl
-  attribute_means (item.Operation o) = refl
-  attribute_means (item.Transaction number parts) = refl
-  attribute_means (item.ResponseCodes responses) = refl
-  attribute_means (item.Items entries) = refl
-  attribute_means (item.Members members) = refl
-  attribute_means (item.Elements all) = refl
-  attribute_means (item.Definition body) = refl
+  attribute_means _ = refl
 
   attributes_mean : (attributes : List (Attribute Target)) → of_attributes env attributes
       ≡ map named (trees_of attributes)
@@ -96,23 +82,12 @@ module _ (env : Environment) where
   transactions_mean : (attributes : List (Attribute Target)) → transactions env attributes
       ≡ map (map named) (transaction_trees attributes)
   transactions_mean [] = refl
-  transactions_mean (item.OneText which c ∷ rest) = transactions_mean rest
-  transactions_mean (item.Class names ∷ rest) = transactions_mean rest
-  transactions_mean (item.Handling c ∷ rest) = transactions_mean rest
-  transactions_mean (item.Validity c ∷ rest) = transactions_mean rest
-  transactions_mean (item.TypeOf word parts ∷ rest) = transactions_mean rest
-  transactions_mean (item.Number n ∷ rest) = transactions_mean rest
-  transactions_mean (item.Operation o ∷ rest) = transactions_mean rest
   transactions_mean (item.Transaction number parts ∷ rest) =
       ap (λ (xs : List source.Named). (named (attr.Transaction, Transaction number) ∷ xs)
       ∷ transactions env rest) (parts_of_transaction_mean parts)
       ∙ ap (λ (xs : List (List source.Named)). (named (attr.Transaction, Transaction number)
       ∷ map named (map tree_of_transaction_part parts)) ∷ xs) (transactions_mean rest)
-  transactions_mean (item.ResponseCodes responses ∷ rest) = transactions_mean rest
-  transactions_mean (item.Items entries ∷ rest) = transactions_mean rest
-  transactions_mean (item.Members members ∷ rest) = transactions_mean rest
-  transactions_mean (item.Elements all ∷ rest) = transactions_mean rest
-  transactions_mean (item.Definition body ∷ rest) = transactions_mean rest
+  transactions_mean (_ ∷ rest) = transactions_mean rest
 
   -- a tree that isn't there gives nothing
   abbrev pub meaning_at : Option Tree → Meaning

@@ -4,6 +4,7 @@ use Rattle.std.specs.Prelude.{◌&&◌, nat_le, sum}
 use Rattle.std.specs.List.{list_all}
 use Rattle.std.proofs.lemmas.Bool.{le-leb, leb-true}
 use Rattle.std.proofs.lemmas.List.Sums.{sum_by-cons}
+use Rattle.edd_syntax.specs.declared.numbers.NumberOption.TheVariants as number_option
 use Rattle.edd_syntax.specs.declared.numbers.AttrRef.{AttrRef}
 use Rattle.edd_syntax.specs.declared.reference.Target.{Target}
 use Rattle.edd_syntax.specs.Item as item
@@ -23,12 +24,8 @@ within : (n : ℕ) (t : Tree) → tree_nodes t ≤ n → is_within n t ≡ true
 within n t h = le-leb (tree_nodes t) n h
 
 element_fewer : (p : TypePart Target) → element_nodes p ≤ type_part_nodes p
-element_fewer (item.DefaultValue c) = omega arith
-element_fewer (item.MinValue c) = omega arith
-element_fewer (item.MaxValue c) = omega arith
-element_fewer (item.DisplayFormat c) = omega arith
-element_fewer (item.EditFormat c) = omega arith
-element_fewer (item.Element c) = omega arith
+element_fewer (item.OneNumber number_option.DefaultValue c) = omega arith
+element_fewer _ = omega arith
 
 elements_fewer : (parts : List (TypePart Target)) → sum (map element_nodes parts)
     ≤ sum (map type_part_nodes parts)
@@ -50,11 +47,8 @@ alone h = rw h refl
 part_within : (n : ℕ) (p : TypePart Target) → type_part_nodes p ≤ n
     → list_all (named (is_within n)) (trees_of_part p) ≡ true
 unfolding tree_nodes
-part_within n (item.DefaultValue c) h = alone (within n (trees.Expressions c) h)
-part_within n (item.MinValue c) h = alone (within n (trees.Expressions c) h)
-part_within n (item.MaxValue c) h = alone (within n (trees.Expressions c) h)
-part_within n (item.DisplayFormat c) h = alone (within n (trees.Texts c) h)
-part_within n (item.EditFormat c) h = alone (within n (trees.Texts c) h)
+part_within n (item.OneNumber which c) h = alone (within n (trees.Expressions c) h)
+part_within n (item.OneFormat which c) h = alone (within n (trees.Texts c) h)
 part_within n (item.Element c) h = refl
 
 parts_within : (n : ℕ) (parts : List (TypePart Target)) → sum (map type_part_nodes parts) ≤ n

@@ -37,55 +37,27 @@ line_passes f (i ∷ is) h = let parts = both_of (f i) (list_all f is) h in rw
     (parts.0, line_passes f is parts.1) refl
 
 record_flows : (r : Record) → IsSayable r → Flows (straight_line (giving r)) 0
-record_flows (records.Words s) h = ((refl, omega arith, omega arith), tt)
 record_flows (records.Number z) h =
     ((refl, omega arith, omega arith), ((refl, omega arith, omega arith), tt))
-record_flows (records.Entry item quals) h = ((refl, omega arith, omega arith), tt)
-record_flows (records.DataConst n) h = ((refl, omega arith, omega arith), tt)
-record_flows (records.DataVar v mask quals) h = ((refl, omega arith, omega arith), tt)
-record_flows (records.Enumerator n text help) h = ((refl, omega arith, omega arith), tt)
-record_flows (records.Response n class text) h = ((refl, omega arith, omega arith), tt)
-record_flows (records.Member name item label help) h = ((refl, omega arith, omega arith), tt)
-record_flows (records.Element n v label help) h = ((refl, omega arith, omega arith), tt)
+record_flows _ h = ((refl, omega arith, omega arith), tt)
 
 record_even : (r : Record) → depth_after (straight_line (giving r)) 0 ≡ 0
 record_even (records.Words s) = refl
-record_even (records.Number z) = refl
-record_even (records.Entry item quals) = refl
-record_even (records.DataConst n) = refl
-record_even (records.DataVar v mask quals) = refl
-record_even (records.Enumerator n text help) = refl
-record_even (records.Response n class text) = refl
-record_even (records.Member name item label help) = refl
-record_even (records.Element n v label help) = refl
+record_even _ = refl
 
 pub line_short : (r : Record) → size (straight_line (giving r)) ≤ 13
 line_short (records.Words s) = omega arith
-line_short (records.Number z) = omega arith
-line_short (records.Entry item quals) = omega arith
-line_short (records.DataConst n) = omega arith
-line_short (records.DataVar v mask quals) = omega arith
-line_short (records.Enumerator n text help) = omega arith
-line_short (records.Response n class text) = omega arith
-line_short (records.Member name item label help) = omega arith
-line_short (records.Element n v label help) = omega arith
+line_short _ = omega arith
 
 module _ (env : Environment) (d : List ℤ) where
   record_does : (r : Record) → IsSayable r → does env d (straight_line (giving r)) []
       ≡ Goes (r ∷ []) []
   unfolding does act
-  record_does (records.Words s) h = refl
   record_does (records.Number z) h =
       subst (λ (y : ℤ). does env d (straight_line (giving (records.Number y))) []
       ≡ Goes (records.Number y ∷ []) []) (sym h.1)
       (ap (λ (y : ℤ). Goes (records.Number y ∷ []) []) (wrap_small h.0 h.2))
-  record_does (records.Entry item quals) h = refl
-  record_does (records.DataConst n) h = refl
-  record_does (records.DataVar v mask quals) h = refl
-  record_does (records.Enumerator n text help) h = refl
-  record_does (records.Response n class text) h = refl
-  record_does (records.Member name item label help) h = refl
-  record_does (records.Element n v label help) h = refl
+  record_does _ h = refl
 
 -- a number is one of 32 bits
 module _ (unit : Description Target) (strings : List Words) where
@@ -94,13 +66,11 @@ module _ (unit : Description Target) (strings : List Words) where
   sayable (source.Words w) r fine same = subst IsSayable (sym same.1) tt
   sayable (source.Number z) r fine same = let n = number_is z fine in subst IsSayable
       (sym (same ∙ ap records.Number n.1)) (n.0, refl, n.2)
-  sayable (source.Entry item quals) r fine same = subst IsSayable (sym same) tt
-  sayable (source.DataConst n) r fine same = subst IsSayable (sym same) tt
-  sayable (source.DataVar v mask quals) r fine same = subst IsSayable (sym same) tt
   sayable (source.Enumerator value text help) r fine same = subst IsSayable (sym same.2) tt
   sayable (source.Response number class text) r fine same = subst IsSayable (sym same.1) tt
   sayable (source.Member name item label help) r fine same = subst IsSayable (sym same.3) tt
   sayable (source.Element number var label help) r fine same = subst IsSayable (sym same.2) tt
+  sayable _ r fine same = subst IsSayable (sym same) tt
 
   pub record_means : (env : Environment) (d : List ℤ) (x : source.Record) (b : Block)
       → is_fine unit x ≡ true → IsRecordBlock (string_of_table strings) x b

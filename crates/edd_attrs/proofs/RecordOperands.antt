@@ -74,12 +74,7 @@ data_small q = omega (arith, bit_small q.info, bit_small q.index)
 
 class_small : (c : ResponseClass) → class_number c < 7
 class_small class.Success = omega arith
-class_small class.MiscWarning = omega arith
-class_small class.DataEntryWarning = omega arith
-class_small class.DataEntryError = omega arith
-class_small class.ModeError = omega arith
-class_small class.ProcessError = omega arith
-class_small class.MiscError = omega arith
+class_small _ = omega arith
 
 pub label_fits : (z : ℤ) → is_label z ≡ true → FitsSigned w64 z
 label_fits (pos n) h = let lt = ltb-true n (2 ^ 32) h in omega (arith, ints)
@@ -233,11 +228,7 @@ module _ (unit : Description Target) (few : (k : Kind) → count_of k unit.items
     item_there : (item : ItemNo) → item_exists (counts_in unit) item ≡ true
         → item_exists context.counts item ≡ true
     item_there (items.Variable n) h = h
-    item_there (items.Command n) h = h
-    item_there (items.Menu n) h = h
-    item_there (items.Collection n) h = h
-    item_there (items.Method n) h = h
-    item_there (items.Array n) h = h
+    item_there _ h = h
 
     abbrev Exists : Record → Type 0
     Exists r = list_all (may_stand context) (giving r) ≡ true
@@ -246,12 +237,10 @@ module _ (unit : Description Target) (few : (k : Kind) → count_of k unit.items
         → SameRecord (string_of_table strings) x r → Exists r
     record_exists (source.Words w) r fine same =
         subst Exists (sym same.1) (rw (string_there w same.0 same.2) refl)
-    record_exists (source.Number z) r fine same = subst Exists (sym same) refl
     record_exists (source.Entry item quals) r fine same =
         subst Exists (sym same)
         (rw (item_there item (both_of (is_listed item) (item_exists (counts_in unit) item) fine).1)
         refl)
-    record_exists (source.DataConst n) r fine same = subst Exists (sym same) refl
     record_exists (source.DataVar v mask quals) r fine same =
         subst Exists (sym same) (rw
         ((both_of (variable_exists (counts_in unit) v) (nat_lt (mask_number mask) (2 ^ 32)) fine).0)
@@ -282,3 +271,4 @@ module _ (unit : Description Target) (few : (k : Kind) → count_of k unit.items
           optional_there label same.0 same.3,
           optional_there help same.1 same.4,
         ) refl)
+    record_exists _ r fine same = subst Exists (sym same) refl

@@ -59,10 +59,6 @@ module _ (strings : List Words) where
   pub record_held : (x : source.Record) (r : Record) → SameRecord (string_of_table strings) x r
       → (v : Words) → Contains (strings_of_record x) v → Contains strings v
   record_held (source.Words w) r same v held = one_held w same.0 same.2 v held
-  record_held (source.Number z) r same v held = absurd (omega (arith, held.1))
-  record_held (source.Entry item quals) r same v held = absurd (omega (arith, held.1))
-  record_held (source.DataConst n) r same v held = absurd (omega (arith, held.1))
-  record_held (source.DataVar var mask quals) r same v held = absurd (omega (arith, held.1))
   record_held (source.Enumerator value text help) r same v held =
       first_held text (option_to_list help) same.0 same.3 (optional_held help same.1 same.4) v held
   record_held (source.Response number class text) r same v held = one_held text same.0 same.2 v held
@@ -73,3 +69,4 @@ module _ (strings : List Words) where
   record_held (source.Element number var label help) r same v held =
       both_held (option_to_list label) (option_to_list help) (optional_held label same.0 same.3)
       (optional_held help same.1 same.4) v held
+  record_held _ r same v held = absurd (omega (arith, held.1))

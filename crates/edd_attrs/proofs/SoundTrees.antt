@@ -50,13 +50,11 @@ use Rattle.edd_code.proofs.BothTests.{both_of}
 
 pub handling_small : (h : handlings.Handling) → is_small (handling_number h) ≡ true
 handling_small handling.Read = refl
-handling_small handling.Write = refl
-handling_small handling.ReadWrite = refl
+handling_small _ = refl
 
 pub operation_small : (o : operations.Operation) → is_small (operation_number o) ≡ true
 operation_small operation.Read = refl
-operation_small operation.Write = refl
-operation_small operation.Command = refl
+operation_small _ = refl
 
 pub bit_small : (b : Bool) → is_small (bit b) ≡ true
 bit_small true = refl
@@ -88,8 +86,7 @@ module _ (unit : Description Target) (few : (k : Kind) → count_of k unit.items
 
       here : (t : Target) → reads t ≡ reads_existing (attribute_context unit strings).counts t
       here (target.Item i) = of_item i
-      here (target.Local slot) = refl
-      here (target.Function f) = refl
+      here _ = refl
 
   pure_there : (strings : List Words) (e : Expr Target) → is_pure_expr reads reads e ≡ true
       → is_pure_expr (reads_existing (attribute_context unit strings).counts) reads e ≡ true

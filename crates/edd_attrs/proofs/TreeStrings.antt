@@ -90,14 +90,10 @@ of_array_element e = here e.label e.help
     here (Some l) (Some h) = refl
 
 of_element : (p : TypePart Target) → element_strings p ≡ strings_of_texts (element_texts p)
-of_element (item.DefaultValue c) = refl
-of_element (item.MinValue c) = refl
-of_element (item.MaxValue c) = refl
-of_element (item.DisplayFormat c) = refl
-of_element (item.EditFormat c) = refl
 of_element (item.Element c) =
     same_each enumerator_strings (λ e. strings_of_texts (enumerator_texts e)) (values_in c)
     of_enumerator ∙ map_flat words_of enumerator_texts (values_in c)
+of_element _ = refl
 
 -- ---- each tree
 

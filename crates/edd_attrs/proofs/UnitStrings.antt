@@ -73,22 +73,14 @@ module _ (test : Words → Bool) where
 
   element_passes : (p : TypePart Target) → part_passes p ≡ true
       → list_all test (strings_of_texts (element_texts p)) ≡ true
-  element_passes (item.DefaultValue c) h = refl
-  element_passes (item.MinValue c) h = refl
-  element_passes (item.MaxValue c) h = refl
-  element_passes (item.DisplayFormat c) h = refl
-  element_passes (item.EditFormat c) h = refl
   element_passes (item.Element c) h = h
+  element_passes _ h = refl
 
   option_passes : (p : TypePart Target) → part_passes p ≡ true
       → list_all (named passes) (trees_of_part p) ≡ true
   unfolding tree_strings
-  option_passes (item.DefaultValue c) h = refl
-  option_passes (item.MinValue c) h = refl
-  option_passes (item.MaxValue c) h = refl
-  option_passes (item.DisplayFormat c) h = both_true h refl
-  option_passes (item.EditFormat c) h = both_true h refl
-  option_passes (item.Element c) h = refl
+  option_passes (item.OneFormat which c) h = both_true h refl
+  option_passes _ h = refl
 
   split : (p : TypePart Target) (rest : List (TypePart Target))
       → list_all test (strings_of_texts (flat_map type_part_texts (p ∷ rest))) ≡ true
@@ -130,8 +122,6 @@ module _ (test : Words → Bool) where
   attribute_passes : (a : Attribute Target) → list_all test (attribute_strings a) ≡ true
       → throughout passes a ≡ true
   unfolding tree_strings
-  attribute_passes (item.OneText which c) h = alone h
-  attribute_passes (item.Class words) h = alone h
   attribute_passes (item.Handling c) h = refl
   attribute_passes (item.Validity c) h = refl
   attribute_passes (item.TypeOf word parts) h =
@@ -139,11 +129,8 @@ module _ (test : Words → Bool) where
   attribute_passes (item.Number n) h = refl
   attribute_passes (item.Operation o) h = refl
   attribute_passes (item.Transaction number parts) h = transaction_passes parts
-  attribute_passes (item.ResponseCodes responses) h = alone h
-  attribute_passes (item.Items entries) h = alone h
-  attribute_passes (item.Members members) h = alone h
-  attribute_passes (item.Elements all) h = alone h
   attribute_passes (item.Definition body) h = refl
+  attribute_passes _ h = alone h
 
   attributes_pass : (attributes : List (Attribute Target))
       → list_all (λ a. list_all test (attribute_strings a)) attributes ≡ true

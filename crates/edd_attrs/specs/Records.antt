@@ -41,15 +41,12 @@ validity_record valid = Number (pos (bit valid))
 -- the strings that a record names, in their order
 abbrev pub strings_of_record : Record → List words.Words
 strings_of_record (Words w) = w ∷ []
-strings_of_record (Number z) = []
-strings_of_record (Entry item quals) = []
-strings_of_record (DataConst n) = []
-strings_of_record (DataVar v mask quals) = []
 strings_of_record (Enumerator value text help) = text ∷ option_to_list help
 strings_of_record (Response number class text) = text ∷ []
 strings_of_record (Member name item label help) = name
     ∷ (option_to_list label ++ option_to_list help)
 strings_of_record (Element number variable label help) = option_to_list label ++ option_to_list help
+strings_of_record _ = []
 
 -- the strings of records one after the other
 abbrev pub strings_of : List Record → List words.Words

@@ -14,18 +14,7 @@ trees_of_transaction number parts = (attr.Transaction, Transaction number)
 -- the trees of an attribute that is a transaction
 abbrev pub transaction_in : Attribute Target → Option (List Named)
 transaction_in (item.Transaction number parts) = Some (trees_of_transaction number parts)
-transaction_in (item.OneText which c) = None
-transaction_in (item.Class words) = None
-transaction_in (item.Handling c) = None
-transaction_in (item.Validity c) = None
-transaction_in (item.TypeOf word parts) = None
-transaction_in (item.Number n) = None
-transaction_in (item.Operation o) = None
-transaction_in (item.ResponseCodes responses) = None
-transaction_in (item.Items entries) = None
-transaction_in (item.Members members) = None
-transaction_in (item.Elements elements) = None
-transaction_in (item.Definition body) = None
+transaction_in _ = None
 
 -- the tree of one part of a transaction, as a list
 abbrev pub one_part : TransactionPart Target → List Named

@@ -16,29 +16,19 @@ use Rattle.edd_attrs.specs.Trees.{Tree, Texts, Class, Handling, Validity, Expres
 
 -- the texts of all enumerators in a part of a type
 abbrev pub element_texts : TypePart Target → List texts.Text
-element_texts (item.DefaultValue c) = []
-element_texts (item.MinValue c) = []
-element_texts (item.MaxValue c) = []
-element_texts (item.DisplayFormat c) = []
-element_texts (item.EditFormat c) = []
 element_texts (item.Element c) = flat_map enumerator_texts (values_in c)
+element_texts _ = []
 
 -- the strings of all branches
 unfoldable pub tree_strings : Tree → List Words
 tree_strings (Texts c) = strings_of_texts (values_in c)
 tree_strings (Class names) = map name_words names
-tree_strings (Handling c) = []
-tree_strings (Validity c) = []
-tree_strings (Expressions c) = []
 tree_strings (Enumerators parts) = strings_of_texts (flat_map element_texts parts)
-tree_strings (Number n) = []
-tree_strings (Operation o) = []
-tree_strings (Transaction number) = []
-tree_strings (Data all) = []
 tree_strings (ResponseCodes responses) = strings_of_texts (map (λ r. r.text) responses)
 tree_strings (Items entries) = strings_of_texts (flat_map entry_texts (values_of entries))
 tree_strings (Members members) = flat_map member_strings members
 tree_strings (Elements all) = strings_of_texts (flat_map array_element_texts all)
+tree_strings _ = []
 
 -- the strings of the tree of a row, if the row has one
 abbrev pub strings_of_tree : Option Tree → List Words
@@ -53,12 +43,8 @@ strings_at unit ref = strings_of_tree (tree_at unit ref)
 
 -- the nodes of the element that a part of a type may be; an option is an attribute of its own
 abbrev pub element_nodes : TypePart Target → ℕ
-element_nodes (item.DefaultValue c) = 0
-element_nodes (item.MinValue c) = 0
-element_nodes (item.MaxValue c) = 0
-element_nodes (item.DisplayFormat c) = 0
-element_nodes (item.EditFormat c) = 0
 element_nodes (item.Element c) = cond_nodes leaf c
+element_nodes _ = 0
 
 -- a written attribute is a node; a transaction and its number are one together
 unfoldable pub tree_nodes : Tree → ℕ

@@ -67,12 +67,8 @@ module _ {V : Type 0} (of : V → Block → Type 0) where
 -- the elements of a type's list, in all of its parts
 abbrev pub elements : List (TypePart Target) → Conds Target item.Enumerator
 elements [] = Nil
-elements (item.DefaultValue c ∷ rest) = elements rest
-elements (item.MinValue c ∷ rest) = elements rest
-elements (item.MaxValue c ∷ rest) = elements rest
-elements (item.DisplayFormat c ∷ rest) = elements rest
-elements (item.EditFormat c ∷ rest) = elements rest
 elements (item.Element first ∷ rest) = Cons first (elements rest)
+elements (_ ∷ rest) = elements rest
 
 -- the value of an expression as a record
 abbrev pub IsValueBlock : Expr Target → Block → Type 0

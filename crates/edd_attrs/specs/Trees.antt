@@ -11,7 +11,7 @@ use Rattle.edd_syntax.specs.Expression.{Expr}
 use Rattle.edd_syntax.specs.Conditional.{Cond, Conds}
 use Rattle.edd_syntax.specs.Item as item
 use Rattle.edd_syntax.specs.Item.{DataItem, MenuEntry, TypePart, TransactionPart, Attribute, Item, Description}
-use Rattle.edd_syntax.specs.Numbers.{same_attr, text_attr}
+use Rattle.edd_syntax.specs.Numbers.{same_attr, text_attr, number_attr, format_attr}
 use Rattle.edd_syntax.specs.Device.{item_at}
 use Rattle.edd_syntax.specs.Attributes.{is_of_transaction}
 
@@ -39,11 +39,8 @@ Named = Attr × Tree
 
 -- an option of a type; an element has no tree of its own
 abbrev pub trees_of_part : TypePart Target → List Named
-trees_of_part (item.DefaultValue c) = (attr.DefaultValue, Expressions c) ∷ []
-trees_of_part (item.MinValue c) = (attr.MinValue, Expressions c) ∷ []
-trees_of_part (item.MaxValue c) = (attr.MaxValue, Expressions c) ∷ []
-trees_of_part (item.DisplayFormat c) = (attr.DisplayFormat, Texts c) ∷ []
-trees_of_part (item.EditFormat c) = (attr.EditFormat, Texts c) ∷ []
+trees_of_part (item.OneNumber which c) = (number_attr which, Expressions c) ∷ []
+trees_of_part (item.OneFormat which c) = (format_attr which, Texts c) ∷ []
 trees_of_part (item.Element c) = []
 
 -- the options of a type

@@ -124,21 +124,13 @@ enumerator_strings e = strings_of_record (enumerator e)
 
 -- the strings of the enumerators in a part of a type
 abbrev pub element_strings : TypePart Target → List Words
-element_strings (item.DefaultValue c) = []
-element_strings (item.MinValue c) = []
-element_strings (item.MaxValue c) = []
-element_strings (item.DisplayFormat c) = []
-element_strings (item.EditFormat c) = []
 element_strings (item.Element c) = cond_strings enumerator_strings c
+element_strings _ = []
 
 -- lowering can take the enumerators in a part of a type
 abbrev pub is_kept_part : TypePart Target → Bool
-is_kept_part (item.DefaultValue c) = true
-is_kept_part (item.MinValue c) = true
-is_kept_part (item.MaxValue c) = true
-is_kept_part (item.DisplayFormat c) = true
-is_kept_part (item.EditFormat c) = true
 is_kept_part (item.Element c) = list_all kept_enumerator (values_in c)
+is_kept_part _ = true
 
 -- the table and the code stay as they are
 abbrev pub WritesNothing : (old : List Words) (before : List ℕ) (new : List Words) (after : List ℕ)
@@ -148,11 +140,8 @@ WritesNothing old before new after = (new ≡ old) × (after ≡ before)
 -- a part that is no element gives nothing
 abbrev pub WritesPart : (old : List Words) (before : List ℕ) → TypePart Target
     → (new : List Words) (after : List ℕ) → Type 0
-WritesPart old before (item.DefaultValue c) new after = WritesNothing old before new after
-WritesPart old before (item.MinValue c) new after = WritesNothing old before new after
-WritesPart old before (item.MaxValue c) new after = WritesNothing old before new after
-WritesPart old before (item.DisplayFormat c) new after = WritesNothing old before new after
-WritesPart old before (item.EditFormat c) new after = WritesNothing old before new after
+WritesPart old before (item.OneNumber which c) new after = WritesNothing old before new after
+WritesPart old before (item.OneFormat which c) new after = WritesNothing old before new after
 WritesPart old before (item.Element c) new after =
     WritesBlock old before (cond_strings enumerator_strings c)
     (λ numbered b. IsCondBlock (Giving numbered enumerator) c b) new after

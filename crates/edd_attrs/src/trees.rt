@@ -41,11 +41,8 @@ fn tree_of_part<'a>(part: &'a TypePart<Target>, attr: Attr) -> Option<Tree<'a>>
         ≡ trees.first_tree attr (trees.trees_of_part (numbered_type_part part.now)) }
 {
     let (of, tree) = match part {
-        TypePart::DefaultValue { value, .. } => (Attr::DefaultValue, Tree::Expressions(value)),
-        TypePart::MinValue { value, .. } => (Attr::MinValue, Tree::Expressions(value)),
-        TypePart::MaxValue { value, .. } => (Attr::MaxValue, Tree::Expressions(value)),
-        TypePart::DisplayFormat { format, .. } => (Attr::DisplayFormat, Tree::Texts(format)),
-        TypePart::EditFormat { format, .. } => (Attr::EditFormat, Tree::Texts(format)),
+        TypePart::OneNumber { which, value, .. } => (which.attr(), Tree::Expressions(value)),
+        TypePart::OneFormat { which, format, .. } => (which.attr(), Tree::Texts(format)),
         TypePart::Element(_) => return None,
     };
     if of == attr { Some(tree) } else { None }

@@ -6,10 +6,13 @@ use Rattle.edd_lexer.specs.declared.token.TokenKind.{TokenKind}
 use Rattle.edd_lexer.specs.declared.token.TokenKind.TheVariants as kind
 use Rattle.edd_reports.specs.declared.words.Span.{Span}
 use Rattle.edd_syntax.specs.declared.item.Item.{Item}
+use Rattle.edd_syntax.specs.declared.numbers.Kind.TheVariants as item_kind
 use Rattle.edd_syntax.specs.declared.numbers.TokenNo.{TokenNo}
 use Rattle.edd_syntax.specs.declared.operators.Comparison.TheVariants as comparison
 use Rattle.edd_syntax.specs.declared.reference.Path.{Path}
 use Rattle.edd_syntax.specs.declared.symbols.Symbol.TheVariants as sign
+use Rattle.edd_syntax.specs.Item.{kind_of_item}
+use Rattle.edd_syntax.specs.ItemView.{sort_of}
 use Rattle.edd_syntax.specs.Places.{name_at}
 use Rattle.edd_syntax.specs.Refusal as refusal
 use Rattle.edd_syntax.specs.Refusal.{Refusal}
@@ -35,6 +38,11 @@ span_at tokens number = option_map bytes_of (slice_get tokens number)
 abbrev pub is_dot : TokenKind → Bool
 is_dot (kind.Symbol sign.Dot) = true
 is_dot _ = false
+
+-- `,`
+abbrev pub is_comma : TokenKind → Bool
+is_comma (kind.Symbol sign.Comma) = true
+is_comma _ = false
 
 -- `<`
 abbrev pub is_less : TokenKind → Bool
@@ -68,21 +76,31 @@ abbrev pub IsAround : List (Item Path) → (at index : ℕ) → Item Path → Ty
 IsAround items at index item = (slice_get items index ≡ Some item) × ((name_at item).0 < at)
     × IfSome (slice_get items (index + 1)) (λ next. at ≤ (name_at next).0)
 
--- both tokens are in one item
-abbrev pub AreInOneItem : List (Item Path) → (one other : ℕ) → Type 0
-AreInOneItem items one other = (index : ℕ) × (item : Item Path)
-    × IsAround items one index item × IsAround items other index item
+-- a collection
+abbrev pub IsCollection : Item Path → Type 0
+IsCollection item = kind_of_item (sort_of item) ≡ item_kind.Collection
 
--- at the token before the name of the item around a token, as the kind of a collection's members is
+-- this collection has a member that names what stands at a token: that is behind a comma
+abbrev pub IsNamedIn : UnitText → (at index : ℕ) → Item Path → Type 0
+IsNamedIn u at index item = IsAround u.items at index item × IsCollection item
+    × IfSome (slice_get u.tokens (at - 1)) (λ before. is_comma before.kind ≡ true)
+
+-- members of one collection name what stands at both tokens
+abbrev pub AreInOneCollection : UnitText → (one other : ℕ) → Type 0
+AreInOneCollection u one other = (index : ℕ) × (item : Item Path) × IsNamedIn u one index item
+    × IsNamedIn u other index item
+
+-- what a member of a collection names is shown at the kind of its members, which stands before the
+-- collection's name
 abbrev pub IsAtKind : UnitText → (at : ℕ) → Option Span → Type 0
-IsAtKind u at place = (index : ℕ) × (item : Item Path) × IsAround u.items at index item
+IsAtKind u at place = (index : ℕ) × (item : Item Path) × IsNamedIn u at index item
     × (place ≡ span_at u.tokens ((name_at item).0 - 1))
 
 -- ---- breaches
 
 -- Where a rule that is broken at a token is shown: a type at its word, which follows TYPE, or at
--- its size behind the word and a sign; a data item at its mask; what is of another kind also before
--- the name of its item.
+-- its size behind the word and a sign; a data item at its mask; what a member of a collection names also
+-- at the kind of all members.
 abbrev pub IsShownFor : UnitText → Refusal → (at : ℕ) → Option Span → Type 0
 IsShownFor u (refusal.FloatVariable name) at place = place ≡ span_at u.tokens (at + 1)
 IsShownFor u (refusal.OtherType name word) at place = place ≡ span_at u.tokens (at + 1)
@@ -100,7 +118,7 @@ IsShownIf u why (Some at) place = IsShownFor u why at.0 place
 abbrev pub IsShownAt : UnitText → Told → Option Span → Type 0
 IsShownAt u t place = IsShownIf u t.refusal t.place place
 
--- something of another kind is told, at a token in the item with this number
+-- a member of this collection is told to name something of another kind
 abbrev pub IsOtherKindIn : UnitText → Told → (index : ℕ) → Item Path → Type 0
 IsOtherKindIn u t index item = (name : Name) × (at : TokenNo)
-    × (t ≡ told_at (refusal.WrongKind name) at) × IsAround u.items at.0 index item
+    × (t ≡ told_at (refusal.WrongKind name) at) × IsNamedIn u at.0 index item

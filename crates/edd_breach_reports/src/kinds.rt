@@ -9,10 +9,8 @@ ghost use Rattle.edd_breach_reports.specs.Refusals.{text_of};
 use crate::sources::Source;
 use edd_breaches::{Breach, Rule};
 use edd_reports::diagnostic::Diagnostic;
-use edd_reports::words::is_sign;
 use edd_syntax::item::{Attribute, Item};
 use edd_syntax::reference::Path;
-use edd_syntax::symbols::Symbol;
 use indexmap::IndexMap;
 use std::alloc::{AllocError, Global};
 
@@ -31,7 +29,7 @@ pub struct OtherKinds {
     collections: IndexMap<usize, Members>,
 }
 
-// The collection in which a member of another kind is. What a member names stands behind a comma.
+// The collection in which a member of another kind is, with its number.
 fn collection_of<'a>(source: &Source<'a>, breach: &Breach<'_>) -> Option<(usize, &'a Item<Path>)>
     ensures { IfSome result (λ found. IsOtherKindIn (text_of source.now) (told_of breach.now)
         found.0 found.1.now) }
@@ -39,11 +37,8 @@ fn collection_of<'a>(source: &Source<'a>, breach: &Breach<'_>) -> Option<(usize,
     let (Rule::WrongKind(_), Some(at)) = (breach.rule, breach.place) else {
         return None;
     };
-    let place = at.0 as usize;
-    let (index, item) = source.around(place)?;
-    let is_member = matches!(item, Item::Collection(_))
-        && is_sign(source.tokens(), place.saturating_sub(1), Symbol::Comma);
-    if is_member { Some((index, item)) } else { None }
+    let (index, item) = source.collection_around(at.0 as usize)?;
+    Some((index, item))
 }
 
 // How many members a collection has.

@@ -7,9 +7,10 @@ use edd_reports::diagnostic::Diagnostic;
 use edd_reports::nearest::Nearest;
 use edd_reports::words::{is_sign, kind_word};
 use edd_slips::help_of_left_out;
-use edd_syntax::item::Item;
+use edd_syntax::item::{Item, ItemKind};
 use edd_syntax::numbers::Kind;
 use edd_syntax::operators::{Builtin, Parameter};
+use edd_syntax::reference::Path;
 use edd_syntax::symbols::Symbol;
 use std::alloc::{AllocError, Global};
 
@@ -111,8 +112,8 @@ fn kind_wanted(source: &Source<'_>, number: usize) -> Option<Kind> {
             _ => None,
         };
     }
-    match source.around(number) {
-        Some((_, Item::Collection(collection))) => Some(collection.of),
+    match source.around(number).map(|found| found.1.sort) {
+        Some(ItemKind::Collection(of)) => Some(of),
         _ => Some(Kind::Variable),
     }
 }
@@ -177,6 +178,44 @@ fn help_declare(
     }
 }
 
+// What is said of an item that is named where it means nothing.
+fn item_help(
+    alloc: Global,
+    source: &Source<'_>,
+    item: &Item<Path>,
+    number: usize,
+) -> Result<String, AllocError> {
+    let name = item.name();
+    let next = number.saturating_add(1);
+    let is_called = is_sign(source.tokens(), next, Symbol::OpenParenthesis);
+    match item.kind() {
+        Kind::Method if parameter_at(source, number).is_some() => format!(in alloc;
+            "a METHOD is named here without parentheses; {name} is declared"
+        ),
+        Kind::Method => format!(in alloc;
+            "{name} is a METHOD, which no method calls; it is declared"
+        ),
+        Kind::Array if is_called => format!(in alloc;
+            "an element of an ARRAY is read as {name}[..]; {name} is declared"
+        ),
+        kind if is_called => {
+            let kind = named_kind(kind);
+            format!(in alloc; "{name} is {kind} and no function; it is declared")
+        }
+        _ => format!(in alloc; "{name} means nothing here, but is declared"),
+    }
+}
+
+// How a function is called.
+fn function_help(alloc: Global, function: Builtin) -> Result<String, AllocError> {
+    let name = function.name();
+    if function.parameters().is_empty() {
+        format!(in alloc; "a function is called with parentheses: {name}();")
+    } else {
+        format!(in alloc; "{name} is a function: its arguments stand in ( )")
+    }
+}
+
 // What helps where a name is one of a method, of a function or of something elsewhere.
 fn help_known(
     alloc: Global,
@@ -187,29 +226,9 @@ fn help_known(
 ) -> Result<bool, AllocError>
     ensures kept { found.new.finding ≡ found.old.finding }
 {
-    let is_called = is_sign(
-        source.tokens(),
-        number.saturating_add(1),
-        Symbol::OpenParenthesis,
-    );
     if let Some(item) = source.item(name) {
-        let text = match item.kind() {
-            Kind::Method if parameter_at(source, number).is_some() => format!(in alloc;
-                "a METHOD is named here without parentheses; {name} is declared"
-            )?,
-            Kind::Method => format!(in alloc;
-                "{name} is a METHOD, which no method calls; it is declared"
-            )?,
-            Kind::Array if is_called => format!(in alloc;
-                "an element of an ARRAY is read as {name}[..]; {name} is declared"
-            )?,
-            kind if is_called => {
-                let kind = named_kind(kind);
-                format!(in alloc; "{name} is {kind} and no function; it is declared")?
-            }
-            _ => format!(in alloc; "{name} means nothing here, but is declared")?,
-        };
-        found.help_at(source.span(item.at().0 as usize), text)?;
+        let place = source.span(item.at().0 as usize);
+        found.help_at(place, item_help(alloc, source, item, number)?)?;
         return Ok(true);
     }
     if let Some(declared) = source.declared(name) {
@@ -224,13 +243,7 @@ fn help_known(
     let Some(function) = Builtin::named(name) else {
         return Ok(false);
     };
-    let name = function.name();
-    let text = if function.parameters().is_empty() {
-        format!(in alloc; "a function is called with parentheses: {name}();")?
-    } else {
-        format!(in alloc; "{name} is a function: its arguments stand in ( )")?
-    };
-    found.help(text)?;
+    found.help(function_help(alloc, function)?)?;
     Ok(true)
 }
 

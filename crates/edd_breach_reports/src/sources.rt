@@ -1,7 +1,7 @@
 //! A text that breaks rules, and the names that it declares.
 
-ghost use Rattle.std.specs.Prelude.{◌≡◌, ◌<◌, ◌≤◌, Some, IfOk, IfSome, IsNone, IsTrue, slice_get};
-ghost use Rattle.edd_breach_reports.specs.Places.{AreInOneItem, IsAround, span_at};
+ghost use Rattle.std.specs.Prelude.{◌≡◌, ◌<◌, ◌≤◌, ◌-◌, true, Some, IfOk, IfSome, IsNone, IsTrue, slice_get};
+ghost use Rattle.edd_breach_reports.specs.Places.{AreInOneCollection, IsAround, IsNamedIn, is_comma, span_at};
 ghost use Rattle.edd_breach_reports.specs.Refusals.{lines_of, text_of};
 ghost use Rattle.edd_syntax.specs.Places.{name_at};
 
@@ -11,7 +11,7 @@ use edd_reports::nearest::Nearest;
 use edd_reports::outline::{Outline, declares};
 use edd_reports::words::{Span, is_sign, span_of, word_of};
 use edd_syntax::item::{Attribute, Item};
-use edd_syntax::numbers::TokenNo;
+use edd_syntax::numbers::{Kind, TokenNo};
 use edd_syntax::operators::BUILTINS;
 use edd_syntax::reference::Path;
 use edd_syntax::symbols::Symbol;
@@ -119,6 +119,7 @@ impl<'a> Source<'a> {
         line_of(self.text, self.tokens, at)
     }
 
+    /// The bytes of a token; none where there is no token of this number.
     pub fn word(&self, number: usize) -> &'a str {
         word_at(self.text, self.tokens, number)
     }
@@ -170,11 +171,37 @@ impl<'a> Source<'a> {
         Some((index, item))
     }
 
-    /// Whether two tokens are in one item.
-    pub fn are_in_one_item(&self, one: usize, other: usize) -> bool
-        ensures { IsTrue result → AreInOneItem (text_of self.now).items one other }
+    // Whether a token is behind a comma.
+    fn is_behind_comma(&self, number: usize) -> bool
+        ensures { IsTrue result → IfSome (slice_get (text_of self.now).tokens (number - 1))
+            (λ before. is_comma before.kind ≡ true) }
     {
-        match (self.around(one), self.around(other)) {
+        let before = number.saturating_sub(1);
+        if before < self.tokens.len() {
+            let token = &self.tokens[before];
+            return matches!(token.kind, TokenKind::Symbol(Symbol::Comma));
+        }
+        false
+    }
+
+    /// The collection of which a member names what stands at a token, with its number.
+    pub fn collection_around(&self, number: usize) -> Option<(usize, &'a Item<Path>)>
+        ensures { IfSome result
+            (λ found. IsNamedIn (text_of self.now) number found.0 found.1.now) }
+    {
+        let (index, item) = self.around(number)?;
+        if item.kind() == Kind::Collection && self.is_behind_comma(number) {
+            Some((index, item))
+        } else {
+            None
+        }
+    }
+
+    /// Whether members of one collection name what stands at both tokens.
+    pub fn are_in_one_collection(&self, one: usize, other: usize) -> bool
+        ensures { IsTrue result → AreInOneCollection (text_of self.now) one other }
+    {
+        match (self.collection_around(one), self.collection_around(other)) {
             (Some((first, _)), Some((second, _))) => first == second,
             _ => false,
         }
@@ -190,6 +217,7 @@ impl<'a> Source<'a> {
         matches!(around, Some(Attribute::Definition(..)))
     }
 
+    /// The tokens of the text.
     pub fn tokens(&self) -> &'a [Token]
         ensures { result.now ≡ (text_of self.now).tokens }
     {

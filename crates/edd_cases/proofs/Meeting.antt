@@ -29,18 +29,7 @@ whole_met : (s : Says) (expected printed : List (List ℕ))
 whole_met (says.Whole text) expected [] = refl
 whole_met (says.Whole text) expected (line ∷ printed) = same_first text.now line expected printed
 whole_met says.Nothing expected printed = refl
-whole_met (says.Test x) expected printed = refl
-whole_met (says.Source x) expected printed = refl
-whole_met (says.Image x) expected printed = refl
-whole_met (says.Device x) expected printed = refl
-whole_met (says.Language x) expected printed = refl
-whole_met (says.Method x) expected printed = refl
-whole_met says.Show expected printed = refl
-whole_met says.Open expected printed = refl
-whole_met (says.Steps x) expected printed = refl
-whole_met (says.Script x) expected printed = refl
-whole_met (says.Typed x) expected printed = refl
-whole_met (says.Part x) expected printed = refl
+whole_met _ expected printed = refl
 
 part_met : (s : Says) (expected printed : List (List ℕ))
     → holds (cons_option (part s) expected) printed ≡ elim (past form.Parts s printed) [
@@ -48,19 +37,7 @@ part_met : (s : Says) (expected printed : List (List ℕ))
       | Some rest ↦ holds expected rest
     ]
 part_met (says.Part text) expected printed = refl
-part_met says.Nothing expected printed = refl
-part_met (says.Test x) expected printed = refl
-part_met (says.Source x) expected printed = refl
-part_met (says.Image x) expected printed = refl
-part_met (says.Device x) expected printed = refl
-part_met (says.Language x) expected printed = refl
-part_met (says.Method x) expected printed = refl
-part_met says.Show expected printed = refl
-part_met says.Open expected printed = refl
-part_met (says.Steps x) expected printed = refl
-part_met (says.Script x) expected printed = refl
-part_met (says.Typed x) expected printed = refl
-part_met (says.Whole x) expected printed = refl
+part_met _ expected printed = refl
 
 pub first_line_met : (f : Form) (line : Line) (lines : List Line) (printed : List (List ℕ))
     → passes f (line ∷ lines) printed ≡ elim (past f line.says printed) [

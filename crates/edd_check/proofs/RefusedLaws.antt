@@ -28,27 +28,18 @@ module _ (text words : List ℕ) (said : Reports) where
   no_rule : (why : Fault) → why ≢ fault.Memory → Explains text why
       → ((unit : Description Path) → IsUnitOf text unit → why ≡ fault.Memory)
       → SaysRest text words why said
-  no_rule (fault.Lex e) other explains memory = tt
-  no_rule (fault.Parse e) other explains memory = tt
   no_rule (fault.Rule e) other explains memory =
       let unit = has_unit (refusal_of_fault e) explains in absurd (other (memory unit.0 unit.1))
-  no_rule fault.TooManyStrings other explains memory = tt
-  no_rule fault.Memory other explains memory = tt
+  no_rule _ other explains memory = tt
 
   -- a description whose image can't be written breaks none
   over_rule : (over : Type 0) (why : Fault) → IsOfLowering over why → SaysRest text words why said
-  over_rule over (fault.Lex e) is = tt
-  over_rule over (fault.Parse e) is = tt
   over_rule over (fault.Rule e) is = absurd is
-  over_rule over fault.TooManyStrings is = tt
-  over_rule over fault.Memory is = tt
+  over_rule over _ is = tt
 
   all_rules : (why : Fault) → SaysRules text words said → SaysRest text words why said
-  all_rules (fault.Lex e) says = tt
-  all_rules (fault.Parse e) says = tt
   all_rules (fault.Rule e) says = says
-  all_rules fault.TooManyStrings says = tt
-  all_rules fault.Memory says = tt
+  all_rules _ says = tt
 
   pub refused_before : (why : Fault) → why ≢ fault.Memory → Explains text why
       → ((unit : Description Path) → IsUnitOf text unit → why ≡ fault.Memory)

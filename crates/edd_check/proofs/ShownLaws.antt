@@ -12,18 +12,16 @@ use Rattle.edd_check.specs.Said.{BeginsWith}
 use Rattle.edd_check.specs.Shown.{Begins, IsAlone, Repeats, RepeatsOne, Says, SaysFirst, SaysNext, State, has_room}
 use Rattle.edd_check.proofs.SaidLaws.{begins_more}
 use Rattle.edd_reports.specs.declared.diagnostic.Diagnostic.{Diagnostic}
-use Rattle.edd_syntax.specs.declared.item.Item.{Item}
-use Rattle.edd_syntax.specs.declared.reference.Path.{Path}
 
 -- one before it, by its number, says it already
-pub repeats_at : (items : List (Item Path)) (before : List Breach) (number : ℕ) (earlier : Breach)
+pub repeats_at : (u : UnitText) (before : List Breach) (number : ℕ) (earlier : Breach)
     (t : Told) → number < length before → earlier ≡ get_or before number earlier
-    → Repeats items (told_of earlier) t → RepeatsOne items (map told_of before) t
-repeats_at items [] number earlier t here is repeats = absurd (omega arith)
-repeats_at items (b ∷ rest) zero earlier t here is repeats =
-    inl (subst (λ x. Repeats items (told_of x) t) is repeats)
-repeats_at items (b ∷ rest) (suc number) earlier t here is repeats =
-    inr (repeats_at items rest number earlier t (omega arith) is repeats)
+    → Repeats u (told_of earlier) t → RepeatsOne u (map told_of before) t
+repeats_at u [] number earlier t here is repeats = absurd (omega arith)
+repeats_at u (b ∷ rest) zero earlier t here is repeats =
+    inl (subst (λ x. Repeats u (told_of x) t) is repeats)
+repeats_at u (b ∷ rest) (suc number) earlier t here is repeats =
+    inr (repeats_at u rest number earlier t (omega arith) is repeats)
 
 pub on_ok : {T E : Type 0} (r : Result T E) (P Q : Type 0) → (P → Q) → OnOk r P → OnOk r Q
 on_ok (Ok t) P Q w h = w h

@@ -1,37 +1,35 @@
 -- What is shown of the broken rules that are told.
 use Rattle.std.specs.Prelude.{◌≡◌, ◌⊎◌, ℕ, ◌+◌, ◌-◌, ◌^◌, min, Bool, true, false, nat_lt, List, [], ◌∷◌, ◌++◌, length, Option, Some}
-use Rattle.edd_breach_reports.specs.Places.{AreInOneItem, UnitText}
+use Rattle.edd_breach_reports.specs.Places.{AreInOneCollection, UnitText}
 use Rattle.edd_breach_reports.specs.Refusals.{IsRefusal, IsToldOf, words_in}
 use Rattle.edd_breaches.specs.Told.{Told}
 use Rattle.edd_check.specs.declared.reports.Reports.{Reports}
 use Rattle.edd_reports.specs.declared.diagnostic.Diagnostic.{Diagnostic}
-use Rattle.edd_syntax.specs.declared.item.Item.{Item}
 use Rattle.edd_syntax.specs.declared.numbers.TokenNo.{TokenNo}
-use Rattle.edd_syntax.specs.declared.reference.Path.{Path}
 use Rattle.edd_syntax.specs.Refusal.{Refusal, UnknownName, WrongKind}
 
 -- ---- what is said already
 
--- both are at tokens of one item
-abbrev pub AreTogether : List (Item Path) → (one other : Option TokenNo) → Type 0
-AreTogether items (Some one) (Some other) = AreInOneItem items one.0 other.0
-AreTogether items _ _ = ⊥
+-- members of one collection name what stands at both
+abbrev pub AreTogether : UnitText → (one other : Option TokenNo) → Type 0
+AreTogether u (Some one) (Some other) = AreInOneCollection u one.0 other.0
+AreTogether u _ _ = ⊥
 
--- both say the same: that nothing has a name, or of one item that something in it is of another kind
-abbrev pub SaySame : List (Item Path) → (earlier later : Refusal) → (one other : Option TokenNo)
-    → Type 0
-SaySame items (UnknownName a) (UnknownName b) one other = a ≡ b
-SaySame items (WrongKind a) (WrongKind b) one other = AreTogether items one other
-SaySame items _ _ one other = ⊥
+-- both say the same: that nothing has a name, or that members of one collection name something of
+-- another kind
+abbrev pub SaySame : UnitText → (earlier later : Refusal) → (one other : Option TokenNo) → Type 0
+SaySame u (UnknownName a) (UnknownName b) one other = a ≡ b
+SaySame u (WrongKind a) (WrongKind b) one other = AreTogether u one other
+SaySame u _ _ one other = ⊥
 
 -- the later one says what the earlier one said
-abbrev pub Repeats : List (Item Path) → (earlier later : Told) → Type 0
-Repeats items s t = SaySame items s.refusal t.refusal s.place t.place
+abbrev pub Repeats : UnitText → (earlier later : Told) → Type 0
+Repeats u s t = SaySame u s.refusal t.refusal s.place t.place
 
 -- one of these says it already
-abbrev pub RepeatsOne : List (Item Path) → List Told → Told → Type 0
-RepeatsOne items [] t = ⊥
-RepeatsOne items (s ∷ rest) t = Repeats items s t ⊎ RepeatsOne items rest t
+abbrev pub RepeatsOne : UnitText → List Told → Told → Type 0
+RepeatsOne u [] t = ⊥
+RepeatsOne u (s ∷ rest) t = Repeats u s t ⊎ RepeatsOne u rest t
 
 -- ---- what is shown of a text
 
@@ -59,7 +57,7 @@ CountsOne old new = (has_room old ≡ false) × (new.0 ≡ old.0)
 
 -- it is shown or counted, unless one of those before it says it already
 abbrev pub SaysNext : UnitText → (before : List Told) → Told → (old new : State) → Type 0
-SaysNext u before t old new = (RepeatsOne u.items before t × (old ≡ new))
+SaysNext u before t old new = (RepeatsOne u before t × (old ≡ new))
     ⊎ (ShowsOne u t old new ⊎ CountsOne old new)
 
 -- the same of all that is told after those before it, one by one

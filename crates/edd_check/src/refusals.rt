@@ -146,13 +146,16 @@ fn says_first(
 
 // Whether a breach says once more what another one says.
 fn repeats(source: &Source<'_>, earlier: &Breach<'_>, later: &Breach<'_>) -> bool
-    ensures { IsTrue result → Repeats (text_of source.now).items (told_of earlier.now)
+    ensures { IsTrue result → Repeats (text_of source.now) (told_of earlier.now)
         (told_of later.now) }
 {
     match (earlier.rule, later.rule) {
         (Rule::UnknownName(first), Rule::UnknownName(second)) => first == second,
         (Rule::WrongKind(_), Rule::WrongKind(_)) => match (earlier.place, later.place) {
-            (Some(one), Some(other)) => source.are_in_one_item(one.0 as usize, other.0 as usize),
+            (Some(one), Some(other)) => source.are_in_one_collection(
+                one.0 as usize,
+                other.0 as usize,
+            ),
             _ => false,
         },
         _ => false,
@@ -166,7 +169,7 @@ fn is_said(
     noted: &Noted<'_>,
     source: &Source<'_>,
 ) -> bool
-    ensures { IsTrue result → RepeatsOne (text_of source.now).items (map told_of before.now)
+    ensures { IsTrue result → RepeatsOne (text_of source.now) (map told_of before.now)
         (told_of breach.now) }
 {
     let Some(number) = noted.earlier(source, breach) else {

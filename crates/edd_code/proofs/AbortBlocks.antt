@@ -16,16 +16,4 @@ pub is_abort_alone : (number : Words → StrNo) (f : Builtin) → is_abort f ≡
 unfolding method_block call_block
 is_abort_alone number builtin.Abort is = refl
 is_abort_alone number builtin.ProcessAbort is = refl
-is_abort_alone number builtin.PutMessage is = absurd cc
-is_abort_alone number builtin.Acknowledge is = absurd cc
-is_abort_alone number builtin.Delay is = absurd cc
-is_abort_alone number builtin.GetDevVarValue is = absurd cc
-is_abort_alone number builtin.SelectFromList is = absurd cc
-is_abort_alone number builtin.SendCommand is = absurd cc
-is_abort_alone number builtin.SendCommandTrans is = absurd cc
-is_abort_alone number builtin.SaveValues is = absurd cc
-is_abort_alone number builtin.IvarValue is = absurd cc
-is_abort_alone number builtin.LvarValue is = absurd cc
-is_abort_alone number builtin.Iassign is = absurd cc
-is_abort_alone number builtin.Lassign is = absurd cc
-is_abort_alone number builtin.AddAbortMethod is = absurd cc
+is_abort_alone number _ is = absurd cc

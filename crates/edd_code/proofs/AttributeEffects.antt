@@ -8,7 +8,7 @@ use Rattle.edd_instructions.specs.Steps.{Environment}
 use Rattle.edd_code.specs.Blocks.{Block, Nothing, Straight, Then, WhenNotZero, WhenZero, Either, Match}
 use Rattle.edd_code.specs.Outcomes as attribute
 use Rattle.edd_code.specs.BlockEffects as blocks
-use Rattle.edd_code.specs.BlockEffects.{Outcome, Goes, Stops, Stuck, and_then}
+use Rattle.edd_code.specs.BlockEffects.{Outcome, Goes, and_then}
 use Rattle.edd_code.specs.AttributeEffects.{after_records, does}
 
 behind_both : (given records : List Record) (o : attribute.Outcome)
@@ -16,8 +16,7 @@ behind_both : (given records : List Record) (o : attribute.Outcome)
     ≡ after_records given (attribute.after_records records o)
 behind_both given records (attribute.Goes more operands) =
     ap (λ (rs : List Record). Goes operands rs) (append_assoc given records more)
-behind_both given records (attribute.Traps why) = refl
-behind_both given records attribute.Stuck = refl
+behind_both given records _ = refl
 
 both : (given : List Record) (o : attribute.Outcome) (next : List ℤ → attribute.Outcome)
     (then : List ℤ → List Record → Outcome (List Record) Trap)
@@ -25,8 +24,7 @@ both : (given : List Record) (o : attribute.Outcome) (next : List ℤ → attrib
     → and_then (after_records given o) then ≡ after_records given (attribute.and_then o next)
 both given (attribute.Goes records operands) next then same = same operands (given ++ records)
     ∙ behind_both given records (next operands)
-both given (attribute.Traps why) next then same = refl
-both given attribute.Stuck next then same = refl
+both given _ next then same = refl
 
 tested : (b : Bool) (given : List Record) (o p : attribute.Outcome)
     (x y : Outcome (List Record) Trap) → x ≡ after_records given o → y ≡ after_records given p

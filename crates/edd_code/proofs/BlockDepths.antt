@@ -22,8 +22,6 @@ until_behind place x here behind h =
 
 -- the number of operands at a place x inside a block at a place p, with d in front of the block
 abbrev pub depth_in : Block → (p d x : ℕ) → ℕ
-depth_in Nothing p d x = d
-depth_in (Straight i) p d x = d
 depth_in (Then first second) p d x = until (p + size first) x (depth_in first p d x)
     (depth_in second (p + size first) (depth_after first d) x)
 depth_in (WhenNotZero body) p d x = until (p + 5) x d (depth_in body (p + 5) (d - 1) x)
@@ -36,6 +34,7 @@ depth_in (Match label body rest) p d x =
     until (p + 13) x d (until (p + (13 + size rest)) x (depth_in rest (p + 13) d x)
     (until (p + (13 + (size rest + 5))) x (depth_after rest d)
     (depth_in body (p + (13 + (size rest + 5))) (d - 1) x)))
+depth_in _ p d x = d
 
 module _ (depth : ℕ → ℕ) where
   -- these are the numbers of operands at the places of a block
@@ -59,10 +58,7 @@ module _ (depth : ℕ → ℕ) where
   at_front p d Nothing h = h
   at_front p d (Straight i) h = h
   at_front p d (Then first second) h = at_front p d first h.0
-  at_front p d (WhenNotZero body) h = h.0
-  at_front p d (WhenZero body) h = h.0
-  at_front p d (Either first otherwise) h = h.0
-  at_front p d (Match label body rest) h = h.0
+  at_front p d _ h = h.0
 
 module _ (version : Version) (sort : Sort) (depth : ℕ → ℕ) where
   abbrev Agrees : (p d : ℕ) → Block → Type 0

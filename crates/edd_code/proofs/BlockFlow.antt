@@ -119,11 +119,7 @@ no_value_runs d few = push_runs (instruction.Push 0) d refl refl refl few
 
 item_runs : (i : ItemNo) (d : ℕ) → d ≤ 128 → Runs (item_block i) d (suc d)
 item_runs (item_no.Variable v) d few = push_runs (instruction.Variable v) d refl refl refl few
-item_runs (item_no.Command n) d few = no_value_runs d few
-item_runs (item_no.Menu n) d few = no_value_runs d few
-item_runs (item_no.Collection n) d few = no_value_runs d few
-item_runs (item_no.Method n) d few = no_value_runs d few
-item_runs (item_no.Array n) d few = no_value_runs d few
+item_runs _ d few = no_value_runs d few
 
 no_element_runs : (d : ℕ) → suc d ≤ 128 → Runs no_element (suc d) (suc d)
 no_element_runs d few = then_runs (Straight instruction.Pop) no_value (suc d) d (suc d)
@@ -133,16 +129,11 @@ item_element_runs : (i : ItemNo) (d : ℕ) → suc d ≤ 128
     → Runs (item_element_block i) (suc d) (suc d)
 item_element_runs (item_no.Array n) d few = change_runs (instruction.ReadElement n) d refl refl refl
     few
-item_element_runs (item_no.Variable v) d few = no_element_runs d few
-item_element_runs (item_no.Command n) d few = no_element_runs d few
-item_element_runs (item_no.Menu n) d few = no_element_runs d few
-item_element_runs (item_no.Collection n) d few = no_element_runs d few
-item_element_runs (item_no.Method n) d few = no_element_runs d few
+item_element_runs _ d few = no_element_runs d few
 
 pub element_runs : (t : Target) (d : ℕ) → suc d ≤ 128 → Runs (element_block t) (suc d) (suc d)
 element_runs (Item i) d few = item_element_runs i d few
-element_runs (Local slot) d few = no_element_runs d few
-element_runs (Function f) d few = no_element_runs d few
+element_runs _ d few = no_element_runs d few
 
 pub read_runs : (t : Target) (d : ℕ) → d ≤ 128 → Runs (load_block t) d (suc d)
 read_runs (Local slot) d few = push_runs (instruction.GetLocal slot) d refl refl refl few
@@ -151,11 +142,7 @@ read_runs (Function f) d few = no_value_runs d few
 
 store_item_runs : (i : ItemNo) (d : ℕ) → suc d ≤ 128 → Runs (store_item_block i) (suc d) (suc d)
 store_item_runs (item_no.Variable v) d few = change_runs (instruction.Store v) d refl refl refl few
-store_item_runs (item_no.Command n) d few = nothing_runs (suc d)
-store_item_runs (item_no.Menu n) d few = nothing_runs (suc d)
-store_item_runs (item_no.Collection n) d few = nothing_runs (suc d)
-store_item_runs (item_no.Method n) d few = nothing_runs (suc d)
-store_item_runs (item_no.Array n) d few = nothing_runs (suc d)
+store_item_runs _ d few = nothing_runs (suc d)
 
 pub store_runs : (t : Target) (d : ℕ) → suc d ≤ 128 → Runs (store_block t) (suc d) (suc d)
 store_runs (Local slot) d few = change_runs (instruction.SetLocal slot) d refl refl refl few

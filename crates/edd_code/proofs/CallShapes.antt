@@ -8,7 +8,7 @@ use Rattle.edd_syntax.specs.declared.numbers.MethNo.{MethNo}
 use Rattle.edd_syntax.specs.declared.operators.Builtin.TheVariants as builtin
 use Rattle.edd_syntax.specs.declared.reference.Target.{Target}
 use Rattle.edd_syntax.specs.declared.reference.Target.TheVariants.{Local, Item, Function}
-use Rattle.edd_syntax.specs.Expression.{Expr, Literal, Decimal, Reference, Indexed, Parentheses, Unary, Binary, Compare, LogicalAnd, LogicalOr, Conditional, Assign, CompoundAssign, Increment, Call, Argument, Text, Value, Arguments, Nil, Cons}
+use Rattle.edd_syntax.specs.Expression.{Expr, Literal, Reference, Argument, Text, Value, Arguments, Nil, Cons}
 use Rattle.edd_syntax.specs.Text as texts
 use Rattle.edd_syntax.specs.Words.{Words}
 use Rattle.edd_instructions.specs.declared.instruction.Ask.TheVariants as ask
@@ -30,20 +30,7 @@ value_is (Value f) e h = cc
 target_is : (x : Argument Target) (to : Target) → as_target x ≡ Some to → x ≡ Value (Reference to)
 target_is (Text t) to h = absurd cc
 target_is (Value (Reference from)) to h = cc
-target_is (Value (Literal value)) to h = absurd cc
-target_is (Value (Decimal)) to h = absurd cc
-target_is (Value (Parentheses inner)) to h = absurd cc
-target_is (Value (Indexed array index)) to h = absurd cc
-target_is (Value (Unary op operand)) to h = absurd cc
-target_is (Value (Binary op left right)) to h = absurd cc
-target_is (Value (Compare by left right)) to h = absurd cc
-target_is (Value (LogicalAnd left right)) to h = absurd cc
-target_is (Value (LogicalOr left right)) to h = absurd cc
-target_is (Value (Conditional test first second)) to h = absurd cc
-target_is (Value (Assign place value)) to h = absurd cc
-target_is (Value (CompoundAssign op place value)) to h = absurd cc
-target_is (Value (Increment op place)) to h = absurd cc
-target_is (Value (Call function arguments)) to h = absurd cc
+target_is (Value _) to h = absurd cc
 
 variable_is : (x : Argument Target) (v : VarNo) → as_variable x ≡ Some v
     → x ≡ Value (Reference (Item (item_no.Variable v)))
@@ -57,19 +44,7 @@ variable_is (Value (Reference (Item (item_no.Array n)))) v h = absurd cc
 variable_is (Value (Reference (Local slot))) v h = absurd cc
 variable_is (Value (Reference (Function f))) v h = absurd cc
 variable_is (Value (Literal value)) v h = absurd cc
-variable_is (Value (Decimal)) v h = absurd cc
-variable_is (Value (Parentheses inner)) v h = absurd cc
-variable_is (Value (Indexed array index)) v h = absurd cc
-variable_is (Value (Unary op operand)) v h = absurd cc
-variable_is (Value (Binary op left right)) v h = absurd cc
-variable_is (Value (Compare by left right)) v h = absurd cc
-variable_is (Value (LogicalAnd left right)) v h = absurd cc
-variable_is (Value (LogicalOr left right)) v h = absurd cc
-variable_is (Value (Conditional test first second)) v h = absurd cc
-variable_is (Value (Assign to value)) v h = absurd cc
-variable_is (Value (CompoundAssign op to value)) v h = absurd cc
-variable_is (Value (Increment op to)) v h = absurd cc
-variable_is (Value (Call function arguments)) v h = absurd cc
+variable_is (Value _) v h = absurd cc
 
 method_is : (x : Argument Target) (m : MethNo) → as_method x ≡ Some m
     → x ≡ Value (Reference (Item (item_no.Method m)))
@@ -83,19 +58,7 @@ method_is (Value (Reference (Item (item_no.Array n)))) m h = absurd cc
 method_is (Value (Reference (Local slot))) m h = absurd cc
 method_is (Value (Reference (Function f))) m h = absurd cc
 method_is (Value (Literal value)) m h = absurd cc
-method_is (Value (Decimal)) m h = absurd cc
-method_is (Value (Parentheses inner)) m h = absurd cc
-method_is (Value (Indexed array index)) m h = absurd cc
-method_is (Value (Unary op operand)) m h = absurd cc
-method_is (Value (Binary op left right)) m h = absurd cc
-method_is (Value (Compare by left right)) m h = absurd cc
-method_is (Value (LogicalAnd left right)) m h = absurd cc
-method_is (Value (LogicalOr left right)) m h = absurd cc
-method_is (Value (Conditional test first second)) m h = absurd cc
-method_is (Value (Assign to value)) m h = absurd cc
-method_is (Value (CompoundAssign op to value)) m h = absurd cc
-method_is (Value (Increment op to)) m h = absurd cc
-method_is (Value (Call function arguments)) m h = absurd cc
+method_is (Value _) m h = absurd cc
 
 -- ---- all arguments
 
@@ -260,19 +223,7 @@ module _ (number : Words → StrNo) where
   no_get (Cons (Text t) (Cons (Value (Reference (Local slot))) rest)) h = refl
   no_get (Cons (Text t) (Cons (Value (Reference (Function f))) rest)) h = refl
   no_get (Cons (Text t) (Cons (Value (Literal value)) rest)) h = refl
-  no_get (Cons (Text t) (Cons (Value (Decimal)) rest)) h = refl
-  no_get (Cons (Text t) (Cons (Value (Parentheses inner)) rest)) h = refl
-  no_get (Cons (Text t) (Cons (Value (Indexed array index)) rest)) h = refl
-  no_get (Cons (Text t) (Cons (Value (Unary op operand)) rest)) h = refl
-  no_get (Cons (Text t) (Cons (Value (Binary op left right)) rest)) h = refl
-  no_get (Cons (Text t) (Cons (Value (Compare by left right)) rest)) h = refl
-  no_get (Cons (Text t) (Cons (Value (LogicalAnd left right)) rest)) h = refl
-  no_get (Cons (Text t) (Cons (Value (LogicalOr left right)) rest)) h = refl
-  no_get (Cons (Text t) (Cons (Value (Conditional test first second)) rest)) h = refl
-  no_get (Cons (Text t) (Cons (Value (Assign to value)) rest)) h = refl
-  no_get (Cons (Text t) (Cons (Value (CompoundAssign op to value)) rest)) h = refl
-  no_get (Cons (Text t) (Cons (Value (Increment op to)) rest)) h = refl
-  no_get (Cons (Text t) (Cons (Value (Call function arguments)) rest)) h = refl
+  no_get (Cons (Text t) (Cons (Value _) rest)) h = refl
 
   pub no_assignment : (a : Arguments Target) → None ≡ both as_target as_value a
       → call_block number builtin.Iassign a ≡ no_value
@@ -284,19 +235,7 @@ module _ (number : Words → StrNo) where
   no_assignment (Cons (Value (Reference to)) (Cons (Value e) Nil)) h = absurd cc
   no_assignment (Cons (Value (Reference to)) (Cons (Value e) (Cons z rest))) h = refl
   no_assignment (Cons (Value (Literal value)) rest) h = refl
-  no_assignment (Cons (Value (Decimal)) rest) h = refl
-  no_assignment (Cons (Value (Parentheses inner)) rest) h = refl
-  no_assignment (Cons (Value (Indexed array index)) rest) h = refl
-  no_assignment (Cons (Value (Unary op operand)) rest) h = refl
-  no_assignment (Cons (Value (Binary op left right)) rest) h = refl
-  no_assignment (Cons (Value (Compare by left right)) rest) h = refl
-  no_assignment (Cons (Value (LogicalAnd left right)) rest) h = refl
-  no_assignment (Cons (Value (LogicalOr left right)) rest) h = refl
-  no_assignment (Cons (Value (Conditional test first second)) rest) h = refl
-  no_assignment (Cons (Value (Assign to value)) rest) h = refl
-  no_assignment (Cons (Value (CompoundAssign op to value)) rest) h = refl
-  no_assignment (Cons (Value (Increment op to)) rest) h = refl
-  no_assignment (Cons (Value (Call function arguments)) rest) h = refl
+  no_assignment (Cons (Value _) rest) h = refl
 
   pub no_method : (a : Arguments Target) → None ≡ only as_method a
       → call_block number builtin.AddAbortMethod a ≡ no_value
@@ -313,19 +252,7 @@ module _ (number : Words → StrNo) where
   no_method (Cons (Value (Reference (Local slot))) rest) h = refl
   no_method (Cons (Value (Reference (Function f))) rest) h = refl
   no_method (Cons (Value (Literal value)) rest) h = refl
-  no_method (Cons (Value (Decimal)) rest) h = refl
-  no_method (Cons (Value (Parentheses inner)) rest) h = refl
-  no_method (Cons (Value (Indexed array index)) rest) h = refl
-  no_method (Cons (Value (Unary op operand)) rest) h = refl
-  no_method (Cons (Value (Binary op left right)) rest) h = refl
-  no_method (Cons (Value (Compare by left right)) rest) h = refl
-  no_method (Cons (Value (LogicalAnd left right)) rest) h = refl
-  no_method (Cons (Value (LogicalOr left right)) rest) h = refl
-  no_method (Cons (Value (Conditional test first second)) rest) h = refl
-  no_method (Cons (Value (Assign to value)) rest) h = refl
-  no_method (Cons (Value (CompoundAssign op to value)) rest) h = refl
-  no_method (Cons (Value (Increment op to)) rest) h = refl
-  no_method (Cons (Value (Call function arguments)) rest) h = refl
+  no_method (Cons (Value _) rest) h = refl
 
   -- ---- functions that differ in name alone
 
@@ -347,19 +274,7 @@ module _ (number : Words → StrNo) where
   same_assignment (Cons (Value (Reference to)) (Cons (Value e) Nil)) = refl
   same_assignment (Cons (Value (Reference to)) (Cons (Value e) (Cons z rest))) = refl
   same_assignment (Cons (Value (Literal value)) rest) = refl
-  same_assignment (Cons (Value (Decimal)) rest) = refl
-  same_assignment (Cons (Value (Parentheses inner)) rest) = refl
-  same_assignment (Cons (Value (Indexed array index)) rest) = refl
-  same_assignment (Cons (Value (Unary op operand)) rest) = refl
-  same_assignment (Cons (Value (Binary op left right)) rest) = refl
-  same_assignment (Cons (Value (Compare by left right)) rest) = refl
-  same_assignment (Cons (Value (LogicalAnd left right)) rest) = refl
-  same_assignment (Cons (Value (LogicalOr left right)) rest) = refl
-  same_assignment (Cons (Value (Conditional test first second)) rest) = refl
-  same_assignment (Cons (Value (Assign to value)) rest) = refl
-  same_assignment (Cons (Value (CompoundAssign op to value)) rest) = refl
-  same_assignment (Cons (Value (Increment op to)) rest) = refl
-  same_assignment (Cons (Value (Call function arguments)) rest) = refl
+  same_assignment (Cons (Value _) rest) = refl
 
   pub save_alone : (a : Arguments Target) → alone_block (instruction.Ask ask.SaveValues) a
       ≡ call_block number builtin.SaveValues a

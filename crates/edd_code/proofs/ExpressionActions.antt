@@ -27,7 +27,7 @@ use Rattle.edd_instructions.specs.Steps.{act}
 use Rattle.edd_code.specs.Blocks.{Block, Straight, Then, WhenNotZero, WhenZero, Either}
 use Rattle.edd_code.specs.Expressions.{no_value, item_block, item_element_block, element_block, no_element, unary_block, truth_block, then_test, instead}
 use Rattle.edd_code.specs.BlockEffects as blocks
-use Rattle.edd_code.specs.BlockEffects.{Outcome, Goes, Stops, Stuck, and_then}
+use Rattle.edd_code.specs.BlockEffects.{Outcome, Goes, and_then}
 use Rattle.edd_code.specs.MethodEffects.{Halted, pushed, does}
 use Rattle.edd_instructions.specs.Agreement.{machine_of}
 use Rattle.edd_code.specs.MethodExpressions.{load_block, store_block, store_next_block, store_behind_block, increment_block}
@@ -98,11 +98,7 @@ module _ (text : StrNo → Option Words) (around : device.Environment) where
   item_means : (i : ItemNo) → Means (item_block i) (read (Item i))
   unfolding blocks.does act
   item_means (item_no.Variable v) operands s = refl
-  item_means (item_no.Command n) operands s = no_value_means operands s
-  item_means (item_no.Menu n) operands s = no_value_means operands s
-  item_means (item_no.Collection n) operands s = no_value_means operands s
-  item_means (item_no.Method n) operands s = no_value_means operands s
-  item_means (item_no.Array n) operands s = no_value_means operands s
+  item_means _ operands s = no_value_means operands s
 
   pub read_means : (from : Target) → Means (load_block from) (read from)
   unfolding blocks.does act
@@ -136,26 +132,17 @@ module _ (text : StrNo → Option Words) (around : device.Environment) where
       ≡ pushed operands (source.number (item_element around.elements 32 s.values i a) s)
   item_element_means (item_no.Array n) a operands s = read_element_means n a operands s
       (element_value around.elements 32 s.values n a) refl
-  item_element_means (item_no.Variable v) a operands s = no_element_means a operands s
-  item_element_means (item_no.Command n) a operands s = no_element_means a operands s
-  item_element_means (item_no.Menu n) a operands s = no_element_means a operands s
-  item_element_means (item_no.Collection n) a operands s = no_element_means a operands s
-  item_element_means (item_no.Method n) a operands s = no_element_means a operands s
+  item_element_means _ a operands s = no_element_means a operands s
 
   pub element_means : (t : Target) → MeansOfOne (element_block t) (read_element around t)
   element_means (Item i) a operands s = item_element_means i a operands s
-  element_means (Local slot) a operands s = no_element_means a operands s
-  element_means (Function f) a operands s = no_element_means a operands s
+  element_means _ a operands s = no_element_means a operands s
 
   pub store_means : (to : Target) → MeansOfOne (store_block to) (assign around to)
   unfolding blocks.does act
   store_means (Local slot) z operands s = refl
   store_means (Item (item_no.Variable v)) z operands s = refl
-  store_means (Item (item_no.Command n)) z operands s = refl
-  store_means (Item (item_no.Menu n)) z operands s = refl
-  store_means (Item (item_no.Collection n)) z operands s = refl
-  store_means (Item (item_no.Method n)) z operands s = refl
-  store_means (Item (item_no.Array n)) z operands s = refl
+  store_means (Item _) z operands s = refl
   store_means (Function f) z operands s = refl
 
   -- a variable gets the topmost operand, and in its place is 0
@@ -173,9 +160,7 @@ module _ (text : StrNo → Option Words) (around : device.Environment) where
   pub unary_means : (op : UnaryOperator) → MeansOfOne (unary_block op) (λ a. pure (apply 32 op a))
   unfolding blocks.does act apply
   unary_means unary_operator.Plus a operands s = refl
-  unary_means unary_operator.Minus a operands s = refl
-  unary_means unary_operator.Not a operands s = refl
-  unary_means unary_operator.Complement a operands s = refl
+  unary_means _ a operands s = refl
 
   operate_is : (op : Operator) (r : Result ℤ _) (a c : ℤ) (operands : List ℤ) (s : State)
       → operate 32 op a c ≡ r

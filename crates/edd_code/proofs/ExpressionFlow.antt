@@ -6,8 +6,8 @@ use Rattle.edd_syntax.specs.declared.numbers.ItemNo.TheVariants as item_no
 use Rattle.edd_syntax.specs.declared.operators.UnaryOperator.{UnaryOperator}
 use Rattle.edd_syntax.specs.declared.operators.UnaryOperator.TheVariants as unary_operator
 use Rattle.edd_syntax.specs.declared.reference.Target.{Target}
-use Rattle.edd_syntax.specs.declared.reference.Target.TheVariants.{Local, Item, Function}
-use Rattle.edd_syntax.specs.Expression.{Expr, Literal, Decimal, Reference, Indexed, Parentheses, Unary, Binary, Compare, LogicalAnd, LogicalOr, Conditional, Assign, CompoundAssign, Increment, Call}
+use Rattle.edd_syntax.specs.declared.reference.Target.TheVariants.{Item}
+use Rattle.edd_syntax.specs.Expression.{Expr, Literal, Reference, Indexed, Parentheses, Unary, Binary, Compare, LogicalAnd, LogicalOr, Conditional}
 use Rattle.edd_syntax.specs.Size.{height}
 use Rattle.edd_instructions.specs.declared.instruction.Instruction.{Instruction}
 use Rattle.edd_instructions.specs.declared.instruction.Instruction.TheVariants as instruction
@@ -92,16 +92,11 @@ no_value_runs d few = straight_runs (instruction.Push 0) d (suc d) refl (omega a
 item_runs : (i : ItemNo) (d : ℕ) → d ≤ 128 → Runs (item_block i) d (suc d)
 item_runs (item_no.Variable v) d few = straight_runs (instruction.Variable v) d (suc d) refl
     (omega arith) few (omega arith)
-item_runs (item_no.Command n) d few = no_value_runs d few
-item_runs (item_no.Menu n) d few = no_value_runs d few
-item_runs (item_no.Collection n) d few = no_value_runs d few
-item_runs (item_no.Method n) d few = no_value_runs d few
-item_runs (item_no.Array n) d few = no_value_runs d few
+item_runs _ d few = no_value_runs d few
 
 read_runs : (t : Target) (d : ℕ) → d ≤ 128 → Runs (read_block t) d (suc d)
 read_runs (Item i) d few = item_runs i d few
-read_runs (Local slot) d few = no_value_runs d few
-read_runs (Function f) d few = no_value_runs d few
+read_runs _ d few = no_value_runs d few
 
 no_element_runs : (d : ℕ) → suc d ≤ 128 → Runs no_element (suc d) (suc d)
 no_element_runs d few = then_runs (Straight instruction.Pop) no_value (suc d) d (suc d)
@@ -112,16 +107,11 @@ item_element_runs : (i : ItemNo) (d : ℕ) → suc d ≤ 128
     → Runs (item_element_block i) (suc d) (suc d)
 item_element_runs (item_no.Array n) d few = straight_runs (instruction.ReadElement n) (suc d)
     (suc d) refl (omega arith) few (omega arith)
-item_element_runs (item_no.Variable v) d few = no_element_runs d few
-item_element_runs (item_no.Command n) d few = no_element_runs d few
-item_element_runs (item_no.Menu n) d few = no_element_runs d few
-item_element_runs (item_no.Collection n) d few = no_element_runs d few
-item_element_runs (item_no.Method n) d few = no_element_runs d few
+item_element_runs _ d few = no_element_runs d few
 
 element_runs : (array : Target) (d : ℕ) → suc d ≤ 128 → Runs (element_block array) (suc d) (suc d)
 element_runs (Item i) d few = item_element_runs i d few
-element_runs (Local slot) d few = no_element_runs d few
-element_runs (Function f) d few = no_element_runs d few
+element_runs _ d few = no_element_runs d few
 
 unary_runs : (op : UnaryOperator) (d : ℕ) → suc d ≤ 128 → Runs (unary_block op) (suc d) (suc d)
 unary_runs unary_operator.Plus d few = nothing_runs (suc d)
@@ -160,20 +150,7 @@ two_run left right i d p q r = then_runs left (Then right (Straight i)) d (suc d
 
 high : (e : Expr Target) → 1 ≤ height e
 high (Literal value) = omega arith
-high (Reference from) = omega arith
-high (Indexed array index) = omega arith
-high (Parentheses inner) = omega arith
-high (Unary op operand) = omega arith
-high (Binary op left right) = omega arith
-high (Compare by left right) = omega arith
-high (LogicalAnd left right) = omega arith
-high (LogicalOr left right) = omega arith
-high (Conditional test first second) = omega arith
-high Decimal = omega arith
-high (Assign to by) = omega arith
-high (CompoundAssign op to by) = omega arith
-high (Increment op to) = omega arith
-high (Call function arguments) = omega arith
+high _ = omega arith
 
 pub expression_runs : (e : Expr Target) (d : ℕ) → d + height e ≤ 128
     → Runs (expression_block e) d (suc d)
@@ -224,8 +201,4 @@ expression_runs (Conditional test first second) d h =
     (either_runs (expression_block first) (expression_block second) (suc d) d (suc d) refl
     (omega arith) (omega arith) (expression_runs first d (omega arith))
     (expression_runs second d (omega arith)))
-expression_runs Decimal d h = no_value_runs d (omega arith)
-expression_runs (Assign to by) d h = no_value_runs d (omega arith)
-expression_runs (CompoundAssign op to by) d h = no_value_runs d (omega arith)
-expression_runs (Increment op to) d h = no_value_runs d (omega arith)
-expression_runs (Call function arguments) d h = no_value_runs d (omega arith)
+expression_runs _ d h = no_value_runs d (omega arith)

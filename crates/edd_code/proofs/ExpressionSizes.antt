@@ -5,47 +5,34 @@ use Rattle.edd_syntax.specs.declared.numbers.ItemNo.TheVariants as item_no
 use Rattle.edd_syntax.specs.declared.operators.UnaryOperator.{UnaryOperator}
 use Rattle.edd_syntax.specs.declared.operators.UnaryOperator.TheVariants as unary_operator
 use Rattle.edd_syntax.specs.declared.reference.Target.{Target}
-use Rattle.edd_syntax.specs.declared.reference.Target.TheVariants.{Local, Item, Function}
-use Rattle.edd_syntax.specs.Expression.{Expr, Literal, Decimal, Reference, Indexed, Parentheses, Unary, Binary, Compare, LogicalAnd, LogicalOr, Conditional, Assign, CompoundAssign, Increment, Call}
+use Rattle.edd_syntax.specs.declared.reference.Target.TheVariants.{Item}
+use Rattle.edd_syntax.specs.Expression.{Expr, Reference, Indexed, Parentheses, Unary, Binary, Compare, LogicalAnd, LogicalOr, Conditional}
 use Rattle.edd_syntax.specs.Size.{nodes}
 use Rattle.edd_code.specs.Blocks.{size}
 use Rattle.edd_code.specs.Expressions.{expression_block, item_block, read_block, item_element_block, element_block, unary_block}
 
 item_size : (i : ItemNo) → size (item_block i) ≤ 5
 item_size (item_no.Variable v) = omega arith
-item_size (item_no.Command n) = omega arith
-item_size (item_no.Menu n) = omega arith
-item_size (item_no.Collection n) = omega arith
-item_size (item_no.Method n) = omega arith
-item_size (item_no.Array n) = omega arith
+item_size _ = omega arith
 
 read_size : (t : Target) → size (read_block t) ≤ 5
 read_size (Item i) = item_size i
-read_size (Local slot) = omega arith
-read_size (Function f) = omega arith
+read_size _ = omega arith
 
 item_element_size : (i : ItemNo) → size (item_element_block i) ≤ 6
 item_element_size (item_no.Variable v) = omega arith
-item_element_size (item_no.Command n) = omega arith
-item_element_size (item_no.Menu n) = omega arith
-item_element_size (item_no.Collection n) = omega arith
-item_element_size (item_no.Method n) = omega arith
-item_element_size (item_no.Array n) = omega arith
+item_element_size _ = omega arith
 
 pub element_size : (t : Target) → size (element_block t) ≤ 6
 element_size (Item i) = item_element_size i
-element_size (Local slot) = omega arith
-element_size (Function f) = omega arith
+element_size _ = omega arith
 
 unary_size : (op : UnaryOperator) → size (unary_block op) ≤ 1
 unary_size unary_operator.Plus = omega arith
-unary_size unary_operator.Minus = omega arith
-unary_size unary_operator.Not = omega arith
-unary_size unary_operator.Complement = omega arith
+unary_size _ = omega arith
 
 pub is_short : (e : Expr Target) → size (expression_block e) ≤ 32 * nodes e
 unfolding expression_block
-is_short (Literal value) = omega arith
 is_short (Reference from) = omega (arith, read_size from)
 is_short (Indexed array index) = omega (arith, is_short index, element_size array)
 is_short (Parentheses inner) = omega (arith, is_short inner)
@@ -56,8 +43,4 @@ is_short (LogicalAnd left right) = omega (arith, is_short left, is_short right)
 is_short (LogicalOr left right) = omega (arith, is_short left, is_short right)
 is_short (Conditional test first second) =
     omega (arith, is_short test, is_short first, is_short second)
-is_short Decimal = omega arith
-is_short (Assign to by) = omega arith
-is_short (CompoundAssign op to by) = omega arith
-is_short (Increment op to) = omega arith
-is_short (Call function arguments) = omega arith
+is_short _ = omega arith

@@ -8,8 +8,8 @@ use Rattle.edd_syntax.specs.declared.numbers.ItemNo.TheVariants as item_no
 use Rattle.edd_syntax.specs.declared.operators.UnaryOperator.{UnaryOperator}
 use Rattle.edd_syntax.specs.declared.operators.UnaryOperator.TheVariants as unary_operator
 use Rattle.edd_syntax.specs.declared.reference.Target.{Target}
-use Rattle.edd_syntax.specs.declared.reference.Target.TheVariants.{Local, Item, Function}
-use Rattle.edd_syntax.specs.Expression.{Expr, Literal, Decimal, Reference, Indexed, Parentheses, Unary, Binary, Compare, LogicalAnd, LogicalOr, Conditional, Assign, CompoundAssign, Increment, Call}
+use Rattle.edd_syntax.specs.declared.reference.Target.TheVariants.{Item}
+use Rattle.edd_syntax.specs.Expression.{Expr, Literal, Decimal, Reference, Indexed, Parentheses, Unary, Binary, Compare, LogicalAnd, LogicalOr, Conditional}
 use Rattle.edd_syntax.specs.WellFormed.{is_pure_expr}
 use Rattle.edd_image.specs.declared.parts.Counts.{Counts}
 use Rattle.edd_instructions.specs.declared.unit.Context.{Context}
@@ -37,17 +37,12 @@ item_spelled : (counts : Counts) (i : ItemNo) → counts.variables ≤ 65536 →
     ≡ true → AreSpelled (item_block i)
 item_spelled counts (item_no.Variable v) few is = let below =
     ltb-true v.0 counts.variables is in omega arith
-item_spelled counts (item_no.Command n) few is = no_value_spelled
-item_spelled counts (item_no.Menu n) few is = no_value_spelled
-item_spelled counts (item_no.Collection n) few is = no_value_spelled
-item_spelled counts (item_no.Method n) few is = no_value_spelled
-item_spelled counts (item_no.Array n) few is = no_value_spelled
+item_spelled counts _ few is = no_value_spelled
 
 read_spelled : (counts : Counts) (t : Target) → counts.variables ≤ 65536 → reads_existing counts t
     ≡ true → AreSpelled (read_block t)
 read_spelled counts (Item i) few is = item_spelled counts i few is
-read_spelled counts (Local slot) few is = no_value_spelled
-read_spelled counts (Function f) few is = no_value_spelled
+read_spelled counts _ few is = no_value_spelled
 
 no_element_spelled : AreSpelled no_element
 no_element_spelled = (tt, no_value_spelled)
@@ -56,23 +51,16 @@ item_element_spelled : (counts : Counts) (i : ItemNo) → counts.arrays ≤ 6553
     → item_is_there counts i ≡ true → AreSpelled (item_element_block i)
 item_element_spelled counts (item_no.Array n) few is = let below =
     ltb-true n.0 counts.arrays is in omega arith
-item_element_spelled counts (item_no.Variable v) few is = no_element_spelled
-item_element_spelled counts (item_no.Command n) few is = no_element_spelled
-item_element_spelled counts (item_no.Menu n) few is = no_element_spelled
-item_element_spelled counts (item_no.Collection n) few is = no_element_spelled
-item_element_spelled counts (item_no.Method n) few is = no_element_spelled
+item_element_spelled counts _ few is = no_element_spelled
 
 element_spelled : (counts : Counts) (t : Target) → counts.arrays ≤ 65536 → reads_existing counts t
     ≡ true → AreSpelled (element_block t)
 element_spelled counts (Item i) few is = item_element_spelled counts i few is
-element_spelled counts (Local slot) few is = no_element_spelled
-element_spelled counts (Function f) few is = no_element_spelled
+element_spelled counts _ few is = no_element_spelled
 
 unary_spelled : (op : UnaryOperator) → AreSpelled (unary_block op)
 unary_spelled unary_operator.Plus = tt
-unary_spelled unary_operator.Minus = tt
-unary_spelled unary_operator.Not = tt
-unary_spelled unary_operator.Complement = tt
+unary_spelled _ = tt
 
 module _ (counts : Counts) (plain : Target → Bool) (few : counts.variables ≤ 65536)
     (few_arrays : counts.arrays ≤ 65536) where
@@ -100,10 +88,7 @@ module _ (counts : Counts) (plain : Target → Bool) (few : counts.variables ≤
       let q = both _ _ p.0 in
       (is_spelled test q.0, (is_spelled first q.1, is_spelled second p.1))
   is_spelled Decimal is = no_value_spelled
-  is_spelled (Assign to by) is = absurd cc
-  is_spelled (CompoundAssign op to by) is = absurd cc
-  is_spelled (Increment op to) is = absurd cc
-  is_spelled (Call function arguments) is = absurd cc
+  is_spelled _ is = absurd cc
 
 -- ---- names
 
@@ -116,39 +101,27 @@ module _ (version : Version) (counts : Counts) (plain : Target → Bool)
   item_named : (i : ItemNo) → item_is_there counts i ≡ true
       → all_straight (may_stand context) (item_block i) ≡ true
   item_named (item_no.Variable v) is = is
-  item_named (item_no.Command n) is = refl
-  item_named (item_no.Menu n) is = refl
-  item_named (item_no.Collection n) is = refl
-  item_named (item_no.Method n) is = refl
-  item_named (item_no.Array n) is = refl
+  item_named _ is = refl
 
   read_named : (t : Target) → reads_existing counts t ≡ true
       → all_straight (may_stand context) (read_block t) ≡ true
   read_named (Item i) is = item_named i is
-  read_named (Local slot) is = refl
-  read_named (Function f) is = refl
+  read_named _ is = refl
 
   item_element_named : (i : ItemNo) → item_is_there counts i ≡ true
       → all_straight (may_stand context) (item_element_block i) ≡ true
   item_element_named (item_no.Array n) is = and_is (in_attributes version counts n holds_arrays is)
       is
-  item_element_named (item_no.Variable v) is = refl
-  item_element_named (item_no.Command n) is = refl
-  item_element_named (item_no.Menu n) is = refl
-  item_element_named (item_no.Collection n) is = refl
-  item_element_named (item_no.Method n) is = refl
+  item_element_named _ is = refl
 
   element_named : (t : Target) → reads_existing counts t ≡ true
       → all_straight (may_stand context) (element_block t) ≡ true
   element_named (Item i) is = item_element_named i is
-  element_named (Local slot) is = refl
-  element_named (Function f) is = refl
+  element_named _ is = refl
 
   unary_named : (op : UnaryOperator) → all_straight (may_stand context) (unary_block op) ≡ true
   unary_named unary_operator.Plus = refl
-  unary_named unary_operator.Minus = refl
-  unary_named unary_operator.Not = refl
-  unary_named unary_operator.Complement = refl
+  unary_named _ = refl
 
   pub is_named : (e : Expr Target) → is_pure_expr (reads_existing counts) plain e ≡ true
       → all_straight (may_stand context) (expression_block e) ≡ true
@@ -174,7 +147,4 @@ module _ (version : Version) (counts : Counts) (plain : Target → Bool)
       let q = both _ _ p.0 in
       and_is (is_named test q.0) (and_is (is_named first q.1) (is_named second p.1))
   is_named Decimal is = refl
-  is_named (Assign to by) is = absurd cc
-  is_named (CompoundAssign op to by) is = absurd cc
-  is_named (Increment op to) is = absurd cc
-  is_named (Call function arguments) is = absurd cc
+  is_named _ is = absurd cc

@@ -8,27 +8,26 @@ use Rattle.edd_syntax.specs.declared.operators.UnaryOperator.{UnaryOperator}
 use Rattle.edd_syntax.specs.declared.operators.UnaryOperator.TheVariants as unary_operator
 use Rattle.edd_syntax.specs.declared.operators.Operator.{Operator}
 use Rattle.edd_syntax.specs.declared.reference.Target.{Target}
-use Rattle.edd_syntax.specs.declared.reference.Target.TheVariants.{Local, Item, Function}
+use Rattle.edd_syntax.specs.declared.reference.Target.TheVariants.{Item}
 use Rattle.edd_syntax.specs.declared.numbers.ArrNo.{ArrNo}
 use Rattle.edd_syntax.specs.declared.numbers.Element.{Element}
 use Rattle.edd_syntax.specs.Elements.{element_value, item_element, indexed_value}
 use Rattle.edd_syntax.specs.Device as device
 use Rattle.edd_syntax.specs.TwosComplement.{wrap, truth, is_zero, apply, operate, compare}
 use Rattle.edd_syntax.specs.AttributeValue.{◌>>=◌, value, read, item_value}
-use Rattle.edd_syntax.specs.Expression.{Expr, Literal, Decimal, Reference, Indexed, Parentheses, Unary, Binary, Compare, LogicalAnd, LogicalOr, Conditional, Assign, CompoundAssign, Increment, Call}
+use Rattle.edd_syntax.specs.Expression.{Expr, Literal, Reference, Indexed, Parentheses, Unary, Binary, Compare, LogicalAnd, LogicalOr, Conditional}
 use Rattle.edd_instructions.specs.declared.instruction.Instruction.TheVariants as instruction
 use Rattle.edd_instructions.specs.Steps.{Environment, act}
 use Rattle.edd_code.specs.Blocks.{Block, Straight, Then, WhenNotZero, WhenZero, Either}
 use Rattle.edd_code.specs.Expressions.{expression_block, item_block, read_block, item_element_block, element_block, no_element, unary_block, truth_block, then_test, instead, no_value}
 use Rattle.edd_code.specs.ExpressionMeaning.{of_value}
-use Rattle.edd_code.specs.Outcomes.{Outcome, Goes, Traps, Stuck, after_records, and_then, does}
+use Rattle.edd_code.specs.Outcomes.{Outcome, Goes, after_records, and_then, does}
 
 -- ---- blocks, one after the other
 
 nothing_in_front : (o : Outcome) → after_records [] o ≡ o
 nothing_in_front (Goes records operands) = refl
-nothing_in_front (Traps why) = refl
-nothing_in_front Stuck = refl
+nothing_in_front _ = refl
 
 -- a number that is 0
 zero_is : (z : ℤ) → is_zero z ≡ true → z ≡ pos 0
@@ -67,17 +66,12 @@ module _ (machine : Environment) (d : List ℤ) where
       ≡ Goes [] (item_value d i ∷ operands)
   unfolding does act
   item_does (item_no.Variable v) operands = refl
-  item_does (item_no.Command n) operands = no_value_does operands
-  item_does (item_no.Menu n) operands = no_value_does operands
-  item_does (item_no.Collection n) operands = no_value_does operands
-  item_does (item_no.Method n) operands = no_value_does operands
-  item_does (item_no.Array n) operands = no_value_does operands
+  item_does _ operands = no_value_does operands
 
   read_does : (t : Target) (operands : List ℤ) → does machine d (read_block t) operands
       ≡ Goes [] (read d t ∷ operands)
   read_does (Item i) operands = item_does i operands
-  read_does (Local slot) operands = no_value_does operands
-  read_does (Function f) operands = no_value_does operands
+  read_does _ operands = no_value_does operands
 
   -- ---- elements
 
@@ -101,26 +95,19 @@ module _ (machine : Environment) (d : List ℤ) where
     item_element_does (item_no.Array a) n operands = read_does_element a n
         (element_value elements 64 d a n) operands
         (ap (λ (es : List Element). element_value es 64 d a n) same)
-    item_element_does (item_no.Variable v) n operands = no_element_does n operands
-    item_element_does (item_no.Command c) n operands = no_element_does n operands
-    item_element_does (item_no.Menu c) n operands = no_element_does n operands
-    item_element_does (item_no.Collection c) n operands = no_element_does n operands
-    item_element_does (item_no.Method c) n operands = no_element_does n operands
+    item_element_does _ n operands = no_element_does n operands
 
     element_does : (array : Target) (n : ℤ) (operands : List ℤ)
         → does machine d (element_block array) (n ∷ operands)
         ≡ of_value (indexed_value elements 64 d array n) operands
     element_does (Item i) n operands = item_element_does i n operands
-    element_does (Local slot) n operands = no_element_does n operands
-    element_does (Function f) n operands = no_element_does n operands
+    element_does _ n operands = no_element_does n operands
 
   unary_does : (op : UnaryOperator) (a : ℤ) (operands : List ℤ)
       → does machine d (unary_block op) (a ∷ operands) ≡ Goes [] (apply 64 op a ∷ operands)
   unfolding does act apply
   unary_does unary_operator.Plus a operands = refl
-  unary_does unary_operator.Minus a operands = refl
-  unary_does unary_operator.Not a operands = refl
-  unary_does unary_operator.Complement a operands = refl
+  unary_does _ a operands = refl
 
   -- ---- the truth of a number
 
@@ -299,8 +286,4 @@ module _ (machine : Environment) (around : device.Environment)
       (λ a. either_does machine d (expression_block first) (expression_block second)
       (value around d first) (value around d second) a operands (means first operands)
       (means second operands))
-  means Decimal operands = no_value_does machine d operands
-  means (Assign to by) operands = no_value_does machine d operands
-  means (CompoundAssign op to by) operands = no_value_does machine d operands
-  means (Increment op to) operands = no_value_does machine d operands
-  means (Call function arguments) operands = no_value_does machine d operands
+  means _ operands = no_value_does machine d operands

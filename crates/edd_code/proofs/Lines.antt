@@ -28,35 +28,7 @@ bytes_of-append (i ∷ is) js = ap (λ bs. spelling i ++ bs) (bytes_of-append is
 
 pub spelling_not_empty : (i : Instruction) → 0 < length (spelling i)
 spelling_not_empty instruction.End = omega arith
-spelling_not_empty (instruction.Push n) = omega arith
-spelling_not_empty (instruction.Variable v) = omega arith
-spelling_not_empty (instruction.Store v) = omega arith
-spelling_not_empty (instruction.GetLocal slot) = omega arith
-spelling_not_empty (instruction.SetLocal slot) = omega arith
-spelling_not_empty instruction.Pop = omega arith
-spelling_not_empty instruction.Duplicate = omega arith
-spelling_not_empty (instruction.ReadElement a) = omega arith
-spelling_not_empty (instruction.Operate op) = omega arith
-spelling_not_empty (instruction.Compare op) = omega arith
-spelling_not_empty instruction.Negate = omega arith
-spelling_not_empty instruction.Not = omega arith
-spelling_not_empty instruction.Complement = omega arith
-spelling_not_empty (instruction.Jump to) = omega arith
-spelling_not_empty (instruction.JumpIfZero to) = omega arith
-spelling_not_empty (instruction.JumpIfNotZero to) = omega arith
-spelling_not_empty (instruction.Case label to) = omega arith
-spelling_not_empty (instruction.Text s) = omega arith
-spelling_not_empty instruction.Number = omega arith
-spelling_not_empty (instruction.Item item quals) = omega arith
-spelling_not_empty (instruction.DataConst n) = omega arith
-spelling_not_empty (instruction.DataVar v mask quals) = omega arith
-spelling_not_empty (instruction.Enumerator n text help) = omega arith
-spelling_not_empty (instruction.Response n class text) = omega arith
-spelling_not_empty (instruction.Member name item label help) = omega arith
-spelling_not_empty (instruction.Element n v label help) = omega arith
-spelling_not_empty (instruction.Ask request) = omega arith
-spelling_not_empty instruction.Abort = omega arith
-spelling_not_empty (instruction.AddAbortMethod m) = omega arith
+spelling_not_empty _ = omega arith
 
 pub fewer_than_bytes : (is : List Instruction) → length is ≤ length (bytes_of is)
 unfolding bytes_of

@@ -6,7 +6,7 @@ use Rattle.edd_syntax.specs.declared.numbers.StrNo.{StrNo}
 use Rattle.edd_syntax.specs.declared.operators.Builtin.{Builtin}
 use Rattle.edd_syntax.specs.declared.operators.Builtin.TheVariants as builtin
 use Rattle.edd_syntax.specs.declared.reference.Target.{Target}
-use Rattle.edd_syntax.specs.declared.reference.Target.TheVariants.{Local, Item, Function}
+use Rattle.edd_syntax.specs.declared.reference.Target.TheVariants.{Item, Function}
 use Rattle.edd_syntax.specs.Expression.{Expr, Literal, Decimal, Reference, Indexed, Parentheses, Unary, Binary, Compare, LogicalAnd, LogicalOr, Conditional, Assign, CompoundAssign, Increment, Call, Text, Value, Arguments, Nil, Cons}
 use Rattle.edd_syntax.specs.Size.{height, argument_height}
 use Rattle.edd_syntax.specs.SubsetRules.{parameters, all_fit, is_abort, call_breaches, call_mismatches, argument_mismatches}
@@ -21,20 +21,7 @@ use Rattle.edd_code.proofs.Fitting.{front_none, fits, of_none, of_text, of_numbe
 
 high : (e : Expr Target) → 1 ≤ height e
 high (Literal value) = omega arith
-high (Reference from) = omega arith
-high (Indexed array index) = omega arith
-high (Parentheses inner) = omega arith
-high (Unary op operand) = omega arith
-high (Binary op left right) = omega arith
-high (Compare by left right) = omega arith
-high (LogicalAnd left right) = omega arith
-high (LogicalOr left right) = omega arith
-high (Conditional test first second) = omega arith
-high Decimal = omega arith
-high (Assign to by) = omega arith
-high (CompoundAssign op to by) = omega arith
-high (Increment op to) = omega arith
-high (Call function arguments) = omega arith
+high _ = omega arith
 
 no_abort : (b : Bool) → (b && true) ≡ false → b ≡ false
 no_abort false h = refl
@@ -193,8 +180,7 @@ module _ (number : Words → StrNo) where
         let fitting = fits false f arguments parts.0 in
         call_runs f arguments (no_abort (is_abort f) fitting.1) fitting.0
         (all_run arguments parts.1) d h
-    method_runs (Call (Local slot) arguments) fit d h = absurd cc
-    method_runs (Call (Item i) arguments) fit d h = absurd cc
+    method_runs (Call _ arguments) fit d h = absurd cc
 
     all_run : (arguments : Arguments Target) → argument_mismatches arguments ≡ [] → AreRun arguments
     all_run Nil fit = tt

@@ -8,9 +8,9 @@ use Rattle.edd_syntax.specs.declared.operators.Builtin.TheVariants as builtin
 use Rattle.edd_syntax.specs.declared.operators.UnaryOperator.{UnaryOperator}
 use Rattle.edd_syntax.specs.declared.operators.UnaryOperator.TheVariants as unary_operator
 use Rattle.edd_syntax.specs.declared.operators.IncrementOperator.{IncrementOperator}
-use Rattle.edd_syntax.specs.declared.operators.IncrementOperator.TheVariants.{PreIncrement, PostIncrement, PreDecrement, PostDecrement}
+use Rattle.edd_syntax.specs.declared.operators.IncrementOperator.TheVariants.{PreIncrement}
 use Rattle.edd_syntax.specs.declared.reference.Target.{Target}
-use Rattle.edd_syntax.specs.declared.reference.Target.TheVariants.{Local, Item, Function}
+use Rattle.edd_syntax.specs.declared.reference.Target.TheVariants.{Item, Function}
 use Rattle.edd_syntax.specs.Expression.{Expr, Literal, Decimal, Reference, Indexed, Parentheses, Unary, Binary, Compare, LogicalAnd, LogicalOr, Conditional, Assign, CompoundAssign, Increment, Call, Text, Value, Arguments, Nil, Cons}
 use Rattle.edd_syntax.specs.Size.{nodes, argument_nodes}
 use Rattle.edd_syntax.specs.SubsetRules.{parameters, all_fit, call_breaches, call_mismatches, argument_mismatches}
@@ -25,41 +25,27 @@ use Rattle.edd_code.proofs.Fitting.{front_none, fits, of_none, of_text, of_numbe
 
 item_size : (i : ItemNo) → size (item_block i) ≤ 5
 item_size (item_no.Variable v) = omega arith
-item_size (item_no.Command n) = omega arith
-item_size (item_no.Menu n) = omega arith
-item_size (item_no.Collection n) = omega arith
-item_size (item_no.Method n) = omega arith
-item_size (item_no.Array n) = omega arith
+item_size _ = omega arith
 
 read_size : (t : Target) → size (load_block t) ≤ 5
-read_size (Local slot) = omega arith
 read_size (Item i) = item_size i
-read_size (Function f) = omega arith
+read_size _ = omega arith
 
 store_item_size : (i : ItemNo) → size (store_item_block i) ≤ 3
 store_item_size (item_no.Variable v) = omega arith
-store_item_size (item_no.Command n) = omega arith
-store_item_size (item_no.Menu n) = omega arith
-store_item_size (item_no.Collection n) = omega arith
-store_item_size (item_no.Method n) = omega arith
-store_item_size (item_no.Array n) = omega arith
+store_item_size _ = omega arith
 
 store_size : (t : Target) → size (store_block t) ≤ 3
-store_size (Local slot) = omega arith
 store_size (Item i) = store_item_size i
-store_size (Function f) = omega arith
+store_size _ = omega arith
 
 unary_size : (op : UnaryOperator) → size (unary_block op) ≤ 1
 unary_size unary_operator.Plus = omega arith
-unary_size unary_operator.Minus = omega arith
-unary_size unary_operator.Not = omega arith
-unary_size unary_operator.Complement = omega arith
+unary_size _ = omega arith
 
 increment_size : (op : IncrementOperator) (to : Target) → size (increment_block op to) ≤ 16
 increment_size PreIncrement to = omega (arith, read_size to, store_size to)
-increment_size PostIncrement to = omega (arith, read_size to, store_size to)
-increment_size PreDecrement to = omega (arith, read_size to, store_size to)
-increment_size PostDecrement to = omega (arith, read_size to, store_size to)
+increment_size _ to = omega (arith, read_size to, store_size to)
 
 module _ (number : Words → StrNo) where
   abbrev IsShort : Expr Target → Type 0
@@ -92,14 +78,12 @@ module _ (number : Words → StrNo) where
   call_short builtin.SaveValues = of_none (CallShort builtin.SaveValues) (λ short. omega arith)
   call_short builtin.IvarValue = of_variable (CallShort builtin.IvarValue) (λ v short. omega arith)
   call_short builtin.LvarValue = of_variable (CallShort builtin.LvarValue) (λ v short. omega arith)
-  call_short builtin.Iassign = of_variable_number (CallShort builtin.Iassign)
-      (λ v e short. omega (arith, short.1.0))
-  call_short builtin.Lassign = of_variable_number (CallShort builtin.Lassign)
-      (λ v e short. omega (arith, short.1.0))
   call_short builtin.Abort = of_none (CallShort builtin.Abort) (λ short. omega arith)
   call_short builtin.ProcessAbort = of_none (CallShort builtin.ProcessAbort) (λ short. omega arith)
   call_short builtin.AddAbortMethod = of_method (CallShort builtin.AddAbortMethod)
       (λ m short. omega arith)
+  call_short x = of_variable_number (CallShort x)
+      (λ v e short. omega (arith, short.1.0))
 
   mutual
     unfolding method_block
@@ -143,8 +127,7 @@ module _ (number : Words → StrNo) where
         let parts = front_none (call_breaches b (Function f) arguments)
         (argument_mismatches arguments) fit in
         call_short f arguments (fits b f arguments parts.0).0 (all_short arguments parts.1)
-    is_short b (Call (Local slot) arguments) fit = absurd cc
-    is_short b (Call (Item i) arguments) fit = absurd cc
+    is_short b (Call _ arguments) fit = absurd cc
 
     all_short : (arguments : Arguments Target) → argument_mismatches arguments ≡ []
         → AreShort arguments

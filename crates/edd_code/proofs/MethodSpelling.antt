@@ -94,11 +94,7 @@ module _ (version : Version) (counts : Counts) (slots : ℕ)
 
   item_stands : (i : ItemNo) → item_is_there counts i ≡ true → Stands (item_block i)
   item_stands (item_no.Variable v) is = one_stands (instruction.Variable v) (short_variable v is) is
-  item_stands (item_no.Command n) is = no_value_stands
-  item_stands (item_no.Menu n) is = no_value_stands
-  item_stands (item_no.Collection n) is = no_value_stands
-  item_stands (item_no.Method n) is = no_value_stands
-  item_stands (item_no.Array n) is = no_value_stands
+  item_stands _ is = no_value_stands
 
   read_stands : (t : Target) → uses_existing context t ≡ true → Stands (load_block t)
   read_stands (Local slot) is = one_stands (instruction.GetLocal slot) (short_slot slot is) is
@@ -112,26 +108,17 @@ module _ (version : Version) (counts : Counts) (slots : ℕ)
       → Stands (item_element_block i)
   item_element_stands (item_no.Array n) is = one_stands (instruction.ReadElement n)
       (short_array n is) (and_from _ _ (in_methods version counts n holds_arrays is) is)
-  item_element_stands (item_no.Variable v) is = no_element_stands
-  item_element_stands (item_no.Command n) is = no_element_stands
-  item_element_stands (item_no.Menu n) is = no_element_stands
-  item_element_stands (item_no.Collection n) is = no_element_stands
-  item_element_stands (item_no.Method n) is = no_element_stands
+  item_element_stands _ is = no_element_stands
 
   element_stands : (t : Target) → uses_existing context t ≡ true → Stands (element_block t)
   element_stands (Item i) is = item_element_stands i is
-  element_stands (Local slot) is = no_element_stands
-  element_stands (Function f) is = no_element_stands
+  element_stands _ is = no_element_stands
 
   store_item_stands : (i : ItemNo) → item_is_there counts i ≡ true
       → Stands (store_item_block i)
   store_item_stands (item_no.Variable v) is = one_stands (instruction.Store v) (short_variable v is)
       is
-  store_item_stands (item_no.Command n) is = nothing_stands
-  store_item_stands (item_no.Menu n) is = nothing_stands
-  store_item_stands (item_no.Collection n) is = nothing_stands
-  store_item_stands (item_no.Method n) is = nothing_stands
-  store_item_stands (item_no.Array n) is = nothing_stands
+  store_item_stands _ is = nothing_stands
 
   store_stands : (t : Target) → uses_existing context t ≡ true → Stands (store_block t)
   store_stands (Local slot) is = one_stands (instruction.SetLocal slot) (short_slot slot is) is
@@ -369,8 +356,7 @@ module _ (version : Version) (counts : Counts) (slots : ℕ)
           (all_stand arguments parts.1 are.1 known
           (λ h. second (or_right of_call of_arguments h))) are.1
           (λ h. second (or_left of_call of_arguments h))
-      method_stands b (Call (Local slot) arguments) fit is known second = absurd cc
-      method_stands b (Call (Item i) arguments) fit is known second = absurd cc
+      method_stands b (Call _ arguments) fit is known second = absurd cc
 
       all_stand : (arguments : Arguments Target) → argument_mismatches arguments ≡ []
           → are_arguments (uses_existing context) plain arguments ≡ true

@@ -9,13 +9,13 @@ use Rattle.edd_syntax.specs.declared.numbers.VarNo.{VarNo}
 use Rattle.edd_syntax.specs.declared.operators.Builtin.{Builtin}
 use Rattle.edd_syntax.specs.declared.operators.Builtin.TheVariants as builtin
 use Rattle.edd_syntax.specs.declared.reference.Target.{Target}
-use Rattle.edd_syntax.specs.declared.reference.Target.TheVariants.{Local, Item, Function}
+use Rattle.edd_syntax.specs.declared.reference.Target.TheVariants.{Item, Function}
 use Rattle.edd_syntax.specs.Device as device
 use Rattle.edd_syntax.specs.Text as texts
 use Rattle.edd_syntax.specs.Expression.{Expr, Literal, Decimal, Reference, Indexed, Parentheses, Unary, Binary, Compare, LogicalAnd, LogicalOr, Conditional, Assign, CompoundAssign, Increment, Call, Text, Value, Arguments, Nil, Cons}
 use Rattle.edd_syntax.specs.AbortMethods.{listed}
 use Rattle.edd_syntax.specs.MethodState as source
-use Rattle.edd_syntax.specs.MethodState.{State, Done, Stopped, Action, pure, stop, Aborted, ◌>>=◌, ◌>>◌, read, read_element, assign, ask}
+use Rattle.edd_syntax.specs.MethodState.{State, Done, Stopped, Action, pure, stop, ◌>>=◌, ◌>>◌, read, read_element, assign, ask}
 use Rattle.edd_syntax.specs.Evaluation.{Given, Number, referred, call, evaluate, evaluate_all}
 use Rattle.edd_syntax.specs.Strings.{expr_texts, argument_texts}
 use Rattle.edd_syntax.specs.SubsetRules.{parameters, all_fit, call_breaches, call_mismatches, argument_mismatches}
@@ -317,8 +317,7 @@ module _ (text : StrNo → Option Words) (number : Words → StrNo) (around : de
         let parts = front_none (call_breaches b (Function f) arguments)
         (argument_mismatches arguments) fit in
         call_means f arguments (fits b f arguments parts.0).0 (all_mean arguments parts.1 known)
-    means b (Call (Local slot) arguments) fit known = absurd cc
-    means b (Call (Item i) arguments) fit known = absurd cc
+    means b (Call _ arguments) fit known = absurd cc
 
     all_mean : (arguments : Arguments Target) → argument_mismatches arguments ≡ []
         → AllByRecursion (IsNumbered text number) (argument_texts arguments) → AreMeant arguments

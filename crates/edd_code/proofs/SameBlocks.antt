@@ -3,8 +3,8 @@ use Rattle.std.proofs.Common.{◌≡◌, refl, ap, Bool, true}
 use Rattle.std.proofs.lemmas.Bool.{and_parts}
 use Rattle.edd_syntax.specs.declared.numbers.StrNo.{StrNo}
 use Rattle.edd_syntax.specs.declared.reference.Target.{Target}
-use Rattle.edd_syntax.specs.declared.reference.Target.TheVariants.{Local, Item, Function}
-use Rattle.edd_syntax.specs.Expression.{Expr, Literal, Decimal, Reference, Indexed, Parentheses, Unary, Binary, Compare, LogicalAnd, LogicalOr, Conditional, Assign, CompoundAssign, Increment, Call}
+use Rattle.edd_syntax.specs.declared.reference.Target.TheVariants.{Local}
+use Rattle.edd_syntax.specs.Expression.{Expr, Literal, Decimal, Reference, Indexed, Parentheses, Unary, Binary, Compare, LogicalAnd, LogicalOr, Conditional}
 use Rattle.edd_syntax.specs.WellFormed.{is_pure_expr}
 use Rattle.edd_syntax.specs.Words.{Words}
 use Rattle.edd_instructions.specs.declared.instruction.Instruction.TheVariants as instruction
@@ -19,8 +19,7 @@ two_same f p q = rw (p, q) refl
 
 read_same : (t : Target) → is_no_local t ≡ true → load_block t ≡ attribute.read_block t
 read_same (Local slot) is = absurd cc
-read_same (Item i) is = refl
-read_same (Function f) is = refl
+read_same _ is = refl
 
 module _ (number : Words → StrNo) (plain : Target → Bool) where
   pub same_block : (e : Expr Target) → is_pure_expr is_no_local plain e ≡ true
@@ -55,7 +54,4 @@ module _ (number : Words → StrNo) (plain : Target → Bool) where
       let front = and_parts _ _ are.0 in
       two_same Then (same_block test front.0)
       (two_same Either (same_block first front.1) (same_block second are.1))
-  same_block (Assign to value) is = absurd cc
-  same_block (CompoundAssign op to value) is = absurd cc
-  same_block (Increment op to) is = absurd cc
-  same_block (Call function arguments) is = absurd cc
+  same_block _ is = absurd cc

@@ -35,37 +35,22 @@ module _ (names : Reading) where
 
   part_keeps : (p : TypePart Path) (q : TypePart Target) → resolved_type_part names p ≡ Some q
       → type_part_nodes q ≡ type_part_nodes p
-  part_keeps (item.DefaultValue c) q h =
-      made type_part_nodes (resolved_cond at (resolved_expr at) c) item.DefaultValue q _
+  part_keeps (item.OneNumber which c) q h =
+      made type_part_nodes (resolved_cond at (resolved_expr at) c) (item.OneNumber which) q _
       (λ x is. ap (λ n. 1 + n) (cond_keeps at (resolved_expr at) nodes nodes (expr_keeps at) c x
       is)) h
-  part_keeps (item.MinValue c) q h = made type_part_nodes (resolved_cond at (resolved_expr at) c)
-      item.MinValue q _ (λ x is. ap (λ n. 1 + n)
-      (cond_keeps at (resolved_expr at) nodes nodes (expr_keeps at) c x is)) h
-  part_keeps (item.MaxValue c) q h = made type_part_nodes (resolved_cond at (resolved_expr at) c)
-      item.MaxValue q _ (λ x is. ap (λ n. 1 + n)
-      (cond_keeps at (resolved_expr at) nodes nodes (expr_keeps at) c x is)) h
-  part_keeps (item.DisplayFormat c) q h = made type_part_nodes (resolved_cond at unchanged c)
-      item.DisplayFormat q _ (λ x is. ap (λ n. 1 + n)
-      (cond_keeps at unchanged leaf leaf (leaf_keeps unchanged) c x is)) h
-  part_keeps (item.EditFormat c) q h = made type_part_nodes (resolved_cond at unchanged c)
-      item.EditFormat q _ (λ x is. ap (λ n. 1 + n)
+  part_keeps (item.OneFormat which c) q h = made type_part_nodes (resolved_cond at unchanged c)
+      (item.OneFormat which) q _ (λ x is. ap (λ n. 1 + n)
       (cond_keeps at unchanged leaf leaf (leaf_keeps unchanged) c x is)) h
   part_keeps (item.Element c) q h = made type_part_nodes (resolved_cond at unchanged c) item.Element
       q _ (λ x is. cond_keeps at unchanged leaf leaf (leaf_keeps unchanged) c x is) h
 
   element_keeps : (p : TypePart Path) (q : TypePart Target) → resolved_type_part names p ≡ Some q
       → is_element q ≡ is_element p
-  element_keeps (item.DefaultValue c) q h = made is_element (resolved_cond at (resolved_expr at) c)
-      item.DefaultValue q _ (λ x is. refl) h
-  element_keeps (item.MinValue c) q h = made is_element (resolved_cond at (resolved_expr at) c)
-      item.MinValue q _ (λ x is. refl) h
-  element_keeps (item.MaxValue c) q h = made is_element (resolved_cond at (resolved_expr at) c)
-      item.MaxValue q _ (λ x is. refl) h
-  element_keeps (item.DisplayFormat c) q h = made is_element (resolved_cond at unchanged c)
-      item.DisplayFormat q _ (λ x is. refl) h
-  element_keeps (item.EditFormat c) q h = made is_element (resolved_cond at unchanged c)
-      item.EditFormat q _ (λ x is. refl) h
+  element_keeps (item.OneNumber which c) q h = made is_element (resolved_cond at (resolved_expr at) c)
+      (item.OneNumber which) q _ (λ x is. refl) h
+  element_keeps (item.OneFormat which c) q h = made is_element (resolved_cond at unchanged c)
+      (item.OneFormat which) q _ (λ x is. refl) h
   element_keeps (item.Element c) q h = made is_element (resolved_cond at unchanged c) item.Element q
       _ (λ x is. refl) h
 

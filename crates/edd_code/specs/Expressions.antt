@@ -6,7 +6,7 @@ use Rattle.edd_syntax.specs.declared.operators.UnaryOperator.{UnaryOperator}
 use Rattle.edd_syntax.specs.declared.operators.UnaryOperator.TheVariants as unary_operator
 use Rattle.edd_syntax.specs.declared.reference.Target.{Target}
 use Rattle.edd_syntax.specs.declared.reference.Target.TheVariants.{Local, Item, Function}
-use Rattle.edd_syntax.specs.Expression.{Expr, Literal, Decimal, Reference, Indexed, Parentheses, Unary, Binary, Compare, LogicalAnd, LogicalOr, Conditional, Assign, CompoundAssign, Increment, Call}
+use Rattle.edd_syntax.specs.Expression.{Expr, Literal, Decimal, Reference, Indexed, Parentheses, Unary, Binary, Compare, LogicalAnd, LogicalOr, Conditional}
 use Rattle.edd_instructions.specs.declared.instruction.Instruction.TheVariants as instruction
 use Rattle.edd_code.specs.Blocks.{Block, Nothing, Straight, Then, WhenNotZero, WhenZero, Either}
 
@@ -17,11 +17,7 @@ no_value = Straight (instruction.Push 0)
 -- a variable; no attribute reads another item
 abbrev pub item_block : ItemNo → Block
 item_block (item_no.Variable v) = Straight (instruction.Variable v)
-item_block (item_no.Command n) = no_value
-item_block (item_no.Menu n) = no_value
-item_block (item_no.Collection n) = no_value
-item_block (item_no.Method n) = no_value
-item_block (item_no.Array n) = no_value
+item_block _ = no_value
 
 -- no attribute refers to a local or a function
 abbrev pub read_block : Target → Block
@@ -36,12 +32,8 @@ no_element = Then (Straight instruction.Pop) no_value
 
 -- an element of an array, by the instruction that reads it
 abbrev pub item_element_block : ItemNo → Block
-item_element_block (item_no.Variable v) = no_element
-item_element_block (item_no.Command n) = no_element
-item_element_block (item_no.Menu n) = no_element
-item_element_block (item_no.Collection n) = no_element
-item_element_block (item_no.Method n) = no_element
 item_element_block (item_no.Array n) = Straight (instruction.ReadElement n)
+item_element_block _ = no_element
 
 -- an element of what is before the index; only an item can be an array
 abbrev pub element_block : Target → Block
@@ -89,7 +81,4 @@ expression_block (Conditional test first second) =
     Then (expression_block test) (Either (expression_block first) (expression_block second))
 -- these are in no attribute of a checked description
 expression_block Decimal = no_value
-expression_block (Assign to by) = no_value
-expression_block (CompoundAssign op to by) = no_value
-expression_block (Increment op to) = no_value
-expression_block (Call function arguments) = no_value
+expression_block _ = no_value

@@ -30,11 +30,7 @@ load_block (Function f) = no_value
 -- a variable; no checked unit stores to another item
 abbrev pub store_item_block : ItemNo → Block
 store_item_block (item_no.Variable v) = Straight (instruction.Store v)
-store_item_block (item_no.Command n) = Nothing
-store_item_block (item_no.Menu n) = Nothing
-store_item_block (item_no.Collection n) = Nothing
-store_item_block (item_no.Method n) = Nothing
-store_item_block (item_no.Array n) = Nothing
+store_item_block _ = Nothing
 
 -- the topmost operand is stored, and in its place is what is then read back
 abbrev pub store_block : Target → Block

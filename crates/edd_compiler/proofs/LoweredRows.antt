@@ -96,8 +96,5 @@ module _ (d : Description Target) where
 
 -- what says more may be said of too many strings
 pub over_more : {P Q : Type 0} (e : Fault) → (P → Q) → IsOfLowering P e → IsOfLowering Q e
-over_more (fault.Lex e) more is = is
-over_more (fault.Parse e) more is = is
-over_more (fault.Rule e) more is = is
 over_more fault.TooManyStrings more is = more is
-over_more fault.Memory more is = is
+over_more _ more is = is

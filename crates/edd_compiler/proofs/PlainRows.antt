@@ -30,12 +30,9 @@ at_zero n h = grind (arith, common_steps)
 -- only a method has a body
 a_method : (i : ItemNo) → has_attr (kind_of i) attr.Definition ≡ true
     → (m : MethNo) × (i ≡ items.Method m)
-a_method (items.Variable n) may = absurd (false≢true may)
-a_method (items.Command n) may = absurd (false≢true may)
-a_method (items.Menu n) may = absurd (false≢true may)
-a_method (items.Collection n) may = absurd (false≢true may)
 a_method (items.Method m) may = (m, refl)
 a_method (items.Array m) may = absurd cc
+a_method _ may = absurd (false≢true may)
 
 module _ (d : Description Target) where
   plain : (row : AttrRef) → is_placed (counts_of d.identification d.items 0) row ≡ true

@@ -25,22 +25,8 @@ module _ (text : List ℕ) (unit : Description Path) (spelled : IsUnitOf text un
   explained : (e : RuleFault) (breaches : List Refusal)
       → ((why : Refusal) → first_of breaches ≡ Some why → refusal unit ≡ Some why)
       → IsFirstOf breaches e → Explains text (of_rule e)
-  explained (rule.TooMany limit) breaches first is = (unit, spelled, first _ is)
-  explained (rule.DuplicateName name) breaches first is = (unit, spelled, first _ is)
-  explained (rule.DuplicateAttribute word) breaches first is = (unit, spelled, first _ is)
-  explained (rule.MissingAttribute item word) breaches first is = (unit, spelled, first _ is)
-  explained (rule.UnknownName name) breaches first is = (unit, spelled, first _ is)
-  explained (rule.WrongKind name) breaches first is = (unit, spelled, first _ is)
-  explained (rule.FloatVariable variable) breaches first is = (unit, spelled, first _ is)
-  explained (rule.OtherType variable word) breaches first is = (unit, spelled, first _ is)
-  explained (rule.BadSize variable) breaches first is = (unit, spelled, first _ is)
-  explained (rule.Mismatch at) breaches first is = (unit, spelled, first _ is)
-  explained (rule.FloatValue at) breaches first is = (unit, spelled, first _ is)
-  explained (rule.BreakOutside at) breaches first is = (unit, spelled, first _ is)
-  explained (rule.ConstRange at) breaches first is = (unit, spelled, first _ is)
-  explained (rule.DuplicateCase at) breaches first is = (unit, spelled, first _ is)
-  explained (rule.DuplicateElement at) breaches first is = (unit, spelled, first _ is)
   explained rule.Memory breaches first is = tt
+  explained _ breaches first is = (unit, spelled, first _ is)
 
   -- a rule on counts, names and attributes comes before all others
   pub name_refused : (e : RuleFault) → IsFirstOf (name_breaches unit) e → Explains text (of_rule e)

@@ -50,7 +50,5 @@ module _ (text : List ℕ) (tokens read : List Token)
 -- what a refusal of the parser says of the text
 pub explained : (text : List ℕ) (e : ParseFault) (P : Type 0)
     → (P → HasNoUnit text) → Says e P → Explains text (of_parse e)
-explained text (parse.Syntax at) P none says = none says
-explained text (parse.TooDeep at) P none says = none says
-explained text (parse.Unsupported at word) P none says = none says
 explained text parse.Memory P none says = says
+explained text _ P none says = none says

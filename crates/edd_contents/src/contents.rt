@@ -6,7 +6,7 @@ use crate::records::Words;
 use edd_display::ShowFault;
 use edd_fault_places::sections::{RowFields, Sections, part};
 use edd_instructions::Instruction;
-use edd_syntax::numbers::{Attr, StrNo};
+use edd_syntax::numbers::{Attr, StrNo, ValueKind};
 use std::alloc::{AllocError, Global};
 
 /// How the content of an attribute is compared.
@@ -20,15 +20,16 @@ pub enum Shape {
     Message,
 }
 
+/// How the content of this attribute is compared.
 pub fn shape_of(attribute: Attr) -> Shape {
-    match attribute {
-        Attr::Class
-        | Attr::Enumerators
-        | Attr::ResponseCodes
-        | Attr::Items
-        | Attr::Members
-        | Attr::Elements => Shape::List,
-        Attr::Request | Attr::Reply => Shape::Message,
+    match attribute.shape().value {
+        ValueKind::ClassWord
+        | ValueKind::Enumerator
+        | ValueKind::ResponseCode
+        | ValueKind::MenuEntry
+        | ValueKind::Member
+        | ValueKind::Element => Shape::List,
+        ValueKind::DataItem => Shape::Message,
         _ => Shape::Value,
     }
 }

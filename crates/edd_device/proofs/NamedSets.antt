@@ -27,15 +27,8 @@ by_theirs v (Some w) pair e = ap (λ (x : Option Pair). elim x as (λ y. VarNo) 
 
 ties : (i d : List ℕ) (r : Record) (pair : Pair) → tied i d r ≡ Some pair
     → IsEntryOf r pair.ours
-ties i d (records.Words s) pair e = absurd cc
-ties i d (records.Number n) pair e = absurd cc
-ties i d (records.Entry item quals) pair e = absurd cc
-ties i d (records.DataConst n) pair e = absurd cc
 ties i d (records.DataVar v mask quals) pair e = by_theirs v (counterpart i d v) pair e
-ties i d (records.Enumerator n text help) pair e = absurd cc
-ties i d (records.Response n class text) pair e = absurd cc
-ties i d (records.Member name item label help) pair e = absurd cc
-ties i d (records.Element n w label help) pair e = absurd cc
+ties i d _ pair e = absurd cc
 
 abbrev Named : List Record → List Change → Type 0
 Named entries sets = AllByRecursion (λ (set : Change). IsAmong entries set.variable) sets

@@ -96,11 +96,6 @@ module _ (s : Simulated) (values : List ℤ) where
 
   pub reply : (asks : Request) (r q : Result Step DeviceFault) → IsReply s values asks r
       → IsReply s values asks q → r ≡ q
-  reply (request.PutMessage text) r q e f = e ∙ sym f
-  reply (request.Acknowledge text) r q e f = e ∙ sym f
-  reply (request.Delay seconds text) r q e f = e ∙ sym f
-  reply (request.GetDevVarValue text v) r q e f = e ∙ sym f
-  reply (request.SelectFromList text choices) r q e f = e ∙ sym f
   reply (request.SendCommand number) r q e f = sends number (pos 0) r q e f
   reply (request.SendCommandTrans number transaction) r q e f = sends number transaction r q e f
-  reply request.SaveValues r q e f = e ∙ sym f
+  reply _ r q e f = e ∙ sym f

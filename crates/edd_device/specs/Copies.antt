@@ -22,16 +22,9 @@ number_at values v = unwrap_or (slice_get values v.0) (pos 0)
 
 -- the variables that an entry of a message ties; the whole variable is moved, whatever its mask
 abbrev pub tied : (instrument device : List ℕ) → Record → Option Pair
-tied i d (records.Words s) = None
-tied i d (records.Number n) = None
-tied i d (records.Entry item quals) = None
-tied i d (records.DataConst n) = None
 tied i d (records.DataVar v mask quals) =
     option_map (λ w. record { ours = v; theirs = w }) (counterpart i d v)
-tied i d (records.Enumerator n text help) = None
-tied i d (records.Response n class text) = None
-tied i d (records.Member name item label help) = None
-tied i d (records.Element n v label help) = None
+tied i d _ = None
 
 -- The device's values after the entries of a request: each takes the instrument's value, unless it
 -- is out of the range of the device's variable.

@@ -22,15 +22,8 @@ of_command command a sub =
 -- the number that an attribute gives, if it gives one
 abbrev pub first_number : List Record → Option ℤ
 first_number [] = None
-first_number (records.Words s ∷ rest) = None
 first_number (records.Number n ∷ rest) = Some n
-first_number (records.Entry item quals ∷ rest) = None
-first_number (records.DataConst n ∷ rest) = None
-first_number (records.DataVar v mask quals ∷ rest) = None
-first_number (records.Enumerator n text help ∷ rest) = None
-first_number (records.Response n class text ∷ rest) = None
-first_number (records.Member name item label help ∷ rest) = None
-first_number (records.Element n v label help ∷ rest) = None
+first_number (_ ∷ rest) = None
 
 -- the number that is read, as that of a command of NUMBER
 abbrev pub number_read : Reading → Option ℤ

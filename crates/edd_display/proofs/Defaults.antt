@@ -20,32 +20,16 @@ default_shown : (c : Contents) (code : List ℕ) (item : ItemNo) (a : Attr)
     → is_of_transaction a ≡ false
     → reading_line c code (row_at item a 0) (Records (default_records a)) ≡ default_line a
 unfolding reading_line reading_shown row_word record_shown
-default_shown c code item attr.Label e = refl
-default_shown c code item attr.Help e = refl
-default_shown c code item attr.Class e = refl
 default_shown c code item attr.Handling e =
     let shown : signed_decimal (pos 3) ≡ 51 ∷ [] = decimal_digit 3 (omega arith) in
     rw shown refl
-default_shown c code item attr.ConstantUnit e = refl
 default_shown c code item attr.Validity e =
     let shown : signed_decimal (pos 1) ≡ 49 ∷ [] = decimal_digit 1 (omega arith) in
     rw shown refl
-default_shown c code item attr.DefaultValue e = refl
-default_shown c code item attr.MinValue e = refl
-default_shown c code item attr.MaxValue e = refl
-default_shown c code item attr.DisplayFormat e = refl
-default_shown c code item attr.EditFormat e = refl
-default_shown c code item attr.Enumerators e = refl
-default_shown c code item attr.Number e = refl
-default_shown c code item attr.Operation e = refl
 default_shown c code item attr.Transaction e = absurd cc
 default_shown c code item attr.Request e = absurd cc
 default_shown c code item attr.Reply e = absurd cc
-default_shown c code item attr.ResponseCodes e = refl
-default_shown c code item attr.Items e = refl
-default_shown c code item attr.Members e = refl
-default_shown c code item attr.Definition e = refl
-default_shown c code item attr.Elements e = refl
+default_shown c code item _ e = refl
 
 module _ (b : List ℕ) (values : List ℤ) (code : List ℕ) (item : ItemNo) (a : Attr) where
   default_read : item_exists (contents_in b).counts item ≡ true

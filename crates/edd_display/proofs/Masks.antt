@@ -44,19 +44,11 @@ none_of_rows f p (suc n) start h =
 
 same_index : (k : Kind) (n : ℕ) → index_of (item_number k n) ≡ n
 same_index kind.Variable n = refl
-same_index kind.Command n = refl
-same_index kind.Menu n = refl
-same_index kind.Collection n = refl
-same_index kind.Method n = refl
-same_index kind.Array n = refl
+same_index _ n = refl
 
 same_kind : (k : Kind) (n : ℕ) → kind_of (item_number k n) ≡ k
 same_kind kind.Variable n = refl
-same_kind kind.Command n = refl
-same_kind kind.Menu n = refl
-same_kind kind.Collection n = refl
-same_kind kind.Method n = refl
-same_kind kind.Array n = refl
+same_kind _ n = refl
 
 -- a row of an attribute has set its bit
 row_sets : (k : Kind) (all : List ℕ) (n : ℕ) (a : Attr) (r : AttributeFields) → n < length all

@@ -1,10 +1,10 @@
 -- No entry of an image stands twice: they differ in kind, item, attribute or position.
-use Rattle.std.proofs.Common.{◌≡◌, ◌≢◌, ℕ, zero, suc, ◌+◌, ◌≤◌, Bool, true, false, List, [], ◌∷◌, ◌++◌, map, refl, sym, ap, arith, inl, inr, if◌then◌else◌}
+use Rattle.std.proofs.Common.{◌≡◌, ◌≢◌, ℕ, zero, suc, ◌+◌, ◌≤◌, Bool, true, false, List, [], ◌∷◌, ◌++◌, map, refl, sym, ap, arith, inl, inr, if◌then◌else◌, length}
 use Rattle.std.specs.Prelude.{⊤, ◌||◌}
 use Rattle.std.proofs.lemmas.Bool.{cases_Bool, eqb-true}
 use Rattle.std.specs.List.{AllByRecursion, filter, flat_map, range_with_len}
 use Rattle.edd_syntax.specs.declared.numbers.Kind.{Kind}
-use Rattle.edd_syntax.specs.declared.numbers.Kind.TheVariants.{Variable, Command, Menu, Collection, Method, Array}
+use Rattle.edd_syntax.specs.declared.numbers.Kind.TheVariants.{Variable}
 use Rattle.edd_syntax.specs.declared.numbers.ItemNo.{ItemNo}
 use Rattle.edd_syntax.specs.declared.numbers.Attr.{Attr}
 use Rattle.edd_syntax.specs.declared.numbers.Attr.TheVariants as attr
@@ -115,21 +115,18 @@ number_of_item (Row ref) = index_of ref.item
 
 -- the attribute at whose place the entry is, from 1 on; the name of the item is before them
 abbrev place_of_attribute : Entry → ℕ
-place_of_attribute Identification = 0
-place_of_attribute (Head item) = 0
 place_of_attribute (Row ref) = if is_of_transaction ref.attr then 15 else attr_number ref.attr
+place_of_attribute _ = 0
 
 -- the position of a transaction
 abbrev number_of_position : Entry → ℕ
-number_of_position Identification = 0
-number_of_position (Head item) = 0
 number_of_position (Row ref) = ref.sub
+number_of_position _ = 0
 
 -- the attribute itself
 abbrev number_of_attribute : Entry → ℕ
-number_of_attribute Identification = 0
-number_of_attribute (Head item) = 0
 number_of_attribute (Row ref) = attr_number ref.attr
+number_of_attribute _ = 0
 
 -- ---- transactions
 
@@ -212,7 +209,7 @@ attribute_once c item a = elim (cases_Bool (has_attr (kind_of item) a)) [
 ]
 
 attributes_rise : (n : ℕ) → n ≤ 1 → Rise n (map attr_number attributes)
-attributes_rise n le = range_rises n 1 22 le
+attributes_rise n le = range_rises n 1 (length attributes) le
 
 -- ---- items and kinds
 
@@ -236,19 +233,11 @@ entries_of_item P c item head all =
 
 same_index : (k : Kind) (n : ℕ) → index_of (item_number k n) ≡ n
 same_index Variable n = refl
-same_index Command n = refl
-same_index Menu n = refl
-same_index Collection n = refl
-same_index Method n = refl
-same_index Array n = refl
+same_index _ n = refl
 
 same_kind : (k : Kind) (n : ℕ) → kind_number (kind_of (item_number k n)) ≡ kind_number k
 same_kind Variable n = refl
-same_kind Command n = refl
-same_kind Menu n = refl
-same_kind Collection n = refl
-same_kind Method n = refl
-same_kind Array n = refl
+same_kind _ n = refl
 
 kind_once : (c : Contents) (k : Kind) → AreOnce (kind_entries c k)
 unfolding kind_entries

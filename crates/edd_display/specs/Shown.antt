@@ -3,6 +3,7 @@ use Rattle.std.specs.Prelude.{◌≡◌, ◌≢◌, ⊤, ℕ, ℤ, Bool, true, f
 use Rattle.std.specs.Fmt.{decimal}
 use Rattle.std.specs.Io.KnownBytes.{Appends}
 use Rattle.std.specs.List.{AllByRecursion, filter, flat_map, list_any, range_with_len}
+use Rattle.edd_syntax.specs.declared.numbers.TheConstants.{ATTRIBUTES}
 use Rattle.edd_syntax.specs.declared.numbers.Kind.{Kind}
 use Rattle.edd_syntax.specs.declared.numbers.Kind.TheVariants.{Variable, Command, Menu, Collection, Method, Array}
 use Rattle.edd_syntax.specs.declared.numbers.ItemNo.{ItemNo}
@@ -39,11 +40,7 @@ kinds = Variable ∷ Command ∷ Menu ∷ Collection ∷ Method ∷ Array ∷ []
 
 -- the attributes by their numbers
 abbrev pub attributes : List Attr
-attributes =
-    attr.Label ∷ attr.Help ∷ attr.Class ∷ attr.Handling ∷ attr.ConstantUnit ∷ attr.Validity
-    ∷ attr.DefaultValue ∷ attr.MinValue ∷ attr.MaxValue ∷ attr.DisplayFormat ∷ attr.EditFormat
-    ∷ attr.Enumerators ∷ attr.Number ∷ attr.Operation ∷ attr.Transaction ∷ attr.Request ∷ attr.Reply
-    ∷ attr.ResponseCodes ∷ attr.Items ∷ attr.Members ∷ attr.Definition ∷ attr.Elements ∷ []
+attributes = ATTRIBUTES
 
 -- an attribute of an item, at a transaction's position or at 0
 abbrev pub row_at : ItemNo → Attr → (sub : ℕ) → AttrRef

@@ -1,6 +1,6 @@
 //! What may stand at a place, as far as the braces and words before it say.
 
-use edd_syntax::numbers::{Attr, Kind};
+use edd_syntax::numbers::{Attr, Home, Kind, ValueKind};
 use edd_syntax::symbols::Keyword;
 
 /// What braces hold.
@@ -90,38 +90,21 @@ pub struct Spot {
 
 /// Whether an attribute of this word has an expression as its value.
 pub fn is_number_word(word: Keyword) -> bool {
-    matches!(
-        word,
-        Keyword::DefaultValue | Keyword::MinValue | Keyword::MaxValue
-    )
+    match Attr::from_word(word) {
+        Some(attr) => attr.shape().value == ValueKind::Expression,
+        None => false,
+    }
 }
 
 /// Whether a word begins a part in the braces of TYPE.
 pub fn is_type_part(word: Keyword) -> bool {
-    is_number_word(word) || matches!(word, Keyword::DisplayFormat | Keyword::EditFormat)
+    match Attr::from_word(word) {
+        Some(attr) => attr.shape().home == Home::Type,
+        None => false,
+    }
 }
-
-/// The words that begin attributes of items, and for which attribute each stands. TYPE has none of
-/// its own; its enumerators belong to the same items.
-pub const ATTRIBUTE_WORDS: [(Keyword, Attr); 15] = [
-    (Keyword::Label, Attr::Label),
-    (Keyword::Help, Attr::Help),
-    (Keyword::Class, Attr::Class),
-    (Keyword::Handling, Attr::Handling),
-    (Keyword::ConstantUnit, Attr::ConstantUnit),
-    (Keyword::Validity, Attr::Validity),
-    (Keyword::Type, Attr::Enumerators),
-    (Keyword::Number, Attr::Number),
-    (Keyword::Operation, Attr::Operation),
-    (Keyword::Transaction, Attr::Transaction),
-    (Keyword::ResponseCodes, Attr::ResponseCodes),
-    (Keyword::Items, Attr::Items),
-    (Keyword::Members, Attr::Members),
-    (Keyword::Definition, Attr::Definition),
-    (Keyword::Elements, Attr::Elements),
-];
 
 /// Whether a word begins an attribute of an item.
 pub fn is_attribute(word: Keyword) -> bool {
-    ATTRIBUTE_WORDS.iter().any(|entry| entry.0 == word)
+    Attr::begun_by(word).is_some()
 }

@@ -6,10 +6,10 @@ use crate::comments::is_unread;
 use crate::offers::Offers;
 use crate::place_terms::role_at;
 use edd_document::Document;
-use edd_document::spots::{ATTRIBUTE_WORDS, Braces, Place, is_number_word};
+use edd_document::spots::{Braces, Place, is_number_word};
 use edd_lexer::token::TokenKind;
 use edd_reports::words::Span;
-use edd_syntax::numbers::Kind;
+use edd_syntax::numbers::{ATTRIBUTES, Attr, Home, Kind};
 use edd_syntax::operators::Parameter;
 use edd_syntax::symbols::{Keyword, Symbol};
 use std::alloc::{AllocError, Global};
@@ -43,17 +43,6 @@ const STATEMENTS: [Keyword; 13] = [
     Keyword::Continue,
     Keyword::Return,
 ];
-
-/// The parts of TYPE. An enumerated type has the first alone.
-const TYPE_PARTS: [Keyword; 5] = [
-    Keyword::DefaultValue,
-    Keyword::MinValue,
-    Keyword::MaxValue,
-    Keyword::DisplayFormat,
-    Keyword::EditFormat,
-];
-
-const TRANSACTION_PARTS: [Keyword; 2] = [Keyword::Request, Keyword::Reply];
 
 /// The words of conditions.
 const CONDITIONS: [Keyword; 2] = [Keyword::If, Keyword::Select];
@@ -178,24 +167,41 @@ fn begins_statement(document: &Document<'_>, token: usize) -> bool {
 }
 
 impl Offers<'_, '_> {
-    // The words that the braces around a cursor don't have yet.
-    fn add_missing(&mut self, cursor: Cursor, words: &[Keyword]) -> Result<(), AllocError> {
-        for word in words {
-            if !has_word(self.document, cursor, *word) {
-                self.add_words(&[*word], CompletionKind::Attribute)?;
+    // A word, unless the braces around a cursor have it already.
+    fn add_missing(&mut self, cursor: Cursor, word: Keyword) -> Result<(), AllocError> {
+        if has_word(self.document, cursor, word) {
+            return Ok(());
+        }
+        self.add_words(&[word], CompletionKind::Attribute)
+    }
+
+    // The attributes that an item doesn't have yet. TRANSACTION may be there several times.
+    fn add_attributes(&mut self, cursor: Cursor, kind: Kind) -> Result<(), AllocError> {
+        for attribute in ATTRIBUTES {
+            let Some(word) = attribute.word_in_item() else {
+                continue;
+            };
+            if !attribute.may_belong_to(kind) {
+                continue;
+            }
+            if attribute == Attr::Transaction {
+                self.add_words(&[word], CompletionKind::Attribute)?;
+            } else {
+                self.add_missing(cursor, word)?;
             }
         }
         Ok(())
     }
 
-    // The attributes that an item doesn't have yet. TRANSACTION may be there several times.
-    fn add_attributes(&mut self, cursor: Cursor, kind: Kind) -> Result<(), AllocError> {
-        for (word, attribute) in ATTRIBUTE_WORDS {
-            let may_be_again = word == Keyword::Transaction;
-            if attribute.may_belong_to(kind)
-                && (may_be_again || !has_word(self.document, cursor, word))
-            {
-                self.add_words(&[word], CompletionKind::Attribute)?;
+    // The parts that braces of TYPE or TRANSACTION don't have yet.
+    fn add_parts_of(&mut self, cursor: Cursor, home: Home) -> Result<(), AllocError> {
+        for attribute in ATTRIBUTES {
+            let shape = attribute.shape();
+            if shape.home != home || attribute.word_in_item().is_some() {
+                continue;
+            }
+            if let Some(word) = shape.word {
+                self.add_missing(cursor, word)?;
             }
         }
         Ok(())
@@ -205,13 +211,13 @@ impl Offers<'_, '_> {
     fn add_parts(&mut self, cursor: Cursor, braces: Braces) -> Result<(), AllocError> {
         match braces {
             Braces::Item(kind) => self.add_attributes(cursor, kind),
-            Braces::Transaction => self.add_missing(cursor, &TRANSACTION_PARTS),
+            Braces::Transaction => self.add_parts_of(cursor, Home::Transaction),
             Braces::Type => {
                 let open = self.document.spot(cursor.token).open.unwrap_or(0);
                 if is_enumerated(self.document, open) {
-                    self.add_missing(cursor, &[Keyword::DefaultValue])
+                    self.add_missing(cursor, Keyword::DefaultValue)
                 } else {
-                    self.add_missing(cursor, &TYPE_PARTS)
+                    self.add_parts_of(cursor, Home::Type)
                 }
             }
             _ => Ok(()),

@@ -13,6 +13,7 @@ use edd_parser::parse;
 use edd_reports::words::{Span, text_in};
 use edd_syntax::cond::Cond;
 use edd_syntax::item::{Attribute, Item, TypePart};
+use edd_syntax::numbers::NumberOption;
 use edd_syntax::reference::Target;
 use edd_syntax::symbols::Symbol;
 use std::alloc::{AllocError, Global};
@@ -102,7 +103,8 @@ fn value_of(items: &[Item<Target>], sort: Sort) -> Known {
     match item.attributes() {
         [Attribute::TypeOf { parts, .. }] => match parts.as_slice() {
             [
-                TypePart::DefaultValue {
+                TypePart::OneNumber {
+                    which: NumberOption::DefaultValue,
                     value: Cond::Value(value),
                     ..
                 },

@@ -1,5 +1,6 @@
 //! What the reserved words mean, and where the page on the language tells of them.
 
+use edd_syntax::numbers::{Attr, ValueKind};
 use edd_syntax::symbols::Keyword;
 
 /// A section of the page LANGUAGE.
@@ -22,6 +23,18 @@ impl Section {
             Section::Methods => "Methods",
             Section::LeftOut => "Words that are left out",
         }
+    }
+}
+
+// What a word means of which nothing is said alone: what its attribute gives, if it is one's.
+fn meaning_by_table(word: Keyword) -> &'static str {
+    let Some(attr) = Attr::from_word(word) else {
+        return "A word of other languages, which methods do not have.";
+    };
+    match attr.shape().value {
+        ValueKind::Text => "A text of the item, in one or more languages.",
+        ValueKind::Expression => "A number of the item, which may depend on the device's values.",
+        _ => "An attribute of the item.",
     }
 }
 
@@ -105,13 +118,7 @@ pub fn meaning_of(word: Keyword) -> &'static str {
         Keyword::Break => "Leaves the loop or the switch around it.",
         Keyword::Continue => "Goes on with the next turn of the loop around it.",
         Keyword::Return => "Ends the method.",
-        Keyword::Char
-        | Keyword::Short
-        | Keyword::Unsigned
-        | Keyword::Signed
-        | Keyword::Float
-        | Keyword::Double
-        | Keyword::Goto => "A word of other languages, which methods do not have.",
+        _ => meaning_by_table(word),
     }
 }
 

@@ -43,9 +43,7 @@ status_back (status.Asking requests.SaveValues) = refl
 status_back status.Ended = refl
 status_back status.Aborted = refl
 status_back (status.Trapped trap.DivZero) = refl
-status_back (status.Trapped trap.DivOverflow) = refl
-status_back (status.Trapped trap.BadShift) = refl
-status_back (status.Trapped trap.NoElement) = refl
+status_back (status.Trapped _) = refl
 
 -- ---- machines
 

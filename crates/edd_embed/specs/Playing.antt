@@ -79,10 +79,7 @@ ending_number ending.Spent = 4
 -- the number of the trap that it ended with, or 0
 abbrev pub trap_of : Ending → ℕ
 trap_of (ending.Trapped why) = trap_number why
-trap_of ending.Ended = 0
-trap_of ending.Aborted = 0
-trap_of ending.Waiting = 0
-trap_of ending.Spent = 0
+trap_of _ = 0
 
 -- ---- plays
 

@@ -169,18 +169,12 @@ turn_number turn.Spent = 4
 -- the number of the trap, or 0
 abbrev pub turn_trap : Turn → ℕ
 turn_trap (turn.Trapped why) = trap_number why
-turn_trap turn.Ended = 0
-turn_trap turn.Aborted = 0
-turn_trap (turn.Asks r) = 0
-turn_trap turn.Spent = 0
+turn_trap _ = 0
 
 -- the pending request, or one with the tag 0
 abbrev pub turn_request : Turn → PlainRequest
 turn_request (turn.Asks r) = plain_request r
-turn_request turn.Ended = bare 0
-turn_request turn.Aborted = bare 0
-turn_request (turn.Trapped why) = bare 0
-turn_request turn.Spent = bare 0
+turn_request _ = bare 0
 
 -- a turn in C
 abbrev pub plain_turn : Turn → PlainTurn

@@ -1,16 +1,17 @@
 -- What is in rows takes a token at least: response codes, members, elements, and the parts of
 -- types and of transactions.
-use Rattle.std.proofs.Common.{◌≡◌, ℕ, ◌≤◌, ◌<◌, Bool, true, false, List, ◌∷◌, drop, length, Some, None, ◌∙◌, arith, length-drop}
+use Rattle.std.proofs.Common.{◌≡◌, ℕ, ◌≤◌, ◌<◌, Bool, true, false, List, ◌∷◌, drop, length, Option, Some, None, ◌∙◌, arith, length-drop}
 use Rattle.std.specs.Prelude.{if◌then◌else◌}
 use Rattle.edd_syntax.specs.declared.symbols.Keyword.TheVariants as word
 use Rattle.edd_syntax.specs.declared.symbols.Symbol.TheVariants as sign
 use Rattle.edd_syntax.specs.Token.{Token, Sign}
 use Rattle.edd_syntax.specs.Item as item
-use Rattle.edd_grammar.specs.Reading.{◌>>=◌, Read, at_word, expect}
+use Rattle.edd_syntax.specs.Numbers.{format_of_word, number_of_word}
+use Rattle.edd_grammar.specs.Reading.{◌>>=◌, on_option, Read, at_word, expect, word_by}
 use Rattle.edd_grammar.specs.WordReading.{skip_semicolons, closed, braced}
 use Rattle.edd_grammar.specs.ConditionalReading.{one_at, element_at, list_at, text_value, expr_value, skip_comma}
 use Rattle.edd_grammar.specs.ValueReading.{enumerator_value, data_item_value}
-use Rattle.edd_grammar.specs.TypeReading.{type_part_at}
+use Rattle.edd_grammar.specs.TypeReading.{format_or_element_at, type_part_at}
 use Rattle.edd_grammar.specs.AttributeReading.{response_code_at, member_at, array_element_at, transaction_part_at}
 use Rattle.edd_grammar.proofs.Steps.{bind_some, as_read}
 use Rattle.edd_grammar.proofs.Members.{response_codes, response_code_sound, members, member_sound, array_elements, array_element_sound}
@@ -65,6 +66,12 @@ either : {A : Type 0} (here : List Token) (b : Bool) (found other : Read A) → 
 either here true found other f o x rest e = f x rest e
 either here false found other f o x rest e = o x rest e
 
+by_word : {A B : Type 0} (here : List Token) (o : Option B) (found : B → Read A) (other : Read A)
+    → ((x : B) → TakesOne here (found x)) → TakesOne here other
+    → TakesOne here (on_option o other found)
+by_word here (Some x) found other f o = f x
+by_word here None found other f o = o
+
 nothing : {A : Type 0} (here : List Token) → TakesOne {A = A} here None
 nothing here x rest e = absurd cc
 
@@ -112,22 +119,16 @@ braced_shortens inner no_longer here x rest e =
 -- ---- parts of types and of transactions
 
 pub type_part_shortens : (height_left : ℕ) → Shortens (type_part_at height_left)
-unfolding type_part_at
+unfolding type_part_at format_or_element_at
 type_part_shortens height_left here =
     let exprs = one_shortens expr_value expr_shortens height_left in
     let texts = one_shortens text_value text_shortens height_left in
     let elements = element_shortens enumerator_value enumerator_shortens height_left in
-    either here (at_word word.DefaultValue here) _ _
-    (behind_word (one_at expr_value height_left) exprs item.DefaultValue here)
-    (either here (at_word word.MinValue here) _ _
-    (behind_word (one_at expr_value height_left) exprs item.MinValue here)
-    (either here (at_word word.MaxValue here) _ _
-    (behind_word (one_at expr_value height_left) exprs item.MaxValue here)
-    (either here (at_word word.DisplayFormat here) _ _
-    (behind_word (one_at text_value height_left) texts item.DisplayFormat here)
-    (either here (at_word word.EditFormat here) _ _
-    (behind_word (one_at text_value height_left) texts item.EditFormat here)
-    (before_comma (element_at enumerator_value height_left) elements item.Element here)))))
+    by_word here (word_by number_of_word here) _ _
+    (λ which. behind_word (one_at expr_value height_left) exprs (item.OneNumber which) here)
+    (by_word here (word_by format_of_word here) _ _
+    (λ which. behind_word (one_at text_value height_left) texts (item.OneFormat which) here)
+    (before_comma (element_at enumerator_value height_left) elements item.Element here))
 
 transaction_part_shortens : (height_left : ℕ) → Shortens (transaction_part_at height_left)
 unfolding transaction_part_at

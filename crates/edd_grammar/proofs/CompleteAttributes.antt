@@ -194,29 +194,11 @@ starts_attribute : (a : Attribute Path) (here rest : List Token) → AttributeHe
     → StartsAttribute a here
 starts_attribute (item.OneText which c) here rest h =
     rw h.1.2 (record { no_close = refl; no_semicolon = refl; belongs = λ k. rw h.1.1 refl })
-starts_attribute (item.Class names) here rest h =
-    rw h.1 (record { no_close = refl; no_semicolon = refl; belongs = λ k. refl })
-starts_attribute (item.Handling c) here rest h =
-    rw h.1 (record { no_close = refl; no_semicolon = refl; belongs = λ k. refl })
-starts_attribute (item.Validity c) here rest h =
-    rw h.1 (record { no_close = refl; no_semicolon = refl; belongs = λ k. refl })
-starts_attribute (item.TypeOf type parts) here rest h =
-    rw h.1 (record { no_close = refl; no_semicolon = refl; belongs = λ k. refl })
 starts_attribute (item.Number n) here rest h =
     rw h (record { no_close = refl; no_semicolon = refl; belongs = λ k. refl })
-starts_attribute (item.Operation o) here rest h =
-    rw h.1 (record { no_close = refl; no_semicolon = refl; belongs = λ k. refl })
 starts_attribute (item.Transaction number parts) here rest h =
     rw h.3 (record { no_close = refl; no_semicolon = refl; belongs = λ k. refl })
-starts_attribute (item.ResponseCodes responses) here rest h =
-    rw h.1 (record { no_close = refl; no_semicolon = refl; belongs = λ k. refl })
-starts_attribute (item.Items entries) here rest h =
-    rw h.1 (record { no_close = refl; no_semicolon = refl; belongs = λ k. refl })
-starts_attribute (item.Members all) here rest h =
-    rw h.1 (record { no_close = refl; no_semicolon = refl; belongs = λ k. refl })
-starts_attribute (item.Elements all) here rest h =
-    rw h.1 (record { no_close = refl; no_semicolon = refl; belongs = λ k. refl })
-starts_attribute (item.Definition body) here rest h =
+starts_attribute _ here rest h =
     rw h.1 (record { no_close = refl; no_semicolon = refl; belongs = λ k. refl })
 
 -- ---- attributes of a kind of item

@@ -7,11 +7,11 @@ use Rattle.edd_syntax.specs.declared.operators.UnaryOperator.TheVariants as unar
 use Rattle.edd_syntax.specs.declared.operators.IncrementOperator.TheVariants.{PreIncrement, PostIncrement, PreDecrement, PostDecrement}
 use Rattle.edd_syntax.specs.declared.symbols.Symbol.TheVariants as sign
 use Rattle.edd_syntax.specs.Text as texts
-use Rattle.edd_syntax.specs.Text.{Name, Quoted, Key}
+use Rattle.edd_syntax.specs.Text.{Name}
 use Rattle.edd_syntax.specs.Token.{Token, Identifier, Sign}
 use Rattle.edd_syntax.specs.Reference.{Path}
 use Rattle.edd_syntax.specs.Expression as tree
-use Rattle.edd_syntax.specs.Expression.{Expr, Argument, Text, Value, Arguments}
+use Rattle.edd_syntax.specs.Expression.{Expr, Text, Value, Arguments}
 use Rattle.edd_syntax.specs.Grammar.{Site, loosest, IsMethod, precedence_of, comparison_precedence, unary_sign, MembersHere, TextHere, ExprHere, ArgumentsHere, MoreArgumentsHere}
 use Rattle.edd_syntax.specs.Size.{height, argument_height}
 use Rattle.edd_grammar.specs.Signs.{Infix, Plain, Comparing, Both, Either, infix_precedence, infix_sign, infix_tree, Assignment, Simple, Compound, assignment_sign, assignment_tree}
@@ -239,9 +239,7 @@ module _ (p : Site) (inner : Inner) (height_left : ℕ) (complete : Complete p h
         ≡ Some (tree.Unary op e, rest)
     unfolding operand_at signed_at
     unary_again unary_operator.Minus e here behind rest f h = rw f h
-    unary_again unary_operator.Plus e here behind rest f h = rw f h
-    unary_again unary_operator.Not e here behind rest f h = rw f h
-    unary_again unary_operator.Complement e here behind rest f h = rw f h
+    unary_again _ e here behind rest f h = rw f h
 
     named_again : (r : Path) (here rest behind : List Token) → (here ≡ Identifier r.base ∷ behind)
         → at sign.OpenParenthesis behind ≡ false → at sign.OpenBracket behind ≡ false

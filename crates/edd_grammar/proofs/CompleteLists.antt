@@ -130,8 +130,7 @@ module _ {V : Type 0} (of : V → ℕ) (Here : Spelling V) (Follows : List Token
 
   fits : (x : Cond Path V) (rest : List Token) → Follows rest → CondFollows Follows x rest
   fits (Value v) rest f = f
-  fits (cond.If condition first otherwise) rest f = tt
-  fits (Select on arms) rest f = tt
+  fits _ rest f = tt
 
   abbrev pub Complete : ℕ → (List Token → Read (Cond Path V)) → Type 0
   Complete height_left inner = (x : Cond Path V) (here rest : List Token)
@@ -186,8 +185,7 @@ module _ {V : Type 0} (of : V → ℕ) (Here : Spelling V) (Follows : List Token
 
   some_height : (x : Cond Path V) → 0 < cond_height of x
   some_height (Value v) = omega arith
-  some_height (cond.If condition first otherwise) = omega arith
-  some_height (Select on arms) = omega arith
+  some_height _ = omega arith
 
   pub element_again : (height_left : ℕ) → Complete height_left (element_at value height_left)
   unfolding element_at

@@ -57,14 +57,8 @@ starts_statement : (s : Stmt Path) (here rest : List Token) → StmtHere s here 
 starts_statement Empty here rest h = with_sign sign.Semicolon here rest h refl
 starts_statement (Evaluate e) here rest h = begins_statement here (begins InMethod 1 e here _ h)
 starts_statement (Block body) here rest h = with_sign sign.OpenBrace here h.0 h.1 refl
-starts_statement (If condition first) here rest h =
-    rw h.2 (record { no_close = refl; no_type = refl; no_case = refl; no_default = refl })
 starts_statement (IfElse condition first otherwise) here rest h =
     rw h.3 (record { no_close = refl; no_type = refl; no_case = refl; no_default = refl })
-starts_statement (While condition body) here rest h =
-    rw h.2 (record { no_close = refl; no_type = refl; no_case = refl; no_default = refl })
-starts_statement (Do body condition) here rest h =
-    rw h.2 (record { no_close = refl; no_type = refl; no_case = refl; no_default = refl })
 starts_statement (For initial condition update body) here rest h =
     rw h.5 (record { no_close = refl; no_type = refl; no_case = refl; no_default = refl })
 starts_statement (Switch on body) here rest h =
@@ -75,6 +69,8 @@ starts_statement Continue here rest h =
     rw h (record { no_close = refl; no_type = refl; no_case = refl; no_default = refl })
 starts_statement Return here rest h =
     rw h (record { no_close = refl; no_type = refl; no_case = refl; no_default = refl })
+starts_statement _ here rest h =
+    rw h.2 (record { no_close = refl; no_type = refl; no_case = refl; no_default = refl })
 
 value_shorter : (v : Option (Expr Path)) (here rest : List Token) → ValueHere v here rest
     → length rest ≤ length here
@@ -126,7 +122,6 @@ optional_shorter (Some e) here rest h = omega (arith, expr_shorter InMethod 1 e 
 mutual
   pub statement_shorter : (s : Stmt Path) (here rest : List Token) → StmtHere s here rest
       → length rest < length here
-  statement_shorter Empty here rest h = omega (arith, ap length h)
   statement_shorter (Evaluate e) here rest h = omega (arith, expr_shorter InMethod 1 e here _ h)
   statement_shorter (Block body) here rest h =
       omega (arith, ap length h.1, body_shorter false body h.0 _ h.2)
@@ -178,9 +173,7 @@ mutual
         ap length h.5,
         body_shorter true body h.2 _ h.6,
       )
-  statement_shorter Break here rest h = omega (arith, ap length h)
-  statement_shorter Continue here rest h = omega (arith, ap length h)
-  statement_shorter Return here rest h = omega (arith, ap length h)
+  statement_shorter _ here rest h = omega (arith, ap length h)
 
   pub body_shorter : (labels : Bool) (body : Body Path) (here rest : List Token)
       → BodyHere labels body here rest → length rest ≤ length here
@@ -379,9 +372,7 @@ module _ (height_left : ℕ) (inner : List Token → Read (Stmt Path))
         expect_again sign.OpenBrace h.2,
         body_again true body h.2 rest h.6 (omega arith),
       ) refl
-  layer_again Break here rest h low = rw (h, expect_again sign.Semicolon rest) refl
-  layer_again Continue here rest h low = rw (h, expect_again sign.Semicolon rest) refl
-  layer_again Return here rest h low = rw (h, expect_again sign.Semicolon rest) refl
+  layer_again _ here rest h low = rw (h, expect_again sign.Semicolon rest) refl
 
 some_height : (s : Stmt Path) → 0 < statement_height s
 some_height Empty = omega arith

@@ -46,12 +46,8 @@ kind_sound here k rest x =
 kind_again : (k : Kind) (here rest : List Token) → KindHere k here rest
     → kind_at here ≡ Some (k, rest)
 unfolding kind_at
-kind_again kind.Variable here rest h = rw h refl
-kind_again kind.Command here rest h = rw h refl
-kind_again kind.Menu here rest h = rw h refl
-kind_again kind.Collection here rest h = rw h refl
-kind_again kind.Method here rest h = rw h refl
 kind_again kind.Array here rest h = absurd h
+kind_again _ here rest h = rw h refl
 
 -- the word of a kind of item
 abbrev ItemKindHere : Kind → List Token → List Token → Type 0
@@ -63,12 +59,8 @@ ItemKindHere kind.Method here rest = NextWord word.Method here rest
 ItemKindHere kind.Array here rest = NextWord word.Array here rest
 
 of_item : (k : Kind) (here rest : List Token) → KindHere k here rest → ItemKindHere k here rest
-of_item kind.Variable here rest h = h
-of_item kind.Command here rest h = h
-of_item kind.Menu here rest h = h
-of_item kind.Collection here rest h = h
-of_item kind.Method here rest h = h
 of_item kind.Array here rest h = absurd h
+of_item _ here rest h = h
 
 item_kind_sound : (here : List Token) (k : Kind) (rest : List Token)
     → item_kind_at here ≡ Some (k, rest) → ItemKindHere k here rest
@@ -223,22 +215,14 @@ item_again height_left i here rest h low =
 
 kind_shorter : (k : Kind) (here rest : List Token) → KindHere k here rest
     → length rest < length here
-kind_shorter kind.Variable here rest h = omega (arith, ap length h)
-kind_shorter kind.Command here rest h = omega (arith, ap length h)
-kind_shorter kind.Menu here rest h = omega (arith, ap length h)
-kind_shorter kind.Collection here rest h = omega (arith, ap length h)
-kind_shorter kind.Method here rest h = omega (arith, ap length h)
 kind_shorter kind.Array here rest h = absurd h
+kind_shorter _ here rest h = omega (arith, ap length h)
 
 word_shorter : (sort : ItemKind) (here rest : List Token) → ItemWordHere sort here rest
     → length rest < length here
-word_shorter VariableItem here rest h = omega (arith, ap length h)
-word_shorter CommandItem here rest h = omega (arith, ap length h)
-word_shorter MenuItem here rest h = omega (arith, ap length h)
-word_shorter MethodItem here rest h = omega (arith, ap length h)
-word_shorter ArrayItem here rest h = omega (arith, ap length h)
 word_shorter (CollectionItem of) here rest h =
     omega (arith, ap length h.1, kind_shorter of h.0 rest h.2)
+word_shorter _ here rest h = omega (arith, ap length h)
 
 item_shorter : (i : Item Path) (here rest : List Token) → ItemHere i here rest
     → length rest < length here
@@ -259,18 +243,10 @@ record StartsItem (here : List Token) : Type 0 where
 
 starts_item : (sort : ItemKind) (here rest : List Token) → ItemWordHere sort here rest
     → StartsItem here
-starts_item VariableItem here rest h =
-    rw h (record { no_end = refl; no_semicolon = refl; no_comma = refl })
-starts_item CommandItem here rest h =
-    rw h (record { no_end = refl; no_semicolon = refl; no_comma = refl })
-starts_item MenuItem here rest h =
-    rw h (record { no_end = refl; no_semicolon = refl; no_comma = refl })
-starts_item MethodItem here rest h =
-    rw h (record { no_end = refl; no_semicolon = refl; no_comma = refl })
-starts_item ArrayItem here rest h =
-    rw h (record { no_end = refl; no_semicolon = refl; no_comma = refl })
 starts_item (CollectionItem of) here rest h =
     rw h.1 (record { no_end = refl; no_semicolon = refl; no_comma = refl })
+starts_item _ here rest h =
+    rw h (record { no_end = refl; no_semicolon = refl; no_comma = refl })
 
 end_no_semicolon : (rest : List Token) → at_end rest ≡ true → at sign.Semicolon rest ≡ false
 end_no_semicolon [] e = refl

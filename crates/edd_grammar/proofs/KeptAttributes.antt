@@ -62,16 +62,10 @@ single_kept w Here of values c here behind rest e h k =
 -- ---- types
 
 type_part_kept : KeepsValues TypePartHere (is_type_part is_path is_plain)
-type_part_kept (item.DefaultValue c) here rest h k = single_kept word.DefaultValue ValueExprHere
-    (is_pure_expr is_path is_plain) (pure_kept 2) c here h.0 rest h.1 h.2 k
-type_part_kept (item.MinValue c) here rest h k = single_kept word.MinValue ValueExprHere
-    (is_pure_expr is_path is_plain) (pure_kept 2) c here h.0 rest h.1 h.2 k
-type_part_kept (item.MaxValue c) here rest h k = single_kept word.MaxValue ValueExprHere
-    (is_pure_expr is_path is_plain) (pure_kept 2) c here h.0 rest h.1 h.2 k
-type_part_kept (item.DisplayFormat c) here rest h k = single_kept word.DisplayFormat TextHere
-    is_text text_kept c here h.0 rest h.1 h.2 k
-type_part_kept (item.EditFormat c) here rest h k = single_kept word.EditFormat TextHere is_text
-    text_kept c here h.0 rest h.1 h.2 k
+type_part_kept (item.OneNumber which c) here rest h k = single_kept h.1.0 ValueExprHere
+    (is_pure_expr is_path is_plain) (pure_kept 2) c here h.0 rest h.1.2 h.2 k
+type_part_kept (item.OneFormat which c) here rest h k = single_kept h.1.0 TextHere is_text text_kept
+    c here h.0 rest h.1.2 h.2 k
 type_part_kept (item.Element c) here rest h k =
     let all = element_kept EnumeratorHere (is_enumerator is_path is_plain) enumerator_kept c here
     h.0 h.1 k in

@@ -7,7 +7,7 @@ use Rattle.edd_syntax.specs.Text as texts
 use Rattle.edd_syntax.specs.Text.{Name, Quoted, Key}
 use Rattle.edd_syntax.specs.Names.{is_name}
 use Rattle.edd_syntax.specs.Words.{backslash, is_escape, has_escapes, is_escaped}
-use Rattle.edd_syntax.specs.Token.{Token, Reserved, Identifier, Integer, String, Sign}
+use Rattle.edd_syntax.specs.Token.{Token, Identifier, Integer, String, Sign}
 use Rattle.edd_syntax.specs.Token as token
 use Rattle.edd_syntax.specs.Reference.{Path}
 use Rattle.edd_syntax.specs.Expression as tree
@@ -225,9 +225,7 @@ pure_expr precedence (tree.Parentheses inner) here rest h e =
     h.2 e
 pure_expr precedence (tree.Call function arguments) here rest h e = absurd h.0
 pure_expr precedence (tree.Increment PreIncrement to) here rest h e = absurd h.0
-pure_expr precedence (tree.Increment PreDecrement to) here rest h e = absurd h.0
-pure_expr precedence (tree.Increment PostIncrement to) here rest h e = absurd h.0
-pure_expr precedence (tree.Increment PostDecrement to) here rest h e = absurd h.0
+pure_expr precedence (tree.Increment _ to) here rest h e = absurd h.0
 pure_expr precedence (tree.Unary op operand) here rest h e = pure_expr 13 operand h.1 rest h.3 e
 pure_expr precedence (tree.Binary op left right) here rest h e =
     let parts = both_true (is_expr is_path is_plain left) (is_expr is_path is_plain right) e in

@@ -64,21 +64,13 @@ word_kept ArrayItem here rest h k =
 
 kind_listed : (of : Kind) (here rest : List Token) → KindHere of here rest
     → may_list (CollectionItem of) ≡ true
-kind_listed kinds.Variable here rest h = refl
-kind_listed kinds.Command here rest h = refl
-kind_listed kinds.Menu here rest h = refl
-kind_listed kinds.Collection here rest h = refl
-kind_listed kinds.Method here rest h = refl
 kind_listed kinds.Array here rest h = absurd h
+kind_listed _ here rest h = refl
 
 sort_listed : (sort : ItemKind) (here rest : List Token) → ItemWordHere sort here rest
     → may_list sort ≡ true
-sort_listed VariableItem here rest h = refl
-sort_listed CommandItem here rest h = refl
-sort_listed MenuItem here rest h = refl
-sort_listed MethodItem here rest h = refl
-sort_listed ArrayItem here rest h = refl
 sort_listed (CollectionItem of) here rest h = kind_listed of h.0 rest h.2
+sort_listed _ here rest h = refl
 
 item_kept : (i : Item Path) (here rest : List Token) → ItemHere i here rest
     → item_height i ≤ height_limit → Kept here → Both (is_item is_path is_plain i) rest

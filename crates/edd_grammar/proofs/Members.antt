@@ -53,12 +53,7 @@ class_of_sound name c x =
 
 class_of_again : (c : ResponseClass) → class_of (class_name c) ≡ Some c
 class_of_again class.Success = refl
-class_of_again class.MiscWarning = refl
-class_of_again class.DataEntryWarning = refl
-class_of_again class.DataEntryError = refl
-class_of_again class.ModeError = refl
-class_of_again class.ProcessError = refl
-class_of_again class.MiscError = refl
+class_of_again _ = refl
 
 class_sound : (here : List Token) (c : ResponseClass) (rest : List Token)
     → class_at here ≡ Some (c, rest) → NextName (class_name c) here rest

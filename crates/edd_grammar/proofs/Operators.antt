@@ -42,9 +42,7 @@ infix_is _ op e = absurd cc
 
 pub infix_again : (op : Infix) → infix_of (infix_sign op) ≡ Some op
 infix_again (Plain o) = refl
-infix_again (Comparing o) = refl
-infix_again Both = refl
-infix_again Either = refl
+infix_again _ = refl
 
 operator_from : (op : Operator) → 3 ≤ precedence_of op
 operator_from operator.Add = lit≤ tt
@@ -65,14 +63,12 @@ comparison_to _ = lit≤ tt
 pub precedence_from : (op : Infix) → 3 ≤ infix_precedence op
 precedence_from (Plain o) = operator_from o
 precedence_from (Comparing o) = comparison_from o
-precedence_from Both = lit≤ tt
-precedence_from Either = lit≤ tt
+precedence_from _ = lit≤ tt
 
 pub precedence_to : (op : Infix) → infix_precedence op ≤ 12
 precedence_to (Plain o) = operator_to o
 precedence_to (Comparing o) = comparison_to o
-precedence_to Both = lit≤ tt
-precedence_to Either = lit≤ tt
+precedence_to _ = lit≤ tt
 
 -- what it is for an operator to be between these operands
 abbrev pub InfixHere : Site → ℕ → Infix → Expr Path → Expr Path → List Token → List Token → Type 0
@@ -86,16 +82,12 @@ pub infix_spelled : (p : Site) (precedence : ℕ) (op : Infix) (left right : Exp
     → InfixHere p precedence op left right here rest → ExprHere p precedence
     (infix_tree op left right) here rest
 infix_spelled p precedence (Plain o) left right here rest h = h
-infix_spelled p precedence (Comparing o) left right here rest h = h
-infix_spelled p precedence Both left right here rest h = h
-infix_spelled p precedence Either left right here rest h = h
+infix_spelled p precedence _ left right here rest h = h
 
 pub infix_height : (op : Infix) (left right : Expr Path) → height (infix_tree op left right)
     ≡ suc (max (height left) (height right))
 infix_height (Plain o) left right = omega arith
-infix_height (Comparing o) left right = omega arith
-infix_height Both left right = omega arith
-infix_height Either left right = omega arith
+infix_height _ left right = omega arith
 
 pub operator_is : (precedence : ℕ) (here : List Token) (op : Infix) (rest : List Token)
     → operator_at precedence here ≡ Some (op, rest) → (here ≡ Sign (infix_sign op) ∷ rest)
@@ -109,11 +101,7 @@ operator_is precedence (Sign s ∷ behind) op rest e =
     × (precedence ≤ infix_precedence k)) o.0 op behind
     rest g.1
     (ap (λ k. Sign k ∷ behind) (infix_is s o.0 o.1), le_is precedence (infix_precedence o.0) g.0)
-operator_is precedence (Reserved m ∷ behind) op rest e = absurd cc
-operator_is precedence (Identifier m ∷ behind) op rest e = absurd cc
-operator_is precedence (Integer m ∷ behind) op rest e = absurd cc
-operator_is precedence (token.Decimal ∷ behind) op rest e = absurd cc
-operator_is precedence (String m ∷ behind) op rest e = absurd cc
+operator_is precedence (_ ∷ behind) op rest e = absurd cc
 
 -- ---- operators before an operand
 
@@ -128,9 +116,7 @@ unary_is _ op e = absurd cc
 
 pub unary_again : (op : UnaryOperator) → unary_of (unary_sign op) ≡ Some op
 unary_again unary_operator.Plus = refl
-unary_again unary_operator.Minus = refl
-unary_again unary_operator.Not = refl
-unary_again unary_operator.Complement = refl
+unary_again _ = refl
 
 -- ---- `++` and `--`
 
@@ -170,11 +156,7 @@ assignment_is (Sign s ∷ behind) op rest e =
     let o = bind_some (assignment_of s) _ (op, rest) e in
     as_read (λ k t. Sign s ∷ behind ≡ Sign (assignment_sign k) ∷ t) o.0 op behind rest o.2
     (ap (λ k. Sign k ∷ behind) (assignment_of_is s o.0 o.1))
-assignment_is (Reserved m ∷ behind) op rest e = absurd cc
-assignment_is (Identifier m ∷ behind) op rest e = absurd cc
-assignment_is (Integer m ∷ behind) op rest e = absurd cc
-assignment_is (token.Decimal ∷ behind) op rest e = absurd cc
-assignment_is (String m ∷ behind) op rest e = absurd cc
+assignment_is (_ ∷ behind) op rest e = absurd cc
 
 -- what it is for an assignment to be there
 abbrev pub AssignmentHere : Site → ℕ → Assignment → Path → Expr Path → List Token → List Token
@@ -205,9 +187,7 @@ Ends precedence here = operator_at precedence here ≡ None
 pub ends_before : (precedence : ℕ) (op : Infix) (here : List Token)
     → Ends precedence (Sign (infix_sign op) ∷ here) → infix_precedence op < precedence
 ends_before precedence (Plain o) here e = grind arith
-ends_before precedence (Comparing o) here e = grind arith
-ends_before precedence Both here e = grind arith
-ends_before precedence Either here e = grind arith
+ends_before precedence _ here e = grind arith
 
 -- the operator, where it is of this precedence or a tighter one
 abbrev of_precedence : ℕ → List Token → Infix → Read Infix

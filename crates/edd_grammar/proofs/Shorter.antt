@@ -7,11 +7,11 @@ use Rattle.edd_syntax.specs.declared.symbols.Symbol.{Symbol}
 use Rattle.edd_syntax.specs.declared.symbols.Symbol.TheVariants as sign
 use Rattle.edd_syntax.specs.Text as texts
 use Rattle.edd_syntax.specs.Text.{Name, Quoted, Key}
-use Rattle.edd_syntax.specs.Token.{Token, Reserved, Identifier, Integer, String, Sign}
+use Rattle.edd_syntax.specs.Token.{Token, Identifier, Integer, Sign}
 use Rattle.edd_syntax.specs.Token as token
 use Rattle.edd_syntax.specs.Reference.{Path}
 use Rattle.edd_syntax.specs.Expression as tree
-use Rattle.edd_syntax.specs.Expression.{Expr, Argument, Text, Value, Arguments}
+use Rattle.edd_syntax.specs.Expression.{Expr, Text, Value, Arguments}
 use Rattle.edd_syntax.specs.Grammar.{Site, loosest, precedence_of, comparison_precedence, unary_sign, MembersHere, PathHere, StringsHere, TextHere, ExprHere, ArgumentsHere, MoreArgumentsHere}
 use Rattle.edd_grammar.specs.Reading.{at, is_text}
 
@@ -52,14 +52,12 @@ mutual
       omega (arith, ap length h.1, expr_shorter p (loosest p) e h.0 _ h.2)
   expr_shorter p precedence (tree.Call f args) here rest h =
       omega (arith, ap length h.3.1, ap length h.4, arguments_shorter p args h.2 _ h.5)
-  expr_shorter p precedence (tree.Increment PreIncrement r) here rest h =
-      omega (arith, ap length h.3, path_shorter r h.2 rest h.4)
-  expr_shorter p precedence (tree.Increment PreDecrement r) here rest h =
-      omega (arith, ap length h.3, path_shorter r h.2 rest h.4)
   expr_shorter p precedence (tree.Increment PostIncrement r) here rest h =
       omega (arith, path_shorter r here _ h.2)
   expr_shorter p precedence (tree.Increment PostDecrement r) here rest h =
       omega (arith, path_shorter r here _ h.2)
+  expr_shorter p precedence (tree.Increment _ r) here rest h =
+      omega (arith, ap length h.3, path_shorter r h.2 rest h.4)
   expr_shorter p precedence (tree.Unary op e) here rest h =
       omega (arith, ap length h.2, expr_shorter p 13 e h.1 rest h.3)
   expr_shorter p precedence (tree.Binary op a b) here rest h =
@@ -166,10 +164,8 @@ opening_no_text s Down rest = refl
 
 -- no expression begins as a text does
 pub begins_no_text : (here : List Token) → Begins here → is_text here ≡ false
-begins_no_text here (WithName n rest) = refl
-begins_no_text here (WithNumber n rest) = refl
-begins_no_text here (WithDecimal rest) = refl
 begins_no_text here (WithSign s o rest) = opening_no_text s o rest
+begins_no_text here _ = refl
 
 opening_no_close : (s : Symbol) → Opening s → (rest : List Token)
     → at sign.CloseParenthesis (Sign s ∷ rest) ≡ false
@@ -182,10 +178,8 @@ opening_no_close s Up rest = refl
 opening_no_close s Down rest = refl
 
 pub begins_no_close : (here : List Token) → Begins here → at sign.CloseParenthesis here ≡ false
-begins_no_close here (WithName n rest) = refl
-begins_no_close here (WithNumber n rest) = refl
-begins_no_close here (WithDecimal rest) = refl
 begins_no_close here (WithSign s o rest) = opening_no_close s o rest
+begins_no_close here _ = refl
 
 opening_no_semicolon : (s : Symbol) → Opening s → (rest : List Token)
     → at sign.Semicolon (Sign s ∷ rest) ≡ false
@@ -198,10 +192,8 @@ opening_no_semicolon s Up rest = refl
 opening_no_semicolon s Down rest = refl
 
 pub begins_no_semicolon : (here : List Token) → Begins here → at sign.Semicolon here ≡ false
-begins_no_semicolon here (WithName n rest) = refl
-begins_no_semicolon here (WithNumber n rest) = refl
-begins_no_semicolon here (WithDecimal rest) = refl
 begins_no_semicolon here (WithSign s o rest) = opening_no_semicolon s o rest
+begins_no_semicolon here _ = refl
 
 opening_no_brace : (s : Symbol) → Opening s → (rest : List Token)
     → at sign.OpenBrace (Sign s ∷ rest) ≡ false
@@ -214,10 +206,8 @@ opening_no_brace s Up rest = refl
 opening_no_brace s Down rest = refl
 
 pub begins_no_brace : (here : List Token) → Begins here → at sign.OpenBrace here ≡ false
-begins_no_brace here (WithName n rest) = refl
-begins_no_brace here (WithNumber n rest) = refl
-begins_no_brace here (WithDecimal rest) = refl
 begins_no_brace here (WithSign s o rest) = opening_no_brace s o rest
+begins_no_brace here _ = refl
 
 opening_no_close_brace : (s : Symbol) → Opening s → (rest : List Token)
     → at sign.CloseBrace (Sign s ∷ rest) ≡ false
@@ -230,10 +220,8 @@ opening_no_close_brace s Up rest = refl
 opening_no_close_brace s Down rest = refl
 
 pub begins_no_close_brace : (here : List Token) → Begins here → at sign.CloseBrace here ≡ false
-begins_no_close_brace here (WithName n rest) = refl
-begins_no_close_brace here (WithNumber n rest) = refl
-begins_no_close_brace here (WithDecimal rest) = refl
 begins_no_close_brace here (WithSign s o rest) = opening_no_close_brace s o rest
+begins_no_close_brace here _ = refl
 
 pub text_no_close : (w : texts.Text) (here rest : List Token) → TextHere w here rest
     → at sign.CloseParenthesis here ≡ false

@@ -218,9 +218,8 @@ module _ {V : Type 0} (of : V → ℕ) (Here : Spelling V) (value : ℕ → List
 
     begins_if : (c : Cond Path V) (here rest : List Token) → IsIf c → OneHere Here c here rest
         → at_word word.If here ≡ true
-    begins_if (Value v) here rest i h = absurd i
     begins_if (cond.If condition first otherwise) here rest i h = ap (at_word word.If) h.4
-    begins_if (Select on arms) here rest i h = absurd i
+    begins_if _ here rest i h = absurd i
 
     again_again : (height_left : ℕ) (inner : List Token → Read (Cond Path V))
         → Complete height_left inner
@@ -238,13 +237,11 @@ module _ {V : Type 0} (of : V → ℕ) (Here : Spelling V) (value : ℕ → List
 
     some_height : (x : Cond Path V) → 0 < cond_height of x
     some_height (Value v) = omega arith
-    some_height (cond.If condition first otherwise) = omega arith
-    some_height (Select on arms) = omega arith
+    some_height _ = omega arith
 
     follows : (x : Cond Path V) (rest : List Token) → CondFollows (λ t. Unit {0}) x rest
     follows (Value v) rest = tt
-    follows (cond.If condition first otherwise) rest = tt
-    follows (Select on arms) rest = tt
+    follows _ rest = tt
 
     pub one_again : (height_left : ℕ) → Complete height_left (one_at value height_left)
     unfolding one_at

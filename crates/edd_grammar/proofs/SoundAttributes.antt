@@ -1,6 +1,5 @@
 -- Attributes that are read are spelled so.
 use Rattle.std.proofs.Common.{◌≡◌, ℕ, ◌≤◌, true, List, ◌∷◌, drop, Option, Some, None, refl, ap, ◌∙◌, arith}
-use Rattle.std.proofs.lemmas.Option.{none-some}
 use Rattle.edd_syntax.specs.declared.numbers.TextAttribute.{TextAttribute}
 use Rattle.edd_syntax.specs.declared.operators.Operator.TheVariants as operator
 use Rattle.edd_syntax.specs.declared.symbols.Keyword.TheVariants as word
@@ -12,8 +11,9 @@ use Rattle.edd_syntax.specs.Item as item
 use Rattle.edd_syntax.specs.Item.{Attribute}
 use Rattle.edd_syntax.specs.Grammar.{TextHere}
 use Rattle.edd_syntax.specs.StatementGrammar.{OneHere, ListHere}
-use Rattle.edd_syntax.specs.ItemGrammar.{RowHere, MoreNamesHere, NamesHere, HandlingHere, TruthHere, OperationHere, MenuEntryHere, ResponseCodeHere, MemberHere, ArrayElementHere, TextWordHere, AttributeHere}
+use Rattle.edd_syntax.specs.ItemGrammar.{RowHere, MoreNamesHere, NamesHere, HandlingHere, TruthHere, OperationHere, MenuEntryHere, ResponseCodeHere, MemberHere, ArrayElementHere, AttributeHere}
 use Rattle.edd_syntax.specs.Size.{leaf, cond_height, conds_height, attribute_height}
+use Rattle.edd_syntax.specs.Numbers.{text_of_word}
 use Rattle.edd_grammar.specs.Reading.{◌>>=◌, on_option, Read, expect, at_word, name_at}
 use Rattle.edd_grammar.specs.ConditionalReading.{one_at, list_at, text_value}
 use Rattle.edd_grammar.specs.StatementReading.{definition_at}
@@ -21,7 +21,7 @@ use Rattle.edd_grammar.specs.WordReading.{integer_at, number_at, more_names_at, 
 use Rattle.edd_grammar.specs.ValueReading.{operation_at, handling_value, truth_value, menu_entry_value}
 use Rattle.edd_grammar.specs.TypeReading.{type_at}
 use Rattle.edd_grammar.specs.AttributeReading.{response_code_at, member_at, array_element_at, transaction_part_at, transaction_at, class_words_at, command_number_at, command_operation_at, text_here, other_attribute_at, attribute_at}
-use Rattle.edd_grammar.proofs.Steps.{bind_some, as_read, at_word_is, expect_is, name_is}
+use Rattle.edd_grammar.proofs.Steps.{bind_some, as_read, at_word_is, expect_is, name_is, word_is}
 use Rattle.edd_grammar.proofs.SameSigns.{same_word_self}
 use Rattle.edd_grammar.proofs.Alternatives.{branch, expected, worded}
 use Rattle.edd_grammar.proofs.Branches.{SoundOf}
@@ -54,11 +54,6 @@ names_sound here names rest x =
 
 -- ---- attributes by their words
 
-text_here_is : (which : TextAttribute) (here : List Token) → text_here here ≡ Some which
-    → TextWordHere which here (drop 1 here)
-text_here_is which (Reserved w ∷ rest) e = (w, e, refl)
-text_here_is which _ e = absurd (none-some which e)
-
 module _ (height_left : ℕ) where
   abbrev Stands : List Token → Attribute Path → List Token → Type 0
   Stands here a rest = AttributeHere a here rest × (attribute_height a ≤ height_left)
@@ -71,7 +66,7 @@ module _ (height_left : ℕ) where
   text_sound : (which : TextAttribute) (here : List Token) (a : Attribute Path) (rest : List Token)
       → text_here here ≡ Some which → text_behind here which ≡ Some (a, rest) → Stands here a rest
   text_sound which here a rest is y =
-      let k = text_here_is which here is in
+      let k = word_is text_of_word which here is in
       worded AttributeHere attribute_height height_left k.0 (OneHere TextHere) (cond_height leaf)
       (one_at text_value height_left) (one_sound leaf TextHere text_value text_value_sound
       height_left)

@@ -4,7 +4,7 @@ use Rattle.std.specs.Prelude.{nat_le}
 use Rattle.std.proofs.lemmas.Option.{some_pair_parts}
 use Rattle.edd_syntax.specs.declared.operators.UnaryOperator.{UnaryOperator}
 use Rattle.edd_syntax.specs.declared.operators.IncrementOperator.{IncrementOperator}
-use Rattle.edd_syntax.specs.declared.operators.IncrementOperator.TheVariants.{PreIncrement, PostIncrement, PreDecrement, PostDecrement}
+use Rattle.edd_syntax.specs.declared.operators.IncrementOperator.TheVariants.{PostIncrement, PostDecrement}
 use Rattle.edd_syntax.specs.declared.symbols.Symbol.{Symbol}
 use Rattle.edd_syntax.specs.declared.symbols.Symbol.TheVariants as sign
 use Rattle.edd_syntax.specs.Text.{Name}
@@ -12,7 +12,7 @@ use Rattle.edd_syntax.specs.Token.{Token, Reserved, Identifier, Integer, String,
 use Rattle.edd_syntax.specs.Token as token
 use Rattle.edd_syntax.specs.Reference.{Path}
 use Rattle.edd_syntax.specs.Expression as tree
-use Rattle.edd_syntax.specs.Expression.{Expr, Argument, Text, Value, Arguments}
+use Rattle.edd_syntax.specs.Expression.{Expr, Argument, Arguments}
 use Rattle.edd_syntax.specs.Grammar.{Site, InAttribute, InMethod, loosest, IsMethod, unary_sign, PathHere, ExprHere, ArgumentsHere, MoreArgumentsHere}
 use Rattle.edd_syntax.specs.Size.{height, argument_height}
 use Rattle.edd_grammar.specs.Signs.{infix_precedence, infix_tree, unary_of, before_of, after_of, same_sign}
@@ -33,14 +33,12 @@ looser p precedence precedence' (tree.Reference n) here rest le h = h
 looser p precedence precedence' (tree.Indexed a e) here rest le h = h
 looser p precedence precedence' (tree.Parentheses e) here rest le h = h
 looser p precedence precedence' (tree.Call f args) here rest le h = h
-looser p precedence precedence' (tree.Increment PreIncrement r) here rest le h =
-    (h.0, omega arith, h.2, h.3, h.4)
-looser p precedence precedence' (tree.Increment PreDecrement r) here rest le h =
-    (h.0, omega arith, h.2, h.3, h.4)
 looser p precedence precedence' (tree.Increment PostIncrement r) here rest le h =
     (h.0, omega arith, h.2)
 looser p precedence precedence' (tree.Increment PostDecrement r) here rest le h =
     (h.0, omega arith, h.2)
+looser p precedence precedence' (tree.Increment _ r) here rest le h =
+    (h.0, omega arith, h.2, h.3, h.4)
 looser p precedence precedence' (tree.Unary op e) here rest le h = (omega arith, h.1, h.2, h.3)
 looser p precedence precedence' (tree.Binary op a b) here rest le h = (omega arith, h.1, h.2, h.3)
 looser p precedence precedence' (tree.Compare op a b) here rest le h = (omega arith, h.1, h.2, h.3)

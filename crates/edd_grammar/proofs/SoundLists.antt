@@ -5,7 +5,7 @@ use Rattle.edd_syntax.specs.declared.symbols.Symbol.TheVariants as sign
 use Rattle.edd_syntax.specs.Token.{Token, Sign}
 use Rattle.edd_syntax.specs.Reference.{Path}
 use Rattle.edd_syntax.specs.Conditional as cond
-use Rattle.edd_syntax.specs.Conditional.{Cond, Value, Select, Conds, Arms, NoArms, ConsArm, Case, Default}
+use Rattle.edd_syntax.specs.Conditional.{Cond, Select, Arms, NoArms, ConsArm, Case, Default}
 use Rattle.edd_syntax.specs.Grammar.{OptionalSign}
 use Rattle.edd_syntax.specs.StatementGrammar.{IsIf, ListHere, ElementHere, ElseIfHere, ListArmsHere}
 use Rattle.edd_syntax.specs.Size.{cond_height, conds_height}
@@ -33,15 +33,13 @@ module _ {V : Type 0} (Here : Spelling V) where
 
   of_element : (x : Cond Path V) (here rest : List Token)
       → CondOf (ListHere Here) Here (ElseIfHere Here) x here rest → ElementHere Here x here rest
-  of_element (Value v) here rest h = h
-  of_element (cond.If condition first otherwise) here rest h = h
   of_element (Select on arms) here rest h = (h.0, h.1, h.2, h.3, h.4, h.5, arms_list arms h.2 _ h.6)
+  of_element _ here rest h = h
 
   pub element_of : (x : Cond Path V) (here rest : List Token) → ElementHere Here x here rest
       → CondOf (ListHere Here) Here (ElseIfHere Here) x here rest
-  element_of (Value v) here rest h = h
-  element_of (cond.If condition first otherwise) here rest h = h
   element_of (Select on arms) here rest h = (h.0, h.1, h.2, h.3, h.4, h.5, list_arms arms h.2 _ h.6)
+  element_of _ here rest h = h
 
 pub skip_sound : (here : List Token) → OptionalSign sign.Comma here (skip_comma here)
 skip_sound here =

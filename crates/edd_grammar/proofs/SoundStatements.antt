@@ -40,23 +40,20 @@ PartHere labels DefaultLabel here rest = IsTrue labels
 abbrev pub part_height : Part Path → ℕ
 part_height (Declare declarators) = 1 + declarator_height declarators
 part_height (Statement s) = statement_height s
-part_height (CaseLabel label) = 0
-part_height DefaultLabel = 0
+part_height _ = 0
 
 body_cons : (labels : Bool) (p : Part Path) (more : Body Path) (here behind rest : List Token)
     → PartHere labels p here behind → BodyHere labels more behind rest
     → BodyHere labels (Cons p more) here rest
 body_cons labels (Declare declarators) more here behind rest h m = (h.0, behind, h.1, h.2, m)
 body_cons labels (Statement s) more here behind rest h m = (behind, h, m)
-body_cons labels (CaseLabel label) more here behind rest h m = (h.0, behind, h.1, m)
-body_cons labels DefaultLabel more here behind rest h m = (h.0, behind, h.1, m)
+body_cons labels _ more here behind rest h m = (h.0, behind, h.1, m)
 
 body_low : (height_left : ℕ) (p : Part Path) (more : Body Path) → part_height p ≤ height_left
     → body_height more ≤ height_left → body_height (Cons p more) ≤ height_left
-body_low height_left (Declare declarators) more l m = omega arith
-body_low height_left (Statement s) more l m = omega arith
 body_low height_left (CaseLabel label) more l m = m
 body_low height_left DefaultLabel more l m = m
+body_low height_left _ more l m = omega arith
 
 local_type_sound : (here : List Token) → at_local_type here ≡ true
     → LocalTypeHere here (drop 1 here)

@@ -1,12 +1,12 @@
 -- What it says of the tokens that a step of reading did not fail.
 use Rattle.std.proofs.Common.{◌≡◌, ℕ, ◌≤◌, Bool, true, false, cond, ◌&&◌, List, [], ◌∷◌, drop, Option, Some, None, refl, sym, ap, subst, ◌∙◌, inl, inr, ◌⊎◌, arith}
 use Rattle.std.specs.Prelude.{nat_le}
-use Rattle.std.proofs.lemmas.Option.{some_pair_parts}
+use Rattle.std.proofs.lemmas.Option.{none-some, some_pair_parts}
 use Rattle.edd_syntax.specs.declared.symbols.Keyword.{Keyword}
 use Rattle.edd_syntax.specs.declared.symbols.Symbol.{Symbol}
-use Rattle.edd_syntax.specs.Token.{Token, Reserved, Identifier, Integer, String, Sign}
-use Rattle.edd_syntax.specs.Token as token
-use Rattle.edd_grammar.specs.Reading.{◌>>=◌, on_option, at, expect, at_word, expect_word, name_at}
+use Rattle.edd_syntax.specs.Token.{Token, Reserved, Identifier, Sign}
+use Rattle.edd_syntax.specs.ItemGrammar.{WordHere}
+use Rattle.edd_grammar.specs.Reading.{◌>>=◌, on_option, at, expect, at_word, expect_word, name_at, word_by}
 use Rattle.edd_grammar.proofs.SameSigns.{same_sign_is, same_sign_self, same_word_is, same_word_self}
 
 pub bind_some : {A B : Type 0} (o : Option A) (f : A → Option B) (y : B) → (o >>= f) ≡ Some y
@@ -48,11 +48,7 @@ le_is a b e = grind arith
 pub at_is : (s : Symbol) (here : List Token) → at s here ≡ true → here ≡ Sign s ∷ drop 1 here
 at_is s [] e = absurd cc
 at_is s (Sign t ∷ rest) e = ap (λ k. Sign k ∷ rest) (sym (same_sign_is s t e))
-at_is s (Reserved n ∷ rest) e = absurd cc
-at_is s (Identifier n ∷ rest) e = absurd cc
-at_is s (Integer n ∷ rest) e = absurd cc
-at_is s (token.Decimal ∷ rest) e = absurd cc
-at_is s (String n ∷ rest) e = absurd cc
+at_is s (_ ∷ rest) e = absurd cc
 
 pub expect_is : (s : Symbol) (here rest : List Token) → expect s here ≡ Some rest
     → here ≡ Sign s ∷ rest
@@ -69,11 +65,13 @@ pub at_word_is : (k : Keyword) (here : List Token) → at_word k here ≡ true
     → here ≡ Reserved k ∷ drop 1 here
 at_word_is k [] e = absurd cc
 at_word_is k (Reserved w ∷ rest) e = ap (λ n. Reserved n ∷ rest) (sym (same_word_is k w e))
-at_word_is k (Sign n ∷ rest) e = absurd cc
-at_word_is k (Identifier n ∷ rest) e = absurd cc
-at_word_is k (Integer n ∷ rest) e = absurd cc
-at_word_is k (token.Decimal ∷ rest) e = absurd cc
-at_word_is k (String n ∷ rest) e = absurd cc
+at_word_is k (_ ∷ rest) e = absurd cc
+
+-- a word that stands for something is there
+pub word_is : {A : Type 0} (table : Keyword → Option A) (x : A) (here : List Token)
+    → word_by table here ≡ Some x → WordHere table x here (drop 1 here)
+word_is table x (Reserved w ∷ rest) e = (w, e, refl)
+word_is table x _ e = absurd (none-some x e)
 
 pub expect_word_is : (k : Keyword) (here rest : List Token) → expect_word k here ≡ Some rest
     → here ≡ Reserved k ∷ rest
@@ -93,8 +91,4 @@ pub name_is : (here : List Token) (n : List ℕ) (rest : List Token) → name_at
 name_is [] n rest e = absurd cc
 name_is (Identifier m ∷ behind) n rest e = as_read (λ k t. Identifier m ∷ behind ≡ Identifier k ∷ t)
     m n behind rest e refl
-name_is (Reserved m ∷ behind) n rest e = absurd cc
-name_is (Integer m ∷ behind) n rest e = absurd cc
-name_is (token.Decimal ∷ behind) n rest e = absurd cc
-name_is (String m ∷ behind) n rest e = absurd cc
-name_is (Sign m ∷ behind) n rest e = absurd cc
+name_is (_ ∷ behind) n rest e = absurd cc

@@ -1,26 +1,30 @@
 -- Sizes and parts of types are read as they are spelled.
 use Rattle.std.proofs.Common.{◌≡◌, ℕ, ◌≤◌, ◌<◌, true, false, List, [], ◌∷◌, drop, length, Option, Some, None, refl, ap, ◌∙◌, inl, inr, arith}
+use Rattle.std.proofs.lemmas.Option.{none-some}
+use Rattle.edd_syntax.specs.declared.numbers.NumberOption.{NumberOption}
+use Rattle.edd_syntax.specs.declared.numbers.FormatOption.{FormatOption}
 use Rattle.edd_syntax.specs.declared.symbols.Keyword.{Keyword}
 use Rattle.edd_syntax.specs.declared.symbols.Keyword.TheVariants as word
 use Rattle.edd_syntax.specs.declared.symbols.Symbol.TheVariants as sign
 use Rattle.edd_syntax.specs.Text as texts
-use Rattle.edd_syntax.specs.Text.{Name}
 use Rattle.edd_syntax.specs.Token.{Token, Reserved, Integer, Sign}
 use Rattle.edd_syntax.specs.Reference.{Path}
 use Rattle.edd_syntax.specs.Expression.{Expr}
-use Rattle.edd_syntax.specs.Conditional.{Cond, Value, If, Select}
+use Rattle.edd_syntax.specs.Conditional.{Cond, Value, Select}
 use Rattle.edd_syntax.specs.Item as item
-use Rattle.edd_syntax.specs.Item.{TypeWord, TypePart}
+use Rattle.edd_syntax.specs.Item.{TypePart}
 use Rattle.edd_syntax.specs.Grammar.{TextHere, OptionalSign}
 use Rattle.edd_syntax.specs.StatementGrammar.{OneHere, ElementHere}
 use Rattle.edd_syntax.specs.ItemGrammar.{RowHere, ValueExprHere, EnumeratorHere, SizeHere, TypePartHere, TypePartsHere}
+use Rattle.edd_syntax.specs.Numbers.{format_of_word, number_of_word}
 use Rattle.edd_syntax.specs.Size.{height, leaf, cond_height, type_part_height}
-use Rattle.edd_grammar.specs.Reading.{◌>>=◌, at, expect, at_word}
+use Rattle.edd_grammar.specs.Reading.{◌>>=◌, on_option, at, expect, at_word, word_by}
 use Rattle.edd_grammar.specs.ConditionalReading.{one_at, element_at, text_value, expr_value, skip_comma}
 use Rattle.edd_grammar.specs.WordReading.{integer_at, at_close, row_inside}
 use Rattle.edd_grammar.specs.ValueReading.{enumerator_value}
-use Rattle.edd_grammar.specs.TypeReading.{size_at, type_part_at, type_parts_at}
-use Rattle.edd_grammar.proofs.Steps.{bind_some, as_read, at_is, expect_is, expect_again}
+use Rattle.edd_grammar.specs.TypeReading.{size_at, format_or_element_at, type_part_at, type_parts_at}
+use Rattle.edd_grammar.proofs.Steps.{bind_some, as_read, at_is, expect_is, expect_again, word_is}
+use Rattle.edd_grammar.proofs.SameSigns.{same_word_self}
 use Rattle.edd_grammar.proofs.Alternatives.{branch, worded}
 use Rattle.edd_grammar.proofs.Branches.{SoundOf}
 use Rattle.edd_grammar.proofs.BranchesAgain.{CondFollows}
@@ -51,7 +55,7 @@ module _ (height_left : ℕ) where
       (one_sound height ValueExprHere expr_value expr_value_sound height_left) make spelled low
       here p rest t e
 
-  format_option : (k : Keyword) (make : Cond Path texts.Text → TypePart Path)
+  text_option : (k : Keyword) (make : Cond Path texts.Text → TypePart Path)
       → ((c : Cond Path texts.Text) (here behind rest : List Token) → here ≡ Reserved k ∷ behind
       → OneHere TextHere c behind rest → TypePartHere (make c) here rest)
       → ((c : Cond Path texts.Text) → cond_height leaf c ≤ height_left → type_part_height (make c)
@@ -60,7 +64,7 @@ module _ (height_left : ℕ) where
       → ◌>>=◌ {B = TypePart Path × List Token} (one_at text_value height_left (drop 1 here))
       (λ c. Some (make c.0, c.1)) ≡ Some (p, rest)
       → TypePartHere p here rest × (type_part_height p ≤ height_left)
-  format_option k make spelled low here p rest t e =
+  text_option k make spelled low here p rest t e =
       worded TypePartHere type_part_height height_left k (OneHere TextHere) (cond_height leaf)
       (one_at text_value height_left) (one_sound leaf TextHere text_value text_value_sound
       height_left) make spelled low here p rest t e
@@ -76,66 +80,64 @@ module _ (height_left : ℕ) where
       as_read (λ p r. TypePartHere p here r × (type_part_height p ≤ height_left))
       (item.Element a.0.0) p (skip_comma a.0.1) rest a.2 ((a.0.1, s.0, skip_sound a.0.1), s.1)
 
+  format_sound : (here : List Token) (p : TypePart Path) (rest : List Token)
+      → format_or_element_at height_left here ≡ Some (p, rest)
+      → TypePartHere p here rest × (type_part_height p ≤ height_left)
+  unfolding format_or_element_at
+  format_sound here p rest x = by_word (word_by format_of_word here) refl x
+    where
+      by_word : (o : Option FormatOption) → word_by format_of_word here ≡ o
+          → on_option o (◌>>=◌ {B = TypePart Path × List Token}
+          (element_at enumerator_value height_left here)
+          (λ c. Some (item.Element c.0, skip_comma c.1)))
+          (λ which. ◌>>=◌ {B = TypePart Path × List Token} (one_at text_value height_left (drop 1 here))
+          (λ c. Some (item.OneFormat which c.0, c.1))) ≡ Some (p, rest)
+          → TypePartHere p here rest × (type_part_height p ≤ height_left)
+      by_word (Some which) is y =
+          let k = word_is format_of_word which here is in
+          text_option k.0 (item.OneFormat which) (λ c here behind rest e h. (behind, (k.0, k.1, e), h))
+          (λ c l. l) here p rest (ap (at_word k.0) k.2 ∙ same_word_self k.0) y
+      by_word None is y = element_option here p rest y
+
   type_part_sound : SoundOf TypePartHere type_part_height height_left (type_part_at height_left)
   unfolding type_part_at
-  type_part_sound here p rest x =
-      branch (at_word word.DefaultValue here) _ _ _ x
-      (λ t y. value_option word.DefaultValue item.DefaultValue
-      (λ c here behind rest e h. (behind, e, h)) (λ c l. l) here p rest t y) (λ _ x1.
-      branch (at_word word.MinValue here) _ _ _ x1
-      (λ t y. value_option word.MinValue item.MinValue
-      (λ c here behind rest e h. (behind, e, h)) (λ c l. l) here p rest t y) (λ _ x2.
-      branch (at_word word.MaxValue here) _ _ _ x2
-      (λ t y. value_option word.MaxValue item.MaxValue
-      (λ c here behind rest e h. (behind, e, h)) (λ c l. l) here p rest t y) (λ _ x3.
-      branch (at_word word.DisplayFormat here) _ _ _ x3
-      (λ t y. format_option word.DisplayFormat item.DisplayFormat
-      (λ c here behind rest e h. (behind, e, h)) (λ c l. l) here p rest t y) (λ _ x4.
-      branch (at_word word.EditFormat here) _ _ _ x4
-      (λ t y. format_option word.EditFormat item.EditFormat
-      (λ c here behind rest e h. (behind, e, h)) (λ c l. l) here p rest t y) (λ _ y.
-      element_option here p rest y)))))
+  type_part_sound here p rest x = by_word (word_by number_of_word here) refl x
+    where
+      by_word : (o : Option NumberOption) → word_by number_of_word here ≡ o
+          → on_option o (format_or_element_at height_left here)
+          (λ which. ◌>>=◌ {B = TypePart Path × List Token} (one_at expr_value height_left (drop 1 here))
+          (λ c. Some (item.OneNumber which c.0, c.1))) ≡ Some (p, rest)
+          → TypePartHere p here rest × (type_part_height p ≤ height_left)
+      by_word (Some which) is y =
+          let k = word_is number_of_word which here is in
+          value_option k.0 (item.OneNumber which)
+          (λ c here behind rest e h. (behind, (k.0, k.1, e), h)) (λ c l. l) here p rest
+          (ap (at_word k.0) k.2 ∙ same_word_self k.0) y
+      by_word None is y = format_sound here p rest y
+
+-- the word of a format is that of no number
+no_number : (w : Keyword) (which : FormatOption) → format_of_word w ≡ Some which
+    → number_of_word w ≡ None
+no_number word.DefaultValue which e = absurd (none-some which e)
+no_number word.MinValue which e = absurd (none-some which e)
+no_number word.MaxValue which e = absurd (none-some which e)
+no_number _ which e = refl
 
 -- no option of a type begins where an element does
 record StartsElement (here : List Token) : Type 0 where
-  pub no_default : at_word word.DefaultValue here ≡ false
-  pub no_min : at_word word.MinValue here ≡ false
-  pub no_max : at_word word.MaxValue here ≡ false
-  pub no_display : at_word word.DisplayFormat here ≡ false
-  pub no_edit : at_word word.EditFormat here ≡ false
+  pub no_number : word_by number_of_word here ≡ None
+  pub no_format : word_by format_of_word here ≡ None
 
 starts_element : (c : Cond Path item.Enumerator) (here rest : List Token)
     → ElementHere EnumeratorHere c here rest → StartsElement here
-starts_element (Value e) here rest h =
-    rw h.4 (record {
-      no_default = refl;
-      no_min = refl;
-      no_max = refl;
-      no_display = refl;
-      no_edit = refl;
-    })
-starts_element (If condition first otherwise) here rest h =
-    rw h.4 (record {
-      no_default = refl;
-      no_min = refl;
-      no_max = refl;
-      no_display = refl;
-      no_edit = refl;
-    })
 starts_element (Select on arms) here rest h =
-    rw h.3 (record {
-      no_default = refl;
-      no_min = refl;
-      no_max = refl;
-      no_display = refl;
-      no_edit = refl;
-    })
+    rw h.3 (record { no_number = refl; no_format = refl })
+starts_element _ here rest h = rw h.4 (record { no_number = refl; no_format = refl })
 
 element_follows : (c : Cond Path item.Enumerator) (rest : List Token)
     → CondFollows (λ rest. Unit {0}) c rest
 element_follows (Value e) rest = tt
-element_follows (If condition first otherwise) rest = tt
-element_follows (Select on arms) rest = tt
+element_follows _ rest = tt
 
 pub comma_again : (behind rest : List Token) → OptionalSign sign.Comma behind rest
     → at sign.Comma rest ≡ false → skip_comma behind ≡ rest
@@ -146,54 +148,38 @@ comma_again behind rest (inr e) f = ap skip_comma e
 type_part_again : (height_left : ℕ) (p : TypePart Path) (here rest : List Token)
     → TypePartHere p here rest → type_part_height p ≤ height_left → at sign.Comma rest ≡ false
     → type_part_at height_left here ≡ Some (p, rest)
-unfolding type_part_at
-type_part_again height_left (item.DefaultValue c) here rest h low f =
-    rw (h.1, one_again height ValueExprHere expr_value expr_values height_left c h.0 rest h.2 low)
-    refl
-type_part_again height_left (item.MinValue c) here rest h low f =
-    rw (h.1, one_again height ValueExprHere expr_value expr_values height_left c h.0 rest h.2 low)
-    refl
-type_part_again height_left (item.MaxValue c) here rest h low f =
-    rw (h.1, one_again height ValueExprHere expr_value expr_values height_left c h.0 rest h.2 low)
-    refl
-type_part_again height_left (item.DisplayFormat c) here rest h low f =
-    rw (h.1, one_again leaf TextHere text_value text_values height_left c h.0 rest h.2 low) refl
-type_part_again height_left (item.EditFormat c) here rest h low f =
-    rw (h.1, one_again leaf TextHere text_value text_values height_left c h.0 rest h.2 low) refl
+unfolding type_part_at format_or_element_at
+type_part_again height_left (item.OneNumber which c) here rest h low f =
+    rw (
+      h.1.2,
+      h.1.1,
+      one_again height ValueExprHere expr_value expr_values height_left c h.0 rest h.2 low,
+    ) refl
+type_part_again height_left (item.OneFormat which c) here rest h low f =
+    rw (
+      h.1.2,
+      no_number h.1.0 which h.1.1,
+      h.1.1,
+      one_again leaf TextHere text_value text_values height_left c h.0 rest h.2 low,
+    ) refl
 type_part_again height_left (item.Element c) here rest h low f =
     let n = starts_element c here h.0 h.1 in
     let read = element_again leaf EnumeratorHere (λ rest. Unit {0}) enumerator_value
     listed_enumerators height_left c here h.0 h.1 low (element_follows c h.0) in
-    rw (n.no_default, n.no_min, n.no_max, n.no_display, n.no_edit, read, comma_again h.0 rest h.2 f)
+    rw (n.no_number, n.no_format, read, comma_again h.0 rest h.2 f)
     refl
 
 type_part_shorter : (p : TypePart Path) (here rest : List Token) → TypePartHere p here rest
     → length rest < length here
-type_part_shorter (item.DefaultValue c) here rest h =
+type_part_shorter (item.OneNumber which c) here rest h =
     omega (
       arith,
-      ap length h.1,
+      ap length h.1.2,
       one_shorter height ValueExprHere expr_value expr_values c h.0 rest
           h.2,
     )
-type_part_shorter (item.MinValue c) here rest h =
-    omega (
-      arith,
-      ap length h.1,
-      one_shorter height ValueExprHere expr_value expr_values c h.0 rest
-          h.2,
-    )
-type_part_shorter (item.MaxValue c) here rest h =
-    omega (
-      arith,
-      ap length h.1,
-      one_shorter height ValueExprHere expr_value expr_values c h.0 rest
-          h.2,
-    )
-type_part_shorter (item.DisplayFormat c) here rest h =
-    omega (arith, ap length h.1, one_shorter leaf TextHere text_value text_values c h.0 rest h.2)
-type_part_shorter (item.EditFormat c) here rest h =
-    omega (arith, ap length h.1, one_shorter leaf TextHere text_value text_values c h.0 rest h.2)
+type_part_shorter (item.OneFormat which c) here rest h =
+    omega (arith, ap length h.1.2, one_shorter leaf TextHere text_value text_values c h.0 rest h.2)
 type_part_shorter (item.Element c) here rest h =
     omega (
       arith,
@@ -205,17 +191,14 @@ type_part_shorter (item.Element c) here rest h =
 -- a part begins with no comma and no closing brace
 type_part_starts : (p : TypePart Path) (here rest : List Token) → TypePartHere p here rest
     → (at sign.Comma here ≡ false) × (at_close here ≡ false)
-type_part_starts (item.DefaultValue c) here rest h = (ap (at sign.Comma) h.1, ap at_close h.1)
-type_part_starts (item.MinValue c) here rest h = (ap (at sign.Comma) h.1, ap at_close h.1)
-type_part_starts (item.MaxValue c) here rest h = (ap (at sign.Comma) h.1, ap at_close h.1)
-type_part_starts (item.DisplayFormat c) here rest h = (ap (at sign.Comma) h.1, ap at_close h.1)
-type_part_starts (item.EditFormat c) here rest h = (ap (at sign.Comma) h.1, ap at_close h.1)
-type_part_starts (item.Element (Value e)) here rest h =
-    (ap (at sign.Comma) h.1.4, ap at_close h.1.4)
-type_part_starts (item.Element (If condition first otherwise)) here rest h =
-    (ap (at sign.Comma) h.1.4, ap at_close h.1.4)
+type_part_starts (item.OneNumber which c) here rest h =
+    (ap (at sign.Comma) h.1.2, ap at_close h.1.2)
+type_part_starts (item.OneFormat which c) here rest h =
+    (ap (at sign.Comma) h.1.2, ap at_close h.1.2)
 type_part_starts (item.Element (Select on arms)) here rest h =
     (ap (at sign.Comma) h.1.3, ap at_close h.1.3)
+type_part_starts (item.Element _) here rest h =
+    (ap (at sign.Comma) h.1.4, ap at_close h.1.4)
 
 type_parts : (height_left : ℕ)
     → RowOf TypePartHere type_part_height height_left (λ rest. at sign.Comma rest ≡ false) at_close

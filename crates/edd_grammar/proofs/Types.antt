@@ -54,9 +54,7 @@ type_of_sound name type x =
 
 type_of_again : (type : VarType) → type_of (type_name type) ≡ Some type
 type_of_again var_type.Integer = refl
-type_of_again var_type.UnsignedInteger = refl
-type_of_again var_type.Enumerated = refl
-type_of_again var_type.BitEnumerated = refl
+type_of_again _ = refl
 
 -- which of four tests holds
 pick : (a b c d : Bool) → Option VarType

@@ -14,7 +14,7 @@ use Rattle.edd_grammar.specs.ConditionalReading.{list_ends, text_value, expr_val
 use Rattle.edd_grammar.specs.Following.{SingleValue, ListedValue}
 use Rattle.edd_grammar.proofs.Steps.{guard_some}
 use Rattle.edd_grammar.proofs.Texts.{text_sound, text_again}
-use Rattle.edd_grammar.proofs.Shorter.{Begins, WithName, WithNumber, WithDecimal, WithSign, begins, expr_shorter, text_shorter}
+use Rattle.edd_grammar.proofs.Shorter.{Begins, WithName, begins, expr_shorter, text_shorter}
 use Rattle.edd_grammar.proofs.SoundExpressions.{expr_sound}
 use Rattle.edd_grammar.proofs.CompleteExpressions.{expr_again}
 use Rattle.edd_grammar.proofs.Branches.{SoundOf}
@@ -60,9 +60,7 @@ expr_value_again height_left e here rest h low = expr_again InAttribute height_l
 -- no expression begins with a reserved word
 pub begins_no_word : (k : _) (here : List Token) → Begins here → at_word k here ≡ false
 begins_no_word k here (WithName n rest) = refl
-begins_no_word k here (WithNumber n rest) = refl
-begins_no_word k here (WithDecimal rest) = refl
-begins_no_word k here (WithSign s o rest) = refl
+begins_no_word k here _ = refl
 
 pub expr_values : SingleValue height (ExprHere InAttribute (loosest InAttribute)) expr_value
 expr_values = record {

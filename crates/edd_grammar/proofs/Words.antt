@@ -9,8 +9,7 @@ use Rattle.edd_syntax.specs.declared.operators.Operator.TheVariants as operator
 use Rattle.edd_syntax.specs.declared.symbols.Keyword.TheVariants as word
 use Rattle.edd_syntax.specs.declared.symbols.Symbol.TheVariants as sign
 use Rattle.edd_syntax.specs.Text.{Name}
-use Rattle.edd_syntax.specs.Token.{Token, Reserved, Identifier, Integer, String, Sign}
-use Rattle.edd_syntax.specs.Token as token
+use Rattle.edd_syntax.specs.Token.{Token, Identifier, Integer, Sign}
 use Rattle.edd_syntax.specs.Size.{leaf}
 use Rattle.edd_syntax.specs.ItemGrammar.{HandlingHere, TruthHere, OperationHere, NumberHere}
 use Rattle.edd_grammar.specs.Reading.{at, at_word}
@@ -28,22 +27,14 @@ pub integer_is : (here : List Token) (n : ℕ) (rest : List Token) → integer_a
 integer_is [] n rest e = absurd cc
 integer_is (Integer m ∷ behind) n rest e = as_read (λ k t. Integer m ∷ behind ≡ Integer k ∷ t) m n
     behind rest e refl
-integer_is (Reserved m ∷ behind) n rest e = absurd cc
-integer_is (Identifier m ∷ behind) n rest e = absurd cc
-integer_is (token.Decimal ∷ behind) n rest e = absurd cc
-integer_is (String m ∷ behind) n rest e = absurd cc
-integer_is (Sign m ∷ behind) n rest e = absurd cc
+integer_is (_ ∷ behind) n rest e = absurd cc
 
 pub at_name_is : (name : Name) (here : List Token) → at_name name here ≡ true
     → here ≡ Identifier name ∷ drop 1 here
 at_name_is name [] e = absurd cc
 at_name_is name (Identifier m ∷ behind) e =
     ap (λ n. Identifier n ∷ behind) ((bytes_eq-Decides m name).0 e)
-at_name_is name (Integer m ∷ behind) e = absurd cc
-at_name_is name (Reserved m ∷ behind) e = absurd cc
-at_name_is name (token.Decimal ∷ behind) e = absurd cc
-at_name_is name (String m ∷ behind) e = absurd cc
-at_name_is name (Sign m ∷ behind) e = absurd cc
+at_name_is name (_ ∷ behind) e = absurd cc
 
 expect_name_is : (name : Name) (here rest : List Token) → expect_name name here ≡ Some rest
     → here ≡ Identifier name ∷ rest
@@ -222,11 +213,9 @@ pub operation_again : (o : Operation) (here rest : List Token) → OperationHere
     → operation_at here ≡ Some (o, rest)
 unfolding operation_at
 operation_again operation.Read here rest h = rw h refl
-operation_again operation.Write here rest h = rw h refl
-operation_again operation.Command here rest h = rw h refl
+operation_again _ here rest h = rw h refl
 
 pub operation_shorter : (o : Operation) (here rest : List Token) → OperationHere o here rest
     → length rest < length here
 operation_shorter operation.Read here rest h = omega (arith, ap length h)
-operation_shorter operation.Write here rest h = omega (arith, ap length h)
-operation_shorter operation.Command here rest h = omega (arith, ap length h)
+operation_shorter _ here rest h = omega (arith, ap length h)

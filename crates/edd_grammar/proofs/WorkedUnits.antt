@@ -2,6 +2,8 @@
 -- tokens.
 use Rattle.std.proofs.Common.{◌≡◌, Bool, true, false, List, [], ◌∷◌, Option, Some, None, codes, refl, sym, ◌∙◌}
 use Rattle.std.specs.Prelude.{pos, neg_ℤ}
+use Rattle.edd_syntax.specs.declared.numbers.NumberOption.TheVariants as number_option
+use Rattle.edd_syntax.specs.declared.numbers.FormatOption.TheVariants as format_option
 use Rattle.edd_syntax.specs.declared.numbers.TextAttribute.TheVariants as text_attribute
 use Rattle.edd_syntax.specs.declared.numbers.Kind.TheVariants as kind
 use Rattle.edd_syntax.specs.declared.types.VarType.TheVariants as var_type
@@ -31,7 +33,7 @@ use Rattle.edd_grammar.specs.DeclarationReading.{value_at, declarator_at, some_d
 use Rattle.edd_grammar.specs.StatementReading.{declaration_at, case_label_at, part_at, parts_at, body_at, method_else_at, method_if_at, while_at, do_at, optional_at, for_at, switch_at, evaluate_at, statement_layer, statement_at, definition_at}
 use Rattle.edd_grammar.specs.WordReading.{expect_name, number_at, names_at, row_at, closed, braced, row_inside}
 use Rattle.edd_grammar.specs.ValueReading.{handling_behind, handling_at, truth_at, operation_at, some_text_at, optional_text_at, enumerator_at, allowed_at, some_qualifiers, qualifiers_at, mask_at, data_variable_at, data_item_at, menu_reference_at, menu_entry_at, handling_value, truth_value, enumerator_value, data_item_value, menu_entry_value}
-use Rattle.edd_grammar.specs.TypeReading.{size_at, type_part_at, type_parts_at, behind_other, known_type_at, other_type_at, type_at}
+use Rattle.edd_grammar.specs.TypeReading.{size_at, format_or_element_at, type_part_at, type_parts_at, behind_other, known_type_at, other_type_at, type_at}
 use Rattle.edd_grammar.specs.AttributeReading.{class_at, response_code_at, member_at, array_element_at, transaction_part_at, transaction_at, class_words_at, command_number_at, command_operation_at, other_attribute_at, attribute_at, own_attribute_at}
 use Rattle.edd_grammar.specs.UnitReading.{kind_at, item_kind_at, sort_behind, attributes_at, item_at, numbered_at, identification_at, items_at, unit_at}
 use Rattle.edd_grammar.proofs.Units.{unit_sound}
@@ -256,10 +258,10 @@ variable_x = record {
       item.Handling (Value handling.ReadWrite) ∷
       item.Validity validity ∷
       item.TypeOf (item.Known var_type.Enumerated (Some 1)) (
-      item.DefaultValue (Value (Literal 1)) ∷
+      (item.OneNumber number_option.DefaultValue) (Value (Literal 1)) ∷
       item.Element (Value (record { value = pos 0; text = Quoted (codes "a"); help = None })) ∷
       item.Element enumerators ∷
-      item.DisplayFormat (Value (Quoted (codes "2d"))) ∷
+      (item.OneFormat format_option.DisplayFormat) (Value (Quoted (codes "2d"))) ∷
       []) ∷
       [];
 }
@@ -400,7 +402,7 @@ unfolding expect expect_word path_at path_behind key_at text_at postfix step_bef
     operation_at some_text_at optional_text_at enumerator_at allowed_at some_qualifiers
     qualifiers_at mask_at data_variable_at data_item_at menu_reference_at menu_entry_at
     handling_value truth_value enumerator_value data_item_value menu_entry_value size_at
-    type_part_at type_parts_at behind_other known_type_at other_type_at type_at class_at
+    format_or_element_at type_part_at type_parts_at behind_other known_type_at other_type_at type_at class_at
     response_code_at member_at array_element_at transaction_part_at transaction_at class_words_at
     command_number_at
     command_operation_at other_attribute_at attribute_at own_attribute_at kind_at item_kind_at

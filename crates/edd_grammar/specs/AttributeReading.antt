@@ -16,7 +16,7 @@ use Rattle.edd_syntax.specs.Reference.{Path}
 use Rattle.edd_syntax.specs.Item as item
 use Rattle.edd_syntax.specs.Item.{TransactionPart, Attribute}
 use Rattle.edd_syntax.specs.Numbers.{has_attr, same_kind, text_attr, text_of_word}
-use Rattle.edd_grammar.specs.Reading.{◌>>=◌, on_option, Read, at, expect, at_word, name_at}
+use Rattle.edd_grammar.specs.Reading.{◌>>=◌, on_option, Read, at, expect, at_word, name_at, word_by}
 use Rattle.edd_grammar.specs.ConditionalReading.{one_at, list_at, text_value}
 use Rattle.edd_grammar.specs.StatementReading.{definition_at}
 use Rattle.edd_grammar.specs.WordReading.{integer_at, number_at, names_at, closed, braced, row_inside}
@@ -137,8 +137,7 @@ command_operation_at here = do
 
 -- the attribute that is one text and of which the word is next
 abbrev pub text_here : List Token → Option TextAttribute
-text_here (Reserved w ∷ rest) = text_of_word w
-text_here _ = None
+text_here = word_by text_of_word
 
 -- an attribute of at most this height that isn't one text
 unfoldable pub other_attribute_at : ℕ → List Token → Read (Attribute Path)

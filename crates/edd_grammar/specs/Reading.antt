@@ -41,6 +41,11 @@ abbrev pub at_word : Keyword → List Token → Bool
 at_word k (Reserved w ∷ rest) = same_word k w
 at_word k _ = false
 
+-- what the word that is next stands for by a table
+abbrev pub word_by : {A : Type 0} → (Keyword → Option A) → List Token → Option A
+word_by table (Reserved w ∷ rest) = table w
+word_by table _ = None
+
 -- the tokens after this word
 unfoldable pub expect_word : Keyword → List Token → Option (List Token)
 expect_word k here = if at_word k here then Some (drop 1 here) else None

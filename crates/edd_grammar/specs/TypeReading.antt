@@ -3,7 +3,6 @@ use Rattle.std.specs.Prelude.{ℕ, List, [], ◌∷◌, drop, Option, Some, None
 use Rattle.std.specs.Str.{bytes_eq}
 use Rattle.edd_syntax.specs.declared.types.VarType.{VarType}
 use Rattle.edd_syntax.specs.declared.types.VarType.TheVariants as var_type
-use Rattle.edd_syntax.specs.declared.symbols.Keyword.TheVariants as word
 use Rattle.edd_syntax.specs.declared.symbols.Symbol.TheVariants as sign
 use Rattle.edd_syntax.specs.Text.{Name}
 use Rattle.edd_syntax.specs.Token.{Token, Sign}
@@ -11,7 +10,8 @@ use Rattle.edd_syntax.specs.Reference.{Path}
 use Rattle.edd_syntax.specs.Item as item
 use Rattle.edd_syntax.specs.Item.{TypeWord, TypePart}
 use Rattle.edd_syntax.specs.ItemGrammar.{behind_braces}
-use Rattle.edd_grammar.specs.Reading.{◌>>=◌, on_option, Read, at, expect, at_word, name_at}
+use Rattle.edd_syntax.specs.Numbers.{format_of_word, number_of_word}
+use Rattle.edd_grammar.specs.Reading.{◌>>=◌, on_option, Read, at, expect, name_at, word_by}
 use Rattle.edd_grammar.specs.ConditionalReading.{one_at, element_at, text_value, expr_value, skip_comma}
 use Rattle.edd_grammar.specs.WordReading.{integer_at, braced, row_inside}
 use Rattle.edd_grammar.specs.ValueReading.{enumerator_value}
@@ -33,21 +33,21 @@ size_at here =
     >>= λ rest. Some (Some n.0, rest))
     else Some (None, here)
 
+-- a format or an enumerator of at most this height
+unfoldable pub format_or_element_at : ℕ → List Token → Read (TypePart Path)
+format_or_element_at height_left here =
+    on_option (word_by format_of_word here)
+    (element_at enumerator_value height_left here
+    >>= λ c. Some (item.Element c.0, skip_comma c.1))
+    (λ which. one_at text_value height_left (drop 1 here)
+    >>= λ c. Some (item.OneFormat which c.0, c.1))
+
 -- a part of at most this height of what is in the braces of a type
 unfoldable pub type_part_at : ℕ → List Token → Read (TypePart Path)
 type_part_at height_left here =
-    if at_word word.DefaultValue here then (one_at expr_value height_left (drop 1 here)
-    >>= λ c. Some (item.DefaultValue c.0, c.1))
-    else if at_word word.MinValue here then (one_at expr_value height_left (drop 1 here)
-    >>= λ c. Some (item.MinValue c.0, c.1))
-    else if at_word word.MaxValue here then (one_at expr_value height_left (drop 1 here)
-    >>= λ c. Some (item.MaxValue c.0, c.1))
-    else if at_word word.DisplayFormat here then (one_at text_value height_left (drop 1 here)
-    >>= λ c. Some (item.DisplayFormat c.0, c.1))
-    else if at_word word.EditFormat here then (one_at text_value height_left (drop 1 here)
-    >>= λ c. Some (item.EditFormat c.0, c.1))
-    else (element_at enumerator_value height_left here
-    >>= λ c. Some (item.Element c.0, skip_comma c.1))
+    on_option (word_by number_of_word here) (format_or_element_at height_left here)
+    (λ which. one_at expr_value height_left (drop 1 here)
+    >>= λ c. Some (item.OneNumber which c.0, c.1))
 
 -- a semicolon, or braces
 unfoldable pub type_parts_at : ℕ → List Token → Read (List (TypePart Path))

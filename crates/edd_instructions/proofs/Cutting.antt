@@ -40,19 +40,14 @@ preceded_twice a c b d o = same_outcome (sym (append_assoc a c o.requests))
 
 not_out_at : (st : Status) → over_at st ≡ Some OutOfSteps → ⊥
 not_out_at status.Running e = cc
-not_out_at (status.Asking r) e = cc
-not_out_at status.Ended e = cc
-not_out_at status.Aborted e = cc
-not_out_at (status.Trapped why) e = cc
+not_out_at _ e = cc
 
 -- a state that neither asks nor is over runs
 runs_at : (st : Status) → ((r : Request) → st ≡ status.Asking r → ⊥) → over_at st ≡ None
     → st ≡ status.Running
 runs_at status.Running never e = refl
 runs_at (status.Asking r) never e = absurd (never r refl)
-runs_at status.Ended never e = absurd cc
-runs_at status.Aborted never e = absurd cc
-runs_at (status.Trapped why) never e = absurd cc
+runs_at _ never e = absurd cc
 
 -- after an answer no request is pending
 pub none_stands : (s : State) (answer : Answer) (r : Request) → (answered s answer).state.status

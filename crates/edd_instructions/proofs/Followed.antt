@@ -30,11 +30,8 @@ module _ (follow : State → State) (quiet : AsksNothing follow) (env : Environm
   meets_nothing : (st : Status) (t : State) (answers : List Answer)
       → ((r : Request) → st ≡ status.Asking r → ⊥)
       → meet_by follow env st t answers ≡ nothing_met t answers (over_at st)
-  meets_nothing status.Running t answers never = refl
   meets_nothing (status.Asking r) t answers never = absurd (never r refl)
-  meets_nothing status.Ended t answers never = refl
-  meets_nothing status.Aborted t answers never = refl
-  meets_nothing (status.Trapped why) t answers never = refl
+  meets_nothing _ t answers never = refl
 
   module _ (s : State) (r : Request) (asks : s.status ≡ status.Asking r) (x : Answer)
       (rest : List Answer) (valid : answer_fault env.types x ≡ None) where
@@ -199,14 +196,6 @@ module _ (follow : State → State) (quiet : AsksNothing follow)
   -- from what a step or an answer resulted in
   behind : (k : ℕ) → Cut k → (j : ℕ) (t : State) (answers : List Answer) (st : Status)
       → t.status ≡ st → Along j (follow t) answers (alone k t answers)
-  behind k cut j t answers status.Running is =
-      let l : IsLive t.status = subst IsLive (sym is) tt in
-      subst (λ (u : State). Along j u answers (alone k t answers)) (sym (live t l))
-      (cut j t answers l)
-  behind k cut j t answers (status.Asking r) is =
-      let l : IsLive t.status = subst IsLive (sym is) tt in
-      subst (λ (u : State). Along j u answers (alone k t answers)) (sym (live t l))
-      (cut j t answers l)
   behind k cut j t answers status.Ended is =
       subst (λ (o : Outcome). Along j (follow t) answers o)
       (sym (stays unchanged asks_itself env t answers Ended (ap over_at is) k))
@@ -219,6 +208,10 @@ module _ (follow : State → State) (quiet : AsksNothing follow)
       subst (λ (o : Outcome). Along j (follow t) answers o)
       (sym (stays unchanged asks_itself env t answers (Trapped why) (ap over_at is) k))
       (at_once j t (follow t) answers (Trapped why) refl)
+  behind k cut j t answers _ is =
+      let l : IsLive t.status = subst IsLive (sym is) tt in
+      subst (λ (u : State). Along j u answers (alone k t answers)) (sym (live t l))
+      (cut j t answers l)
 
   by_step : (k : ℕ) → Cut k → (j : ℕ) (s : State) (answers : List Answer)
       → s.status ≡ status.Running → (x : Option Effect) → step env s ≡ x
@@ -298,9 +291,7 @@ module _ (follow : State → State) (quiet : AsksNothing follow)
       → s.status ≡ st → IsLive s.status → Along j s answers (alone k s answers)
   by_live k j run s answers status.Running is l = run s answers is
   by_live k j run s answers (status.Asking r) is l = asking k j s r answers is run
-  by_live k j run s answers status.Ended is l = absurd (subst IsLive is l)
-  by_live k j run s answers status.Aborted is l = absurd (subst IsLive is l)
-  by_live k j run s answers (status.Trapped why) is l = absurd (subst IsLive is l)
+  by_live k j run s answers _ is l = absurd (subst IsLive is l)
 
   pub cut_at_rest : (k : ℕ) → Cut k
   cut_at_rest zero j s answers l = by_live zero j (running_out j) s answers s.status refl l

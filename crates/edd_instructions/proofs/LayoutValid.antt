@@ -64,11 +64,9 @@ all_keep which [] valid = tt
 all_keep which (u ∷ us) valid = (keeps_of which u valid.0, all_keep which us valid.1)
 
 units_keep : (which : UnitRule) (c : Contents) → IsSound c → UnitsKeep c which
-units_keep unit_rule.Chain c sound = all_keep unit_rule.Chain _ sound.valid_units
-units_keep unit_rule.Jump c sound = all_keep unit_rule.Jump _ sound.valid_units
-units_keep unit_rule.Depth c sound = all_keep unit_rule.Depth _ sound.valid_units
 units_keep unit_rule.Reference c sound =
     (all_keep unit_rule.Reference _ sound.valid_units, sound.abort_methods)
+units_keep x c sound = all_keep x _ sound.valid_units
 
 lengths_do : (s : Sections) → AreSections s → length s.code ≤ code_limit → lengths_agree (layout s)
     ≡ true

@@ -216,19 +216,13 @@ module _ (env : Environment) (s : State) (running : s.status ≡ Running)
   request_acts : (request : Ask) (next : ℕ) → AllFit s.unit.sort s.operands
       → takes (instruction.Ask request) ≤ length s.operands
       → Acts env (instruction.Ask request) next s (act_ask request next s)
-  request_acts (ask.PutMessage t) next fit le = ask_acts _ next s.operands _ refl (omega arith) fit
-  request_acts (ask.Acknowledge t) next fit le = ask_acts _ next s.operands _ refl (omega arith) fit
   request_acts (ask.Delay t) next fit le = top_acts _ next s.operands _ fit le
       (λ a below e fa fb. ask_acts _ next below _ refl (omega (arith, e)) fb)
-  request_acts (ask.GetDevVarValue t v) next fit le = ask_acts _ next s.operands _ refl
-      (omega arith) fit
-  request_acts (ask.SelectFromList t u) next fit le = ask_acts _ next s.operands _ refl
-      (omega arith) fit
   request_acts ask.SendCommand next fit le = top_acts _ next s.operands _ fit le
       (λ a below e fa fb. ask_acts _ next below _ refl (omega (arith, e)) fb)
   request_acts ask.SendCommandTrans next fit le = two_act _ next s.operands _ fit le
       (λ a b below e fa fb fc. ask_acts _ next below _ refl (omega (arith, e)) fc)
-  request_acts ask.SaveValues next fit le = ask_acts _ next s.operands _ refl (omega arith) fit
+  request_acts _ next fit le = ask_acts _ next s.operands _ refl (omega arith) fit
 
   -- an instruction that finds its operands has an effect
   pub instruction_acts : (i : Instruction) (next : ℕ) → AllFit s.unit.sort s.operands
@@ -296,23 +290,8 @@ module _ (env : Environment) (s : State) (running : s.status ≡ Running)
       (λ a below e fa fb. choice_acts _ next (int_eq a label) _ _
       (to_target _ next to _ refl (omega (arith, e)) fb)
       (go_acts _ next 1 _ refl (omega (arith, e)) fit))
-  instruction_acts (instruction.Text t) next fit le = give_acts _ next _ _ refl (omega arith) fit
   instruction_acts instruction.Number next fit le = top_acts _ next s.operands _ fit le
       (λ a below e fa fb. give_acts _ next _ _ refl (omega (arith, e)) fb)
-  instruction_acts (instruction.Item item quals) next fit le =
-      give_acts _ next _ _ refl (omega arith) fit
-  instruction_acts (instruction.DataConst n) next fit le = give_acts _ next _ _ refl (omega arith)
-      fit
-  instruction_acts (instruction.DataVar v mask quals) next fit le =
-      give_acts _ next _ _ refl (omega arith) fit
-  instruction_acts (instruction.Enumerator n text help) next fit le =
-      give_acts _ next _ _ refl (omega arith) fit
-  instruction_acts (instruction.Response n class text) next fit le =
-      give_acts _ next _ _ refl (omega arith) fit
-  instruction_acts (instruction.Member name item label help) next fit le =
-      give_acts _ next _ _ refl (omega arith) fit
-  instruction_acts (instruction.Element n v label help) next fit le =
-      give_acts _ next _ _ refl (omega arith) fit
   instruction_acts (instruction.Ask request) next fit le = request_acts request next fit le
   instruction_acts (instruction.AddAbortMethod m) next fit le =
       by_list (listed s.is_aborting s.abort_methods m)
@@ -327,3 +306,5 @@ module _ (env : Environment) (s : State) (running : s.status ≡ Running)
       by_list None = go_acts _ next 1 _ refl (omega arith) (less_fits s.unit.sort, fit)
   instruction_acts instruction.Abort next fit le = over_acts _ next _ tt (keeps _ refl refl refl)
       fit
+  instruction_acts _ next fit le =
+      give_acts _ next _ _ refl (omega arith) fit

@@ -86,67 +86,43 @@ ask_again (ask.GetDevVarValue s v) rest h =
     rw (u16_again s.0 (u16 v.0 ++ rest) h.0, u16_again v.0 rest h.1) refl
 ask_again (ask.SelectFromList s t) rest h =
     rw (u16_again s.0 (u16 t.0 ++ rest) h.0, u16_again t.0 rest h.1) refl
-ask_again ask.SendCommand rest h =
-    rw (u16_again 0 (u16 0 ++ rest) (omega arith), u16_again 0 rest (omega arith)) refl
-ask_again ask.SendCommandTrans rest h =
-    rw (u16_again 0 (u16 0 ++ rest) (omega arith), u16_again 0 rest (omega arith)) refl
-ask_again ask.SaveValues rest h =
+ask_again _ rest h =
     rw (u16_again 0 (u16 0 ++ rest) (omega arith), u16_again 0 rest (omega arith)) refl
 
 operator_again : (op : Operator) (rest : List ℕ) → instruction_from (operator_code op ∷ rest)
     ≡ Some (instruction.Operate op, rest)
 unfolding instruction_from operator_of
 operator_again operator.Add rest = refl
-operator_again operator.Subtract rest = refl
-operator_again operator.Multiply rest = refl
-operator_again operator.Divide rest = refl
-operator_again operator.Remainder rest = refl
-operator_again operator.ShiftLeft rest = refl
-operator_again operator.ShiftRight rest = refl
-operator_again operator.And rest = refl
-operator_again operator.Or rest = refl
-operator_again operator.Xor rest = refl
+operator_again _ rest = refl
 
 comparison_again : (op : Comparison) (rest : List ℕ) → instruction_from (comparison_code op ∷ rest)
     ≡ Some (instruction.Compare op, rest)
 unfolding instruction_from comparison_of
 comparison_again comparison.Equal rest = refl
-comparison_again comparison.NotEqual rest = refl
-comparison_again comparison.Less rest = refl
-comparison_again comparison.LessOrEqual rest = refl
-comparison_again comparison.Greater rest = refl
-comparison_again comparison.GreaterOrEqual rest = refl
+comparison_again _ rest = refl
 
 -- an instruction that was spelled is read again, whatever follows it
 pub instruction_again : (i : Instruction) (rest : List ℕ) → IsSpelled i
     → instruction_from (spelling i ++ rest) ≡ Some (i, rest)
 unfolding instruction_from basic_from unary_of jump_from record_from data_from enumerator_from
     response_from member_from element_from abort_method_from byte_from
-instruction_again instruction.End rest h = refl
 instruction_again (instruction.Push n) rest h = rw (u32_again n rest h) refl
 instruction_again (instruction.Variable v) rest h = rw (u16_again v.0 rest h) refl
 instruction_again (instruction.Store v) rest h = rw (u16_again v.0 rest h) refl
 instruction_again (instruction.GetLocal slot) rest h = rw (u16_again slot rest h) refl
 instruction_again (instruction.SetLocal slot) rest h = rw (u16_again slot rest h) refl
-instruction_again instruction.Pop rest h = refl
-instruction_again instruction.Duplicate rest h = refl
 instruction_again (instruction.ReadElement a) rest h = rw (u16_again a.0 rest h) refl
 instruction_again (instruction.Operate op) rest h = operator_again op rest
 instruction_again (instruction.Compare op) rest h = comparison_again op rest
-instruction_again instruction.Negate rest h = refl
-instruction_again instruction.Not rest h = refl
-instruction_again instruction.Complement rest h = refl
 instruction_again (instruction.Jump to) rest h = rw (u32_again to rest h) refl
 instruction_again (instruction.JumpIfZero to) rest h = rw (u32_again to rest h) refl
 instruction_again (instruction.JumpIfNotZero to) rest h = rw (u32_again to rest h) refl
 instruction_again (instruction.Case label to) rest h =
     rw (i64_again label (u32 to ++ rest) h.0, u32_again to rest h.1) refl
 instruction_again (instruction.Text s) rest h = rw (u16_again s.0 rest h) refl
-instruction_again instruction.Number rest h = refl
 instruction_again (instruction.Item item quals) rest h =
     ap entry_from (append_assoc (item_bytes item) (u16 quals) rest) ∙ entry_again item quals rest
     h.0 h.1
-instruction_again (instruction.DataConst n) rest h = refl
 instruction_again (instruction.DataVar v mask quals) rest h =
     rw (
       u16_again v.0 (u32 mask ++ (quals ∷ rest)) h.0,
@@ -191,8 +167,8 @@ instruction_again (instruction.Element n v label help) rest h =
       optional_is help h.3,
     ) refl
 instruction_again (instruction.Ask request) rest h = ask_again request rest h
-instruction_again instruction.Abort rest h = refl
 instruction_again (instruction.AddAbortMethod m) rest h = rw (u16_again m.0 rest h) refl
+instruction_again _ rest h = refl
 
 pub stands_where_spelled : (before after : List ℕ) (i : Instruction) → IsSpelled i
     → instruction_at (before ++ (spelling i ++ after)) (length before)

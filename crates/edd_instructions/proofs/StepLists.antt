@@ -8,7 +8,7 @@ use Rattle.edd_syntax.specs.AbortMethods.{listed}
 use Rattle.edd_syntax.specs.TwosComplement.{operate}
 use Rattle.edd_syntax.specs.Elements.{element_value}
 use Rattle.edd_instructions.specs.declared.records.Status.{Status}
-use Rattle.edd_instructions.specs.declared.records.Status.TheVariants.{Running, Asking, Ended, Aborted, Trapped}
+use Rattle.edd_instructions.specs.declared.records.Status.TheVariants.{Running}
 use Rattle.edd_instructions.specs.declared.instruction.Ask.{Ask}
 use Rattle.edd_instructions.specs.declared.instruction.Ask.TheVariants as ask
 use Rattle.edd_instructions.specs.declared.instruction.Instruction.{Instruction}
@@ -73,23 +73,15 @@ module _ (s : State) where
       by_room false = same_list _ (refl, λ on. absurd (cc (is, on)))
 
   asked : (a : Ask) (next : ℕ) → Leaves s (act_ask a next s)
-  asked (ask.PutMessage t) next = same_list _ (refl, λ on. refl)
-  asked (ask.Acknowledge t) next = same_list _ (refl, λ on. refl)
   asked (ask.Delay t) next = top s.operands _ (λ a below. same_list _ (refl, λ on. refl))
-  asked (ask.GetDevVarValue t v) next = same_list _ (refl, λ on. refl)
-  asked (ask.SelectFromList t u) next = same_list _ (refl, λ on. refl)
   asked ask.SendCommand next = top s.operands _ (λ a below. same_list _ (refl, λ on. refl))
   asked ask.SendCommandTrans next = two s.operands _ (λ a b below. same_list _ (refl, λ on. refl))
-  asked ask.SaveValues next = same_list _ (refl, λ on. refl)
+  asked _ next = same_list _ (refl, λ on. refl)
 
   module _ (env : Environment) (next : ℕ) where
     acted : (i : Instruction) → Leaves s (act env i next s)
     unfolding act
-    acted instruction.End = same_list _ (refl, λ on. refl)
-    acted (instruction.Push n) = same_list _ (refl, λ on. refl)
-    acted (instruction.Variable v) = same_list _ (refl, λ on. refl)
     acted (instruction.Store v) = top s.operands _ (λ a below. same_list _ (refl, λ on. refl))
-    acted (instruction.GetLocal slot) = same_list _ (refl, λ on. refl)
     acted (instruction.SetLocal slot) = top s.operands _
         (λ a below. same_list _ (refl, λ on. refl))
     acted instruction.Pop = top s.operands _ (λ a below. same_list _ (refl, λ on. refl))
@@ -103,7 +95,6 @@ module _ (s : State) where
     acted instruction.Negate = top s.operands _ (λ a below. same_list _ (refl, λ on. refl))
     acted instruction.Not = top s.operands _ (λ a below. same_list _ (refl, λ on. refl))
     acted instruction.Complement = top s.operands _ (λ a below. same_list _ (refl, λ on. refl))
-    acted (instruction.Jump to) = same_list _ (refl, λ on. refl)
     acted (instruction.JumpIfZero to) = top s.operands _
         (λ a below. same_list _ (refl, λ on. refl))
     acted (instruction.JumpIfNotZero to) = top s.operands _
@@ -111,18 +102,10 @@ module _ (s : State) where
     acted (instruction.Case label to) = top s.operands _ (λ a below.
         choice (int_eq a label) _ _ (same_list _ (refl, λ on. refl))
         (same_list _ (refl, λ on. refl)))
-    acted (instruction.Text t) = same_list _ (refl, λ on. refl)
     acted instruction.Number = top s.operands _ (λ a below. same_list _ (refl, λ on. refl))
-    acted (instruction.Item item quals) = same_list _ (refl, λ on. refl)
-    acted (instruction.DataConst n) = same_list _ (refl, λ on. refl)
-    acted (instruction.DataVar v mask quals) = same_list _ (refl, λ on. refl)
-    acted (instruction.Enumerator n text help) = same_list _ (refl, λ on. refl)
-    acted (instruction.Response n class text) = same_list _ (refl, λ on. refl)
-    acted (instruction.Member name item label help) = same_list _ (refl, λ on. refl)
-    acted (instruction.Element n v label help) = same_list _ (refl, λ on. refl)
     acted (instruction.Ask request) = asked request next
-    acted instruction.Abort = same_list _ (refl, λ on. refl)
     acted (instruction.AddAbortMethod m) = added m next s.is_aborting refl
+    acted _ = same_list _ (refl, λ on. refl)
 
 -- a step leaves them so
 pub step_keeps : (env : Environment) (s : State) (e : Effect) → step env s ≡ Some e
@@ -137,7 +120,4 @@ step_keeps env s e is = by_status s.status e is
     by_status : (st : Status) → Leaves s (if_running st (instruction_at s.unit.code s.place
         >>= λ f. act env f.0 f.1 s))
     by_status Running = found (instruction_at s.unit.code s.place)
-    by_status (Asking r) = none s
-    by_status Ended = none s
-    by_status Aborted = none s
-    by_status (Trapped why) = none s
+    by_status _ = none s

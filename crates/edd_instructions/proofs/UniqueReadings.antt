@@ -5,7 +5,7 @@ use Rattle.edd_syntax.specs.declared.answer.Trap.{Trap}
 use Rattle.edd_syntax.specs.declared.numbers.AttrRef.{AttrRef}
 use Rattle.edd_instructions.specs.declared.records.Record.{Record}
 use Rattle.edd_instructions.specs.declared.records.Status.{Status}
-use Rattle.edd_instructions.specs.declared.records.Status.TheVariants.{Running, Asking, Ended, Aborted, Trapped}
+use Rattle.edd_instructions.specs.declared.records.Status.TheVariants.{Running, Asking}
 use Rattle.edd_image.specs.Contents.{AttributeFields, Contents, contents_in}
 use Rattle.edd_instructions.specs.Steps.{State, Environment, Effect, if_running, step}
 use Rattle.edd_instructions.specs.Reading.{at_end, given_by, given_within, with_record, Reading, NoItem, Records, default_records, reading_of, is_no_item, row_of, environment_of, opening_of, reading_within, IsReading}
@@ -17,9 +17,7 @@ Given = Result (List Record) Trap
 over : (st : Status) (o : Option Effect) (r : Given) → at_end st ≡ Some r → if_running st o ≡ None
 over Running o r e = absurd cc
 over (Asking q) o r e = absurd cc
-over Ended o r e = refl
-over Aborted o r e = refl
-over (Trapped why) o r e = refl
+over _ o r e = refl
 
 no_step : (env : Environment) (s : State) (r : Given) → at_end s.status ≡ Some r → step env s ≡ None
 unfolding step

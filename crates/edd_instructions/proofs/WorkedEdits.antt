@@ -258,10 +258,9 @@ pop_of_nothing = (
     earlier rule.Row h = refl
     earlier rule.Name h = refl
     earlier rule.Text h = refl
-    earlier (rule.Unit unit_rule.Chain) h = (refl, tt)
-    earlier (rule.Unit unit_rule.Jump) h = (refl, tt)
     earlier (rule.Unit unit_rule.Depth) h = absurd (omega arith)
     earlier (rule.Unit unit_rule.Reference) h = absurd (omega arith)
+    earlier (rule.Unit _) h = (refl, tt)
 
 pub duplicate_of_nothing : BreaksFirst (with_code 0x07 0x00 0x00 0x00 0x00)
     (rule.Unit unit_rule.Depth)
@@ -291,10 +290,9 @@ duplicate_of_nothing = (
     earlier rule.Row h = refl
     earlier rule.Name h = refl
     earlier rule.Text h = refl
-    earlier (rule.Unit unit_rule.Chain) h = (refl, tt)
-    earlier (rule.Unit unit_rule.Jump) h = (refl, tt)
     earlier (rule.Unit unit_rule.Depth) h = absurd (omega arith)
     earlier (rule.Unit unit_rule.Reference) h = absurd (omega arith)
+    earlier (rule.Unit _) h = (refl, tt)
 
 pub variable_missing : BreaksFirst (with_code 0x02 0x00 0x00 0x06 0x00)
     (rule.Unit unit_rule.Reference)

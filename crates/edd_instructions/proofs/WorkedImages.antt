@@ -42,10 +42,8 @@ empty_valid rule.Length = refl
 empty_valid rule.Row = refl
 empty_valid rule.Name = refl
 empty_valid rule.Text = refl
-empty_valid (rule.Unit unit_rule.Chain) = tt
-empty_valid (rule.Unit unit_rule.Jump) = tt
-empty_valid (rule.Unit unit_rule.Depth) = tt
 empty_valid (rule.Unit unit_rule.Reference) = (tt, refl)
+empty_valid (rule.Unit _) = tt
 
 pub loop_valid : IsValid loop_image
 unfolding contents_in rows_from number_at variable_rows_start name_rows_start attribute_rows_start

@@ -21,28 +21,13 @@ request_exists counts ask.SaveValues = true
 
 -- the strings, variables, arrays and items that it names, and the slot
 abbrev pub names_exist : Context → Instruction → Bool
-names_exist context instruction.End = true
-names_exist context (instruction.Push n) = true
 names_exist context (instruction.Variable v) = variable_exists context.counts v
 names_exist context (instruction.Store v) = variable_exists context.counts v
 names_exist context (instruction.GetLocal slot) = nat_lt slot context.slots
 names_exist context (instruction.SetLocal slot) = nat_lt slot context.slots
-names_exist context instruction.Pop = true
-names_exist context instruction.Duplicate = true
 names_exist context (instruction.ReadElement a) = array_exists context.counts a
-names_exist context (instruction.Operate op) = true
-names_exist context (instruction.Compare op) = true
-names_exist context instruction.Negate = true
-names_exist context instruction.Not = true
-names_exist context instruction.Complement = true
-names_exist context (instruction.Jump to) = true
-names_exist context (instruction.JumpIfZero to) = true
-names_exist context (instruction.JumpIfNotZero to) = true
-names_exist context (instruction.Case label to) = true
 names_exist context (instruction.Text s) = string_exists context.counts s
-names_exist context instruction.Number = true
 names_exist context (instruction.Item item quals) = item_exists context.counts item
-names_exist context (instruction.DataConst n) = true
 names_exist context (instruction.DataVar v mask quals) = variable_exists context.counts v
 names_exist context (instruction.Enumerator n text help) = string_exists context.counts text
     && optional_string_exists context.counts help
@@ -53,5 +38,5 @@ names_exist context (instruction.Member name item label help) = string_exists co
 names_exist context (instruction.Element n v label help) = variable_exists context.counts v
     && (optional_string_exists context.counts label && optional_string_exists context.counts help)
 names_exist context (instruction.Ask request) = request_exists context.counts request
-names_exist context instruction.Abort = true
 names_exist context (instruction.AddAbortMethod m) = method_exists context.counts m
+names_exist context _ = true

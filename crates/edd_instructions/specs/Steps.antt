@@ -222,10 +222,7 @@ act env (instruction.AddAbortMethod m) next s = elim (listed s.is_aborting s.abo
 -- only a running state has a step
 abbrev pub if_running : Status → Option Effect → Option Effect
 if_running Running o = o
-if_running (Asking r) o = None
-if_running Ended o = None
-if_running Aborted o = None
-if_running (Trapped why) o = None
+if_running _ o = None
 
 -- the step of a state, if it has one
 unfoldable pub step : Environment → State → Option Effect

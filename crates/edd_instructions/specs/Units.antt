@@ -50,22 +50,14 @@ end_of place (x ∷ xs) = end_of x.next xs
 
 -- how many numbers a request has
 abbrev pub numbers_asked : Ask → ℕ
-numbers_asked (ask.PutMessage s) = 0
-numbers_asked (ask.Acknowledge s) = 0
 numbers_asked (ask.Delay s) = 1
-numbers_asked (ask.GetDevVarValue s v) = 0
-numbers_asked (ask.SelectFromList s t) = 0
 numbers_asked ask.SendCommand = 1
 numbers_asked ask.SendCommandTrans = 2
-numbers_asked ask.SaveValues = 0
+numbers_asked _ = 0
 
 -- how many operands it takes off the stack, or reads there
 abbrev pub takes : Instruction → ℕ
-takes instruction.End = 0
-takes (instruction.Push n) = 0
-takes (instruction.Variable v) = 0
 takes (instruction.Store v) = 1
-takes (instruction.GetLocal slot) = 0
 takes (instruction.SetLocal slot) = 1
 takes instruction.Pop = 1
 takes instruction.Duplicate = 1
@@ -75,43 +67,21 @@ takes (instruction.Compare op) = 2
 takes instruction.Negate = 1
 takes instruction.Not = 1
 takes instruction.Complement = 1
-takes (instruction.Jump to) = 0
 takes (instruction.JumpIfZero to) = 1
 takes (instruction.JumpIfNotZero to) = 1
 takes (instruction.Case label to) = 1
-takes (instruction.Text s) = 0
 takes instruction.Number = 1
-takes (instruction.Item item quals) = 0
-takes (instruction.DataConst n) = 0
-takes (instruction.DataVar v mask quals) = 0
-takes (instruction.Enumerator n text help) = 0
-takes (instruction.Response n class text) = 0
-takes (instruction.Member name item label help) = 0
-takes (instruction.Element n v label help) = 0
 takes (instruction.Ask request) = numbers_asked request
-takes instruction.Abort = 0
-takes (instruction.AddAbortMethod m) = 0
+takes _ = 0
 
 -- how many it leaves in place of those, where it goes on to the instruction after it
 abbrev pub leaves : Instruction → Option ℕ
 leaves instruction.End = None
-leaves (instruction.Push n) = Some 1
-leaves (instruction.Variable v) = Some 1
-leaves (instruction.Store v) = Some 1
-leaves (instruction.GetLocal slot) = Some 1
-leaves (instruction.SetLocal slot) = Some 1
 leaves instruction.Pop = Some 0
 leaves instruction.Duplicate = Some 2
-leaves (instruction.ReadElement a) = Some 1
-leaves (instruction.Operate op) = Some 1
-leaves (instruction.Compare op) = Some 1
-leaves instruction.Negate = Some 1
-leaves instruction.Not = Some 1
-leaves instruction.Complement = Some 1
 leaves (instruction.Jump to) = None
 leaves (instruction.JumpIfZero to) = Some 0
 leaves (instruction.JumpIfNotZero to) = Some 0
-leaves (instruction.Case label to) = Some 1
 leaves (instruction.Text s) = Some 0
 leaves instruction.Number = Some 0
 leaves (instruction.Item item quals) = Some 0
@@ -121,9 +91,8 @@ leaves (instruction.Enumerator n text help) = Some 0
 leaves (instruction.Response n class text) = Some 0
 leaves (instruction.Member name item label help) = Some 0
 leaves (instruction.Element n v label help) = Some 0
-leaves (instruction.Ask request) = Some 1
 leaves instruction.Abort = None
-leaves (instruction.AddAbortMethod m) = Some 1
+leaves _ = Some 1
 
 -- the way to the instruction after it
 abbrev pub onward : Instruction → ℕ → Option Way
@@ -131,36 +100,11 @@ onward i next = option_map (λ n. record { to = next; leaves = n }) (leaves i)
 
 -- the way to its target, where it leaves nothing
 abbrev pub jump : Instruction → Option Way
-jump instruction.End = None
-jump (instruction.Push n) = None
-jump (instruction.Variable v) = None
-jump (instruction.Store v) = None
-jump (instruction.GetLocal slot) = None
-jump (instruction.SetLocal slot) = None
-jump instruction.Pop = None
-jump instruction.Duplicate = None
-jump (instruction.ReadElement a) = None
-jump (instruction.Operate op) = None
-jump (instruction.Compare op) = None
-jump instruction.Negate = None
-jump instruction.Not = None
-jump instruction.Complement = None
 jump (instruction.Jump to) = Some (record { to = to; leaves = 0 })
 jump (instruction.JumpIfZero to) = Some (record { to = to; leaves = 0 })
 jump (instruction.JumpIfNotZero to) = Some (record { to = to; leaves = 0 })
 jump (instruction.Case label to) = Some (record { to = to; leaves = 0 })
-jump (instruction.Text s) = None
-jump instruction.Number = None
-jump (instruction.Item item quals) = None
-jump (instruction.DataConst n) = None
-jump (instruction.DataVar v mask quals) = None
-jump (instruction.Enumerator n text help) = None
-jump (instruction.Response n class text) = None
-jump (instruction.Member name item label help) = None
-jump (instruction.Element n v label help) = None
-jump (instruction.Ask request) = None
-jump instruction.Abort = None
-jump (instruction.AddAbortMethod m) = None
+jump _ = None
 
 -- the ways from an instruction
 abbrev pub ways : Placed → List Way
@@ -196,24 +140,10 @@ from_version_two Two a = a
 
 -- where an instruction may be, by the version of the layout
 abbrev pub allowed : Version → Instruction → Allowed
-allowed version instruction.End = everywhere
-allowed version (instruction.Push n) = everywhere
-allowed version (instruction.Variable v) = everywhere
 allowed version (instruction.Store v) = methods_only
 allowed version (instruction.GetLocal slot) = methods_only
 allowed version (instruction.SetLocal slot) = methods_only
-allowed version instruction.Pop = everywhere
-allowed version instruction.Duplicate = everywhere
 allowed version (instruction.ReadElement a) = from_version_two version everywhere
-allowed version (instruction.Operate op) = everywhere
-allowed version (instruction.Compare op) = everywhere
-allowed version instruction.Negate = everywhere
-allowed version instruction.Not = everywhere
-allowed version instruction.Complement = everywhere
-allowed version (instruction.Jump to) = everywhere
-allowed version (instruction.JumpIfZero to) = everywhere
-allowed version (instruction.JumpIfNotZero to) = everywhere
-allowed version (instruction.Case label to) = everywhere
 allowed version (instruction.Text s) = attributes_only
 allowed version instruction.Number = attributes_only
 allowed version (instruction.Item item quals) = attributes_only
@@ -226,6 +156,7 @@ allowed version (instruction.Element n v label help) = from_version_two version 
 allowed version (instruction.Ask request) = methods_only
 allowed version instruction.Abort = methods_only
 allowed version (instruction.AddAbortMethod m) = from_version_two version methods_only
+allowed version _ = everywhere
 
 -- an instruction may be in a unit of this sort and version
 abbrev pub is_allowed : Version → Sort → Instruction → Bool

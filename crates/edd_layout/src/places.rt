@@ -3,6 +3,7 @@
 use crate::frames::{Frame, FrameKind};
 use crate::roles::Role;
 use crate::writer::{Following, Writer};
+use edd_syntax::numbers::Attr;
 use edd_syntax::symbols::{Keyword, Symbol};
 
 #[derive(Clone, Copy)]
@@ -44,24 +45,7 @@ fn begins_item(word: Keyword) -> bool {
 }
 
 fn begins_attribute(word: Keyword) -> bool {
-    matches!(
-        word,
-        Keyword::Label
-            | Keyword::Help
-            | Keyword::Class
-            | Keyword::Handling
-            | Keyword::ConstantUnit
-            | Keyword::Validity
-            | Keyword::Type
-            | Keyword::Number
-            | Keyword::Operation
-            | Keyword::Transaction
-            | Keyword::ResponseCodes
-            | Keyword::Items
-            | Keyword::Members
-            | Keyword::Definition
-            | Keyword::Elements
-    )
+    Attr::begun_by(word).is_some()
 }
 
 // Whether a token of the second role begins an element behind one of the first, with nothing

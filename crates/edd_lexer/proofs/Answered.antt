@@ -48,15 +48,8 @@ answer_no_tokens text (Err e) a = go (fault_of e) a
 
 -- a refusal without a fault is out of memory
 memory_is : (e : LexFault) → fault_of e ≡ None → e ≡ refused.Memory
-memory_is refused.TooLong f = cc
-memory_is (refused.NotUtf8 line) f = cc
-memory_is (refused.BadCharacter line) f = cc
-memory_is (refused.OpenComment line) f = cc
-memory_is (refused.OpenString line) f = cc
-memory_is (refused.BadEscape line) f = cc
-memory_is (refused.BadNumber line) f = cc
-memory_is (refused.Directive line) f = cc
 memory_is refused.Memory f = refl
+memory_is _ f = cc
 
 pub answer_only_tokens : (text : List ℕ) (r : Answer) → Answers text r → (lexemes : List Lexeme)
     → AreTokens text lexemes

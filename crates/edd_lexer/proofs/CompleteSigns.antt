@@ -22,34 +22,22 @@ operator_again fresh operator.Add rest e = let parts = neither_parts (λ c. c ==
     rest e in rw (parts.0, parts.1) refl
 operator_again fresh operator.Subtract rest e = let parts =
     neither_parts (λ c. c == 45) (λ c. c == 61) rest e in rw (parts.0, parts.1) refl
-operator_again fresh operator.Multiply rest e = rw e refl
 operator_again fresh operator.Divide rest e =
     let parts = neither_parts (λ c. (c == 47) || (c == 42)) (λ c. c == 61) rest e in
     let comments = neither_parts (λ c. c == 47) (λ c. c == 42) rest parts.0 in
     rw (comments.0, comments.1, parts.1) refl
-operator_again fresh operator.Remainder rest e = rw e refl
-operator_again fresh operator.ShiftLeft rest e = rw e refl
-operator_again fresh operator.ShiftRight rest e = rw e refl
 operator_again fresh operator.And rest e = let parts = neither_parts (λ c. c == 38) (λ c. c == 61)
     rest e in rw (parts.0, parts.1) refl
 operator_again fresh operator.Or rest e = let parts = neither_parts (λ c. c == 124) (λ c. c == 61)
     rest e in rw (parts.0, parts.1) refl
-operator_again fresh operator.Xor rest e = rw e refl
+operator_again fresh _ rest e = rw e refl
 
 compound_again : (fresh : Bool) (o : Operator) (rest : List ℕ)
     → step_at fresh (symbol_bytes (symbol.CompoundAssign o) ++ rest)
     ≡ token (Sign (symbol.CompoundAssign o)) rest
 unfolding step_at symbol_at single_symbol operator_at slash_at
 compound_again fresh operator.Add rest = refl
-compound_again fresh operator.Subtract rest = refl
-compound_again fresh operator.Multiply rest = refl
-compound_again fresh operator.Divide rest = refl
-compound_again fresh operator.Remainder rest = refl
-compound_again fresh operator.ShiftLeft rest = refl
-compound_again fresh operator.ShiftRight rest = refl
-compound_again fresh operator.And rest = refl
-compound_again fresh operator.Or rest = refl
-compound_again fresh operator.Xor rest = refl
+compound_again fresh _ rest = refl
 
 sign_again : (fresh : Bool) (s : Symbol) (rest : List ℕ) → begins (lengthens s) rest ≡ false
     → step_at fresh (symbol_bytes s ++ rest) ≡ token (Sign s) rest
@@ -73,14 +61,11 @@ sign_again fresh symbol.LogicalOr rest e = refl
 sign_again fresh symbol.Increment rest e = refl
 sign_again fresh symbol.Decrement rest e = refl
 sign_again fresh (symbol.Operator o) rest e = operator_again fresh o rest e
-sign_again fresh (symbol.Comparison comparison.Equal) rest e = refl
-sign_again fresh (symbol.Comparison comparison.NotEqual) rest e = refl
 sign_again fresh (symbol.Comparison comparison.Less) rest e = let parts =
     neither_parts (λ c. c == 60) (λ c. c == 61) rest e in rw (parts.0, parts.1) refl
-sign_again fresh (symbol.Comparison comparison.LessOrEqual) rest e = refl
 sign_again fresh (symbol.Comparison comparison.Greater) rest e = let parts =
     neither_parts (λ c. c == 62) (λ c. c == 61) rest e in rw (parts.0, parts.1) refl
-sign_again fresh (symbol.Comparison comparison.GreaterOrEqual) rest e = refl
+sign_again fresh (symbol.Comparison _) rest e = refl
 sign_again fresh (symbol.CompoundAssign o) rest e = compound_again fresh o rest
 
 -- A token that stands here is read.

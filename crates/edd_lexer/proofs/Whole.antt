@@ -15,7 +15,7 @@ use Rattle.edd_lexer.specs.Signs.{operator_bytes, comparison_bytes, symbol_bytes
 use Rattle.edd_lexer.specs.Gaps.{Gap, blank, line_comment, block_comment, mark, behind_close}
 use Rattle.edd_lexer.specs.Tokens.{Lexeme, Stands, word, integer, decimal, string, sign, TokensFrom, nothing}
 use Rattle.edd_lexer.specs.Tokens as tokens
-use Rattle.edd_lexer.specs.Faults.{Fault, TooLong, NotUtf8, BadCharacter, OpenComment, OpenString, BadEscape, BadNumber, Directive, FaultHere, open_comment, open_string, bad_escape, bad_number, directive, bad_character, begins_comment, begins_string, begins_directive, NothingBegins, FaultFrom, at_once}
+use Rattle.edd_lexer.specs.Faults.{Fault, open_comment, open_string, bad_escape, bad_number, directive, bad_character, begins_comment, begins_string, begins_directive, NothingBegins, FaultFrom, at_once}
 use Rattle.edd_lexer.specs.Faults as faults
 use Rattle.edd_lexer.specs.Reading.{Step, token, gap, wrong, step_at, with_first, after_step, tokens_at}
 use Rattle.edd_lexer.proofs.Runs.{front_length}
@@ -58,47 +58,18 @@ gap_shortens fresh here next rest (mark {body = body} e) = let le =
 
 operator_some : (o : Operator) → 0 < length (operator_bytes o)
 operator_some operator.Add = omega arith
-operator_some operator.Subtract = omega arith
-operator_some operator.Multiply = omega arith
-operator_some operator.Divide = omega arith
-operator_some operator.Remainder = omega arith
-operator_some operator.ShiftLeft = omega arith
-operator_some operator.ShiftRight = omega arith
-operator_some operator.And = omega arith
-operator_some operator.Or = omega arith
-operator_some operator.Xor = omega arith
+operator_some _ = omega arith
 
 comparison_some : (c : Comparison) → 0 < length (comparison_bytes c)
 comparison_some comparison.Equal = omega arith
-comparison_some comparison.NotEqual = omega arith
-comparison_some comparison.Less = omega arith
-comparison_some comparison.LessOrEqual = omega arith
-comparison_some comparison.Greater = omega arith
-comparison_some comparison.GreaterOrEqual = omega arith
+comparison_some _ = omega arith
 
 symbol_some : (s : Symbol) → 0 < length (symbol_bytes s)
-symbol_some symbol.OpenBrace = omega arith
-symbol_some symbol.CloseBrace = omega arith
-symbol_some symbol.OpenParenthesis = omega arith
-symbol_some symbol.CloseParenthesis = omega arith
-symbol_some symbol.OpenBracket = omega arith
-symbol_some symbol.CloseBracket = omega arith
-symbol_some symbol.Semicolon = omega arith
-symbol_some symbol.Comma = omega arith
-symbol_some symbol.Colon = omega arith
-symbol_some symbol.Dot = omega arith
-symbol_some symbol.Question = omega arith
-symbol_some symbol.Exclamation = omega arith
-symbol_some symbol.Tilde = omega arith
-symbol_some symbol.Equals = omega arith
-symbol_some symbol.LogicalAnd = omega arith
-symbol_some symbol.LogicalOr = omega arith
-symbol_some symbol.Increment = omega arith
-symbol_some symbol.Decrement = omega arith
 symbol_some (symbol.Operator o) = operator_some o
 symbol_some (symbol.Comparison c) = comparison_some c
 symbol_some (symbol.CompoundAssign o) = let some =
     operator_some o in omega (arith, length-append (operator_bytes o) (61 ∷ []))
+symbol_some _ = omega arith
 
 shorter : (here bytes rest : List ℕ) → here ≡ bytes ++ rest → 0 < length bytes
     → length rest < length here

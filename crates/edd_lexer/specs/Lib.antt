@@ -7,7 +7,6 @@ pub mod Gaps
 pub mod Tokens
 pub mod Faults
 pub mod Reading
-pub mod Keywords
 pub mod Kept
 pub mod Views
 pub mod Parts

@@ -65,44 +65,22 @@ is_equals b = b == 61
 abbrev pub lengthens_operator : Operator → ℕ → Bool
 lengthens_operator operator.Add b = b == 43 || is_equals b
 lengthens_operator operator.Subtract b = b == 45 || is_equals b
-lengthens_operator operator.Multiply b = is_equals b
 lengthens_operator operator.Divide b = b == 47 || b == 42 || is_equals b
-lengthens_operator operator.Remainder b = is_equals b
-lengthens_operator operator.ShiftLeft b = is_equals b
-lengthens_operator operator.ShiftRight b = is_equals b
 lengthens_operator operator.And b = b == 38 || is_equals b
 lengthens_operator operator.Or b = b == 124 || is_equals b
-lengthens_operator operator.Xor b = is_equals b
+lengthens_operator _ b = is_equals b
 
 -- the byte makes something longer of the comparison
 abbrev pub lengthens_comparison : Comparison → ℕ → Bool
-lengthens_comparison comparison.Equal b = false
-lengthens_comparison comparison.NotEqual b = false
 lengthens_comparison comparison.Less b = b == 60 || is_equals b
-lengthens_comparison comparison.LessOrEqual b = false
 lengthens_comparison comparison.Greater b = b == 62 || is_equals b
-lengthens_comparison comparison.GreaterOrEqual b = false
+lengthens_comparison _ b = false
 
 -- the byte makes something longer of the sign
 abbrev pub lengthens : Symbol → ℕ → Bool
-lengthens symbol.OpenBrace b = false
-lengthens symbol.CloseBrace b = false
-lengthens symbol.OpenParenthesis b = false
-lengthens symbol.CloseParenthesis b = false
-lengthens symbol.OpenBracket b = false
-lengthens symbol.CloseBracket b = false
-lengthens symbol.Semicolon b = false
-lengthens symbol.Comma b = false
-lengthens symbol.Colon b = false
 lengthens symbol.Dot b = is_ascii_digit b
-lengthens symbol.Question b = false
 lengthens symbol.Exclamation b = is_equals b
-lengthens symbol.Tilde b = false
 lengthens symbol.Equals b = is_equals b
-lengthens symbol.LogicalAnd b = false
-lengthens symbol.LogicalOr b = false
-lengthens symbol.Increment b = false
-lengthens symbol.Decrement b = false
 lengthens (symbol.Operator o) b = lengthens_operator o b
 lengthens (symbol.Comparison c) b = lengthens_comparison c b
-lengthens (symbol.CompoundAssign o) b = false
+lengthens _ b = false

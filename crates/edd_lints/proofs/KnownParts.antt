@@ -66,34 +66,29 @@ or_truth sort a b x Nothing h test is = tt
 
 pub compare_unused : (sort : Sort) (by : Comparison) (a b : Expr Target) (k : Known)
     → IsKnown sort b k → IsKnown sort (Compare by a b) (unused k)
-compare_unused sort by a b (Number n) is = tt
 compare_unused sort by a b (Traps why) is = compare_second sort by a b is
-compare_unused sort by a b Nothing is = tt
+compare_unused sort by a b _ is = tt
 
 pub either_unused : (sort : Sort) (t a b : Expr Target) (k : Known) → IsKnown sort a k
     → HasNone sort b → IsKnown sort (Conditional t a b) (unused k)
-either_unused sort t a b (Number n) is h = tt
 either_unused sort t a b (Traps why) is h = both_none sort t a b is h
-either_unused sort t a b Nothing is h = tt
+either_unused sort t a b _ is h = tt
 
 pub indexed_unused : (sort : Sort) (array : Target) (a : Expr Target) (k : Known)
     → IsKnown sort a k → IsKnown sort (Indexed array a) (unused k)
-indexed_unused sort array a (Number n) is = tt
 indexed_unused sort array a (Traps why) is = indexed_none sort array a is
-indexed_unused sort array a Nothing is = tt
+indexed_unused sort array a _ is = tt
 
 pub assign_unused : (to : Target) (a : Expr Target) (k : Known) → IsKnown Method a k
     → IsKnown Method (Assign to a) (unused k)
-assign_unused to a (Number n) is = tt
 assign_unused to a (Traps why) is = assign_none to a is
-assign_unused to a Nothing is = tt
+assign_unused to a _ is = tt
 
 pub compound_unused : (op : Operator) (to : Target) (a : Expr Target) (k : Known)
     → IsKnown Method (Binary op (Reference to) a) k
     → IsKnown Method (CompoundAssign op to a) (unused k)
-compound_unused op to a (Number n) is = tt
 compound_unused op to a (Traps why) is = compound_none op to a is
-compound_unused op to a Nothing is = tt
+compound_unused op to a _ is = tt
 
 -- one of the arguments of a call stops
 pub stop_at : (xs : List (Argument Target)) (i : ℕ) (x : Argument Target) (e : tree.Expr Target)

@@ -2,7 +2,7 @@
 
 use crate::range::Range;
 use edd_syntax::cond::Cond;
-use edd_syntax::item::{Attribute, TypePart, TypeWord, VariableDef};
+use edd_syntax::item::{Attribute, Item, TypePart, TypeWord};
 use edd_syntax::reference::Target;
 use edd_syntax::types::{Handling, VarType};
 
@@ -20,7 +20,7 @@ pub struct Facts<'i> {
 
 impl<'i> Facts<'i> {
     /// What is known of a variable.
-    pub fn of(variable: &'i VariableDef<Target>) -> Facts<'i> {
+    pub fn of(variable: &'i Item<Target>) -> Facts<'i> {
         let mut facts = Facts {
             name: variable.name.as_str(),
             range: None,
@@ -54,7 +54,7 @@ impl<'i> Facts<'i> {
 }
 
 /// The parts of a variable's type.
-pub fn type_parts(variable: &VariableDef<Target>) -> &[TypePart<Target>] {
+pub fn type_parts(variable: &Item<Target>) -> &[TypePart<Target>] {
     for attribute in &variable.attributes {
         if let Attribute::TypeOf { parts, .. } = attribute {
             return parts;

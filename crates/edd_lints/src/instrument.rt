@@ -5,7 +5,7 @@ use crate::names::Names;
 use crate::range::Range;
 use crate::sorted::Sorted;
 use crate::values::enumerators_of;
-use edd_syntax::item::{Attribute, Item, VariableDef};
+use edd_syntax::item::{Attribute, Item, ItemKind};
 use edd_syntax::numbers::{Element, ItemNo};
 use edd_syntax::reference::Target;
 use edd_syntax::types::VarType;
@@ -81,9 +81,9 @@ impl<'i> Instrument<'i> {
     }
 
     fn add_item(&mut self, alloc: Global, item: &'i Item<Target>) -> Result<(), AllocError> {
-        match item {
-            Item::Variable(variable) => self.add_variable(alloc, variable),
-            Item::Command(command) => self.add_command(&command.attributes),
+        match item.sort {
+            ItemKind::Variable => self.add_variable(alloc, item),
+            ItemKind::Command => self.add_command(&item.attributes),
             _ => Ok(()),
         }
     }
@@ -91,7 +91,7 @@ impl<'i> Instrument<'i> {
     fn add_variable(
         &mut self,
         alloc: Global,
-        variable: &'i VariableDef<Target>,
+        variable: &'i Item<Target>,
     ) -> Result<(), AllocError> {
         let number = u16::try_from(self.variables.len()).unwrap_or(u16::MAX);
         for (_, enumerator) in &enumerators_of(alloc, type_parts(variable))? {

@@ -19,9 +19,8 @@ stood_is marks q = get_or-map is_stood_on marks q Unknown
 
 settled_stands : (m : Mark) (d : ℕ) → is_settled m ≡ true → depth_known m ≡ Some d
     → is_stood_on m ≡ true
-settled_stands Unknown d s e = absurd cc
-settled_stands (Awaited n) d s e = absurd cc
 settled_stands (Stands n) d s e = refl
+settled_stands _ d s e = absurd cc
 
 -- where all is settled, there is an instruction wherever a number is known
 pub settled : (marks : List Mark) → ((q : ℕ) → is_settled (get_or marks q Unknown) ≡ true)

@@ -33,9 +33,7 @@ numbered rule.Row = refl
 numbered rule.Name = refl
 numbered rule.Text = refl
 numbered (rule.Unit unit_rule.Chain) = refl
-numbered (rule.Unit unit_rule.Jump) = refl
-numbered (rule.Unit unit_rule.Depth) = refl
-numbered (rule.Unit unit_rule.Reference) = refl
+numbered (rule.Unit _) = refl
 
 one_rule : (a b : Rule) → fault_number a ≡ fault_number b → a ≡ b
 one_rule a b e = sym (numbered a) ∙ ap rule_numbered e ∙ numbered b
@@ -49,9 +47,7 @@ lowest rule.Row = omega arith
 lowest rule.Name = omega arith
 lowest rule.Text = omega arith
 lowest (rule.Unit unit_rule.Chain) = omega arith
-lowest (rule.Unit unit_rule.Jump) = omega arith
-lowest (rule.Unit unit_rule.Depth) = omega arith
-lowest (rule.Unit unit_rule.Reference) = omega arith
+lowest (rule.Unit _) = omega arith
 
 highest : (r : Rule) → fault_number r < 112
 highest rule.Short = omega arith
@@ -62,9 +58,7 @@ highest rule.Row = omega arith
 highest rule.Name = omega arith
 highest rule.Text = omega arith
 highest (rule.Unit unit_rule.Chain) = omega arith
-highest (rule.Unit unit_rule.Jump) = omega arith
-highest (rule.Unit unit_rule.Depth) = omega arith
-highest (rule.Unit unit_rule.Reference) = omega arith
+highest (rule.Unit _) = omega arith
 
 pub none_before : (b : List ℕ) → KeepsBelow b 101
 none_before b earlier h = absurd (omega (arith, lowest earlier, h))

@@ -21,9 +21,7 @@ use Rattle.edd_loader.proofs.RowRules.{row_rules}
 
 known_type : (t : VarType) → type_of (type_code t) ≡ Some t
 known_type var_type.Integer = refl
-known_type var_type.UnsignedInteger = refl
-known_type var_type.Enumerated = refl
-known_type var_type.BitEnumerated = refl
+known_type _ = refl
 
 kind_type : (kind : VarKind) → variable_type_of (fields_of_variable kind) ≡ Some (type_of_kind kind)
 kind_type kind = ap (option_map (λ (t : VarType). record { type = t; size = kind.size }))

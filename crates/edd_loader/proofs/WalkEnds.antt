@@ -13,7 +13,7 @@ use Rattle.edd_instructions.specs.References.{names_exist}
 use Rattle.edd_instructions.specs.Units.{Placed, instructions, end_of, leaves, onward, jump, ways, is_allowed, is_chain, is_start, is_forward, lands, all_land, all_exist, HasDepths}
 use Rattle.edd_instructions.proofs.Lengths.{nothing_past}
 use Rattle.edd_loader.specs.declared.marks.Mark.{Mark}
-use Rattle.edd_loader.specs.declared.marks.Mark.TheVariants.{Unknown, Awaited, Stands}
+use Rattle.edd_loader.specs.declared.marks.Mark.TheVariants.{Awaited, Stands}
 use Rattle.edd_loader.specs.Depths.{visit_all}
 use Rattle.edd_loader.specs.Marks.{depths, is_known, is_settled, is_stood_on, mark_at, stood_on}
 use Rattle.edd_loader.specs.Standing.{may_lead, jumps_inside, goes_on_inside, leads_inside, jumps_to}
@@ -117,9 +117,8 @@ land_from sort size all (x ∷ xs) place r ends led targets starts =
 
 -- a known place that is settled has an instruction
 known_stands : (m : Mark) → is_settled m ≡ true → is_known m ≡ true → is_stood_on m ≡ true
-known_stands Unknown s k = absurd cc
-known_stands (Awaited n) s k = absurd cc
 known_stands (Stands n) s k = refl
+known_stands _ s k = absurd cc
 
 -- nothing is added by what is false
 or_false : (b : Bool) → (b || false) ≡ b
@@ -260,9 +259,8 @@ nothing_brought size place (Some n) past e = absurd (omega (arith, past, ltb-tru
 
 -- there is an instruction only where a place is settled
 stands_settled : (m : Mark) → is_stood_on m ≡ true → is_settled m ≡ true
-stands_settled Unknown e = refl
 stands_settled (Awaited n) e = absurd cc
-stands_settled (Stands n) e = refl
+stands_settled _ e = refl
 
 -- and only there
 pub ways_lead : (context : Context) (code : List ℕ) (marks : List Mark) (brought : Option ℕ)

@@ -23,7 +23,7 @@ use Rattle.edd_instructions.specs.Steps.{State, Environment, Effect, ask_for, on
 use Rattle.edd_instructions.specs.Validity.{IsValid}
 use Rattle.edd_machine.specs.declared.machine.Machine.{Machine}
 use Rattle.edd_machine.specs.declared.outcome.Outcome.{Outcome}
-use Rattle.edd_machine.specs.declared.outcome.Outcome.TheVariants.{GoesOn, Gives, Ends, Traps}
+use Rattle.edd_machine.specs.declared.outcome.Outcome.TheVariants.{GoesOn}
 use Rattle.edd_machine.specs.Outcomes.{IsShared, comes_to}
 use Rattle.edd_machine.specs.Running.{state_of, IsEffect, CanAct}
 use Rattle.edd_loader.specs.Lookups.{type_of_kind}
@@ -106,36 +106,15 @@ pub shared : (i : Instruction) → ((v : VarNo) → i ≡ instructions.Store v �
     → ((n : ℕ) → i ≡ instructions.GetLocal n → ⊥) → ((n : ℕ) → i ≡ instructions.SetLocal n → ⊥)
     → ((r : Ask) → i ≡ instructions.Ask r → ⊥) → (i ≡ instructions.Abort → ⊥)
     → ((m : MethNo) → i ≡ instructions.AddAbortMethod m → ⊥) → IsShared i
-shared instructions.End a b c d e f = (One, refl)
-shared (instructions.Push n) a b c d e f = (One, refl)
-shared (instructions.Variable v) a b c d e f = (One, refl)
 shared (instructions.Store v) a b c d e f = absurd (a v refl)
 shared (instructions.GetLocal slot) a b c d e f = absurd (b slot refl)
 shared (instructions.SetLocal slot) a b c d e f = absurd (c slot refl)
-shared instructions.Pop a b c d e f = (One, refl)
-shared instructions.Duplicate a b c d e f = (One, refl)
 shared (instructions.ReadElement array) a b c d e f = (Two, refl)
-shared (instructions.Operate op) a b c d e f = (One, refl)
-shared (instructions.Compare op) a b c d e f = (One, refl)
-shared instructions.Negate a b c d e f = (One, refl)
-shared instructions.Not a b c d e f = (One, refl)
-shared instructions.Complement a b c d e f = (One, refl)
-shared (instructions.Jump to) a b c d e f = (One, refl)
-shared (instructions.JumpIfZero to) a b c d e f = (One, refl)
-shared (instructions.JumpIfNotZero to) a b c d e f = (One, refl)
-shared (instructions.Case label to) a b c d e f = (One, refl)
-shared (instructions.Text s) a b c d e f = (One, refl)
-shared instructions.Number a b c d e f = (One, refl)
-shared (instructions.Item item quals) a b c d e f = (One, refl)
-shared (instructions.DataConst n) a b c d e f = (One, refl)
-shared (instructions.DataVar v mask quals) a b c d e f = (One, refl)
-shared (instructions.Enumerator n text help) a b c d e f = (One, refl)
-shared (instructions.Response n class text) a b c d e f = (One, refl)
-shared (instructions.Member name item label help) a b c d e f = (One, refl)
 shared (instructions.Element n v label help) a b c d e f = (Two, refl)
 shared (instructions.Ask request) a b c d e f = absurd (d request refl)
 shared instructions.Abort a b c d e f = absurd (e refl)
 shared (instructions.AddAbortMethod m) a b c d e f = absurd (f m refl)
+shared _ a b c d e f = (One, refl)
 
 -- the variable that an instruction reads has a value
 pub variable_there : (b : List ℕ) (i : Instruction) (s : State) (v : VarNo) → CanAct b i s
@@ -154,9 +133,7 @@ variable_there b i s v can e =
 pub comes_over : (o : Outcome) (operands : List ℤ) (s : State) → comes_to o operands s
     ≡ comes_to o operands (record s { operands = operands })
 comes_over (GoesOn place) operands s = refl
-comes_over (Gives place r) operands s = refl
-comes_over Ends operands s = refl
-comes_over (Traps why) operands s = refl
+comes_over _ operands s = refl
 
 -- what a store leaves, by the numbers that were read again
 pub stored_state : (s : State) (next v w : ℕ) (below operands : List ℤ) (kept z read : ℤ) → z ≡ kept

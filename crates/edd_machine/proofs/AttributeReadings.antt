@@ -185,8 +185,6 @@ pub fault_read : (b : List ℕ) (ref : AttrRef) (values : List ℤ) (u : CodeUni
     → IsFound b ref u
     → GivesFault (environment_of (contents_in b)) (opening (running_unit b u) u.slots values) fault
     → IsReadFault b ref values fault
-fault_read b ref values u read_fault.NoItem valid e are f g = absurd g
-fault_read b ref values u read_fault.WrongValues valid e are f g = absurd g
 fault_read b ref values u read_fault.DivZero valid e are f g =
     (are, unit_read b ref values u (Err trap.DivZero) valid e f g)
 fault_read b ref values u read_fault.DivOverflow valid e are f g =
@@ -196,6 +194,7 @@ fault_read b ref values u read_fault.BadShift valid e are f g =
 fault_read b ref values u read_fault.NoElement valid e are f g =
     (are, unit_read b ref values u (Err trap.NoElement) valid e f g)
 fault_read b ref values u read_fault.Memory valid e are f g = (e, are)
+fault_read b ref values u _ valid e are f g = absurd g
 
 -- an error that was handed on
 pub passed : {T E : Type 0} (r : Result T E) (f : E) (P : E → Type 0) → IsErrAnd r (λ e. e ≡ f)

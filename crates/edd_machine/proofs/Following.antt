@@ -8,7 +8,7 @@ use Rattle.edd_syntax.specs.declared.answer.Trap.TheVariants as trap
 use Rattle.edd_instructions.specs.declared.instruction.Instruction.{Instruction}
 use Rattle.edd_instructions.specs.declared.records.Record.{Record}
 use Rattle.edd_instructions.specs.declared.records.Status.{Status}
-use Rattle.edd_instructions.specs.declared.records.Status.TheVariants.{Running, Asking, Ended, Aborted, Trapped}
+use Rattle.edd_instructions.specs.declared.records.Status.TheVariants.{Running}
 use Rattle.edd_instructions.specs.declared.records.Emitted.TheVariants as emitted
 use Rattle.edd_instructions.specs.declared.unit.Sort.{Sort}
 use Rattle.edd_instructions.specs.declared.unit.Sort.TheVariants.{Attribute}
@@ -90,10 +90,7 @@ jump_to place (Some x) w h e =
 arrived_at : (i : Instruction) (next : ℕ) (s t : State) (st : Status) → st ≡ Running
     → Arrived i next s t st → Arrives i next s t 0
 arrived_at i next s t Running e h = h
-arrived_at i next s t (Asking r) e h = absurd cc
-arrived_at i next s t Ended e h = absurd cc
-arrived_at i next s t Aborted e h = absurd cc
-arrived_at i next s t (Trapped why) e h = absurd cc
+arrived_at i next s t _ e h = absurd cc
 
 module _ (b : List ℕ) (u : CodeUnit) (s : State) (valid : IsValid b) (is : IsStateIn b u s)
     (running : s.status ≡ Running)
@@ -231,8 +228,6 @@ module _ (b : List ℕ) (u : CodeUnit) (values : List ℤ) (place : ℕ) (operan
 -- the fault of a trap is what is given
 pub fault_given : (env : Environment) (s : State) (f : ReadFault) (why : Trap)
     → trap_of f ≡ Some why → Gives env s (Err why) → GivesFault env s f
-fault_given env s read_fault.NoItem why e g = absurd cc
-fault_given env s read_fault.WrongValues why e g = absurd cc
 fault_given env s read_fault.DivZero why e g = let same : trap.DivZero ≡ why =
     cc in subst (λ (t : Trap). Gives env s (Err t)) (sym same) g
 fault_given env s read_fault.DivOverflow why e g = let same : trap.DivOverflow ≡ why =
@@ -241,4 +236,4 @@ fault_given env s read_fault.BadShift why e g = let same : trap.BadShift ≡ why
     cc in subst (λ (t : Trap). Gives env s (Err t)) (sym same) g
 fault_given env s read_fault.NoElement why e g = let same : trap.NoElement ≡ why =
     cc in subst (λ (t : Trap). Gives env s (Err t)) (sym same) g
-fault_given env s read_fault.Memory why e g = absurd cc
+fault_given env s _ why e g = absurd cc

@@ -6,7 +6,7 @@ use edd_lints::lint::Lint;
 use edd_lints::tokens_left::{Mark, TokensLeft};
 use edd_lints::values::{Listed, values_of};
 use edd_lints::warning::Findings;
-use edd_syntax::item::{Attribute, Item, Member, MenuDef, MenuEntry, MenuQualifiers};
+use edd_syntax::item::{Attribute, Item, ItemKind, Member, MenuEntry, MenuQualifiers};
 use edd_syntax::numbers::{ItemNo, Kind, TextAttribute};
 use edd_syntax::reference::Target;
 use edd_syntax::symbols::Keyword;
@@ -146,7 +146,7 @@ impl<'i, 'a> Shown<'i, 'a> {
     // Notes what a menu shows.
     fn add_menu(
         &mut self,
-        menu: &MenuDef<Target>,
+        menu: &Item<Target>,
         tokens_left: TokensLeft<'_>,
         findings: &mut Findings<'a>,
     ) -> Result<(), AllocError> {
@@ -209,9 +209,9 @@ impl<'i, 'a> Shown<'i, 'a> {
         };
         let attributes = item.attributes();
         let at = findings.mark(item.at());
-        match (item, said.by) {
-            (Item::Command(_), _) => Ok(()),
-            (Item::Menu(_), _) => {
+        match (item.sort, said.by) {
+            (ItemKind::Command, _) => Ok(()),
+            (ItemKind::Menu, _) => {
                 if has_entries(attributes) || (said.menu == 0 && !has_label(attributes)) {
                     return Ok(());
                 }
@@ -254,8 +254,8 @@ fn all_shown<'i, 'a>(
         shown.add_item(item, next.take(item.kind()));
     }
     for (item, own) in items.iter().zip(item_tokens) {
-        if let Item::Menu(menu) = item {
-            shown.add_menu(menu, TokensLeft::new(text, own), findings)?;
+        if item.sort == ItemKind::Menu {
+            shown.add_menu(item, TokensLeft::new(text, own), findings)?;
         }
     }
     Ok(shown)

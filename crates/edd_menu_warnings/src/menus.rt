@@ -4,7 +4,7 @@ use crate::entries::{entries_of, item_shown};
 use edd_lints::lint::Lint;
 use edd_lints::tokens_left::Mark;
 use edd_lints::warning::Findings;
-use edd_syntax::item::{Item, MenuDef};
+use edd_syntax::item::{Item, ItemKind};
 use edd_syntax::numbers::ItemNo;
 use edd_syntax::reference::Target;
 use std::alloc::AllocError;
@@ -31,7 +31,7 @@ struct Menu<'a> {
 }
 
 // A menu that the walk has not reached.
-fn menu_of<'a>(menu: &MenuDef<Target>, findings: &Findings<'a>) -> Result<Menu<'a>, AllocError> {
+fn menu_of<'a>(menu: &Item<Target>, findings: &Findings<'a>) -> Result<Menu<'a>, AllocError> {
     let alloc = findings.alloc;
     let mut inner = Vec::new(alloc);
     for (_, entry) in &entries_of(alloc, &menu.attributes)? {
@@ -54,8 +54,8 @@ fn menus_of<'a>(
 ) -> Result<Vec<Menu<'a>>, AllocError> {
     let mut menus = Vec::new(findings.alloc);
     for item in items {
-        if let Item::Menu(menu) = item {
-            menus.push(menu_of(menu, findings)?)?;
+        if item.sort == ItemKind::Menu {
+            menus.push(menu_of(item, findings)?)?;
         }
     }
     Ok(menus)

@@ -5,7 +5,7 @@ use edd_lints::lint::Lint;
 use edd_lints::names::Names;
 use edd_lints::tokens_left::bytes_of;
 use edd_lints::warning::Findings;
-use edd_syntax::item::{Attribute, Item};
+use edd_syntax::item::{Attribute, Item, ItemKind};
 use edd_syntax::numbers::Kind;
 use edd_syntax::reference::Target;
 use std::alloc::{AllocError, Global};
@@ -56,9 +56,9 @@ fn around_items(items: &[Item<Target>]) -> Around {
     for (number, item) in items.iter().enumerate() {
         let is_user = matches!(item.kind(), Kind::Menu | Kind::Command);
         found.has_users = found.has_users || is_user;
-        if let Item::Menu(menu) = item {
+        if item.sort == ItemKind::Menu {
             found.first_menu = found.first_menu.or(Some(number));
-            found.has_entries = found.has_entries || has_entries(&menu.attributes);
+            found.has_entries = found.has_entries || has_entries(&item.attributes);
         }
     }
     found

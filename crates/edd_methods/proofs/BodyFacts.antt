@@ -10,13 +10,13 @@ use Rattle.edd_syntax.specs.declared.numbers.Kind.{Kind}
 use Rattle.edd_syntax.specs.declared.numbers.Kind.TheVariants as kind
 use Rattle.edd_syntax.specs.declared.numbers.MethNo.{MethNo}
 use Rattle.edd_syntax.specs.declared.reference.Target.{Target}
-use Rattle.edd_syntax.specs.declared.reference.Target.TheVariants.{Local, Item, Function}
+use Rattle.edd_syntax.specs.declared.reference.Target.TheVariants.{Local}
 use Rattle.edd_syntax.specs.Execution.{body_of}
 use Rattle.edd_syntax.specs.Item.{Description}
 use Rattle.edd_syntax.specs.Resolution.{count_of}
 use Rattle.edd_syntax.specs.Resolved.{IsChecked}
 use Rattle.edd_syntax.specs.Size.{height_limit}
-use Rattle.edd_syntax.specs.Statement.{Declarator, Stmt, Empty, Evaluate, Block, If, IfElse, While, Do, For, Switch, Break, Continue, Return, Body, Nil, Cons, Declare, Statement, CaseLabel, DefaultLabel, slots_in}
+use Rattle.edd_syntax.specs.Statement.{Declarator, Stmt, Block, If, IfElse, While, Do, For, Switch, Body, Nil, Cons, Declare, Statement, slots_in}
 use Rattle.edd_syntax.specs.SubsetRules.{body_expressions, call_mismatches, float_values, mismatches, subset_breaches, wrong_breaks, wrong_types}
 use Rattle.edd_image.specs.declared.parts.Counts.{Counts}
 use Rattle.edd_code.proofs.Fitting.{front_none}
@@ -45,8 +45,7 @@ is_none_of xs h = rw h refl
 module _ (limit : ℕ) where
   place_prop : (t : Target) → IsProp (IsSlotBelow limit t)
   place_prop (Local slot) = le_prop
-  place_prop (Item i) = λ x y. absurd x
-  place_prop (Function f) = λ x y. absurd x
+  place_prop _ = λ x y. absurd x
 
   places_prop : (ds : List (Declarator Target)) → IsProp (EachSlotOf limit ds)
   places_prop [] = Unit-prop
@@ -54,8 +53,6 @@ module _ (limit : ℕ) where
 
   mutual
     statement_prop : (x : Stmt Target) → IsProp (HasSlots limit x)
-    statement_prop Empty = Unit-prop
-    statement_prop (Evaluate e) = Unit-prop
     statement_prop (Block body) = body_prop body
     statement_prop (If condition first) = statement_prop first
     statement_prop (IfElse condition first otherwise) =
@@ -64,16 +61,13 @@ module _ (limit : ℕ) where
     statement_prop (Do body condition) = statement_prop body
     statement_prop (For initial condition update body) = statement_prop body
     statement_prop (Switch on body) = body_prop body
-    statement_prop Break = Unit-prop
-    statement_prop Continue = Unit-prop
-    statement_prop Return = Unit-prop
+    statement_prop _ = Unit-prop
 
     body_prop : (b : Body Target) → IsProp (EachSlot limit b)
     body_prop Nil = Unit-prop
     body_prop (Cons (Declare declarators) rest) = ×_prop (places_prop declarators) (body_prop rest)
     body_prop (Cons (Statement first) rest) = ×_prop (statement_prop first) (body_prop rest)
-    body_prop (Cons (CaseLabel label) rest) = body_prop rest
-    body_prop (Cons DefaultLabel rest) = body_prop rest
+    body_prop (Cons _ rest) = body_prop rest
 
 -- ---- the facts
 

@@ -51,19 +51,8 @@ got P (y ∷ ys) (suc k) x h is = got P ys k x h.1 is
 module _ (P : Body Target → Type 0) (none : P Nil) where
   in_attributes : (xs : List (Attribute Target)) → AllByRecursion (OfBody P) xs → P (body_in xs)
   in_attributes [] h = none
-  in_attributes (item.OneText which c ∷ rest) h = in_attributes rest h.1
-  in_attributes (item.Class words ∷ rest) h = in_attributes rest h.1
-  in_attributes (item.Handling c ∷ rest) h = in_attributes rest h.1
-  in_attributes (item.Validity c ∷ rest) h = in_attributes rest h.1
-  in_attributes (item.TypeOf word parts ∷ rest) h = in_attributes rest h.1
-  in_attributes (item.Number n ∷ rest) h = in_attributes rest h.1
-  in_attributes (item.Operation o ∷ rest) h = in_attributes rest h.1
-  in_attributes (item.Transaction number parts ∷ rest) h = in_attributes rest h.1
-  in_attributes (item.ResponseCodes responses ∷ rest) h = in_attributes rest h.1
-  in_attributes (item.Items entries ∷ rest) h = in_attributes rest h.1
-  in_attributes (item.Members members ∷ rest) h = in_attributes rest h.1
-  in_attributes (item.Elements elements ∷ rest) h = in_attributes rest h.1
   in_attributes (item.Definition body ∷ rest) h = h.0
+  in_attributes (_ ∷ rest) h = in_attributes rest h.1
 
   -- what holds of each written body holds of that of each method
   pub of_method : (unit : Description Target) (m : MethNo)

@@ -11,7 +11,7 @@ use Rattle.edd_code.specs.Blocks.{Block, target, bytes_of}
 use Rattle.edd_code.specs.Closing.{closed}
 use Rattle.edd_code.proofs.Closing.{closed_length, part_closed}
 use Rattle.edd_code.proofs.Lines.{bytes_of-append}
-use Rattle.edd_methods.specs.Statements.{Part, Missing, Step, Test, Code, Plain, Then, Guard, Branch, Loop, Switch, Break, Continue, Finish, Arms, Nil, Statement, Case, Default, part_size, tests_size, size, arms_size, part_emitted, tests_emitted, default_place, emitted, arms_emitted, bytes_at}
+use Rattle.edd_methods.specs.Statements.{Part, Test, Code, Then, Guard, Branch, Loop, Switch, Break, Continue, Arms, Nil, Statement, Case, Default, part_size, tests_size, size, arms_size, part_emitted, tests_emitted, default_place, emitted, arms_emitted, bytes_at}
 use Rattle.edd_methods.specs.Writing.{part_bytes, arms_bytes, cases_at, default_at, default_or, tests_of}
 use Rattle.edd_methods.proofs.CodeBytes.{part_long, tests_long, arms_long}
 use Rattle.edd_methods.proofs.ClosedCode.{bytes_of_more, bytes_of_none, block_long, code_longer, longer}
@@ -23,17 +23,15 @@ target_again n = mod-eq_of_lt (omega arith)
 
 part_same : (p o o' : ℕ) (part : Part) → target o ≡ target o'
     → part_bytes p o part ≡ part_bytes p o' part
-part_same p o o' Missing e = refl
-part_same p o o' (Step b) e = refl
 part_same p o o' (Test b) e =
     ap (λ t. bytes_of (blocks.emitted p b ++ (instruction.JumpIfZero t ∷ []))) e
+part_same p o o' _ e = refl
 
 mutual
   unfolding emitted
 
   code_same : (p o o' b b' : ℕ) (c : Code) → target o ≡ target o' → target b ≡ target b'
       → emitted p o b c ≡ emitted p o' b' c
-  code_same p o o' b b' (Plain block) e f = refl
   code_same p o o' b b' (Then first second) e f =
       rw (code_same p o o' b b' first e f, code_same (p + size first) o o' b b' second e f) refl
   code_same p o o' b b' (Guard test first) e f =
@@ -45,13 +43,12 @@ mutual
         code_same (p + (a + (5 + (size first + 5))))
             o o' b b' otherwise e f,
       ) refl
-  code_same p o o' b b' (Loop front back body) e f = refl
   code_same p o o' b b' (Switch on arms) e f =
       let a = blocks.size on in
       rw (arms_same (p + (a + 10)) (p + (a + 5)) (p + (a + 5)) b b' arms refl f) refl
   code_same p o o' b b' Break e f = ap (λ t. instruction.Jump t ∷ []) e
   code_same p o o' b b' Continue e f = ap (λ t. instruction.Jump t ∷ []) f
-  code_same p o o' b b' Finish e f = refl
+  code_same p o o' b b' _ e f = refl
 
   arms_same : (p o o' b b' : ℕ) (arms : Arms) → target o ≡ target o' → target b ≡ target b'
       → arms_emitted p o b arms ≡ arms_emitted p o' b' arms
@@ -217,10 +214,9 @@ tests_are k (Default rest) = tests_are k rest
 
 default_is : (k n : ℕ) (arms : Arms) → default_or (target n) (default_at k arms)
     ≡ target (default_place k n arms)
-default_is k n Nil = refl
 default_is k n (Statement first rest) = default_is (k + size first) n rest
 default_is k n (Case label rest) = default_is k n rest
-default_is k n (Default rest) = refl
+default_is k n _ = refl
 
 -- the bytes of the pieces after the value, with the targets of the two jumps in front
 abbrev switch_bytes : (t u : ℕ) (x e y d : List ℕ) → List ℕ

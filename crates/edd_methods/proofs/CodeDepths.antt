@@ -4,7 +4,7 @@ use Rattle.std.proofs.Math.Logic.{inl, inr}
 use Rattle.edd_instructions.specs.declared.unit.Sort.TheVariants.{Method}
 use Rattle.edd_image.specs.declared.versions.Version.TheVariants.{Two}
 use Rattle.edd_code.specs.Blocks as blocks
-use Rattle.edd_code.specs.Blocks.{Block, Straight}
+use Rattle.edd_code.specs.Blocks.{Block}
 use Rattle.edd_code.proofs.BlockDepths.{until, until_front, until_behind, depth_in, HasDepthsOf, at_front, has_depths}
 use Rattle.edd_methods.specs.Statements.{Part, Missing, Step, Test, Code, Plain, Then, Guard, Branch, Loop, Switch, Break, Continue, Finish, Arms, Nil, Statement, Case, Default, part_size, tests_size, size, arms_size}
 use Rattle.edd_methods.specs.CodeFlow.{Rests, Gives, FitsPart, Fits, FitArms}
@@ -51,9 +51,7 @@ abbrev mutual
       (until (p + (a + (10 + b))) x (arms_depth arms (p + (a + 10)) x)
       (until (p + (a + (10 + (b + 5)))) x 0
       (until (p + (a + (10 + (b + (5 + (tests_size arms + 1)))))) x 1 0)))))
-  code_depth Break p x = 0
-  code_depth Continue p x = 0
-  code_depth Finish p x = 0
+  code_depth _ p x = 0
 
   pub arms_depth : Arms → (p x : ℕ) → ℕ
   arms_depth Nil p x = 0
@@ -123,9 +121,7 @@ module _ (depth : ℕ → ℕ) where
   code_front p (Branch test first otherwise) has = at_front depth p 0 test has.0
   code_front p (Loop front back_part body) has = has.0
   code_front p (Switch on arms) has = at_front depth p 0 on has.0
-  code_front p Break has = has
-  code_front p Continue has = has
-  code_front p Finish has = has
+  code_front p _ has = has
 
   pub arms_front : (p : ℕ) (arms : Arms) → HasArms p arms → depth p ≡ 0
   arms_front p Nil has = has
@@ -295,9 +291,7 @@ module _ (depth : ℕ → ℕ) where
           front_of (λ x. 1) (λ x. 0) s u q (omega (arith, end)) h4,
           back_of (λ x. 1) (λ x. 0) s u q (omega arith) h4 u (omega arith) (omega (arith, end)),
         )
-    code_has p q Break end fits agree exit = agree p (omega arith) (omega (arith, end))
-    code_has p q Continue end fits agree exit = agree p (omega arith) (omega (arith, end))
-    code_has p q Finish end fits agree exit = agree p (omega arith) (omega (arith, end))
+    code_has p q _ end fits agree exit = agree p (omega arith) (omega (arith, end))
 
     arms_have : (p q : ℕ) (arms : Arms) → p + arms_size arms ≡ q → FitArms Rests Gives arms
         → Agree (arms_depth arms p) p q → depth q ≡ 0 → HasArms p arms

@@ -1,7 +1,7 @@
 -- What the blocks of code need is kept by what is weaker.
 use Rattle.edd_code.specs.Blocks.{Block}
 use Rattle.edd_methods.specs.CodeFlow.{FitsPart, Fits, FitArms}
-use Rattle.edd_methods.specs.Statements.{Part, Missing, Step, Test, Code, Plain, Then, Guard, Branch, Loop, Switch, Break, Continue, Finish, Arms, Nil, Statement, Case, Default}
+use Rattle.edd_methods.specs.Statements.{Part, Missing, Step, Test, Code, Plain, Then, Guard, Branch, Loop, Switch, Arms, Nil, Statement, Case, Default}
 
 module _ (R V R' V' : Block → Type 0) (rests : (b : Block) → R b → R' b) (gives : (b : Block) → V b
     → V' b) where
@@ -20,9 +20,7 @@ module _ (R V R' V' : Block → Type 0) (rests : (b : Block) → R b → R' b) (
     fits_weaker (Loop front back body) h =
         (part_weaker front h.0, part_weaker back h.1, fits_weaker body h.2)
     fits_weaker (Switch on arms) h = (gives on h.0, arms_weaker arms h.1)
-    fits_weaker Break h = tt
-    fits_weaker Continue h = tt
-    fits_weaker Finish h = tt
+    fits_weaker _ h = tt
 
     arms_weaker : (arms : Arms) → FitArms R V arms → FitArms R' V' arms
     arms_weaker Nil h = tt

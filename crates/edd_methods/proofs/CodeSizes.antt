@@ -1,10 +1,10 @@
 -- The code of a body has at most 32 bytes for each of its nodes.
 use Rattle.std.proofs.Common.{◌≡◌, refl, ◌+◌, ◌*◌, ◌≤◌, Bool, true, false, List, [], ◌∷◌, Option, Some, None, arith}
 use Rattle.edd_syntax.specs.declared.reference.Target.{Target}
-use Rattle.edd_syntax.specs.declared.reference.Target.TheVariants.{Local, Item, Function}
+use Rattle.edd_syntax.specs.declared.reference.Target.TheVariants.{Local}
 use Rattle.edd_syntax.specs.Expression.{Expr}
 use Rattle.edd_syntax.specs.Size.{nodes, optional_nodes, declarator_nodes, statement_nodes, body_nodes}
-use Rattle.edd_syntax.specs.Statement.{Declarator, Stmt, Empty, Evaluate, Block, If, IfElse, While, Do, For, Switch, Break, Continue, Return, Body, Nil, Cons, Declare, Statement, CaseLabel, DefaultLabel}
+use Rattle.edd_syntax.specs.Statement.{Declarator, Stmt, Evaluate, Block, If, IfElse, While, Do, For, Switch, Body, Nil, Cons, Declare, Statement}
 use Rattle.edd_instructions.specs.declared.instruction.Instruction.TheVariants as instruction
 use Rattle.edd_code.specs.Blocks as blocks
 use Rattle.edd_code.specs.Blocks.{Straight}
@@ -53,8 +53,7 @@ module _ (block_of : Expr Target → blocks.Block) where
 
   store_size : (place : Target) → IsSlot place → blocks.size (store_block place) ≤ 3
   store_size (Local slot) is = omega arith
-  store_size (Item i) is = absurd is
-  store_size (Function f) is = absurd is
+  store_size _ is = absurd is
 
   declared_size : (ds : List (Declarator Target)) → EachDeclared P ds
       → blocks.size (declare_block (blocks_by block_of) ds) ≤ 32 * declarator_nodes ds
@@ -72,7 +71,6 @@ module _ (block_of : Expr Target → blocks.Block) where
 
     statement_size : (x : Stmt Target) → Each P x → size (code_of (blocks_by block_of) x)
         ≤ 32 * statement_nodes x
-    statement_size Empty short = omega arith
     statement_size (Evaluate e) short = omega (arith, alone_size e short)
     statement_size (Block body) short = omega (arith, body_size body short)
     statement_size (If condition first) short = omega (arith, short.0, statement_size first short.1)
@@ -90,9 +88,7 @@ module _ (block_of : Expr Target → blocks.Block) where
           statement_size body short.3,
         )
     statement_size (Switch on body) short = omega (arith, short.0, arms_sizes body short.1)
-    statement_size Break short = omega arith
-    statement_size Continue short = omega arith
-    statement_size Return short = omega arith
+    statement_size _ short = omega arith
 
     pub body_size : (b : Body Target) → EachIn P b → size (code_in (blocks_by block_of) b)
         ≤ 32 * body_nodes b
@@ -101,8 +97,7 @@ module _ (block_of : Expr Target → blocks.Block) where
         omega (arith, declared_size ds short.0, body_size rest short.1)
     body_size (Cons (Statement x) rest) short =
         omega (arith, statement_size x short.0, body_size rest short.1)
-    body_size (Cons (CaseLabel label) rest) short = omega (arith, body_size rest short)
-    body_size (Cons DefaultLabel rest) short = omega (arith, body_size rest short)
+    body_size (Cons _ rest) short = omega (arith, body_size rest short)
 
     -- a label has a test of 13 bytes
     arms_sizes : (b : Body Target) → EachIn P b → arms_size (arms_of (blocks_by block_of) b)
@@ -112,5 +107,4 @@ module _ (block_of : Expr Target → blocks.Block) where
         omega (arith, declared_size ds short.0, arms_sizes rest short.1)
     arms_sizes (Cons (Statement x) rest) short =
         omega (arith, statement_size x short.0, arms_sizes rest short.1)
-    arms_sizes (Cons (CaseLabel label) rest) short = omega (arith, arms_sizes rest short)
-    arms_sizes (Cons DefaultLabel rest) short = omega (arith, arms_sizes rest short)
+    arms_sizes (Cons _ rest) short = omega (arith, arms_sizes rest short)

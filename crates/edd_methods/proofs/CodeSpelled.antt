@@ -5,9 +5,9 @@ use Rattle.std.proofs.lemmas.Int.{ints}
 use Rattle.std.specs.Prelude.{FitsSigned}
 use Rattle.std.specs.Int.{w64}
 use Rattle.edd_syntax.specs.declared.reference.Target.{Target}
-use Rattle.edd_syntax.specs.declared.reference.Target.TheVariants.{Local, Item, Function}
+use Rattle.edd_syntax.specs.declared.reference.Target.TheVariants.{Local}
 use Rattle.edd_syntax.specs.Expression.{Expr}
-use Rattle.edd_syntax.specs.Statement.{Declarator, Stmt, Empty, Evaluate, Block, If, IfElse, While, Do, For, Switch, Break, Continue, Return, Body, Nil, Cons, Declare, Statement, CaseLabel, DefaultLabel}
+use Rattle.edd_syntax.specs.Statement.{Declarator, Stmt, Empty, Evaluate, Block, If, IfElse, While, Do, For, Switch, Body, Nil, Cons, Declare, Statement, CaseLabel, DefaultLabel}
 use Rattle.edd_syntax.specs.TwosComplement.{wrap}
 use Rattle.edd_instructions.specs.declared.instruction.Instruction.TheVariants as instruction
 use Rattle.edd_instructions.specs.declared.unit.Sort.TheVariants.{Method}
@@ -26,8 +26,7 @@ label_fits label = let h = wrap_fits Method label in omega (arith, ints)
 
 store_spelled : (place : Target) → IsSlot place → AreSpelled (store_block place)
 store_spelled (Local slot) is = omega (arith, is)
-store_spelled (Item i) is = absurd is
-store_spelled (Function f) is = absurd is
+store_spelled _ is = absurd is
 
 -- P: what gives that the operands in both blocks of an expression are in their ranges
 module _ (given : Blocks) (P : Expr Target → Type 0) (value : (e : Expr Target) → P e
@@ -80,16 +79,13 @@ module _ (given : Blocks) (P : Expr Target → Type 0) (value : (e : Expr Target
       ),
     )
     statement_spelled (Switch on body) ok = (value on ok.0, arms_spelled body ok.1)
-    statement_spelled Break ok = tt
-    statement_spelled Continue ok = tt
-    statement_spelled Return ok = tt
+    statement_spelled _ ok = tt
 
     pub body_spelled : (b : Body Target) → EachIn P b → IsSpelledCode (code_in given b)
     body_spelled Nil ok = tt
     body_spelled (Cons (Declare ds) rest) ok = (declared_spelled ds ok.0, body_spelled rest ok.1)
     body_spelled (Cons (Statement x) rest) ok = (statement_spelled x ok.0, body_spelled rest ok.1)
-    body_spelled (Cons (CaseLabel label) rest) ok = body_spelled rest ok
-    body_spelled (Cons DefaultLabel rest) ok = body_spelled rest ok
+    body_spelled (Cons _ rest) ok = body_spelled rest ok
 
     arms_spelled : (b : Body Target) → EachIn P b → AreSpelledArms (arms_of given b)
     arms_spelled Nil ok = tt

@@ -21,16 +21,12 @@ use Rattle.edd_code.proofs.MethodRuns.{IsRead, goes_to}
 
 least_suc : (n k : ℕ) (o : source.Outcome Completion) → least (suc n) k o ≤ suc (least n k o)
 least_suc n k (Done Normal s) = omega arith
-least_suc n k (Done Breaks s) = omega arith
-least_suc n k (Done Continues s) = omega arith
-least_suc n k (Done Returns s) = omega arith
+least_suc n k (Done _ s) = omega arith
 least_suc n k (Stopped why s) = omega arith
 
 least_le : (m n k : ℕ) (o : source.Outcome Completion) → m ≤ n → least m k o ≤ least n k o
-least_le m n k (Done Normal s) h = omega arith
-least_le m n k (Done Breaks s) h = omega arith
-least_le m n k (Done Continues s) h = omega arith
 least_le m n k (Done Returns s) h = h
+least_le m n k (Done _ s) h = omega arith
 least_le m n k (Stopped why s) h = h
 
 module _ (text : StrNo → Option Words) (env : Environment) (code : List ℕ) where

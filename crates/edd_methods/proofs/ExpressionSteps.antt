@@ -7,7 +7,7 @@ use Rattle.edd_syntax.specs.declared.operators.Builtin.TheVariants as builtin
 use Rattle.edd_syntax.specs.declared.reference.Target.{Target}
 use Rattle.edd_syntax.specs.declared.reference.Target.TheVariants.{Local, Item, Function}
 use Rattle.edd_syntax.specs.Expression as expr
-use Rattle.edd_syntax.specs.Expression.{Expr, Literal, Decimal, Reference, Indexed, Parentheses, Unary, Binary, Compare, LogicalAnd, LogicalOr, Conditional, Assign, CompoundAssign, Increment, Call}
+use Rattle.edd_syntax.specs.Expression.{Expr, Literal, Call}
 use Rattle.edd_syntax.specs.TwosComplement.{wrap}
 use Rattle.edd_syntax.specs.Words.{Words}
 use Rattle.edd_syntax.specs.Device as device
@@ -21,7 +21,7 @@ use Rattle.edd_instructions.specs.declared.instruction.Instruction.TheVariants a
 use Rattle.edd_instructions.specs.Steps.{Environment, act}
 use Rattle.edd_code.specs.Blocks.{Block, Nothing, Straight, Then}
 use Rattle.edd_code.specs.BlockEffects as blocks
-use Rattle.edd_code.specs.BlockEffects.{Outcome, Goes, Stops, Stuck, and_then}
+use Rattle.edd_code.specs.BlockEffects.{Outcome, and_then}
 use Rattle.edd_code.specs.MethodEffects.{Halted, pushed, does}
 use Rattle.edd_code.specs.MethodExpressions.{store_block}
 use Rattle.edd_methods.specs.StatementEffects.{dropped, one_operand, no_operand, OneOperand, NoOperand, Same, value_of, step_of, LeavesOne, LeavesNone}
@@ -39,19 +39,7 @@ abort_called : (f : Builtin) → is_abort f ≡ true → (env : device.Environme
 unfolding call
 abort_called builtin.Abort is env s = refl
 abort_called builtin.ProcessAbort is env s = refl
-abort_called builtin.PutMessage is env s = not_true is
-abort_called builtin.Acknowledge is env s = not_true is
-abort_called builtin.Delay is env s = not_true is
-abort_called builtin.GetDevVarValue is env s = not_true is
-abort_called builtin.SelectFromList is env s = not_true is
-abort_called builtin.SendCommand is env s = not_true is
-abort_called builtin.SendCommandTrans is env s = not_true is
-abort_called builtin.SaveValues is env s = not_true is
-abort_called builtin.IvarValue is env s = not_true is
-abort_called builtin.LvarValue is env s = not_true is
-abort_called builtin.Iassign is env s = not_true is
-abort_called builtin.Lassign is env s = not_true is
-abort_called builtin.AddAbortMethod is env s = not_true is
+abort_called _ is env s = not_true is
 
 abort_stops : (e : Expr Target) → is_abort_call e ≡ true → (env : device.Environment) (s : State)
     → evaluate env e s ≡ Stopped source.Aborted s
@@ -61,19 +49,7 @@ abort_stops (Call (Function f) (expr.Cons first rest)) is env s = not_true is
 abort_stops (Call (Local slot) arguments) is env s = not_true is
 abort_stops (Call (Item i) arguments) is env s = not_true is
 abort_stops (Literal value) is env s = not_true is
-abort_stops Decimal is env s = not_true is
-abort_stops (Reference from) is env s = not_true is
-abort_stops (Indexed array index) is env s = not_true is
-abort_stops (Parentheses inner) is env s = not_true is
-abort_stops (Unary op operand) is env s = not_true is
-abort_stops (Binary op left right) is env s = not_true is
-abort_stops (Compare by left right) is env s = not_true is
-abort_stops (LogicalAnd left right) is env s = not_true is
-abort_stops (LogicalOr left right) is env s = not_true is
-abort_stops (Conditional test first second) is env s = not_true is
-abort_stops (Assign to value) is env s = not_true is
-abort_stops (CompoundAssign op to value) is env s = not_true is
-abort_stops (Increment op to) is env s = not_true is
+abort_stops _ is env s = not_true is
 
 -- ---- what a block leaves, by the outcome of an action
 

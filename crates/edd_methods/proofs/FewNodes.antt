@@ -20,18 +20,7 @@ Few n body = body_nodes body ≤ n
 
 one_few : (n : ℕ) (a : Attribute Target) → attribute_nodes a ≤ n → OfBody (Few n) a
 one_few n (item.Definition body) h = omega (arith, h)
-one_few n (item.OneText which c) h = tt
-one_few n (item.Class words) h = tt
-one_few n (item.Handling c) h = tt
-one_few n (item.Validity c) h = tt
-one_few n (item.TypeOf word parts) h = tt
-one_few n (item.Number k) h = tt
-one_few n (item.Operation o) h = tt
-one_few n (item.Transaction number parts) h = tt
-one_few n (item.ResponseCodes responses) h = tt
-one_few n (item.Items entries) h = tt
-one_few n (item.Members members) h = tt
-one_few n (item.Elements elements) h = tt
+one_few n _ h = tt
 
 attributes_few : (n : ℕ) (xs : List (Attribute Target)) → sum (map attribute_nodes xs) ≤ n
     → AllByRecursion (OfBody (Few n)) xs

@@ -14,34 +14,12 @@ use Rattle.edd_syntax.specs.SubsetRules.{bodies_in}
 here : (a : Attribute Target) (rest : List (Attribute Target)) (b : Body Target)
     → b ∷ [] ≡ bodies_in a → body_in (a ∷ rest) ≡ b
 here (item.Definition body) rest b h = let same = h in cc
-here (item.OneText which c) rest b h = absurd (cc h)
-here (item.Class words) rest b h = absurd (cc h)
-here (item.Handling c) rest b h = absurd (cc h)
-here (item.Validity c) rest b h = absurd (cc h)
-here (item.TypeOf word parts) rest b h = absurd (cc h)
-here (item.Number n) rest b h = absurd (cc h)
-here (item.Operation o) rest b h = absurd (cc h)
-here (item.Transaction number parts) rest b h = absurd (cc h)
-here (item.ResponseCodes responses) rest b h = absurd (cc h)
-here (item.Items entries) rest b h = absurd (cc h)
-here (item.Members members) rest b h = absurd (cc h)
-here (item.Elements elements) rest b h = absurd (cc h)
+here _ rest b h = absurd (cc h)
 
 passed : (a : Attribute Target) (rest : List (Attribute Target)) → [] ≡ bodies_in a
     → body_in (a ∷ rest) ≡ body_in rest
 passed (item.Definition body) rest h = absurd (cc h)
-passed (item.OneText which c) rest h = refl
-passed (item.Class words) rest h = refl
-passed (item.Handling c) rest h = refl
-passed (item.Validity c) rest h = refl
-passed (item.TypeOf word parts) rest h = refl
-passed (item.Number n) rest h = refl
-passed (item.Operation o) rest h = refl
-passed (item.Transaction number parts) rest h = refl
-passed (item.ResponseCodes responses) rest h = refl
-passed (item.Items entries) rest h = refl
-passed (item.Members members) rest h = refl
-passed (item.Elements elements) rest h = refl
+passed _ rest h = refl
 
 module _ {X Y : Type 0} (view : X → Attribute Target) (body : Y → Body Target) where
   -- what is found from the i-th attribute on

@@ -3,7 +3,7 @@ use Rattle.std.proofs.Common.{◌≡◌, refl, Bool, true, List, [], ◌∷◌, 
 use Rattle.std.specs.Prelude.{◌&&◌}
 use Rattle.std.specs.List.{AllByRecursion, flat_map, list_all}
 use Rattle.edd_syntax.specs.Expression as expr
-use Rattle.edd_syntax.specs.Expression.{Expr, Literal, Decimal, Reference, Indexed, Parentheses, Unary, Binary, Compare, LogicalAnd, LogicalOr, Conditional, Assign, CompoundAssign, Increment, Call, Arguments}
+use Rattle.edd_syntax.specs.Expression.{Expr, Indexed, Parentheses, Unary, Binary, Compare, LogicalAnd, LogicalOr, Conditional, Assign, CompoundAssign, Call, Arguments}
 use Rattle.edd_syntax.specs.Strings.{argument_texts, expr_texts}
 use Rattle.edd_syntax.specs.SubsetRules.{Placed}
 use Rattle.edd_syntax.specs.Text as texts
@@ -20,9 +20,6 @@ module _ {R : Type 0} (good plain : R → Bool) where
   mutual
     pub texts_good : (e : Expr R) → is_expr good plain e ≡ true → list_all is_text (expr_texts e)
         ≡ true
-    texts_good (Literal value) h = refl
-    texts_good Decimal h = refl
-    texts_good (Reference from) h = refl
     texts_good (Indexed array index) h = texts_good index (both_of (good array && plain array)
         (is_expr good plain index) h).1
     texts_good (Parentheses inner) h = texts_good inner h
@@ -54,9 +51,9 @@ module _ {R : Type 0} (good plain : R → Bool) where
         texts_good value (both_of (good to) (is_expr good plain value) h).1
     texts_good (CompoundAssign op to value) h =
         texts_good value (both_of (good to) (is_expr good plain value) h).1
-    texts_good (Increment op to) h = refl
     texts_good (Call function arguments) h =
         arguments_good arguments (both_of (plain function) (are_arguments good plain arguments) h).1
+    texts_good _ h = refl
 
     arguments_good : (a : Arguments R) → are_arguments good plain a ≡ true
         → list_all is_text (argument_texts a) ≡ true

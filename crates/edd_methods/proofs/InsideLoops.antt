@@ -81,8 +81,6 @@ module _ (given : Blocks) where
     statement_alike : (x : Stmt Target) (l s : Bool) → breaks_outside l s x ≡ []
         → (p out out' back back' : ℕ) → Alike l s out out' back back'
         → emitted p out back (code_of given x) ≡ emitted p out' back' (code_of given x)
-    statement_alike tree.Empty l s h p out out' back back' a = refl
-    statement_alike (tree.Evaluate e) l s h p out out' back back' a = refl
     statement_alike (tree.Block body) l s h p out out' back back' a =
         body_alike body l s h p out out' back back' a
     statement_alike (tree.If condition first) l s h p out out' back back' a =
@@ -104,9 +102,6 @@ module _ (given : Blocks) where
         ∙ ap (λ (is : List Instruction). test_at p condition
         ++ (jump ∷ (emitted (p + (n + 5)) out' back' c ++ (over ∷ is))))
         (statement_alike otherwise l s parts.1 (p + (n + (5 + (size c + 5)))) out out' back back' a)
-    statement_alike (tree.While condition body) l s h p out out' back back' a = refl
-    statement_alike (tree.Do body condition) l s h p out out' back back' a = refl
-    statement_alike (tree.For initial condition update body) l s h p out out' back back' a = refl
     statement_alike (tree.Switch on body) l s h p out out' back back' a =
         let arms = arms_of given body in
         let n = blocks.size (given.value on) in
@@ -126,7 +121,7 @@ module _ (given : Blocks) where
     statement_alike tree.Continue l s h p out out' back back' a =
         ap (λ (o : ℕ). instruction.Jump (blocks.target o) ∷ [])
         (a.0 (is_true l (not_refused (not l) BreakOutside h)))
-    statement_alike tree.Return l s h p out out' back back' a = refl
+    statement_alike _ l s h p out out' back back' a = refl
 
     body_alike : (b : Body Target) (l s : Bool) → breaks_outside_in l s b ≡ []
         → (p out out' back back' : ℕ) → Alike l s out out' back back'
@@ -143,9 +138,7 @@ module _ (given : Blocks) where
         (statement_alike x l s parts.0 p out out' back back' a)
         ∙ ap (λ (is : List Instruction). emitted p out' back' c ++ is)
         (body_alike rest l s parts.1 (p + size c) out out' back back' a)
-    body_alike (tree.Cons (tree.CaseLabel label) rest) l s h p out out' back back' a =
-        body_alike rest l s h p out out' back back' a
-    body_alike (tree.Cons tree.DefaultLabel rest) l s h p out out' back back' a =
+    body_alike (tree.Cons _ rest) l s h p out out' back back' a =
         body_alike rest l s h p out out' back back' a
 
     arms_alike : (b : Body Target) (l s : Bool) → breaks_outside_in l s b ≡ []
@@ -163,9 +156,7 @@ module _ (given : Blocks) where
         (arms_of given rest)) (statement_alike x l s parts.0 p out out' back back' a)
         ∙ ap (λ (is : List Instruction). emitted p out' back' c ++ is)
         (arms_alike rest l s parts.1 (p + size c) out out' back back' a)
-    arms_alike (tree.Cons (tree.CaseLabel label) rest) l s h p out out' back back' a =
-        arms_alike rest l s h p out out' back back' a
-    arms_alike (tree.Cons tree.DefaultLabel rest) l s h p out out' back back' a =
+    arms_alike (tree.Cons _ rest) l s h p out out' back back' a =
         arms_alike rest l s h p out out' back back' a
 
   -- the code of a body without such statements is the same wherever they would lead

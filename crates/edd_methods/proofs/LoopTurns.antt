@@ -2,7 +2,7 @@
 use Rattle.std.proofs.Common.{◌≡◌, refl, ap, ◌∙◌, ℕ, zero, suc, Bool, true, false, ℤ, pos}
 use Rattle.edd_syntax.specs.TwosComplement.{is_zero}
 use Rattle.edd_syntax.specs.MethodState.{State, Outcome, Done, Stopped, Action, pure, and_then, ◌>>◌}
-use Rattle.edd_syntax.specs.Execution.{Completion, Normal, Breaks, Continues, Returns, next_turn, turns, turns_of_do}
+use Rattle.edd_syntax.specs.Execution.{Completion, Normal, Breaks, Returns, next_turn, turns, turns_of_do}
 use Rattle.edd_methods.specs.StatementEffects.{unless_zero, always, Same, loop_turns}
 
 behind_same : {A B : Type 0} (o : Outcome A) (f g : A → Action B) → ((x : A) → Same (f x) (g x))
@@ -21,10 +21,9 @@ test_same false f g e s = e s
 
 pub turn_same : (f g : Action Completion) → Same f g → (c : Completion)
     → Same (next_turn f c) (next_turn g c)
-turn_same f g e Normal s = e s
 turn_same f g e Breaks s = refl
-turn_same f g e Continues s = e s
 turn_same f g e Returns s = refl
+turn_same f g e _ s = e s
 
 -- a part that goes on after its action
 goes_on : (o : Outcome ℤ) (last : Action ℤ) (f g : Action Completion) (s : State)

@@ -8,7 +8,7 @@ use Rattle.edd_syntax.specs.declared.operators.Builtin.{Builtin}
 use Rattle.edd_syntax.specs.declared.operators.Builtin.TheVariants as builtin
 use Rattle.edd_syntax.specs.declared.numbers.StrNo.{StrNo}
 use Rattle.edd_syntax.specs.declared.reference.Target.{Target}
-use Rattle.edd_syntax.specs.declared.reference.Target.TheVariants.{Local, Item, Function}
+use Rattle.edd_syntax.specs.declared.reference.Target.TheVariants.{Local, Function}
 use Rattle.edd_syntax.specs.Expression as expr
 use Rattle.edd_syntax.specs.Expression.{Expr, Literal, Decimal, Reference, Indexed, Parentheses, Unary, Binary, Compare, LogicalAnd, LogicalOr, Conditional, Assign, CompoundAssign, Increment, Call, Arguments}
 use Rattle.edd_syntax.specs.Statement.{Declarator}
@@ -42,21 +42,9 @@ no_abort true h = absurd (cc h)
 not_aborting : (f : Builtin) (arguments : Arguments Target) → all_fit (parameters f) arguments
     ≡ true → is_abort_call (Call (Function f) arguments) ≡ false → is_abort f ≡ false
 not_aborting f expr.Nil fit is = is
-not_aborting builtin.PutMessage (expr.Cons first rest) fit is = refl
-not_aborting builtin.Acknowledge (expr.Cons first rest) fit is = refl
-not_aborting builtin.Delay (expr.Cons first rest) fit is = refl
-not_aborting builtin.GetDevVarValue (expr.Cons first rest) fit is = refl
-not_aborting builtin.SelectFromList (expr.Cons first rest) fit is = refl
-not_aborting builtin.SendCommand (expr.Cons first rest) fit is = refl
-not_aborting builtin.SendCommandTrans (expr.Cons first rest) fit is = refl
-not_aborting builtin.SaveValues (expr.Cons first rest) fit is = refl
-not_aborting builtin.IvarValue (expr.Cons first rest) fit is = refl
-not_aborting builtin.LvarValue (expr.Cons first rest) fit is = refl
-not_aborting builtin.Iassign (expr.Cons first rest) fit is = refl
-not_aborting builtin.Lassign (expr.Cons first rest) fit is = refl
-not_aborting builtin.AddAbortMethod (expr.Cons first rest) fit is = refl
 not_aborting builtin.Abort (expr.Cons first rest) fit is = absurd (cc fit)
 not_aborting builtin.ProcessAbort (expr.Cons first rest) fit is = absurd (cc fit)
+not_aborting _ (expr.Cons first rest) fit is = refl
 
 call_fits : (s : Bool) (f : Builtin) (arguments : Arguments Target)
     → call_mismatches s (Call (Function f) arguments) ≡ []
@@ -86,8 +74,7 @@ value_fits s (Assign to value) fit is = fit
 value_fits s (CompoundAssign op to value) fit is = fit
 value_fits s (Increment op to) fit is = fit
 value_fits s (Call (Function f) arguments) fit is = call_fits s f arguments fit is
-value_fits s (Call (Local slot) arguments) fit is = absurd cc
-value_fits s (Call (Item i) arguments) fit is = absurd cc
+value_fits s (Call _ arguments) fit is = absurd cc
 
 -- ---- blocks
 
@@ -145,8 +132,7 @@ module _ (version : Version) (counts : Counts) (slots : ℕ) (number : Words →
 
   store_named : (place : Target) → IsSlotBelow slots place → Named (store_block place)
   store_named (Local slot) is = lt-ltb slot slots is
-  store_named (Item i) is = absurd is
-  store_named (Function f) is = absurd is
+  store_named _ is = absurd is
 
   declared_there : (ds : List (Declarator Target)) → EachSlotOf slots ds
       → EachDeclared IsThere ds

@@ -36,18 +36,7 @@ module _ (d : Description Target) where
         λ is. one (or_left (body_names_it body) others is),
         each_asks rest (λ is. one (or_right (body_names_it body) others is)),
       )
-  each_asks (item.OneText which c ∷ rest) one = (tt, each_asks rest one)
-  each_asks (item.Class words ∷ rest) one = (tt, each_asks rest one)
-  each_asks (item.Handling c ∷ rest) one = (tt, each_asks rest one)
-  each_asks (item.Validity c ∷ rest) one = (tt, each_asks rest one)
-  each_asks (item.TypeOf word parts ∷ rest) one = (tt, each_asks rest one)
-  each_asks (item.Number n ∷ rest) one = (tt, each_asks rest one)
-  each_asks (item.Operation o ∷ rest) one = (tt, each_asks rest one)
-  each_asks (item.Transaction number parts ∷ rest) one = (tt, each_asks rest one)
-  each_asks (item.ResponseCodes responses ∷ rest) one = (tt, each_asks rest one)
-  each_asks (item.Items entries ∷ rest) one = (tt, each_asks rest one)
-  each_asks (item.Members members ∷ rest) one = (tt, each_asks rest one)
-  each_asks (item.Elements elements ∷ rest) one = (tt, each_asks rest one)
+  each_asks (_ ∷ rest) one = (tt, each_asks rest one)
 
   pub with_names : (m : MethNo) → body_names_it (body_of d m) ≡ true → version_for d ≡ Two
   with_names m =

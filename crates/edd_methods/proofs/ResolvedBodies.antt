@@ -46,18 +46,6 @@ few_in : (sort : ItemKind) (name : _) (xs : List (Attribute Path))
     → locals_of (record { sort = sort; name = name; attributes = xs }) ≤ local_limit
     → AllByRecursion (OfBody HasFew) xs
 few_in sort name [] few = tt
-few_in sort name (item.OneText which c ∷ rest) few = (tt, few_in sort name rest few)
-few_in sort name (item.Class words ∷ rest) few = (tt, few_in sort name rest few)
-few_in sort name (item.Handling c ∷ rest) few = (tt, few_in sort name rest few)
-few_in sort name (item.Validity c ∷ rest) few = (tt, few_in sort name rest few)
-few_in sort name (item.TypeOf word parts ∷ rest) few = (tt, few_in sort name rest few)
-few_in sort name (item.Number n ∷ rest) few = (tt, few_in sort name rest few)
-few_in sort name (item.Operation o ∷ rest) few = (tt, few_in sort name rest few)
-few_in sort name (item.Transaction number parts ∷ rest) few = (tt, few_in sort name rest few)
-few_in sort name (item.ResponseCodes responses ∷ rest) few = (tt, few_in sort name rest few)
-few_in sort name (item.Items entries ∷ rest) few = (tt, few_in sort name rest few)
-few_in sort name (item.Members members ∷ rest) few = (tt, few_in sort name rest few)
-few_in sort name (item.Elements elements ∷ rest) few = (tt, few_in sort name rest few)
 few_in sort name (item.Definition body ∷ rest) few =
     let split : locals_of (record {
       sort = sort;
@@ -68,6 +56,7 @@ few_in sort name (item.Definition body ∷ rest) few =
     + locals_of (record { sort = sort; name = name; attributes = rest }) =
     sum_cons _ (item.Definition body) rest in
     (omega (arith, split, few), few_in sort name rest (omega (arith, split, few)))
+few_in sort name (_ ∷ rest) few = (tt, few_in sort name rest few)
 
 abbrev HasFewIn : Item Path → Type 0
 HasFewIn i = AllByRecursion (OfBody HasFew) i.attributes

@@ -160,11 +160,9 @@ module _ (unit : Description Path) (context : Context)
     (methods : count_of kind.Method unit.items ≡ context.counts.methods) where
   item_there : (i : ItemNo) → exists_in unit i ≡ true → uses_existing context (Item i) ≡ true
   item_there (item_no.Variable v) is = ap (λ (n : ℕ). nat_lt v.0 n) (sym variables) ∙ is
-  item_there (item_no.Command n) is = refl
-  item_there (item_no.Menu n) is = refl
-  item_there (item_no.Collection n) is = refl
   item_there (item_no.Method n) is = ap (λ (m : ℕ). nat_lt n.0 m) (sym methods) ∙ is
   item_there (item_no.Array n) is = ap (λ (m : ℕ). nat_lt n.0 m) (sym arrays) ∙ is
+  item_there _ is = refl
 
   pub meant_there : (kinds : List Kind) (scope : Scope) → IsBelow context.slots scope → (p : Path)
       (t : Target) → meaning unit scope kinds p ≡ Some t → uses_existing context t ≡ true

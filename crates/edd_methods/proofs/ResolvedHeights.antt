@@ -18,7 +18,7 @@ use Rattle.edd_syntax.specs.Resolution.{Scope, declared, all_declared}
 use Rattle.edd_syntax.specs.Resolved.{IsResolved}
 use Rattle.edd_syntax.specs.ResolvedTrees.{Meanings, at_scope, resolved_by, resolved_expr, resolved_arguments, resolved_optional, resolved_declarators, resolved_stmt, resolved_body, meant_in, Reading}
 use Rattle.edd_syntax.specs.Size.{height, argument_height, optional_height, declarator_height, statement_height, body_height, attribute_height, height_limit}
-use Rattle.edd_syntax.specs.Statement.{Declarator, Stmt, Empty, Evaluate, Block, If, IfElse, While, Do, For, Switch, Break, Continue, Return, Body, Nil, Cons, Declare, Statement, CaseLabel, DefaultLabel, slots_of}
+use Rattle.edd_syntax.specs.Statement.{Declarator, Stmt, Empty, Evaluate, Block, If, IfElse, While, Do, For, Switch, Body, Nil, Cons, Declare, Statement, slots_of}
 use Rattle.edd_syntax.specs.SubsetRules.{Placed, part_of, optional_part, stmt_expressions, body_expressions}
 use Rattle.edd_syntax.specs.WellFormed.{is_path, is_plain, is_item, stands_in, are_items}
 use Rattle.edd_methods.proofs.CheckedBodies.{OfBody, of_method}
@@ -164,7 +164,6 @@ module _ (names : Reading) where
 
     statement_low : (x : Stmt Path) (scope : Scope) (next : ℕ) (x' : Stmt Target)
         → resolved_stmt names x scope next ≡ Some x' → StatementLow (statement_height x) x'
-    statement_low Empty scope next x' h = subst (StatementLow 1) (same_Some _ x' h) (omega arith)
     statement_low (Evaluate e) scope next x' h =
         let a = bound (resolved_expr (at_scope names scope) e) _ x' h in
         subst (StatementLow (1 + height e)) (same_Some _ x' a.2)
@@ -241,9 +240,7 @@ module _ (names : Reading) where
           body_low body scope next b.0
               b.1,
         ))
-    statement_low Break scope next x' h = subst (StatementLow 1) (same_Some _ x' h) (omega arith)
-    statement_low Continue scope next x' h = subst (StatementLow 1) (same_Some _ x' h) (omega arith)
-    statement_low Return scope next x' h = subst (StatementLow 1) (same_Some _ x' h) (omega arith)
+    statement_low _ scope next x' h = subst (StatementLow 1) (same_Some _ x' h) (omega arith)
 
     body_low : (b : Body Path) (scope : Scope) (next : ℕ) (b' : Body Target)
         → resolved_body names b scope next ≡ Some b' → BodyLow (body_height b) b'
@@ -269,10 +266,7 @@ module _ (names : Reading) where
           body_low rest scope (next + slots_of x)
               c.0 c.1,
         ))
-    body_low (Cons (CaseLabel label) rest) scope next b' h =
-        let a = bound (resolved_body names rest scope next) _ b' h in
-        subst (BodyLow (body_height rest)) (same_Some _ b' a.2) (body_low rest scope next a.0 a.1)
-    body_low (Cons DefaultLabel rest) scope next b' h =
+    body_low (Cons _ rest) scope next b' h =
         let a = bound (resolved_body names rest scope next) _ b' h in
         subst (BodyLow (body_height rest)) (same_Some _ b' a.2) (body_low rest scope next a.0 a.1)
 
@@ -325,9 +319,7 @@ module _ (n : ℕ) where
         (joined (optional_part update) (stmt_expressions body)
         (optional_listed update (omega (arith, h))) (statement_listed body (omega (arith, h)))))
     statement_listed (Switch on body) h = (omega (arith, h), body_listed body (omega (arith, h)))
-    statement_listed Break h = tt
-    statement_listed Continue h = tt
-    statement_listed Return h = tt
+    statement_listed _ h = tt
 
     body_listed : (b : Body Target) → body_height b ≤ n → NoneHigher (body_expressions b)
     body_listed Nil h = tt
@@ -336,8 +328,7 @@ module _ (n : ℕ) where
         (declared_listed ds (omega (arith, h))) (body_listed rest (omega (arith, h)))
     body_listed (Cons (Statement x) rest) h = joined (stmt_expressions x) (body_expressions rest)
         (statement_listed x (omega (arith, h))) (body_listed rest (omega (arith, h)))
-    body_listed (Cons (CaseLabel label) rest) h = body_listed rest h
-    body_listed (Cons DefaultLabel rest) h = body_listed rest h
+    body_listed (Cons _ rest) h = body_listed rest h
 
 -- ---- written bodies are within the limit
 
@@ -346,18 +337,7 @@ IsLow b = body_height b ≤ height_limit
 
 low_attribute : (a : Attribute Path) → attribute_height a ≤ height_limit → OfBody IsLow a
 low_attribute (item.Definition body) h = h
-low_attribute (item.OneText which c) h = tt
-low_attribute (item.Class words) h = tt
-low_attribute (item.Handling c) h = tt
-low_attribute (item.Validity c) h = tt
-low_attribute (item.TypeOf word parts) h = tt
-low_attribute (item.Number n) h = tt
-low_attribute (item.Operation o) h = tt
-low_attribute (item.Transaction number parts) h = tt
-low_attribute (item.ResponseCodes responses) h = tt
-low_attribute (item.Items entries) h = tt
-low_attribute (item.Members members) h = tt
-low_attribute (item.Elements elements) h = tt
+low_attribute _ h = tt
 
 within : (n m : ℕ) → nat_le n m ≡ true → n ≤ m
 within n m h = grind (arith, nat_tests, h)

@@ -69,18 +69,7 @@ WellFormed b = is_body is_path is_plain false b ≡ true
 
 in_attribute : (a : Attribute Path) → is_attribute is_path is_plain a ≡ true → OfBody WellFormed a
 in_attribute (item.Definition body) is = is
-in_attribute (item.OneText which c) is = tt
-in_attribute (item.Class words) is = tt
-in_attribute (item.Handling c) is = tt
-in_attribute (item.Validity c) is = tt
-in_attribute (item.TypeOf word parts) is = tt
-in_attribute (item.Number n) is = tt
-in_attribute (item.Operation o) is = tt
-in_attribute (item.Transaction number parts) is = tt
-in_attribute (item.ResponseCodes responses) is = tt
-in_attribute (item.Items entries) is = tt
-in_attribute (item.Members members) is = tt
-in_attribute (item.Elements elements) is = tt
+in_attribute _ is = tt
 
 in_attributes : (k : Kind) (xs : List (Attribute Path)) → list_all (stands_in is_path is_plain k) xs
     ≡ true → AllByRecursion (OfBody WellFormed) xs

@@ -2,9 +2,9 @@
 use Rattle.std.proofs.Common.{◌≡◌, refl, subst, ℕ, ◌+◌, ◌≤◌, List, [], ◌∷◌, length, Option, Some, None, arith}
 use Rattle.std.proofs.lemmas.Option.{none-some, same_Some}
 use Rattle.edd_syntax.specs.declared.reference.Target.{Target}
-use Rattle.edd_syntax.specs.declared.reference.Target.TheVariants.{Local, Item, Function}
+use Rattle.edd_syntax.specs.declared.reference.Target.TheVariants.{Local}
 use Rattle.edd_syntax.specs.Reference.{Path}
-use Rattle.edd_syntax.specs.Statement.{Declarator, Stmt, Empty, Evaluate, Block, If, IfElse, While, Do, For, Switch, Break, Continue, Return, Body, Nil, Cons, Declare, Statement, CaseLabel, DefaultLabel, slots_of, slots_in}
+use Rattle.edd_syntax.specs.Statement.{Declarator, Stmt, Evaluate, Block, If, IfElse, While, Do, For, Switch, Body, Nil, Cons, Declare, Statement, slots_of, slots_in}
 use Rattle.edd_syntax.specs.Resolution.{Scope, declared, all_declared}
 use Rattle.edd_syntax.specs.ResolvedTrees.{◌>>=◌, resolved_expr, resolved_optional, at_scope, resolved_declarators, resolved_stmt, resolved_body, Reading}
 use Rattle.edd_methods.specs.TreeExpressions.{IsSlotBelow, EachSlotOf, HasSlots, EachSlot}
@@ -14,8 +14,7 @@ use Rattle.edd_methods.specs.TreeExpressions.{IsSlotBelow, EachSlotOf, HasSlots,
 module _ (m n : ℕ) (le : m ≤ n) where
   slot_below : (t : Target) → IsSlotBelow m t → IsSlotBelow n t
   slot_below (Local slot) is = omega (arith, is, le)
-  slot_below (Item i) is = absurd is
-  slot_below (Function f) is = absurd is
+  slot_below _ is = absurd is
 
   pub each_slot_of : (ds : List (Declarator Target)) → EachSlotOf m ds → EachSlotOf n ds
   each_slot_of [] slots = tt
@@ -23,8 +22,6 @@ module _ (m n : ℕ) (le : m ≤ n) where
 
   mutual
     pub has_slots : (x : Stmt Target) → HasSlots m x → HasSlots n x
-    has_slots Empty slots = tt
-    has_slots (Evaluate e) slots = tt
     has_slots (Block body) slots = each_slot body slots
     has_slots (If condition first) slots = has_slots first slots
     has_slots (IfElse condition first otherwise) slots =
@@ -33,16 +30,13 @@ module _ (m n : ℕ) (le : m ≤ n) where
     has_slots (Do body condition) slots = has_slots body slots
     has_slots (For first condition update body) slots = has_slots body slots
     has_slots (Switch on body) slots = each_slot body slots
-    has_slots Break slots = tt
-    has_slots Continue slots = tt
-    has_slots Return slots = tt
+    has_slots _ slots = tt
 
     pub each_slot : (b : Body Target) → EachSlot m b → EachSlot n b
     each_slot Nil slots = tt
     each_slot (Cons (Declare ds) rest) slots = (each_slot_of ds slots.0, each_slot rest slots.1)
     each_slot (Cons (Statement x) rest) slots = (has_slots x slots.0, each_slot rest slots.1)
-    each_slot (Cons (CaseLabel label) rest) slots = each_slot rest slots
-    each_slot (Cons DefaultLabel rest) slots = each_slot rest slots
+    each_slot (Cons _ rest) slots = each_slot rest slots
 
 -- ---- resolved trees
 
@@ -86,7 +80,6 @@ module _ (names : Reading) where
 
     pub statement_in : (x : Stmt Path) (scope : Scope) (next : ℕ) (x' : Stmt Target)
         → resolved_stmt names x scope next ≡ Some x' → IsIn (slots_of x) next x'
-    statement_in Empty scope next x' h = subst (IsIn 0 next) (same_Some _ x' h) (refl, tt)
     statement_in (Evaluate e) scope next x' h =
         let a = bound (resolved_expr (at_scope names scope) e) _ x' h in
         subst (IsIn 0 next) (same_Some _ x' a.2) (refl, tt)
@@ -135,9 +128,7 @@ module _ (names : Reading) where
         let b = bound (resolved_body names body scope next) _ x' a.2 in
         let i = body_in body scope next b.0 b.1 in
         subst (IsIn (slots_in body) next) (same_Some _ x' b.2) (i.0, i.1)
-    statement_in Break scope next x' h = subst (IsIn 0 next) (same_Some _ x' h) (refl, tt)
-    statement_in Continue scope next x' h = subst (IsIn 0 next) (same_Some _ x' h) (refl, tt)
-    statement_in Return scope next x' h = subst (IsIn 0 next) (same_Some _ x' h) (refl, tt)
+    statement_in _ scope next x' h = subst (IsIn 0 next) (same_Some _ x' h) (refl, tt)
 
     pub body_in : (b : Body Path) (scope : Scope) (next : ℕ) (b' : Body Target)
         → resolved_body names b scope next ≡ Some b' → IsInBody (slots_in b) next b'
@@ -170,11 +161,7 @@ module _ (names : Reading) where
             each_slot (next + slots_of x + slots_in rest) all (omega arith) c.0 j.1,
           ),
         )
-    body_in (Cons (CaseLabel label) rest) scope next b' h =
-        let a = bound (resolved_body names rest scope next) _ b' h in
-        let i = body_in rest scope next a.0 a.1 in
-        subst (IsInBody (slots_in rest) next) (same_Some _ b' a.2) (i.0, i.1)
-    body_in (Cons DefaultLabel rest) scope next b' h =
+    body_in (Cons _ rest) scope next b' h =
         let a = bound (resolved_body names rest scope next) _ b' h in
         let i = body_in rest scope next a.0 a.1 in
         subst (IsInBody (slots_in rest) next) (same_Some _ b' a.2) (i.0, i.1)

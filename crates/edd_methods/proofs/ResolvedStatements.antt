@@ -10,7 +10,7 @@ use Rattle.edd_syntax.specs.Item.{Description}
 use Rattle.edd_syntax.specs.Reference.{Path}
 use Rattle.edd_syntax.specs.Resolution.{Scope, argument_kinds, count_of, declared, all_declared, variable_kinds}
 use Rattle.edd_syntax.specs.ResolvedTrees.{at_scope, resolved_expr, resolved_optional, resolved_declarators, resolved_stmt, resolved_body, meant_in}
-use Rattle.edd_syntax.specs.Statement.{Declarator, Stmt, Empty, Evaluate, Block, If, IfElse, While, Do, For, Switch, Break, Continue, Return, Body, Nil, Cons, Declare, Statement, CaseLabel, DefaultLabel, slots_of, slots_in}
+use Rattle.edd_syntax.specs.Statement.{Declarator, Stmt, Evaluate, Block, If, IfElse, While, Do, For, Switch, Body, Nil, Cons, Declare, Statement, slots_of, slots_in}
 use Rattle.edd_syntax.specs.SubsetRules.{Placed, part_of, optional_part, stmt_expressions, body_expressions}
 use Rattle.edd_syntax.specs.WellFormed.{if_some, is_path, is_plain, is_expr, is_declarator, is_stmt, is_body}
 use Rattle.edd_instructions.specs.declared.unit.Context.{Context}
@@ -109,7 +109,6 @@ module _ (unit : Description Path) (context : Context)
         → Fits scope (next + slots_of x) → is_stmt is_path is_plain x ≡ true
         → resolved_stmt (meant_in unit) x scope next ≡ Some x'
         → InStatement x'
-    statement_at Empty scope next x' fits is h = subst InStatement (same_Some _ x' h) tt
     statement_at (Evaluate e) scope next x' fits is h =
         let a = bound (resolved_expr (at_scope (meant_in unit) scope) e) _ x' h in
         subst InStatement (same_Some _ x' a.2) (part_at e scope a.0 fits.0 is a.1)
@@ -170,9 +169,7 @@ module _ (unit : Description Path) (context : Context)
         subst InStatement (same_Some _ x' b.2)
         (joined (part_of a.0) _ (part_at on scope a.0 fits.0 are.0 a.1)
         (body_at true body scope next b.0 fits are.1 b.1))
-    statement_at Break scope next x' fits is h = subst InStatement (same_Some _ x' h) tt
-    statement_at Continue scope next x' fits is h = subst InStatement (same_Some _ x' h) tt
-    statement_at Return scope next x' fits is h = subst InStatement (same_Some _ x' h) tt
+    statement_at _ scope next x' fits is h = subst InStatement (same_Some _ x' h) tt
 
     pub body_at : (labels : Bool) (b : Body Path) (scope : Scope) (next : ℕ) (b' : Body Target)
         → Fits scope (next + slots_in b) → is_body is_path is_plain labels b ≡ true
@@ -201,11 +198,7 @@ module _ (unit : Description Path) (context : Context)
         (statement_at x scope next a.0 (fits.0, omega (arith, fits.1)) are.0 a.1)
         (body_at labels rest scope (next + slots_of x) c.0 (fits.0, omega (arith, fits.1)) are.1
         c.1))
-    body_at labels (Cons (CaseLabel label) rest) scope next b' fits is h =
-        let a = bound (resolved_body (meant_in unit) rest scope next) _ b' h in
-        subst InBody (same_Some _ b' a.2)
-        (body_at labels rest scope next a.0 fits (and_parts _ _ is).1 a.1)
-    body_at labels (Cons DefaultLabel rest) scope next b' fits is h =
+    body_at labels (Cons _ rest) scope next b' fits is h =
         let a = bound (resolved_body (meant_in unit) rest scope next) _ b' h in
         subst InBody (same_Some _ b' a.2)
         (body_at labels rest scope next a.0 fits (and_parts _ _ is).1 a.1)

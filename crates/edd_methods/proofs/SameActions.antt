@@ -1,7 +1,7 @@
 -- Actions that do the same, one after another.
 use Rattle.std.proofs.Common.{◌≡◌, refl, ap, ◌∙◌, Bool, true, false, ℤ, pos}
 use Rattle.edd_syntax.specs.MethodState.{Outcome, Done, Stopped, Action, pure, and_then}
-use Rattle.edd_syntax.specs.Execution.{Completion, Normal, Breaks, Continues, Returns, next}
+use Rattle.edd_syntax.specs.Execution.{Completion, Normal, next}
 use Rattle.edd_methods.specs.StatementEffects.{Same}
 
 pub choice_same : (b : Bool) (f g f' g' : Action Completion) → Same f f' → Same g g'
@@ -12,9 +12,7 @@ choice_same false f g f' g' yes' no' = no'
 
 pub next_same : (f g : Action Completion) → Same f g → (c : Completion) → Same (next f c) (next g c)
 next_same f g h Normal s = h s
-next_same f g h Breaks s = refl
-next_same f g h Continues s = refl
-next_same f g h Returns s = refl
+next_same f g h _ s = refl
 
 -- a step, and a statement after it
 pub step_then : {A : Type 0} (o : Outcome ℤ) (o' : Outcome A) (f g : Action Completion)

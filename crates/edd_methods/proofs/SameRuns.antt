@@ -94,9 +94,7 @@ module _ (text : StrNo → Option Words) where
         | None ↦ None
         | Some x ↦ option_map (source.SelectFromList x) (text h.1)
       ]) h.3 ∙ ap (option_map (source.SelectFromList w)) h.4
-  worded_so (source.SendCommand n) r h = ap (worded text) h
-  worded_so (source.SendCommandTrans n transaction) r h = ap (worded text) h
-  worded_so source.SaveValues r h = ap (worded text) h
+  worded_so _ r h = ap (worded text) h
 
   all_worded : (qs : List source.Request) (rs : List image.Request) → SameRequests text qs rs
       → map (worded text) rs ≡ map Some qs

@@ -12,9 +12,7 @@ slots ps = slots_in (body_from ps)
 split : (x : Part Target) (xs : List (Part Target)) → slots (x ∷ xs) ≡ slots (x ∷ []) + slots xs
 unfolding slots_in
 split (Declare ds) xs = omega arith
-split (Statement s) xs = omega arith
-split (CaseLabel label) xs = omega arith
-split DefaultLabel xs = omega arith
+split _ xs = omega arith
 
 pub slots_next : {X : Type 0} (view : X → Part Target) (xs : List X) (i : ℕ) (x : X) → i < length xs
     → x ≡ get_or xs i x → slots (map view (drop i xs)) ≡ slots (view x ∷ [])

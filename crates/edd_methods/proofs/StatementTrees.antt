@@ -4,7 +4,7 @@ use Rattle.std.specs.Ordering.{int_eq}
 use Rattle.edd_syntax.specs.declared.numbers.StrNo.{StrNo}
 use Rattle.edd_syntax.specs.declared.reference.Target.{Target}
 use Rattle.edd_syntax.specs.Expression.{Expr}
-use Rattle.edd_syntax.specs.Statement.{Declarator, Stmt, Empty, Evaluate, Block, If, IfElse, While, Do, For, Switch, Break, Continue, Return, Body, Nil, Cons, Declare, Statement, CaseLabel, DefaultLabel}
+use Rattle.edd_syntax.specs.Statement.{Declarator, Stmt, Empty, Evaluate, Block, If, IfElse, While, Do, For, Switch, Body, Nil, Cons, Declare, Statement, CaseLabel, DefaultLabel}
 use Rattle.edd_syntax.specs.TwosComplement.{wrap, is_zero}
 use Rattle.edd_syntax.specs.Words.{Words}
 use Rattle.edd_syntax.specs.Device as device
@@ -143,9 +143,7 @@ module _ (text : StrNo → Option Words) (machine : Environment) (env : device.E
           (value_same text machine env block_of on means.0 s)
           (λ a t. then_same _ _ left left (case_same a body means.1 _ _ (default_same body means.1)
           t) (λ c u. refl))
-      statement_same Break means s = refl
-      statement_same Continue means s = refl
-      statement_same Return means s = refl
+      statement_same _ means s = refl
 
       pub body_same : (b : Body Target) → EachIn IsMeant b
           → Same (performs text machine (body_code block_of b) n) (execute_all env b n)
@@ -154,8 +152,7 @@ module _ (text : StrNo → Option Words) (machine : Environment) (env : device.E
           (next_same _ _ (body_same rest means.1))
       body_same (Cons (Statement x) rest) means s = then_same _ _ _ _ (statement_same x means.0 s)
           (next_same _ _ (body_same rest means.1))
-      body_same (Cons (CaseLabel label) rest) means s = body_same rest means s
-      body_same (Cons DefaultLabel rest) means s = body_same rest means s
+      body_same (Cons _ rest) means s = body_same rest means s
 
       all_same : (b : Body Target) → EachIn IsMeant b
           → Same (performs_all text machine (arms_of (blocks_by block_of) b) n)
@@ -165,29 +162,26 @@ module _ (text : StrNo → Option Words) (machine : Environment) (env : device.E
           (next_same _ _ (all_same rest means.1))
       all_same (Cons (Statement x) rest) means s = then_same _ _ _ _ (statement_same x means.0 s)
           (next_same _ _ (all_same rest means.1))
-      all_same (Cons (CaseLabel label) rest) means s = all_same rest means s
-      all_same (Cons DefaultLabel rest) means s = all_same rest means s
+      all_same (Cons _ rest) means s = all_same rest means s
 
       case_same : (a : ℤ) (b : Body Target) → EachIn IsMeant b → (f g : Action Completion)
           → Same f g
           → Same (performs_case text machine a (arms_of (blocks_by block_of) b) n f)
           (execute_case env a b n g)
       case_same a Nil means f g h s = h s
-      case_same a (Cons (Declare ds) rest) means f g h s = case_same a rest means.1 f g h s
-      case_same a (Cons (Statement x) rest) means f g h s = case_same a rest means.1 f g h s
       case_same a (Cons (CaseLabel label) rest) means f g h s =
           choice_same (int_eq a (wrap 32 label)) _ _ _ _ (all_same rest means)
           (case_same a rest means f g h) s
       case_same a (Cons DefaultLabel rest) means f g h s = case_same a rest means f g h s
+      case_same a (Cons _ rest) means f g h s = case_same a rest means.1 f g h s
 
       default_same : (b : Body Target) → EachIn IsMeant b
           → Same (performs_default text machine (arms_of (blocks_by block_of) b) n)
           (execute_default env b n)
       default_same Nil means s = refl
-      default_same (Cons (Declare ds) rest) means s = default_same rest means.1 s
-      default_same (Cons (Statement x) rest) means s = default_same rest means.1 s
       default_same (Cons (CaseLabel label) rest) means s = default_same rest means s
       default_same (Cons DefaultLabel rest) means s = all_same rest means s
+      default_same (Cons _ rest) means s = default_same rest means.1 s
 
   -- ---- the code is whole
 
@@ -227,9 +221,7 @@ module _ (text : StrNo → Option Words) (machine : Environment) (env : device.E
     )
     statement_is_whole (Switch on body) means =
         (leaves_one text machine env block_of on means.0, arms_are_whole body means.1)
-    statement_is_whole Break means = tt
-    statement_is_whole Continue means = tt
-    statement_is_whole Return means = tt
+    statement_is_whole _ means = tt
 
     pub body_is_whole : (b : Body Target) → EachIn IsMeant b
         → IsWhole text machine (body_code block_of b)
@@ -238,8 +230,7 @@ module _ (text : StrNo → Option Words) (machine : Environment) (env : device.E
         (declared_is_whole ds means.0, body_is_whole rest means.1)
     body_is_whole (Cons (Statement x) rest) means =
         (statement_is_whole x means.0, body_is_whole rest means.1)
-    body_is_whole (Cons (CaseLabel label) rest) means = body_is_whole rest means
-    body_is_whole (Cons DefaultLabel rest) means = body_is_whole rest means
+    body_is_whole (Cons _ rest) means = body_is_whole rest means
 
     arms_are_whole : (b : Body Target) → EachIn IsMeant b
         → AreWhole text machine (arms_of (blocks_by block_of) b)
@@ -248,5 +239,4 @@ module _ (text : StrNo → Option Words) (machine : Environment) (env : device.E
         (declared_is_whole ds means.0, arms_are_whole rest means.1)
     arms_are_whole (Cons (Statement x) rest) means =
         (statement_is_whole x means.0, arms_are_whole rest means.1)
-    arms_are_whole (Cons (CaseLabel label) rest) means = arms_are_whole rest means
-    arms_are_whole (Cons DefaultLabel rest) means = arms_are_whole rest means
+    arms_are_whole (Cons _ rest) means = arms_are_whole rest means

@@ -2,7 +2,7 @@
 use Rattle.std.proofs.Common.{◌≡◌, ℕ, false, List, Option, Some, None}
 use Rattle.edd_syntax.specs.declared.reference.Target.{Target}
 use Rattle.edd_syntax.specs.Expression.{Expr}
-use Rattle.edd_syntax.specs.Statement.{Declarator, Stmt, Empty, Evaluate, Block, If, IfElse, While, Do, For, Switch, Break, Continue, Return, Body, Nil, Cons, Declare, Statement, CaseLabel, DefaultLabel}
+use Rattle.edd_syntax.specs.Statement.{Declarator, Stmt, Empty, Evaluate, Block, If, IfElse, While, Do, For, Switch, Body, Nil, Cons, Declare, Statement}
 use Rattle.edd_code.specs.Blocks as blocks
 use Rattle.edd_methods.specs.TreeCode.{Blocks, declare_block, first_of, test_of, last_of, code_of, code_in, arms_of}
 use Rattle.edd_methods.specs.TreeExpressions.{is_abort_call, EachWritten, EachDeclared, Each, EachIn, EachSlotOf, HasSlots, EachSlot}
@@ -55,9 +55,7 @@ module _ (given : Blocks) (limit : ℕ) (P : Expr Target → Type 0) (R V : bloc
       ),
     )
     statement_fits (Switch on body) slots ok = (value on ok.0, arms_fit body slots ok.1)
-    statement_fits Break slots ok = tt
-    statement_fits Continue slots ok = tt
-    statement_fits Return slots ok = tt
+    statement_fits _ slots ok = tt
 
     pub body_fits : (b : Body Target) → EachSlot limit b → EachIn P b → Fits R V (code_in given b)
     body_fits Nil slots ok = nothing
@@ -65,8 +63,7 @@ module _ (given : Blocks) (limit : ℕ) (P : Expr Target → Type 0) (R V : bloc
         (declares ds slots.0 ok.0, body_fits rest slots.1 ok.1)
     body_fits (Cons (Statement x) rest) slots ok =
         (statement_fits x slots.0 ok.0, body_fits rest slots.1 ok.1)
-    body_fits (Cons (CaseLabel label) rest) slots ok = body_fits rest slots ok
-    body_fits (Cons DefaultLabel rest) slots ok = body_fits rest slots ok
+    body_fits (Cons _ rest) slots ok = body_fits rest slots ok
 
     arms_fit : (b : Body Target) → EachSlot limit b → EachIn P b → FitArms R V (arms_of given b)
     arms_fit Nil slots ok = tt
@@ -74,5 +71,4 @@ module _ (given : Blocks) (limit : ℕ) (P : Expr Target → Type 0) (R V : bloc
         (declares ds slots.0 ok.0, arms_fit rest slots.1 ok.1)
     arms_fit (Cons (Statement x) rest) slots ok =
         (statement_fits x slots.0 ok.0, arms_fit rest slots.1 ok.1)
-    arms_fit (Cons (CaseLabel label) rest) slots ok = arms_fit rest slots ok
-    arms_fit (Cons DefaultLabel rest) slots ok = arms_fit rest slots ok
+    arms_fit (Cons _ rest) slots ok = arms_fit rest slots ok

@@ -3,7 +3,7 @@ use Rattle.std.proofs.Common.{◌^◌, refl, List, [], ◌∷◌, ◌++◌, Opti
 use Rattle.std.specs.List.{AllByRecursion, flat_map}
 use Rattle.edd_syntax.specs.declared.reference.Target.{Target}
 use Rattle.edd_syntax.specs.Expression.{Expr}
-use Rattle.edd_syntax.specs.Statement.{Declarator, Stmt, Empty, Evaluate, Block, If, IfElse, While, Do, For, Switch, Break, Continue, Return, Body, Nil, Cons, Declare, Statement, CaseLabel, DefaultLabel}
+use Rattle.edd_syntax.specs.Statement.{Declarator, Stmt, Evaluate, Block, If, IfElse, While, Do, For, Switch, Body, Nil, Cons, Declare, Statement}
 use Rattle.edd_methods.specs.TreeExpressions.{EachWritten, EachDeclared, Each, EachIn, UnlessAbort, EachSlotOf, HasSlots, EachSlot}
 use Rattle.edd_syntax.specs.SubsetRules.{Placed, part_of, optional_part, stmt_expressions, body_expressions}
 
@@ -28,7 +28,6 @@ module _ (P : Expr Target → Type 0) where
 
   mutual
     pub each_listed : (x : Stmt Target) → HasSlots (2 ^ 8) x → All (stmt_expressions x) → Each P x
-    each_listed Empty slots all = tt
     each_listed (Evaluate e) slots all = λ is. all.0 is
     each_listed (Block body) slots all = each_in_listed body slots all
     each_listed (If condition first) slots all = (all.0 refl, each_listed first slots all.1)
@@ -51,9 +50,7 @@ module _ (P : Expr Target → Type 0) where
           each_listed body slots three.1,
         )
     each_listed (Switch on body) slots all = (all.0 refl, each_in_listed body slots all.1)
-    each_listed Break slots all = tt
-    each_listed Continue slots all = tt
-    each_listed Return slots all = tt
+    each_listed _ slots all = tt
 
     pub each_in_listed : (b : Body Target) → EachSlot (2 ^ 8) b → All (body_expressions b)
         → EachIn P b
@@ -64,5 +61,4 @@ module _ (P : Expr Target → Type 0) where
     each_in_listed (Cons (Statement x) rest) slots all =
         let two = parted (stmt_expressions x) (body_expressions rest) all in
         (each_listed x slots.0 two.0, each_in_listed rest slots.1 two.1)
-    each_in_listed (Cons (CaseLabel label) rest) slots all = each_in_listed rest slots all
-    each_in_listed (Cons DefaultLabel rest) slots all = each_in_listed rest slots all
+    each_in_listed (Cons _ rest) slots all = each_in_listed rest slots all

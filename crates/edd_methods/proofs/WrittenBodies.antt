@@ -8,7 +8,7 @@ use Rattle.edd_syntax.specs.declared.numbers.StrNo.{StrNo}
 use Rattle.edd_syntax.specs.declared.reference.Target.{Target}
 use Rattle.edd_syntax.specs.Size.{body_nodes}
 use Rattle.edd_syntax.specs.Statement as tree
-use Rattle.edd_syntax.specs.Statement.{Declarator, Body, body_from, Declare, Cons, CaseLabel, DefaultLabel}
+use Rattle.edd_syntax.specs.Statement.{Declarator, body_from, Declare, Cons, CaseLabel, DefaultLabel}
 use Rattle.edd_syntax.specs.Strings.{expr_texts}
 use Rattle.edd_syntax.specs.SubsetRules.{stmt_expressions, body_expressions, optional_part}
 use Rattle.edd_syntax.specs.Text.{Text}
@@ -43,8 +43,7 @@ body_split (tree.Statement s) xs =
     (body_expressions (body_from xs))
     ∙ ap (λ ps. placed_texts ps ++ body_texts (body_from xs))
     (sym (append-nil (stmt_expressions s)))
-body_split (CaseLabel label) xs = refl
-body_split DefaultLabel xs = refl
+body_split _ xs = refl
 
 pub declare_texts : (ds : List (Declarator Target)) → body_texts (body_from (Declare ds ∷ []))
     ≡ declared_texts ds
@@ -120,8 +119,7 @@ module _ (given : Blocks) (out back : ℕ) where
   one_part (Declare ds) xs p = piece p (Plain (declare_block given ds))
       (code_in given (body_from xs))
   one_part (tree.Statement s) xs p = piece p (code_of given s) (code_in given (body_from xs))
-  one_part (CaseLabel label) xs p = labelled p xs
-  one_part DefaultLabel xs p = labelled p xs
+  one_part _ xs p = labelled p xs
 
   -- what there will be once the other parts are written
   abbrev pub parts_left : List ℕ → List (tree.Part Target) → List ℕ

@@ -65,8 +65,7 @@ abort_when x g xs is none = sym (ap is_abort_call (is ∙ ap (λ ys. Call g (arg
 some_call : (g : Target) (y : Argument Target) (ys : List (Argument Target))
     → is_abort_call (Call g (arguments_from (y ∷ ys))) ≡ false
 some_call (Local slot) y ys = refl
-some_call (Item i) y ys = refl
-some_call (Function f) y ys = refl
+some_call _ y ys = refl
 
 pub no_abort_when : (x : Expr Target) (g : Target) (xs : List (Argument Target))
     → x ≡ Call g (arguments_from xs) → ¬ (xs ≡ []) → false ≡ is_abort_call x

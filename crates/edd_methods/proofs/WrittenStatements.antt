@@ -6,7 +6,7 @@ use Rattle.std.proofs.lemmas.Grind.{flat_map-append}
 use Rattle.std.proofs.lemmas.List.{append-nil}
 use Rattle.edd_syntax.specs.declared.numbers.StrNo.{StrNo}
 use Rattle.edd_syntax.specs.declared.reference.Target.{Target}
-use Rattle.edd_syntax.specs.Expression.{Expr, Literal, Decimal, Reference, Indexed, Parentheses, Unary, Binary, Compare, LogicalAnd, LogicalOr, Conditional, Assign, CompoundAssign, Increment, Call}
+use Rattle.edd_syntax.specs.Expression.{Expr, Literal}
 use Rattle.edd_syntax.specs.Size.{nodes}
 use Rattle.edd_syntax.specs.Statement as tree
 use Rattle.edd_syntax.specs.Statement.{Stmt, Body}
@@ -33,20 +33,7 @@ use Rattle.edd_methods.proofs.NumberedParts.{Said, Within, both, said, listed, n
 -- an expression is a node
 pub some_nodes : (e : Expr Target) → 1 ≤ nodes e
 some_nodes (Literal value) = omega arith
-some_nodes Decimal = omega arith
-some_nodes (Reference from) = omega arith
-some_nodes (Indexed array index) = omega arith
-some_nodes (Parentheses inner) = omega arith
-some_nodes (Unary op operand) = omega arith
-some_nodes (Binary op left right) = omega arith
-some_nodes (Compare by left right) = omega arith
-some_nodes (LogicalAnd left right) = omega arith
-some_nodes (LogicalOr left right) = omega arith
-some_nodes (Conditional test first second) = omega arith
-some_nodes (Assign to value) = omega arith
-some_nodes (CompoundAssign op to value) = omega arith
-some_nodes (Increment op to) = omega arith
-some_nodes (Call function arguments) = omega arith
+some_nodes _ = omega arith
 
 -- the statement is written
 abbrev pub LowersStatement : {A : Type 0} → Result A LowerFault → (old : List Words) → (c0 : List ℕ)

@@ -145,8 +145,4 @@ module _ {X R : Type 0} (view : X → Item R) where
 pub few_of : (n : Kind → ℕ) → list_any (λ k. nat_lt item_limit (n k)) kinds ≡ false → (k : Kind)
     → n k ≤ item_limit
 few_of n h kind.Variable = grind (arith, common_steps, nat_tests)
-few_of n h kind.Command = grind (arith, common_steps, nat_tests)
-few_of n h kind.Menu = grind (arith, common_steps, nat_tests)
-few_of n h kind.Collection = grind (arith, common_steps, nat_tests)
-few_of n h kind.Method = grind (arith, common_steps, nat_tests)
-few_of n h kind.Array = grind (arith, common_steps, nat_tests)
+few_of n h _ = grind (arith, common_steps, nat_tests)

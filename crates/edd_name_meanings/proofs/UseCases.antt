@@ -290,8 +290,7 @@ module _ (unit : Description Path) where
   read_is : (u : Use) → reading_of (read_in unit) u
       ≡ or_stand_in (kinds_at u) (reading_of (meant_in unit) u)
   read_is (OfItem scope kinds path) = refl
-  read_is (OfArray scope path) = refl
-  read_is (OfFunction path) = refl
+  read_is _ = refl
 
   -- with a fault, what stands for its meaning
   pub reads_at_fault : (b : Breach) (u : Use) (p : code.Path) → IsFaultOf b unit u p

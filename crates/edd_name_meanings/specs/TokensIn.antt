@@ -17,7 +17,6 @@ use Rattle.edd_syntax.specs.declared.item.DataItem.{DataItem}
 use Rattle.edd_syntax.specs.declared.item.DataItem.TheVariants as data_item
 use Rattle.edd_syntax.specs.declared.item.Enumerator.{Enumerator}
 use Rattle.edd_syntax.specs.declared.item.Item.{Item}
-use Rattle.edd_syntax.specs.declared.item.Item.TheVariants as item
 use Rattle.edd_syntax.specs.declared.item.Member.{Member}
 use Rattle.edd_syntax.specs.declared.item.TransactionPart.{TransactionPart}
 use Rattle.edd_syntax.specs.declared.item.TransactionPart.TheVariants as transaction
@@ -148,11 +147,8 @@ token_of_element e = e.at ∷ []
 
 -- of what is in the braces of a type
 abbrev pub tokens_in_type_part : {R : Type 0} → TypePart R → List TokenNo
-tokens_in_type_part (part.DefaultValue at value) = at ∷ tokens_in_cond tokens_in_expr value
-tokens_in_type_part (part.MinValue at value) = at ∷ tokens_in_cond tokens_in_expr value
-tokens_in_type_part (part.MaxValue at value) = at ∷ tokens_in_cond tokens_in_expr value
-tokens_in_type_part (part.DisplayFormat at format) = at ∷ tokens_in_cond no_tokens format
-tokens_in_type_part (part.EditFormat at format) = at ∷ tokens_in_cond no_tokens format
+tokens_in_type_part (part.OneNumber at which value) = at ∷ tokens_in_cond tokens_in_expr value
+tokens_in_type_part (part.OneFormat at which format) = at ∷ tokens_in_cond no_tokens format
 tokens_in_type_part (part.Element element) = tokens_in_cond token_of_enumerator element
 
 -- of a REQUEST or a REPLY
@@ -182,18 +178,9 @@ tokens_in_attribute (attribute.Elements at elements) = at
     ∷ flat_map token_of_element elements.items
 tokens_in_attribute (attribute.Definition at parts) = at ∷ flat_map tokens_in_part parts.items
 
--- of the name of an item
-abbrev pub token_of_item : {R : Type 0} → Item R → TokenNo
-token_of_item (item.Variable d) = d.at
-token_of_item (item.Command d) = d.at
-token_of_item (item.Menu d) = d.at
-token_of_item (item.Collection d) = d.at
-token_of_item (item.Method d) = d.at
-token_of_item (item.Array d) = d.at
-
 -- of an item
 abbrev pub tokens_in_item : {R : Type 0} → Item R → List TokenNo
-tokens_in_item i = token_of_item i ∷ flat_map tokens_in_attribute (attributes_of i)
+tokens_in_item i = i.at ∷ flat_map tokens_in_attribute (attributes_of i)
 
 -- of items
 abbrev pub tokens_in_items : {R : Type 0} → List (Item R) → List TokenNo

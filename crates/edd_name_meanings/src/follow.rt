@@ -16,7 +16,7 @@ ghost use Rattle.edd_name_meanings.specs.Places.{place_along};
 ghost use Rattle.edd_name_meanings.specs.StandIns.{or_stand_in};
 
 use crate::directory::Names;
-use crate::path_steps::{PathStep, is_among, step_to_member, wrong_kind};
+use crate::path_steps::{PathStep, step_to_member, wrong_kind};
 use crate::telling::stand_in;
 use edd_breaches::Breach;
 use edd_syntax::numbers::{ItemNo, Kind, TokenNo};
@@ -63,7 +63,7 @@ fn arrive<'b>(names: &Names, allowed: &[Kind], here: PathStep<'b>) -> Result<Tar
         → Reaches (description_of names.now) allowed.now all at meant here.entry []
         → IsFirst b all at) }
 {
-    if !is_among(allowed, here.kind) {
+    if !here.kind.is_among(allowed) {
         return Err(wrong_kind(here.name, here.at, None));
     }
     match here.item {

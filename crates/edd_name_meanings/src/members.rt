@@ -4,7 +4,7 @@ ghost use Rattle.std.specs.Prelude.{◌≡◌, [], ◌∷◌, ◌++◌, List, No
 ghost use Rattle.std.specs.List.{flat_map};
 ghost use Rattle.std.specs.Option.{option_or};
 ghost use Rattle.std.specs.Str.{bytes_eq};
-ghost use Rattle.edd_syntax.specs.declared.item.Item.TheVariants as item_kind;
+ghost use Rattle.edd_syntax.specs.declared.item.ItemKind.TheVariants as item_kind;
 ghost use Rattle.edd_syntax.specs.declared.numbers.Kind.TheVariants as kind;
 ghost use Rattle.edd_syntax.specs.Item as pure;
 ghost use Rattle.edd_syntax.specs.Item.{kind_of_item};
@@ -17,7 +17,7 @@ ghost use Rattle.edd_syntax.specs.TreeView.{path_of};
 ghost use Rattle.edd_name_meanings.specs.Members.{member_named, member_listed, member_of_name, found_in, AreCollections};
 
 use crate::numbering::put_first;
-use edd_syntax::item::{Attribute, CollectionDef, Item, Member};
+use edd_syntax::item::{Attribute, Item, ItemKind, Member};
 use edd_syntax::numbers::Kind;
 use edd_syntax::reference::Path;
 use indexmap::IndexMap;
@@ -90,25 +90,28 @@ fn has_many(attributes: &[Attribute<Path>]) -> bool {
     false
 }
 
+// A collection, whose members have this kind.
 fn one_collection<'a>(
-    def: &'a CollectionDef<Path>,
+    item: &'a Item<Path>,
+    of: Kind,
     alloc: Global,
 ) -> Result<Collection<'a>, AllocError>
-    ensures { IfOk result (λ c. (q : Name)
-        → found_in c q ≡ member_in (item_of path_of (item_kind.Collection def.now)) q) }
+    requires { item.now.sort ≡ item_kind.Collection of }
+    ensures { IfOk result (λ c. (q : Name) → found_in c q ≡ member_in (item_of path_of item.now) q) }
 {
-    if !has_many(&def.attributes) {
+    let attributes = item.attributes();
+    if !has_many(attributes) {
         return Ok(Collection {
-            of: def.of,
-            attributes: &def.attributes,
+            of,
+            attributes,
             by_name: None,
         });
     }
     let mut members = IndexMap::new(alloc);
-    add_attributes(&mut members, &def.attributes)?;
+    add_attributes(&mut members, attributes)?;
     Ok(Collection {
-        of: def.of,
-        attributes: &def.attributes,
+        of,
+        attributes,
         by_name: Some(members),
     })
 }
@@ -125,14 +128,17 @@ fn add_collection<'a>(
         (is ++ filter (λ i. same_kind (kind_of_item i.sort) kind.Collection)
         (item_of path_of item.now ∷ []))) }
 {
-    match item {
-        Item::Collection(def) => {
-            let one = one_collection(def, alloc)?;
+    match item.sort {
+        ItemKind::Collection(of) => {
+            let one = one_collection(item, of, alloc)?;
             all.push(one)?;
             Ok(())
         }
-        Item::Variable(_) | Item::Command(_) | Item::Menu(_) | Item::Method(_) | Item::Array(_) =>
-            Ok(()),
+        ItemKind::Variable
+        | ItemKind::Command
+        | ItemKind::Menu
+        | ItemKind::Method
+        | ItemKind::Array => Ok(()),
     }
 }
 

@@ -3,7 +3,6 @@
 ghost use Rattle.std.specs.Prelude.{◌≡◌, None, Some, IfErr, IfOk, option_and_then, option_map};
 ghost use Rattle.edd_syntax.specs.declared.numbers.Kind.TheVariants as kind;
 ghost use Rattle.edd_syntax.specs.ItemView.{member_of};
-ghost use Rattle.edd_syntax.specs.NameRules.{is_kind_among};
 ghost use Rattle.edd_syntax.specs.Numbers.{kind_of};
 ghost use Rattle.edd_syntax.specs.Refusal.{UnknownName, WrongKind};
 ghost use Rattle.edd_syntax.specs.Resolution.{FoundMember, item_of_member, member_at, of_kind};
@@ -39,17 +38,6 @@ pub fn wrong_kind<'a>(name: &'a str, at: TokenNo, earlier: Option<TokenNo>) -> B
         place: Some(at),
         earlier,
     }
-}
-
-pub fn is_among(allowed: &[Kind], kind: Kind) -> bool
-    ensures { result ≡ is_kind_among allowed.now kind }
-{
-    for other in allowed {
-        if kind == *other {
-            return true;
-        }
-    }
-    false
 }
 
 /// A name on the way along a path and its token, the kind of what it names, and the item where that

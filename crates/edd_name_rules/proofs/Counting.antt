@@ -30,15 +30,4 @@ items_split k i rest = length_if i (filter (λ i. same_kind (kind_of_item i.sort
 pub transactions_split : {R : Type 0} (a : Attribute R) (rest : List (Attribute R))
     → transactions_in (a ∷ rest) ≡ transactions_in (a ∷ []) + transactions_in rest
 transactions_split (item.OneText which c) rest = omega arith
-transactions_split (item.Class words) rest = omega arith
-transactions_split (item.Handling c) rest = omega arith
-transactions_split (item.Validity c) rest = omega arith
-transactions_split (item.TypeOf word parts) rest = omega arith
-transactions_split (item.Number n) rest = omega arith
-transactions_split (item.Operation o) rest = omega arith
-transactions_split (item.Transaction number parts) rest = omega arith
-transactions_split (item.ResponseCodes responses) rest = omega arith
-transactions_split (item.Items entries) rest = omega arith
-transactions_split (item.Members members) rest = omega arith
-transactions_split (item.Definition body) rest = omega arith
-transactions_split (item.Elements elements) rest = omega arith
+transactions_split _ rest = omega arith

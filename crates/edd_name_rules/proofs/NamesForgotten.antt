@@ -11,7 +11,7 @@ use Rattle.edd_syntax.specs.declared.reference.Path.{Path}
 use Rattle.edd_syntax.specs.declared.stmt.Stmt.{Stmt, Row_of-Part, end_of-Part, more_of-Part}
 use Rattle.edd_syntax.specs.declared.stmt.Stmt.TheVariants.{Empty, Evaluate, Block', If', IfElse', While', Do', For', Switch', Break, Continue, Return}
 use Rattle.edd_syntax.specs.declared.stmt.Part.{Part}
-use Rattle.edd_syntax.specs.declared.stmt.Part.TheVariants.{Declare, Statement, CaseLabel, DefaultLabel}
+use Rattle.edd_syntax.specs.declared.stmt.Part.TheVariants.{Declare, Statement}
 use Rattle.edd_syntax.specs.ItemView.{attribute_of, attributes_of, item_of, member_of, name_of}
 use Rattle.edd_syntax.specs.NameRules.{repeated_inside, repeated_locals, repeated_in_attributes, repeated_in_items}
 use Rattle.edd_syntax.specs.Refusal.{Refusal, DuplicateName, is_name_in, repeated}
@@ -102,8 +102,7 @@ mutual
       (locals_are _ _ (after_names (declarator_of path_of) (λ d. d.place.base) b d h ds.items) _ rest)
   locals_are b d h n (more_of-Part (Statement s) rest) = both DuplicateName (inside_told s)
       (locals_told b rest) _ _ (inside_are s) (locals_are b d h _ rest)
-  locals_are b d h n (more_of-Part (CaseLabel at label) rest) = locals_are b d h _ rest
-  locals_are b d h n (more_of-Part (DefaultLabel at) rest) = locals_are b d h _ rest
+  locals_are b d h n (more_of-Part _ rest) = locals_are b d h _ rest
 
 parts_are : (b d : List Name) → SameNames b d → (ps : List (Part Path))
     → refusals (told_along part_told with_locals b ps)
@@ -116,8 +115,7 @@ parts_are b d h (Declare ds ∷ rest) =
     (parts_are _ _ (after_names (declarator_of path_of) (λ d. d.place.base) b d h ds.items) rest)
 parts_are b d h (Statement s ∷ rest) = both DuplicateName (inside_told s) _ _ _ (inside_are s)
     (parts_are b d h rest)
-parts_are b d h (CaseLabel at label ∷ rest) = parts_are b d h rest
-parts_are b d h (DefaultLabel at ∷ rest) = parts_are b d h rest
+parts_are b d h (_ ∷ rest) = parts_are b d h rest
 
 -- ---- items
 
@@ -125,17 +123,6 @@ members_are : (b d : List Name) → SameNames b d → (all : List (Attribute Pat
     → refusals (told_along members_told with_members b all)
     ≡ map DuplicateName (repeated_in_attributes d (map (attribute_of path_of) all))
 members_are b d h [] = refl
-members_are b d h (a.OneText at which c ∷ rest) = members_are b d h rest
-members_are b d h (a.Class at words ∷ rest) = members_are b d h rest
-members_are b d h (a.Handling at c ∷ rest) = members_are b d h rest
-members_are b d h (a.Validity at c ∷ rest) = members_are b d h rest
-members_are b d h (a.TypeOf at word parts ∷ rest) = members_are b d h rest
-members_are b d h (a.Number at n ∷ rest) = members_are b d h rest
-members_are b d h (a.Operation at o ∷ rest) = members_are b d h rest
-members_are b d h (a.Transaction at number parts ∷ rest) = members_are b d h rest
-members_are b d h (a.ResponseCodes at codes ∷ rest) = members_are b d h rest
-members_are b d h (a.Items at entries ∷ rest) = members_are b d h rest
-members_are b d h (a.Elements at elements ∷ rest) = members_are b d h rest
 members_are b d h (a.Definition at parts ∷ rest) =
     both DuplicateName (told_along part_told with_locals [] parts.items) _ _ _
     (parts_are [] [] (λ q. refl) parts.items) (members_are b d h rest)
@@ -143,6 +130,7 @@ members_are b d h (a.Members at ms ∷ rest) =
     both DuplicateName (told_along member_told with_member b ms.items) _ _ _
     (names_are DuplicateName (member_of path_of) (λ m. m.name) (λ m. m.at) b d h ms.items)
     (members_are _ _ (after_names (member_of path_of) (λ m. m.name) b d h ms.items) rest)
+members_are b d h (_ ∷ rest) = members_are b d h rest
 
 pub items_are : (b d : List Name) → SameNames b d → (items : List (Item Path))
     → refusals (told_along item_told with_item b items)

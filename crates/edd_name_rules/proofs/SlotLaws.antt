@@ -4,16 +4,14 @@ use Rattle.std.specs.Prelude.{◌||◌}
 use Rattle.std.specs.List.{list_any, sum, sum_by}
 use Rattle.std.proofs.lemmas.List.Sums.{sum-map, sum_by-append}
 use Rattle.edd_syntax.specs.Item.{Attribute}
-use Rattle.edd_syntax.specs.Statement.{Part, Declare, Statement, CaseLabel, DefaultLabel, body_from, slots_of, slots_in}
+use Rattle.edd_syntax.specs.Statement.{Part, Declare, body_from, slots_of, slots_in}
 use Rattle.edd_name_rules.specs.Spending.{locals_in}
 
 pub slots_split : {R : Type 0} (x : Part R) (xs : List (Part R)) → slots_in (body_from (x ∷ xs))
     ≡ slots_in (body_from (x ∷ [])) + slots_in (body_from xs)
 unfolding slots_of
 slots_split (Declare declarators) xs = omega arith
-slots_split (Statement s) xs = omega arith
-slots_split (CaseLabel label) xs = omega arith
-slots_split DefaultLabel xs = omega arith
+slots_split _ xs = omega arith
 
 pub sum_split : {X : Type 0} (f : X → ℕ) (x : X) (xs : List X)
     → sum (map f (x ∷ xs)) ≡ sum (map f (x ∷ [])) + sum (map f xs)

@@ -22,34 +22,11 @@ use Rattle.edd_name_rules.specs.Spending.{spent}
 
 pub nodes_pos : {R : Type 0} (x : pure.Expr R) → 1 ≤ nodes x
 nodes_pos (pure.Literal value) = omega arith
-nodes_pos pure.Decimal = omega arith
-nodes_pos (pure.Reference from) = omega arith
-nodes_pos (pure.Indexed array index) = omega arith
-nodes_pos (pure.Parentheses inner) = omega arith
-nodes_pos (pure.Unary op operand) = omega arith
-nodes_pos (pure.Binary op left right) = omega arith
-nodes_pos (pure.Compare by left right) = omega arith
-nodes_pos (pure.LogicalAnd left right) = omega arith
-nodes_pos (pure.LogicalOr left right) = omega arith
-nodes_pos (pure.Conditional test first second) = omega arith
-nodes_pos (pure.Assign to value) = omega arith
-nodes_pos (pure.CompoundAssign op to value) = omega arith
-nodes_pos (pure.Increment by to) = omega arith
-nodes_pos (pure.Call function arguments) = omega arith
+nodes_pos _ = omega arith
 
 pub statement_nodes_pos : {R : Type 0} (x : statement.Stmt R) → 1 ≤ statement_nodes x
 statement_nodes_pos statement.Empty = omega arith
-statement_nodes_pos (statement.Evaluate e) = omega arith
-statement_nodes_pos (statement.Block body) = omega arith
-statement_nodes_pos (statement.If condition first) = omega arith
-statement_nodes_pos (statement.IfElse condition first otherwise) = omega arith
-statement_nodes_pos (statement.While condition body) = omega arith
-statement_nodes_pos (statement.Do body condition) = omega arith
-statement_nodes_pos (statement.For initial condition update body) = omega arith
-statement_nodes_pos (statement.Switch on body) = omega arith
-statement_nodes_pos statement.Break = omega arith
-statement_nodes_pos statement.Continue = omega arith
-statement_nodes_pos statement.Return = omega arith
+statement_nodes_pos _ = omega arith
 
 -- ---- spending
 
@@ -103,9 +80,7 @@ argument_nodes_split (pure.Value e) xs = omega arith
 pub body_nodes_split : {R : Type 0} (x : statement.Part R) (xs : List (statement.Part R))
     → body_nodes (body_from (x ∷ xs)) ≡ body_nodes (body_from (x ∷ [])) + body_nodes (body_from xs)
 body_nodes_split (statement.Declare declarators) xs = omega arith
-body_nodes_split (statement.Statement s) xs = omega arith
-body_nodes_split (statement.CaseLabel label) xs = omega arith
-body_nodes_split statement.DefaultLabel xs = omega arith
+body_nodes_split _ xs = omega arith
 
 pub declarator_nodes_split : {R : Type 0} (d : statement.Declarator R)
     (ds : List (statement.Declarator R)) → declarator_nodes (d ∷ ds) ≡ declarator_nodes (d ∷ [])

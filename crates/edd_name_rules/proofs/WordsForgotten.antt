@@ -14,7 +14,7 @@ use Rattle.edd_syntax.specs.declared.numbers.Attr.TheVariants as attr
 use Rattle.edd_syntax.specs.declared.reference.Path.{Path}
 use Rattle.edd_syntax.specs.ItemView.{attribute_of, attributes_of, item_of, transaction_part_of, type_part_of}
 use Rattle.edd_syntax.specs.NameRules.{attribute_word, is_transaction, repeated_words, repeated_words_inside, transaction_part_word, type_part_words}
-use Rattle.edd_syntax.specs.Numbers.{attr_word}
+use Rattle.edd_syntax.specs.Numbers.{attr_word, number_attr, format_attr}
 use Rattle.edd_syntax.specs.Refusal.{DuplicateAttribute, repeated}
 use Rattle.edd_syntax.specs.Text.{Name}
 use Rattle.edd_syntax.specs.TreeView.{path_of}
@@ -32,19 +32,10 @@ options_are : (b d : List Name) → SameNames b d → (ps : List (TypePart Path)
     → refusals (told_along option_told with_option b ps)
     ≡ map DuplicateAttribute (repeated d (option_words ps))
 options_are b d h [] = refl
-options_are b d h (part.DefaultValue at value ∷ ps) = let w = attr_word attr.DefaultValue in
+options_are b d h (part.OneNumber at which value ∷ ps) = let w = attr_word (number_attr which) in
     one_more DuplicateAttribute b d h w at _ (option_words ps)
     (options_are (w ∷ b) (w ∷ d) (with_one w b d h) ps)
-options_are b d h (part.MinValue at value ∷ ps) = let w = attr_word attr.MinValue in
-    one_more DuplicateAttribute b d h w at _ (option_words ps)
-    (options_are (w ∷ b) (w ∷ d) (with_one w b d h) ps)
-options_are b d h (part.MaxValue at value ∷ ps) = let w = attr_word attr.MaxValue in
-    one_more DuplicateAttribute b d h w at _ (option_words ps)
-    (options_are (w ∷ b) (w ∷ d) (with_one w b d h) ps)
-options_are b d h (part.DisplayFormat at format ∷ ps) = let w = attr_word attr.DisplayFormat in
-    one_more DuplicateAttribute b d h w at _ (option_words ps)
-    (options_are (w ∷ b) (w ∷ d) (with_one w b d h) ps)
-options_are b d h (part.EditFormat at format ∷ ps) = let w = attr_word attr.EditFormat in
+options_are b d h (part.OneFormat at which format ∷ ps) = let w = attr_word (format_attr which) in
     one_more DuplicateAttribute b d h w at _ (option_words ps)
     (options_are (w ∷ b) (w ∷ d) (with_one w b d h) ps)
 options_are b d h (part.Element element ∷ ps) = options_are b d h ps
@@ -66,19 +57,9 @@ parts_are b d h (transaction.Reply at all ∷ ps) = let w = attr_word attr.Reply
 
 braces_are : (x : Attribute Path) → refusals (braces_told x)
     ≡ map DuplicateAttribute (repeated_words_inside (attribute_of path_of x))
-braces_are (a.OneText at which c) = refl
-braces_are (a.Class at words) = refl
-braces_are (a.Handling at c) = refl
-braces_are (a.Validity at c) = refl
 braces_are (a.TypeOf at word parts) = options_are [] [] (λ q. refl) parts.items
-braces_are (a.Number at n) = refl
-braces_are (a.Operation at o) = refl
 braces_are (a.Transaction at number parts) = parts_are [] [] (λ q. refl) parts.items
-braces_are (a.ResponseCodes at codes) = refl
-braces_are (a.Items at entries) = refl
-braces_are (a.Members at members) = refl
-braces_are (a.Definition at parts) = refl
-braces_are (a.Elements at elements) = refl
+braces_are _ = refl
 
 unless : (t : Bool) (told : List Told) (ns : List Name)
     → refusals told ≡ map DuplicateAttribute ns

@@ -14,7 +14,7 @@ use Rattle.edd_syntax.specs.declared.numbers.TokenNo.{TokenNo}
 use Rattle.edd_syntax.specs.declared.reference.Path.{Path}
 use Rattle.edd_syntax.specs.ItemView.{attribute_of, attributes_of, transaction_part_of, type_part_of}
 use Rattle.edd_syntax.specs.NameRules.{is_transaction, attribute_word, transaction_part_word, type_part_words}
-use Rattle.edd_syntax.specs.Numbers.{attr_word}
+use Rattle.edd_syntax.specs.Numbers.{attr_word, number_attr, format_attr}
 use Rattle.edd_syntax.specs.Refusal.{DuplicateAttribute, is_name_in}
 use Rattle.edd_syntax.specs.Text.{Name}
 use Rattle.edd_syntax.specs.TreeView.{path_of}
@@ -27,12 +27,9 @@ word_told before word at = told_if (is_name_in before word) (DuplicateAttribute 
 
 -- an option of a type; an element of the type's list is none
 abbrev pub option_told : (before : List Name) → TypePart Path → List Told
-option_told before (part.DefaultValue at value) = word_told before (attr_word attr.DefaultValue) at
-option_told before (part.MinValue at value) = word_told before (attr_word attr.MinValue) at
-option_told before (part.MaxValue at value) = word_told before (attr_word attr.MaxValue) at
-option_told before (part.DisplayFormat at format) =
-    word_told before (attr_word attr.DisplayFormat) at
-option_told before (part.EditFormat at format) = word_told before (attr_word attr.EditFormat) at
+option_told before (part.OneNumber at which value) = word_told before (attr_word (number_attr which)) at
+option_told before (part.OneFormat at which format) =
+    word_told before (attr_word (format_attr which)) at
 option_told before (part.Element element) = []
 
 -- the words after it

@@ -62,16 +62,8 @@ fn tell_option<'a>(
         → HasSeen (with_option before part.now) seen.new) }
 {
     match part {
-        TypePart::DefaultValue { at, .. } => note_word(seen, Attr::DefaultValue.word(), *at, told),
-        TypePart::MinValue { at, .. } => note_word(seen, Attr::MinValue.word(), *at, told),
-        TypePart::MaxValue { at, .. } => note_word(seen, Attr::MaxValue.word(), *at, told),
-        TypePart::DisplayFormat { at, .. } => note_word(
-            seen,
-            Attr::DisplayFormat.word(),
-            *at,
-            told,
-        ),
-        TypePart::EditFormat { at, .. } => note_word(seen, Attr::EditFormat.word(), *at, told),
+        TypePart::OneNumber { at, which, .. } => note_word(seen, which.attr().word(), *at, told),
+        TypePart::OneFormat { at, which, .. } => note_word(seen, which.attr().word(), *at, told),
         TypePart::Element(_) => Ok(()),
     }
 }

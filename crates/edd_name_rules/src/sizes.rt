@@ -20,12 +20,8 @@ fn spend_type_part(part: &TypePart<Path>, budget: u32) -> Option<u32>
     ensures { result ≡ spent budget (type_part_nodes (type_part_of path_of part.now)) }
 {
     match part {
-        TypePart::DefaultValue { value, .. }
-        | TypePart::MinValue { value, .. }
-        | TypePart::MaxValue { value, .. } => spend_value(value, budget.checked_sub(1)?),
-        TypePart::DisplayFormat { format, .. } | TypePart::EditFormat { format, .. } => {
-            spend_text(format, budget.checked_sub(1)?)
-        }
+        TypePart::OneNumber { value, .. } => spend_value(value, budget.checked_sub(1)?),
+        TypePart::OneFormat { format, .. } => spend_text(format, budget.checked_sub(1)?),
         TypePart::Element(element) => spend_enumerator(element, budget),
     }
 }

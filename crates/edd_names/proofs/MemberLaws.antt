@@ -9,7 +9,7 @@ use Rattle.edd_syntax.specs.declared.numbers.Kind.{Kind}
 use Rattle.edd_syntax.specs.declared.numbers.ItemNo.{ItemNo}
 use Rattle.edd_syntax.specs.Device.{items_of, item_at}
 use Rattle.edd_syntax.specs.Item as item
-use Rattle.edd_syntax.specs.Item.{ItemKind, VariableItem, CommandItem, MenuItem, CollectionItem, MethodItem, ArrayItem, Attribute, Item, Member, Description, kind_of_item}
+use Rattle.edd_syntax.specs.Item.{ItemKind, CollectionItem, Attribute, Item, Member, Description, kind_of_item}
 use Rattle.edd_syntax.specs.NameRules.{faults_along, faults_of_use}
 use Rattle.edd_syntax.specs.NameUses.{Use, OfItem, attribute_uses, item_uses, unit_uses}
 use Rattle.edd_syntax.specs.Numbers.{same_kind, kind_of, index_of}
@@ -149,23 +149,12 @@ module _ (unit : Description Path) where
 
   attribute_names : (of : Kind) (a : Attribute Path) → IsTrue (is_attribute is_path is_plain a)
       → Every Fine (attribute_uses (CollectionItem of) a) → Every (Names of) (members_in a)
-  attribute_names of (item.OneText which c) good fine = tt
-  attribute_names of (item.Class words) good fine = tt
-  attribute_names of (item.Handling c) good fine = tt
-  attribute_names of (item.Validity c) good fine = tt
-  attribute_names of (item.TypeOf word parts) good fine = tt
-  attribute_names of (item.Number n) good fine = tt
-  attribute_names of (item.Operation o) good fine = tt
-  attribute_names of (item.Transaction number parts) good fine = tt
-  attribute_names of (item.ResponseCodes responses) good fine = tt
-  attribute_names of (item.Items entries) good fine = tt
   attribute_names of (item.Members members) good fine =
       both (λ m. IsTrue (is_member is_path is_plain m))
       (λ m. Every Fine (OfItem [] (of ∷ []) m.item ∷ [])) (Names of) (member_names of) members
       (every_true (is_member is_path is_plain) members good)
       (every_flat Fine (λ m. OfItem [] (of ∷ []) m.item ∷ []) members fine)
-  attribute_names of (item.Definition body) good fine = tt
-  attribute_names of (item.Elements elements) good fine = tt
+  attribute_names of _ good fine = tt
 
   stands_well : (of : Kind) (a : Attribute Path)
       → IsTrue (stands_in is_path is_plain (kind_of_item (CollectionItem of)) a)
@@ -200,11 +189,7 @@ module _ (unit : Description Path) where
       picked of (find (λ x. bytes_eq x.name m) (flat_map members_in attributes)) found
       (λ x is. found_keeps (Names of) (λ x. bytes_eq x.name m) (flat_map members_in attributes) x
       (every_then_flat (Names of) members_in attributes each) is) e
-  item_names VariableItem attributes m found good fine e = absurd (none_some found e)
-  item_names CommandItem attributes m found good fine e = absurd (none_some found e)
-  item_names MenuItem attributes m found good fine e = absurd (none_some found e)
-  item_names MethodItem attributes m found good fine e = absurd (none_some found e)
-  item_names ArrayItem attributes m found good fine e = absurd (none_some found e)
+  item_names _ attributes m found good fine e = absurd (none_some found e)
 
   abbrev Good : Item Path → Type 0
   Good i = (m : Name) (found : FoundMember) → member_in i m ≡ Some found → Named found

@@ -8,7 +8,7 @@ use Rattle.edd_syntax.specs.declared.numbers.Kind.{Kind}
 use Rattle.edd_syntax.specs.Reference.{Path}
 use Rattle.edd_syntax.specs.declared.reference.Target.TheVariants.{Local}
 use Rattle.edd_syntax.specs.Expression as expr
-use Rattle.edd_syntax.specs.Expression.{Expr, Literal, Decimal, Reference, Indexed, Parentheses, Unary, Binary, Compare, LogicalAnd, LogicalOr, Conditional, Assign, CompoundAssign, Increment, Call, Text, Arguments}
+use Rattle.edd_syntax.specs.Expression.{Expr, Reference, Indexed, Parentheses, Unary, Binary, Compare, LogicalAnd, LogicalOr, Conditional, Assign, CompoundAssign, Increment, Call, Text, Arguments}
 use Rattle.edd_syntax.specs.Conditional as cond
 use Rattle.edd_syntax.specs.Conditional.{Cond, Value, If, Select, Conds, Arms, NoArms, ConsArm, Case, Default}
 use Rattle.edd_syntax.specs.Statement as s
@@ -55,8 +55,6 @@ module _ (r q : Reading) where
         → AllSame (uses_among scope kinds e)
         → resolved_by (at_scope r scope) (r.reference scope kinds) e
         ≡ resolved_by (at_scope q scope) (q.reference scope kinds) e
-    same_expr scope kinds (Literal value) h = refl
-    same_expr scope kinds Decimal h = refl
     same_expr scope kinds (Reference from) h = one Reference h.0
     same_expr scope kinds (Indexed array index) h =
         two Indexed h.0 (same_expr scope variable_kinds index h.1)
@@ -92,6 +90,7 @@ module _ (r q : Reading) where
     same_expr scope kinds (Increment op to) h = one (Increment op) h.0
     same_expr scope kinds (Call name arguments) h =
         two Call h.0 (same_arguments scope (argument_kinds name) arguments h.1)
+    same_expr scope kinds _ h = refl
 
     same_arguments : (scope : Scope) (kinds : List Kind) (all : Arguments Path)
         → AllSame (argument_uses scope kinds all)
@@ -169,7 +168,6 @@ module _ (r q : Reading) where
 
     same_stmt : (t : Stmt Path) (scope : Scope) (next : ℕ) → AllSame (stmt_uses t scope next)
         → resolved_stmt r t scope next ≡ resolved_stmt q t scope next
-    same_stmt s.Empty scope next h = refl
     same_stmt (s.Evaluate e) scope next h = one s.Evaluate (same_value scope e h)
     same_stmt (s.Block body) scope next h = one s.Block (same_body body scope next h)
     same_stmt (s.If test first) scope next h =
@@ -201,9 +199,7 @@ module _ (r q : Reading) where
     same_stmt (s.Switch on body) scope next h =
         let b = every_append Same (expr_uses scope on) _ h in
         two s.Switch (same_value scope on b.0) (same_body body scope next b.1)
-    same_stmt s.Break scope next h = refl
-    same_stmt s.Continue scope next h = refl
-    same_stmt s.Return scope next h = refl
+    same_stmt _ scope next h = refl
 
     same_body : (t : Body Path) (scope : Scope) (next : ℕ) → AllSame (body_uses t scope next)
         → resolved_body r t scope next ≡ resolved_body q t scope next
@@ -249,14 +245,9 @@ module _ (r q : Reading) where
 
   same_type_part : (p : TypePart Path) → AllSame (type_part_uses p)
       → resolved_type_part r p ≡ resolved_type_part q p
-  same_type_part (item.DefaultValue c) h = one item.DefaultValue
+  same_type_part (item.OneNumber which c) h = one (item.OneNumber which)
       (same_cond attribute_expr_uses _ _ (same_value []) c h)
-  same_type_part (item.MinValue c) h = one item.MinValue
-      (same_cond attribute_expr_uses _ _ (same_value []) c h)
-  same_type_part (item.MaxValue c) h = one item.MaxValue
-      (same_cond attribute_expr_uses _ _ (same_value []) c h)
-  same_type_part (item.DisplayFormat c) h = one item.DisplayFormat (same_plain c h)
-  same_type_part (item.EditFormat c) h = one item.EditFormat (same_plain c h)
+  same_type_part (item.OneFormat which c) h = one (item.OneFormat which) (same_plain c h)
   same_type_part (item.Element c) h = one item.Element (same_plain c h)
 
   same_transaction_part : (p : TransactionPart Path) → AllSame (transaction_part_uses p)
@@ -269,16 +260,12 @@ module _ (r q : Reading) where
   same_attribute : (sort : ItemKind) (a : Attribute Path) → AllSame (attribute_uses sort a)
       → resolved_attribute r sort a ≡ resolved_attribute q sort a
   same_attribute sort (item.OneText which c) h = one (item.OneText which) (same_plain c h)
-  same_attribute sort (item.Class words) h = refl
   same_attribute sort (item.Handling c) h = one item.Handling (same_plain c h)
   same_attribute sort (item.Validity c) h = one item.Validity (same_plain c h)
   same_attribute sort (item.TypeOf word parts) h = one (item.TypeOf word)
       (same_each type_part_uses _ _ same_type_part parts h)
-  same_attribute sort (item.Number n) h = refl
-  same_attribute sort (item.Operation o) h = refl
   same_attribute sort (item.Transaction number parts) h = one (item.Transaction number)
       (same_each transaction_part_uses _ _ same_transaction_part parts h)
-  same_attribute sort (item.ResponseCodes responses) h = refl
   same_attribute sort (item.Items entries) h = one item.Items
       (same_conds entry_uses _ _ same_entry entries h)
   same_attribute sort (item.Members members) h = one item.Members
@@ -298,6 +285,7 @@ module _ (r q : Reading) where
         help = e.help;
       }) fine.0) elements h)
   same_attribute sort (item.Definition body) h = one item.Definition (same_body body [] 0 h)
+  same_attribute sort _ h = refl
 
   same_item : (i : item.Item Path) → AllSame (item_uses i) → resolved_item r i ≡ resolved_item q i
   same_item i h = one (λ attributes. record {

@@ -26,7 +26,7 @@ use edd_expression_names::exprs::refer_variable;
 use edd_expression_names::texts::copy_optional_text;
 use edd_name_meanings::directory::Names;
 use edd_name_meanings::references::refer;
-use edd_syntax::item::{ArrayElement, Item, Member, TransactionPart, TypePart};
+use edd_syntax::item::{ArrayElement, Item, ItemKind, Member, TransactionPart, TypePart};
 use edd_syntax::reference::{Path, Target};
 use std::alloc::AllocError;
 
@@ -130,24 +130,14 @@ impl ResolvePart for TypePart<Path> {
         told: &mut Vec<Breach<'a>>,
     ) -> Result<TypePart<Target>, AllocError> {
         match self {
-            TypePart::DefaultValue { at, value } => Ok(TypePart::DefaultValue {
+            TypePart::OneNumber { at, which, value } => Ok(TypePart::OneNumber {
                 at: *at,
+                which: *which,
                 value: copy_cond(value, names, told)?,
             }),
-            TypePart::MinValue { at, value } => Ok(TypePart::MinValue {
+            TypePart::OneFormat { at, which, format } => Ok(TypePart::OneFormat {
                 at: *at,
-                value: copy_cond(value, names, told)?,
-            }),
-            TypePart::MaxValue { at, value } => Ok(TypePart::MaxValue {
-                at: *at,
-                value: copy_cond(value, names, told)?,
-            }),
-            TypePart::DisplayFormat { at, format } => Ok(TypePart::DisplayFormat {
-                at: *at,
-                format: copy_cond(format, names, told)?,
-            }),
-            TypePart::EditFormat { at, format } => Ok(TypePart::EditFormat {
-                at: *at,
+                which: *which,
                 format: copy_cond(format, names, told)?,
             }),
             TypePart::Element(element) => {
@@ -213,10 +203,13 @@ fn refer_member<'a>(
     ensures sound { Copies ((read_by names.now).reference []
         (member_kinds (item_of path_of item.now).sort) (path_of path.now)) (λ t. t) result }
 {
-    match item {
-        Item::Collection(d) => refer(names, &[], &[d.of], path, told),
-        Item::Variable(_) | Item::Command(_) | Item::Menu(_) | Item::Method(_) | Item::Array(_) =>
-            refer(names, &[], &[], path, told),
+    match item.sort {
+        ItemKind::Collection(of) => refer(names, &[], &[of], path, told),
+        ItemKind::Variable
+        | ItemKind::Command
+        | ItemKind::Menu
+        | ItemKind::Method
+        | ItemKind::Array => refer(names, &[], &[], path, told),
     }
 }
 

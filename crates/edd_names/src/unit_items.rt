@@ -9,15 +9,13 @@ ghost use Rattle.edd_syntax.specs.ResolvedTrees.{each, resolved_item};
 ghost use Rattle.edd_syntax.specs.TreeView.{path_of};
 ghost use Rattle.edd_name_meanings.specs.Directory.{description_of, read_by};
 ghost use Rattle.edd_name_meanings.specs.Copies.{Copies, Keeps, Told};
-ghost use Rattle.edd_name_meanings.specs.TokensIn.{token_of_item, tokens_in_attribute, tokens_in_item, tokens_in_items};
+ghost use Rattle.edd_name_meanings.specs.TokensIn.{tokens_in_attribute, tokens_in_item, tokens_in_items};
 ghost use Rattle.edd_name_meanings.specs.PathsIn.{paths_in_item, paths_in_items};
 
 use crate::attributes::copy_attributes;
 use edd_breaches::Breach;
 use edd_name_meanings::directory::Names;
-use edd_syntax::item::{
-    ArrayDef, Attribute, CollectionDef, CommandDef, Item, MenuDef, MethodDef, VariableDef,
-};
+use edd_syntax::item::{Attribute, Item};
 use edd_syntax::reference::{Path, Target};
 use std::alloc::AllocError;
 
@@ -28,40 +26,13 @@ fn like(item: &Item<Path>, name: String, attributes: Vec<Attribute<Target>>) -> 
     ensures attributes { (numbered_item result).attributes
         ≡ map numbered_attribute attributes.items }
     ensures kept { tokens_in_item result
-        ≡ token_of_item item.now ∷ flat_map tokens_in_attribute attributes.items }
+        ≡ item.now.at ∷ flat_map tokens_in_attribute attributes.items }
 {
-    match item {
-        Item::Variable(d) => Item::Variable(VariableDef {
-            at: d.at,
-            name,
-            attributes,
-        }),
-        Item::Command(d) => Item::Command(CommandDef {
-            at: d.at,
-            name,
-            attributes,
-        }),
-        Item::Menu(d) => Item::Menu(MenuDef {
-            at: d.at,
-            name,
-            attributes,
-        }),
-        Item::Collection(d) => Item::Collection(CollectionDef {
-            at: d.at,
-            of: d.of,
-            name,
-            attributes,
-        }),
-        Item::Method(d) => Item::Method(MethodDef {
-            at: d.at,
-            name,
-            attributes,
-        }),
-        Item::Array(d) => Item::Array(ArrayDef {
-            at: d.at,
-            name,
-            attributes,
-        }),
+    Item {
+        sort: item.sort,
+        at: item.at,
+        name,
+        attributes,
     }
 }
 

@@ -52,17 +52,13 @@ where_false false x y e = refl
 pub enumerated : (t : VarType) (rs : List Record) (old new : ℤ) (found : Bool)
     → t ≡ var_type.Enumerated → found ≡ list_any (is_enumerator new) rs → found ≡ true
     → None ≡ named_fault t rs old new
-enumerated var_type.Integer rs old new found is e there = absurd cc
-enumerated var_type.UnsignedInteger rs old new found is e there = absurd cc
 enumerated var_type.Enumerated rs old new found is e there =
     where_true (list_any (is_enumerator new) rs) None (Some fault.NoEnumerator) (sym e ∙ there)
-enumerated var_type.BitEnumerated rs old new found is e there = absurd cc
+enumerated _ rs old new found is e there = absurd cc
 
 pub not_enumerated : (t : VarType) (rs : List Record) (old new : ℤ) (found : Bool)
     → t ≡ var_type.Enumerated → found ≡ list_any (is_enumerator new) rs → found ≡ false
     → Some fault.NoEnumerator ≡ named_fault t rs old new
-not_enumerated var_type.Integer rs old new found is e absent = absurd cc
-not_enumerated var_type.UnsignedInteger rs old new found is e absent = absurd cc
 not_enumerated var_type.Enumerated rs old new found is e absent =
     where_false (list_any (is_enumerator new) rs) None (Some fault.NoEnumerator) (sym e ∙ absent)
-not_enumerated var_type.BitEnumerated rs old new found is e absent = absurd cc
+not_enumerated _ rs old new found is e absent = absurd cc

@@ -7,7 +7,7 @@ use Rattle.edd_syntax.specs.Reference.{Path}
 use Rattle.edd_syntax.specs.Item.{Identification, Item, Description}
 use Rattle.edd_syntax.specs.ItemGrammar.{Spells}
 use Rattle.edd_syntax.specs.WellFormed.{are_items}
-use Rattle.edd_syntax.specs.Token.{Token, Reserved, Identifier, Integer, Decimal, String, Sign}
+use Rattle.edd_syntax.specs.Token.{Token, Identifier, Integer, String}
 use Rattle.edd_lexer.specs.declared.token.Token as code_token
 use Rattle.edd_lexer.specs.Kept.{IsKept, IsLexeme}
 use Rattle.edd_lexer.specs.Tokens.{AreTokens}
@@ -54,30 +54,24 @@ module _ (tokens : List Token) where
   pub answered_none : (r : Result code_unit.Unit ParseFault) → Answers r (unit_at tokens)
       → IfErr r (λ e. Says e ((unit : Description Path) → ¬ (Spells tokens unit)))
   answered_none (Ok u) a = tt
-  answered_none (Err (fault.Syntax at)) a = none_spelled a
-  answered_none (Err (fault.TooDeep at)) a = none_spelled a
-  answered_none (Err (fault.Unsupported at word)) a = none_spelled a
   answered_none (Err fault.Memory) a = tt
+  answered_none (Err _) a = none_spelled a
 
   pub answered_only : (r : Result code_unit.Unit ParseFault) → Answers r (unit_at tokens)
       → (unit : Description Path) → Spells tokens unit
       → MatchResult r (λ u. unit_view u ≡ unit) (λ e. e ≡ fault.Memory)
   answered_only (Ok u) a unit s = same_some (unit_at tokens) (unit_view u) unit a
       (unit_again tokens unit s)
-  answered_only (Err (fault.Syntax at)) a unit s = absurd (none_spelled a unit s)
-  answered_only (Err (fault.TooDeep at)) a unit s = absurd (none_spelled a unit s)
-  answered_only (Err (fault.Unsupported at word)) a unit s = absurd (none_spelled a unit s)
   answered_only (Err fault.Memory) a unit s = refl
+  answered_only (Err _) a unit s = absurd (none_spelled a unit s)
 
 -- ---- the tokens of a text are kept
 
 token_kept : (t : Token) (size : ℕ) → IsKept t size → is_kept_token t ≡ true
-token_kept (Reserved k) size h = refl
 token_kept (Identifier name) size h = h.0
 token_kept (Integer n) size h = grind arith
-token_kept Decimal size h = refl
 token_kept (String raw) size h = h.0
-token_kept (Sign s) size h = refl
+token_kept _ size h = refl
 
 all_kept : (text : List ℕ) (tokens : List code_token.Token)
     → All (IsLexeme text) (map (lexeme_of text) tokens) → Kept (tokens_in text tokens)

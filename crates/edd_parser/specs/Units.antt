@@ -5,24 +5,13 @@ use Rattle.edd_syntax.specs.declared.item.Item as code
 use Rattle.edd_syntax.specs.declared.reference.Path as path
 use Rattle.edd_syntax.specs.Token.{Token}
 use Rattle.edd_syntax.specs.Reference.{Path}
-use Rattle.edd_syntax.specs.Item.{ItemKind, VariableItem, CommandItem, MenuItem, CollectionItem, MethodItem, ArrayItem, Item, Description}
+use Rattle.edd_syntax.specs.Item.{ItemKind, Item, Description}
 use Rattle.edd_syntax.specs.TreeView.{path_of}
 use Rattle.edd_syntax.specs.ItemView.{item_of, identification_of, named_items}
 use Rattle.edd_grammar.specs.Reading.{◌>>=◌, Read}
 use Rattle.edd_grammar.specs.UnitReading.{item_kind_at, sort_behind}
 use Rattle.edd_token_reader.specs.declared.fault.ParseFault.{ParseFault}
 use Rattle.edd_token_reader.specs.declared.fault.ParseFault.TheVariants as fault
-use Rattle.edd_parser.specs.declared.items.Sort.{Sort}
-use Rattle.edd_parser.specs.declared.items.Sort.TheVariants as sort
-
--- what an item is, as in the pure tree
-abbrev pub sort_view : Sort → ItemKind
-sort_view sort.Variable = VariableItem
-sort_view sort.Command = CommandItem
-sort_view sort.Menu = MenuItem
-sort_view (sort.Collection of) = CollectionItem of
-sort_view sort.Method = MethodItem
-sort_view sort.Array = ArrayItem
 
 -- the word of an item
 unfoldable pub sort_at : List Token → Read ItemKind

@@ -1,8 +1,7 @@
 //! Items, and the numbers at the beginning.
 
-ghost use Rattle.std.specs.Prelude.{◌≡◌, ◌≤◌, map, string_bytes};
-ghost use Rattle.edd_syntax.specs.Item.{kind_of_item};
-ghost use Rattle.edd_syntax.specs.ItemView.{identification_of};
+ghost use Rattle.std.specs.Prelude.{◌≤◌, map};
+ghost use Rattle.edd_syntax.specs.ItemView.{identification_of, item_kind_of};
 ghost use Rattle.edd_grammar.specs.WordReading.{closed, row_inside};
 ghost use Rattle.edd_grammar.specs.AttributeReading.{own_attribute_at};
 ghost use Rattle.edd_syntax.specs.declared.symbols.Keyword.TheVariants as word;
@@ -10,44 +9,17 @@ ghost use Rattle.edd_grammar.specs.Reading.{expect_word};
 ghost use Rattle.edd_grammar.specs.UnitReading as reading;
 ghost use Rattle.edd_token_reader.specs.Views.{Gives, Leaves, Takes};
 ghost use Rattle.edd_parser.specs.Items.{attribute_view};
-ghost use Rattle.edd_parser.specs.Units.{sort_view, sort_at, item_view};
+ghost use Rattle.edd_parser.specs.Units.{sort_at, item_view};
 
 use crate::attributes::own_attribute;
-use edd_syntax::item::{
-    ArrayDef, Attribute, CollectionDef, CommandDef, Identification, Item, MenuDef, MethodDef,
-    VariableDef,
-};
-use edd_syntax::numbers::{Kind, TokenNo};
+use edd_syntax::item::{Attribute, Identification, Item, ItemKind};
+use edd_syntax::numbers::Kind;
 use edd_syntax::reference::Path;
 use edd_syntax::symbols::{Keyword, Symbol};
 use edd_token_reader::cursor::Cursor;
 use edd_token_reader::fault::ParseFault;
 use edd_token_reader::left_out::{misfit_array, misfit_item};
 use edd_token_reader::words::{integer, skip_comma, skip_semicolons};
-
-/// What an item is; a collection has the kind of its members.
-#[derive(Clone, Copy, PartialEq, Eq, Debug)]
-pub enum Sort {
-    Variable,
-    Command,
-    Menu,
-    Collection(Kind),
-    Method,
-    Array,
-}
-
-fn kind_of(sort: Sort) -> Kind
-    ensures { result ≡ kind_of_item (sort_view sort) }
-{
-    match sort {
-        Sort::Variable => Kind::Variable,
-        Sort::Command => Kind::Command,
-        Sort::Menu => Kind::Menu,
-        Sort::Collection(_) => Kind::Collection,
-        Sort::Method => Kind::Method,
-        Sort::Array => Kind::Array,
-    }
-}
 
 // The kind whose word is next, of those that members may have.
 #[tactic(auto, unfolding(edd_grammar::specs::UnitReading::kind_at))]
@@ -109,30 +81,30 @@ fn expect_variable(cursor: &mut Cursor) -> Result<(), ParseFault>
 
 // After COLLECTION: OF and the kind of its members; after ARRAY: OF VARIABLE.
 #[tactic(auto, unfolding(edd_grammar::specs::UnitReading::sort_behind))]
-fn after_kind(cursor: &mut Cursor, kind_read: Kind) -> Result<Sort, ParseFault>
-    ensures { Gives sort_view result cursor.new (reading.sort_behind kind_read cursor.old) }
+fn after_kind(cursor: &mut Cursor, kind_read: Kind) -> Result<ItemKind, ParseFault>
+    ensures { Gives item_kind_of result cursor.new (reading.sort_behind kind_read cursor.old) }
 {
     match kind_read {
-        Kind::Variable => Ok(Sort::Variable),
-        Kind::Command => Ok(Sort::Command),
-        Kind::Menu => Ok(Sort::Menu),
+        Kind::Variable => Ok(ItemKind::Variable),
+        Kind::Command => Ok(ItemKind::Command),
+        Kind::Menu => Ok(ItemKind::Menu),
         Kind::Collection => {
             cursor.expect_word(Keyword::Of)?;
-            Ok(Sort::Collection(member_kind(cursor)?))
+            Ok(ItemKind::Collection(member_kind(cursor)?))
         }
-        Kind::Method => Ok(Sort::Method),
+        Kind::Method => Ok(ItemKind::Method),
         Kind::Array => {
             cursor.expect_word(Keyword::Of)?;
             expect_variable(cursor)?;
-            Ok(Sort::Array)
+            Ok(ItemKind::Array)
         }
     }
 }
 
 // The word of an item.
 #[tactic(auto, unfolding(crate::specs::Units::sort_at))]
-fn item_sort(cursor: &mut Cursor) -> Result<Sort, ParseFault>
-    ensures { Gives sort_view result cursor.new (sort_at cursor.old) }
+fn item_sort(cursor: &mut Cursor) -> Result<ItemKind, ParseFault>
+    ensures { Gives item_kind_of result cursor.new (sort_at cursor.old) }
 {
     let kind_read = item_kind(cursor)?;
     after_kind(cursor, kind_read)
@@ -174,48 +146,6 @@ fn attributes(
     Ok(all)
 }
 
-fn item_of(sort: Sort, at: TokenNo, name: String, attributes: Vec<Attribute<Path>>) -> Item<Path>
-    ensures { item_view result ≡ record {
-      sort = sort_view sort;
-      name = string_bytes name;
-      attributes = map attribute_view attributes.items;
-    } }
-{
-    match sort {
-        Sort::Variable => Item::Variable(VariableDef {
-            at,
-            name,
-            attributes,
-        }),
-        Sort::Command => Item::Command(CommandDef {
-            at,
-            name,
-            attributes,
-        }),
-        Sort::Menu => Item::Menu(MenuDef {
-            at,
-            name,
-            attributes,
-        }),
-        Sort::Collection(of) => Item::Collection(CollectionDef {
-            at,
-            of,
-            name,
-            attributes,
-        }),
-        Sort::Method => Item::Method(MethodDef {
-            at,
-            name,
-            attributes,
-        }),
-        Sort::Array => Item::Array(ArrayDef {
-            at,
-            name,
-            attributes,
-        }),
-    }
-}
-
 // An item whose attributes have at most this height.
 #[tactic(auto, unfolding(edd_grammar::specs::UnitReading::item_at, crate::specs::Units::sort_at))]
 fn one_item(cursor: &mut Cursor, height_left: u32) -> Result<Item<Path>, ParseFault>
@@ -227,9 +157,14 @@ fn one_item(cursor: &mut Cursor, height_left: u32) -> Result<Item<Path>, ParseFa
     let Some(name) = cursor.name() else {
         return Err(cursor.syntax());
     };
-    let attributes = attributes(cursor, kind_of(sort), height_left)?;
+    let attributes = attributes(cursor, sort.kind(), height_left)?;
     let name = String::from_str(cursor.alloc(), name)?;
-    Ok(item_of(sort, at, name, attributes))
+    Ok(Item {
+        sort,
+        at,
+        name,
+        attributes,
+    })
 }
 
 // An item and any number of semicolons after it.

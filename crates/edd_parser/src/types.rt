@@ -15,7 +15,7 @@ use crate::rows::{RowElement, braced_row};
 use edd_expression_parser::cond::{element, one};
 use edd_syntax::item::{TypePart, TypeWord};
 use edd_syntax::reference::Path;
-use edd_syntax::symbols::{Keyword, Symbol};
+use edd_syntax::symbols::Symbol;
 use edd_syntax::types::VarType;
 use edd_token_reader::cursor::Cursor;
 use edd_token_reader::fault::ParseFault;
@@ -60,6 +60,24 @@ fn size(cursor: &mut Cursor) -> Result<Option<u32>, ParseFault>
     Ok(Some(size))
 }
 
+// A format or an enumerator in the braces of a type.
+#[tactic(auto, unfolding(edd_grammar::specs::TypeReading::format_or_element_at))]
+fn format_or_element(cursor: &mut Cursor, height_left: u32) -> Result<TypePart<Path>, ParseFault>
+    requires { height_left ≤ 100 }
+    ensures { Gives (λ p. type_part_of path_of p) result cursor.new
+        (reading.format_or_element_at height_left cursor.old) }
+{
+    if let Some(which) = cursor.format_option() {
+        let at = cursor.place();
+        cursor.bump();
+        let format = one(cursor, height_left)?;
+        return Ok(TypePart::OneFormat { at, which, format });
+    }
+    let enumerators = element(cursor, height_left)?;
+    skip_comma(cursor);
+    Ok(TypePart::Element(enumerators))
+}
+
 // A part of what is in the braces of a type.
 #[tactic(auto, unfolding(edd_grammar::specs::TypeReading::type_part_at))]
 fn type_part(cursor: &mut Cursor, height_left: u32) -> Result<TypePart<Path>, ParseFault>
@@ -67,30 +85,13 @@ fn type_part(cursor: &mut Cursor, height_left: u32) -> Result<TypePart<Path>, Pa
     ensures { Gives (λ p. type_part_of path_of p) result cursor.new
         (reading.type_part_at height_left cursor.old) }
 {
-    let at = cursor.place();
-    if cursor.eat_word(Keyword::DefaultValue) {
+    if let Some(which) = cursor.number_option() {
+        let at = cursor.place();
+        cursor.bump();
         let value = one(cursor, height_left)?;
-        return Ok(TypePart::DefaultValue { at, value });
+        return Ok(TypePart::OneNumber { at, which, value });
     }
-    if cursor.eat_word(Keyword::MinValue) {
-        let value = one(cursor, height_left)?;
-        return Ok(TypePart::MinValue { at, value });
-    }
-    if cursor.eat_word(Keyword::MaxValue) {
-        let value = one(cursor, height_left)?;
-        return Ok(TypePart::MaxValue { at, value });
-    }
-    if cursor.eat_word(Keyword::DisplayFormat) {
-        let format = one(cursor, height_left)?;
-        return Ok(TypePart::DisplayFormat { at, format });
-    }
-    if cursor.eat_word(Keyword::EditFormat) {
-        let format = one(cursor, height_left)?;
-        return Ok(TypePart::EditFormat { at, format });
-    }
-    let enumerators = element(cursor, height_left)?;
-    skip_comma(cursor);
-    Ok(TypePart::Element(enumerators))
+    format_or_element(cursor, height_left)
 }
 
 impl RowElement for TypePart<Path> {

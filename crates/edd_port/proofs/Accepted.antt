@@ -27,11 +27,8 @@ no_fault (Some f) e = absurd cc
 -- an answer that is not refused meets a request, and its sets can be made
 pub taken : (types : List VariableType) (st : Status) (a : Answer) → refusal types st a ≡ None
     → (r : Request) × (st ≡ status.Asking r) × (answer_fault types a ≡ None)
-taken types status.Running a e = absurd cc
 taken types (status.Asking r) a e = (r, refl, no_fault (answer_fault types a) e)
-taken types status.Ended a e = absurd cc
-taken types status.Aborted a e = absurd cc
-taken types (status.Trapped why) a e = absurd cc
+taken types _ a e = absurd cc
 
 made : (types : List VariableType) (n : ℕ) (a : Answer) → length types ≡ n
     → answer_fault types a ≡ None → AllByRecursion (λ set. set.variable.0 < n) (sets_of a)

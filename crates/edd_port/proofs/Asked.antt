@@ -56,14 +56,10 @@ module _ (s : State) (runs : s.status ≡ status.Running) where
   pushes next below (Err why) = refl
 
   asks : (request : Ask) (next : ℕ) → Emits (act_ask request next s)
-  asks (ask.PutMessage t) next = refl
-  asks (ask.Acknowledge t) next = refl
   asks (ask.Delay t) next = top s.operands _ (λ a below. refl)
-  asks (ask.GetDevVarValue t v) next = refl
-  asks (ask.SelectFromList t u) next = refl
   asks ask.SendCommand next = top s.operands _ (λ a below. refl)
   asks ask.SendCommandTrans next = two s.operands _ (λ a b below. refl)
-  asks ask.SaveValues next = refl
+  asks _ next = refl
 
   adds : (o : Option (List MethNo)) (next : ℕ) → Emits (elim o [
     | Some methods ↦ go (record s { abort_methods = methods }) next (pos 0 ∷ s.operands)
@@ -75,10 +71,7 @@ module _ (s : State) (runs : s.status ≡ status.Running) where
   acts : (env : Environment) (i : Instruction) (next : ℕ) → Emits (act env i next s)
   unfolding act
   acts env instruction.End next = refl
-  acts env (instruction.Push n) next = none
-  acts env (instruction.Variable v) next = none
   acts env (instruction.Store v) next = top s.operands _ (λ a below. none)
-  acts env (instruction.GetLocal slot) next = none
   acts env (instruction.SetLocal slot) next = top s.operands _ (λ a below. none)
   acts env instruction.Pop next = top s.operands _ (λ a below. none)
   acts env instruction.Duplicate next = top s.operands _ (λ a below. none)
@@ -89,24 +82,16 @@ module _ (s : State) (runs : s.status ≡ status.Running) where
   acts env instruction.Negate next = top s.operands _ (λ a below. none)
   acts env instruction.Not next = top s.operands _ (λ a below. none)
   acts env instruction.Complement next = top s.operands _ (λ a below. none)
-  acts env (instruction.Jump to) next = none
   acts env (instruction.JumpIfZero to) next = top s.operands _ (λ a below. none)
   acts env (instruction.JumpIfNotZero to) next = top s.operands _ (λ a below. none)
   acts env (instruction.Case label to) next =
       top s.operands _ (λ a below. either (int_eq a label) (go s to below) (go s next s.operands)
       none none)
-  acts env (instruction.Text t) next = none
   acts env instruction.Number next = top s.operands _ (λ a below. none)
-  acts env (instruction.Item item quals) next = none
-  acts env (instruction.DataConst n) next = none
-  acts env (instruction.DataVar v mask quals) next = none
-  acts env (instruction.Enumerator n text help) next = none
-  acts env (instruction.Response n class text) next = none
-  acts env (instruction.Member name item label help) next = none
-  acts env (instruction.Element n v label help) next = none
   acts env (instruction.Ask request) next = asks request next
   acts env instruction.Abort next = refl
   acts env (instruction.AddAbortMethod m) next = adds (listed s.is_aborting s.abort_methods m) next
+  acts env _ next = none
 
   found : (env : Environment) (o : Option (Instruction × ℕ)) → Emits (o >>= λ x. act env x.0 x.1 s)
   found env None = tt
@@ -121,11 +106,8 @@ module _ (s : State) (runs : s.status ≡ status.Running) where
 -- ---- what follows
 
 none_standing : (st : Status) → ((r : Request) → st ≡ status.Asking r → ⊥) → standing st ≡ []
-none_standing status.Running never = refl
 none_standing (status.Asking r) never = absurd (never r refl)
-none_standing status.Ended never = refl
-none_standing status.Aborted never = refl
-none_standing (status.Trapped why) never = refl
+none_standing _ never = refl
 
 -- no request is pending where what follows leads that was not pending before
 pub follows_standing : (start_of : MethNo → Option Start) (s : State)
@@ -145,11 +127,10 @@ follows_standing start_of s = by_status s.status refl
 
     by_status : (st : Status) → s.status ≡ st
         → standing (next start_of s).status ≡ standing s.status
-    by_status status.Running is = live (subst IsLive (sym is) tt)
-    by_status (status.Asking r) is = live (subst IsLive (sym is) tt)
     by_status status.Ended is = still status.Ended is (λ r e. cc)
     by_status status.Aborted is = still status.Aborted is (λ r e. cc)
     by_status (status.Trapped why) is = still (status.Trapped why) is (λ r e. cc)
+    by_status _ is = live (subst IsLive (sym is) tt)
 
 followed_emits : (start_of : MethNo → Option Start) (x : Option Effect) → Emits x
     → Emits (option_map (follow_with (next start_of)) x)

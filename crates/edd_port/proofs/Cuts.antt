@@ -19,10 +19,7 @@ use Rattle.edd_port.proofs.Outcomes.{same_outcome, halted, behind_nothing, witho
 pub by_running : {P : Status → Type 0} (st : Status) → P status.Running
     → ((other : Status) → (other ≡ status.Running → ⊥) → P other) → P st
 by_running status.Running running others = running
-by_running (status.Asking r) running others = others (status.Asking r) (λ e. cc)
-by_running status.Ended running others = others status.Ended (λ e. cc)
-by_running status.Aborted running others = others status.Aborted (λ e. cc)
-by_running (status.Trapped why) running others = others (status.Trapped why) (λ e. cc)
+by_running x running others = others x (λ e. cc)
 
 -- after one step an outcome follows as after the rest of the steps
 behind_step : (e : Effect) (o rest : Outcome)

@@ -61,10 +61,7 @@ turns first steps left fewer now next before book new is (inr (still, (pair, tak
 
 few_stand : (st : Status) → length (standing st) ≤ 1
 few_stand status.Running = omega arith
-few_stand (status.Asking r) = omega arith
-few_stand status.Ended = omega arith
-few_stand status.Aborted = omega arith
-few_stand (status.Trapped why) = omega arith
+few_stand _ = omega arith
 
 -- the instructions that are left count twice, since each may make one request
 pub falls : (left fewer : ℕ) (now next : Run) (book new : Book)
@@ -105,19 +102,13 @@ pub record Ends (first : Run) (steps : ℕ) (before : Book) (end : Drive) (now :
 
 runs_where_spent : (st : Status) → turn_of st ≡ turn.Spent → st ≡ status.Running
 runs_where_spent status.Running e = refl
-runs_where_spent (status.Asking r) e = absurd cc
-runs_where_spent status.Ended e = absurd cc
-runs_where_spent status.Aborted e = absurd cc
-runs_where_spent (status.Trapped why) e = absurd cc
+runs_where_spent _ e = absurd cc
 
 -- a turn that doesn't ask is the ending that it shows
 done_as : (t : Turn) (ending : Ending) → ((q : Request) → t ≢ turn.Asks q) → ending ≡ ending_of t
     → EndsAs (Done t) ending
 done_as (turn.Asks q) ending never e = never q refl
-done_as turn.Ended ending never e = e
-done_as turn.Aborted ending never e = e
-done_as (turn.Trapped why) ending never e = e
-done_as turn.Spent ending never e = e
+done_as _ ending never e = e
 
 one_more : (pairs : List Pair) (p : Pair) → take (length (pairs ++ p ∷ []) - 1) (pairs ++ p ∷ [])
     ≡ pairs

@@ -21,24 +21,15 @@ use Rattle.edd_port.specs.Turns.{turn_of}
 -- the request that a turn shows
 abbrev pub asked : Turn → List Request
 asked (turn.Asks q) = q ∷ []
-asked turn.Ended = []
-asked turn.Aborted = []
-asked (turn.Trapped why) = []
-asked turn.Spent = []
+asked _ = []
 
 pub shows_what_stands : (st : Status) (t : Turn) → t ≡ turn_of st → standing st ≡ asked t
 shows_what_stands status.Running t e = sym (ap asked e)
-shows_what_stands (status.Asking q) t e = sym (ap asked e)
-shows_what_stands status.Ended t e = sym (ap asked e)
-shows_what_stands status.Aborted t e = sym (ap asked e)
-shows_what_stands (status.Trapped why) t e = sym (ap asked e)
+shows_what_stands _ t e = sym (ap asked e)
 
 pub asks_where_shown : (st : Status) (q : Request) → turn.Asks q ≡ turn_of st → st ≡ status.Asking q
-asks_where_shown status.Running q e = absurd cc
 asks_where_shown (status.Asking r) q e = cc
-asks_where_shown status.Ended q e = absurd cc
-asks_where_shown status.Aborted q e = absurd cc
-asks_where_shown (status.Trapped why) q e = absurd cc
+asks_where_shown _ q e = absurd cc
 
 -- a turn other than Spent shows that the state doesn't run
 pub rests_where_shown : (st : Status) (t : Turn) → t ≡ turn_of st → t ≢ turn.Spent
@@ -49,13 +40,11 @@ rests_where_shown st t e other runs = other (e ∙ ap turn_of runs)
 
 of_set : (fault : PlayFault) (f : SetFault) (ending : Ending) → play_refusal fault ≡ Some (BadSet f)
     → ending ≡ Bad f → IsFaultOf fault ending
-of_set play_fault.NoItem f ending e is = absurd cc
-of_set play_fault.WrongValues f ending e is = absurd cc
 of_set play_fault.BadVariable f ending e is = let same : f ≡ BadVariable = cc in is
     ∙ ap (λ (x : SetFault). Bad x) same
 of_set play_fault.OutOfRange f ending e is = let same : f ≡ OutOfRange = cc in is
     ∙ ap (λ (x : SetFault). Bad x) same
-of_set play_fault.Memory f ending e is = absurd cc
+of_set _ f ending e is = absurd cc
 
 -- a fault that stands for the refusal of an answer says how the run ends
 pub of_refused : (fault : PlayFault) (refused : Refusal) (o : Option SetFault) (ending : Ending)

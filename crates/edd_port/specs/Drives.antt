@@ -46,11 +46,8 @@ driven r steps pairs =
 
 -- the pending request, if there is one
 abbrev pub standing : Status → List Request
-standing status.Running = []
 standing (status.Asking r) = r ∷ []
-standing status.Ended = []
-standing status.Aborted = []
-standing (status.Trapped why) = []
+standing _ = []
 
 -- These requests were met: the one pending at the start and those that were made are these, and
 -- after them the one still pending at the end.

@@ -15,11 +15,8 @@ pub data Refusal : Type 0 where
 -- why an answer is not taken in a state of this status; of its sets the first that has a fault
 -- decides
 abbrev pub refusal : List VariableType → Status → Answer → Option Refusal
-refusal types status.Running answer = Some NotAsking
 refusal types (status.Asking r) answer = option_map BadSet (answer_fault types answer)
-refusal types status.Ended answer = Some NotAsking
-refusal types status.Aborted answer = Some NotAsking
-refusal types (status.Trapped why) answer = Some NotAsking
+refusal types _ answer = Some NotAsking
 
 -- ---- the sets of an answer
 

@@ -118,15 +118,12 @@ module _ (c : Contents) where
         → Holds n s answers
     by_state n runs s answers status.Running is = runs s answers is
     by_state n runs s answers (status.Asking r) is = asking n runs s r answers is
-    by_state n runs s answers status.Ended is =
-        quiet_state n runs s answers status.Ended is (λ r e. let no_such : status.Ended
-        ≡ status.Asking r = sym is ∙ e in cc)
-    by_state n runs s answers status.Aborted is =
-        quiet_state n runs s answers status.Aborted is (λ r e. let no_such : status.Aborted
-        ≡ status.Asking r = sym is ∙ e in cc)
     by_state n runs s answers (status.Trapped why) is =
         quiet_state n runs s answers (status.Trapped why) is
         (λ r e. let no_such : status.Trapped why ≡ status.Asking r = sym is ∙ e in cc)
+    by_state n runs s answers x is =
+        quiet_state n runs s answers x is (λ r e. let no_such : x
+        ≡ status.Asking r = sym is ∙ e in cc)
 
     without_steps : (s : State) (answers : List Answer) → s.status ≡ status.Running
         → Holds zero s answers

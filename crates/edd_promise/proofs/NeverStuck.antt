@@ -11,7 +11,7 @@ use Rattle.edd_instructions.specs.declared.records.Status.TheVariants as status
 use Rattle.edd_image.specs.Contents.{AttributeFields, Contents, contents_in}
 use Rattle.edd_instructions.specs.Reading.{body_of, environment_of, opening_of}
 use Rattle.edd_instructions.specs.Steps.{State, Environment, Effect, step}
-use Rattle.edd_instructions.specs.Execution.{Ending, Ended, Aborted, Trapped, Waiting, OutOfSteps, Bad, Stuck, IsGoodEnding, Outcome, answered, request_in, preceded, stepped}
+use Rattle.edd_instructions.specs.Execution.{Ending, Bad, Stuck, IsGoodEnding, Outcome, answered, request_in, preceded, stepped}
 use Rattle.edd_instructions.specs.AbortMethods.{start_in, start_listed, next_at, next, execute_in}
 use Rattle.edd_instructions.specs.Validity.{IsValid, placed_unit}
 use Rattle.edd_instructions.proofs.BoundedRuns.{no_fault}
@@ -94,13 +94,9 @@ module _ (b : List ℕ) (valid : IsValid b) where
 
   good_ending : (ending : Ending) → (ending ≡ Stuck → ⊥) → ((f : SetFault) → ending ≡ Bad f → ⊥)
       → IsGoodEnding ending
-  good_ending Ended goes fine = tt
-  good_ending Aborted goes fine = tt
-  good_ending (Trapped why) goes fine = tt
-  good_ending Waiting goes fine = tt
-  good_ending OutOfSteps goes fine = tt
   good_ending (Bad fault) goes fine = absurd (fine fault refl)
   good_ending Stuck goes fine = absurd (goes refl)
+  good_ending _ goes fine = tt
 
   no_fault_in : (a : Answer) (rest answers : List Answer) (f : SetFault) → answers ≡ a ∷ rest
       → ValidAnswers answers → answer_fault env.types a ≡ Some f → ⊥

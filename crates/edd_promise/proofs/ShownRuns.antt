@@ -43,18 +43,12 @@ use Rattle.edd_promise.proofs.Used.{ignores, used_are_taken}
 
 -- only `Spent` is out of steps
 is_spent : (e : Ending) → ending_shown e ≡ image.OutOfSteps → e ≡ ending.Spent
-is_spent ending.Ended e = absurd cc
-is_spent ending.Aborted e = absurd cc
-is_spent (ending.Trapped why) e = absurd cc
-is_spent ending.Waiting e = absurd cc
 is_spent ending.Spent e = refl
+is_spent _ e = absurd cc
 
 turn_spent : (t : Turn) → turns.ending_of t ≡ image.OutOfSteps → t ≡ turn.Spent
-turn_spent (turn.Asks r) e = absurd cc
-turn_spent turn.Ended e = absurd cc
-turn_spent turn.Aborted e = absurd cc
-turn_spent (turn.Trapped why) e = absurd cc
 turn_spent turn.Spent e = refl
+turn_spent _ e = absurd cc
 
 -- an answer that can be taken and whose code fits is valid
 valid_answer : (types : List VariableType) (a : Answer) → answer_fault types a ≡ None → CodeFits a

@@ -74,26 +74,17 @@ body_exists b m row valid found =
 
 -- a run of the source is out of turns or not
 out_or_over : (e : source.Ending) → (e ≡ source.OutOfTurns) ⊎ (e ≢ source.OutOfTurns)
-out_or_over source.Ended = inr (λ e. cc)
-out_or_over source.Aborted = inr (λ e. cc)
-out_or_over (source.Trapped why) = inr (λ e. cc)
-out_or_over source.Waiting = inr (λ e. cc)
 out_or_over source.OutOfTurns = inl refl
+out_or_over _ = inr (λ e. cc)
 
 -- one that isn't out of turns doesn't go on
 pub not_out : (e : source.Ending) → e ≢ source.OutOfTurns → ending_of e ≢ image.OutOfSteps
-not_out source.Ended h = λ e. cc
-not_out source.Aborted h = λ e. cc
-not_out (source.Trapped why) h = λ e. cc
-not_out source.Waiting h = λ e. cc
 not_out source.OutOfTurns h = absurd (h refl)
+not_out _ h = λ e. cc
 
 pub never_bad : (e : source.Ending) (f : SetFault) → ending_of e ≡ image.Bad f → ⊥
 never_bad source.Ended f e = cc
-never_bad source.Aborted f e = cc
-never_bad (source.Trapped why) f e = cc
-never_bad source.Waiting f e = cc
-never_bad source.OutOfTurns f e = cc
+never_bad _ f e = cc
 
 either_order : (m k : ℕ) → (m ≤ k) ⊎ (k ≤ m)
 either_order m k = elim (cases_lt m k) [ inl below ↦ inl (omega arith) | inr above ↦ inr above ]

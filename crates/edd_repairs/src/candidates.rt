@@ -3,7 +3,7 @@
 use edd_lexer::token::TokenKind;
 use edd_reports::nearest::Nearest;
 use edd_syntax::operators::Comparison;
-use edd_syntax::symbols::{Keyword, Symbol};
+use edd_syntax::symbols::{KEYWORDS, Keyword, Symbol};
 use std::alloc::{AllocError, Global};
 
 /// The signs that may be missing after a token, and before one.
@@ -84,63 +84,6 @@ pub fn signs_for(kind: TokenKind) -> &'static [&'static str] {
     }
 }
 
-/// The words with which items, attributes and statements begin, and others that the grammar asks
-/// for.
-const WORDS: [Keyword; 52] = [
-    Keyword::Manufacturer,
-    Keyword::DeviceType,
-    Keyword::DeviceRevision,
-    Keyword::DdRevision,
-    Keyword::Variable,
-    Keyword::Command,
-    Keyword::Menu,
-    Keyword::Collection,
-    Keyword::Method,
-    Keyword::Array,
-    Keyword::Of,
-    Keyword::Label,
-    Keyword::Help,
-    Keyword::Class,
-    Keyword::Handling,
-    Keyword::ConstantUnit,
-    Keyword::Validity,
-    Keyword::Type,
-    Keyword::Number,
-    Keyword::Operation,
-    Keyword::Transaction,
-    Keyword::ResponseCodes,
-    Keyword::Request,
-    Keyword::Reply,
-    Keyword::Items,
-    Keyword::Members,
-    Keyword::Definition,
-    Keyword::Elements,
-    Keyword::If,
-    Keyword::Else,
-    Keyword::Select,
-    Keyword::Case,
-    Keyword::Default,
-    Keyword::DefaultValue,
-    Keyword::MinValue,
-    Keyword::MaxValue,
-    Keyword::DisplayFormat,
-    Keyword::EditFormat,
-    Keyword::Int,
-    Keyword::Long,
-    Keyword::MethodIf,
-    Keyword::MethodElse,
-    Keyword::While,
-    Keyword::Do,
-    Keyword::For,
-    Keyword::Switch,
-    Keyword::MethodCase,
-    Keyword::MethodDefault,
-    Keyword::Break,
-    Keyword::Continue,
-    Keyword::Return,
-    Keyword::Signed,
-];
-
 /// The names for which the grammar asks in their places.
 const NAMES: [&str; 17] = [
     "READ",
@@ -162,12 +105,28 @@ const NAMES: [&str; 17] = [
     "REVIEW",
 ];
 
+// Whether a word is reserved and the grammar never asks for it.
+fn is_of_others(word: Keyword) -> bool {
+    matches!(
+        word,
+        Keyword::Char
+            | Keyword::Short
+            | Keyword::Unsigned
+            | Keyword::Signed
+            | Keyword::Float
+            | Keyword::Double
+            | Keyword::Goto
+    )
+}
+
 /// The word that is nearest to a word, of those for which the grammar asks. Of two that are as near,
 /// as MIN_VALUE and MAX_VALUE may be, none is meant for sure.
 pub fn nearest_word(alloc: Global, word: &str) -> Result<Option<&'static str>, AllocError> {
     let mut nearest = Nearest::to_word(word);
-    for keyword in WORDS {
-        nearest.look(alloc, keyword.spelling())?;
+    for keyword in KEYWORDS {
+        if !is_of_others(keyword) {
+            nearest.look(alloc, keyword.spelling())?;
+        }
     }
     for name in NAMES {
         nearest.look(alloc, name)?;

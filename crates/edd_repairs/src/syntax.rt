@@ -11,7 +11,7 @@ use edd_reports::diagnostic::{Diagnostic, Finding};
 use edd_reports::outline::Outline;
 use edd_reports::words::{Span, item_kind, kind_word, span_of, tokens_before, word_of};
 use edd_slips::{early_end, help_of_left_out, open_bracket, open_parenthesis, slip_at};
-use edd_syntax::numbers::{ATTRIBUTES, Attr, KINDS, Kind};
+use edd_syntax::numbers::{ATTRIBUTES, Attr, Home, KINDS, Kind};
 use edd_syntax::symbols::{Keyword, Symbol};
 use edd_token_reader::fault::ParseFault;
 use std::alloc::{AllocError, Global};
@@ -56,16 +56,10 @@ fn attribute_of(word: &str) -> Option<Attr> {
     ATTRIBUTES.iter().copied().find(|attr| attr.word() == word)
 }
 
-// Whether the word is that of an attribute in the braces of TYPE.
+// Whether it is an attribute that is written in the braces of TYPE with a word.
 fn is_option(attr: Attr) -> bool {
-    matches!(
-        attr,
-        Attr::DefaultValue
-            | Attr::MinValue
-            | Attr::MaxValue
-            | Attr::DisplayFormat
-            | Attr::EditFormat
-    )
+    let shape = attr.shape();
+    shape.home == Home::Type && shape.word.is_some()
 }
 
 // The kinds that have an attribute.

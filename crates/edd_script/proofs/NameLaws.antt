@@ -33,11 +33,7 @@ there false o x e = absurd cc
 behind : (counts : Counts) (item : ItemNo) → ((n : VarNo) → item ≡ items.Variable n → ⊥)
     → counts.variables ≤ place_of_item counts item
 behind counts (items.Variable n) other = absurd (other n refl)
-behind counts (items.Command n) other = omega arith
-behind counts (items.Menu n) other = omega arith
-behind counts (items.Collection n) other = omega arith
-behind counts (items.Method n) other = omega arith
-behind counts (items.Array n) other = omega arith
+behind counts _ other = omega arith
 
 module _ (c : Contents) (name : Name) where
   named : (k : ℕ) → name_numbered c (numbered k) ≡ Some name → is_named c name k ≡ true

@@ -4,7 +4,7 @@ use Rattle.std.proofs.lemmas.List.{append-nil}
 use Rattle.edd_syntax.specs.Answers.{Answer, values_set}
 use Rattle.edd_image.specs.Contents.{Contents}
 use Rattle.edd_script.specs.Lines.{lines}
-use Rattle.edd_script.specs.Said.{Line, Set, Answered, Blank, line_of}
+use Rattle.edd_script.specs.Said.{Line, Answered, line_of}
 use Rattle.edd_script.specs.Scripts.{Said, mapped, read_from, sets_in, answers_in}
 
 mapped_mapped : {A B D : Type 0} (f : B → D) (g : A → B) (h : A → D) → ((x : A) → h x ≡ f (g x))
@@ -39,9 +39,7 @@ pub onward_line : (values next_values : List ℤ) (answers next_answers : List A
     → next_values ≡ values_set values (sets_in (said ∷ []))
     → next_answers ≡ answers ++ answers_in (said ∷ [])
     → (more : List Line) → onward next_values next_answers more ≡ onward values answers (said ∷ more)
-onward_line values next_values answers next_answers (Set change) v a more =
-    rw (v, a, append-nil answers) refl
 onward_line values next_values answers next_answers (Answered answer) v a more =
     rw (v, a, append_assoc answers (answer ∷ []) (answers_in more)) refl
-onward_line values next_values answers next_answers Blank v a more =
+onward_line values next_values answers next_answers _ v a more =
     rw (v, a, append-nil answers) refl

@@ -9,7 +9,7 @@ use crate::values::value_slip;
 use edd_lexer::token::{Token, TokenKind};
 use edd_reports::outline::Outline;
 use edd_reports::words::{is_sign, is_word};
-use edd_syntax::numbers::Kind;
+use edd_syntax::numbers::{Attr, Kind};
 use edd_syntax::operators::Operator;
 use edd_syntax::symbols::{Keyword, Symbol};
 
@@ -417,27 +417,13 @@ fn begins_statement(at: At<'_>) -> bool {
 // Whether an attribute begins with a token, and nothing else.
 fn begins_attribute(at: At<'_>) -> bool {
     match at.tokens.get(at.number) {
-        Some(token) => matches!(
-            token.kind,
-            TokenKind::Keyword(
-                Keyword::Label
-                    | Keyword::Help
-                    | Keyword::Class
-                    | Keyword::Handling
-                    | Keyword::ConstantUnit
-                    | Keyword::Validity
-                    | Keyword::Type
-                    | Keyword::Number
-                    | Keyword::Operation
-                    | Keyword::Transaction
-                    | Keyword::ResponseCodes
-                    | Keyword::Items
-                    | Keyword::Members
-                    | Keyword::Definition
-                    | Keyword::Elements
-            )
-        ),
-        None => false,
+        Some(
+            Token {
+                kind: TokenKind::Keyword(word),
+                ..
+            },
+        ) => Attr::begun_by(*word).is_some(),
+        _ => false,
     }
 }
 

@@ -3,7 +3,7 @@
 use crate::around::{Around, Slip, behind, is_joined, is_symbol, on};
 use edd_lexer::token::TokenKind;
 use edd_reports::words::item_kind;
-use edd_syntax::numbers::Kind;
+use edd_syntax::numbers::{Attr, Kind, ValueKind};
 use edd_syntax::operators::Operator;
 use edd_syntax::symbols::{Keyword, Symbol};
 
@@ -161,6 +161,14 @@ fn of_case(around: &Around<'_>) -> Option<Slip> {
     None
 }
 
+// Whether the attribute with this word gives what is of this sort.
+fn gives(word: Keyword, value: ValueKind) -> bool {
+    match Attr::from_word(word) {
+        Some(attr) => attr.shape().value == value,
+        None => false,
+    }
+}
+
 // A single value in brackets.
 fn value(around: &Around<'_>) -> Option<Slip> {
     let is_brace = is_symbol(around.token, Symbol::OpenBrace);
@@ -182,15 +190,11 @@ fn value(around: &Around<'_>) -> Option<Slip> {
             "READ, WRITE or COMMAND stands here without brackets"
         }
         TokenKind::Keyword(Keyword::Number) => "a number stands here without brackets",
-        TokenKind::Keyword(
-            Keyword::Label
-            | Keyword::Help
-            | Keyword::ConstantUnit
-            | Keyword::DisplayFormat
-            | Keyword::EditFormat,
-        ) if !is_bracket => "a text stands here without brackets, as in LABEL \"..\";",
-        TokenKind::Keyword(Keyword::DefaultValue | Keyword::MinValue | Keyword::MaxValue)
-            if is_brace || is_bracket => "a value stands here without brackets",
+        TokenKind::Keyword(word) if !is_bracket && gives(word, ValueKind::Text) =>
+            "a text stands here without brackets, as in LABEL \"..\";",
+        TokenKind::Keyword(word)
+            if (is_brace || is_bracket) && gives(word, ValueKind::Expression) =>
+            "a value stands here without brackets",
         _ => return None,
     };
     on(around.token, help)

@@ -26,7 +26,7 @@ use Rattle.edd_syntax.specs.ReferenceOrder.{stmt_references}
 use Rattle.edd_syntax.specs.Resolution.{Scope}
 use Rattle.edd_syntax.specs.ResolvedTrees.{◌>>=◌, Reading, at_scope, resolved_expr, resolved_declarators, resolved_stmt, resolved_body}
 use Rattle.edd_syntax.specs.Size.{statement_nodes, body_nodes}
-use Rattle.edd_syntax.specs.Statement.{Block, Switch, Part, Declare, Statement, CaseLabel, DefaultLabel, Body, Cons, body_from, slots_of, slots_in}
+use Rattle.edd_syntax.specs.Statement.{Block, Switch, Part, Declare, Statement, Body, Cons, body_from, slots_of, slots_in}
 use Rattle.edd_syntax.specs.TreeView.{path_of, expr_of, stmt_of, part_of, numbered_expr, numbered_part, numbered_stmt}
 use Rattle.edd_syntax.proofs.TreeRows.{block_is, switch_is}
 
@@ -42,16 +42,12 @@ uses_from s ps = body_uses (body_from ps) s.0 s.1
 pub uses_split : (s : State) (p : Part Path) (ps : List (Part Path))
     → uses_from s (p ∷ ps) ≡ uses_here s p ++ uses_from (behind s p) ps
 uses_split s (Declare declarators) ps = refl
-uses_split s (Statement t) ps = refl
-uses_split s (CaseLabel label) ps = refl
-uses_split s DefaultLabel ps = refl
+uses_split s _ ps = refl
 
 pub paths_split : (p : code_part.Part code_path.Path) (ps : List (code_part.Part code_path.Path))
     → paths_in_parts (p ∷ ps) ≡ paths_in_part p ++ paths_in_parts ps
 paths_split (part.Declare declarators) ps = refl
-paths_split (part.Statement t) ps = refl
-paths_split (part.CaseLabel at label) ps = refl
-paths_split (part.DefaultLabel at) ps = refl
+paths_split _ ps = refl
 
 module _ (names : Reading) where
   abbrev pub meant_here : State → Part Path → Option (Part Target)
@@ -68,8 +64,7 @@ module _ (names : Reading) where
       >>= (λ r. Some (Cons w r)))
   first_then s (Statement t) ps = regroup (resolved_stmt names t s.0 s.1) (λ x. Statement x)
       (λ w. meant_from (behind s (Statement t)) ps >>= (λ r. Some (Cons w r)))
-  first_then s (CaseLabel label) ps = refl
-  first_then s DefaultLabel ps = refl
+  first_then s _ ps = refl
 
   pub parts_joined : (s : State) (p : Part Path) (ps : List (Part Path)) (w : Part Target)
       (ws : List (Part Target)) → meant_here s p ≡ Some w → meant_from (behind s p) ps
@@ -90,9 +85,7 @@ no_slots n = omega arith
 pub one_slot_more : (n : ℕ) (p : Part Path) → next_behind n p ≡ n + slots_in (body_from (p ∷ []))
 unfolding slots_of
 one_slot_more n (Declare declarators) = omega arith
-one_slot_more n (Statement t) = omega arith
-one_slot_more n (CaseLabel label) = omega arith
-one_slot_more n DefaultLabel = omega arith
+one_slot_more n _ = omega arith
 
 module _ {X : Type 0} (view : X → Part Path) (i : ℕ) (xs : List X) (x : X) (h : i < length xs)
     (is : x ≡ get_or xs i x) where

@@ -4,6 +4,8 @@ use Rattle.std.specs.Prelude.{◌==◌, ◌&&◌, ◌||◌, if◌then◌else◌}
 use Rattle.std.specs.List.{AllByRecursion, list_all, list_any}
 use Rattle.std.proofs.Math.Logic.{⊎_elim}
 use Rattle.std.proofs.lemmas.Bool.{false≢true, and_parts, and_from, or_left, or_right, or_cases}
+use Rattle.edd_syntax.specs.declared.numbers.NumberOption.TheVariants as number_option
+use Rattle.edd_syntax.specs.declared.numbers.FormatOption.TheVariants as format_option
 use Rattle.edd_syntax.specs.declared.numbers.Kind.{Kind}
 use Rattle.edd_syntax.specs.declared.numbers.Kind.TheVariants as kind
 use Rattle.edd_syntax.specs.declared.numbers.Attr.{Attr}
@@ -30,12 +32,10 @@ module _ (k : Kind) (a : Attr) where
 
   part_has : (p : TypePart Target) → same_kind k kind.Variable ≡ true → has_attr k (part_attr p)
       ≡ true
-  part_has (item.DefaultValue c) h = or_left (same_kind k kind.Variable) false h
-  part_has (item.MinValue c) h = or_left (same_kind k kind.Variable) false h
-  part_has (item.MaxValue c) h = or_left (same_kind k kind.Variable) false h
-  part_has (item.DisplayFormat c) h = or_left (same_kind k kind.Variable) false h
-  part_has (item.EditFormat c) h = or_left (same_kind k kind.Variable) false h
-  part_has (item.Element c) h = or_left (same_kind k kind.Variable) false h
+  part_has (item.OneNumber number_option.DefaultValue c) h = or_left (same_kind k kind.Variable) false h
+  part_has (item.OneFormat format_option.DisplayFormat c) h =
+      or_left (same_kind k kind.Variable) false h
+  part_has _ h = or_left (same_kind k kind.Variable) false h
 
   parts_have : (parts : List (TypePart Target)) → same_kind k kind.Variable ≡ true
       → list_any (same_attr a) (map part_attr parts) ≡ true → has_attr k a ≡ true

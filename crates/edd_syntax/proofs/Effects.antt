@@ -8,7 +8,7 @@ use Rattle.edd_syntax.specs.declared.numbers.VarNo.{VarNo}
 use Rattle.edd_syntax.specs.declared.operators.Parameter.{Parameter}
 use Rattle.edd_syntax.specs.declared.operators.Parameter.TheVariants as parameter
 use Rattle.edd_syntax.specs.Reference.{Target, Local, Item, Function}
-use Rattle.edd_syntax.specs.Expression.{Expr, Literal, Decimal, Reference, Indexed, Parentheses, Unary, Binary, Compare, LogicalAnd, LogicalOr, Conditional, Assign, CompoundAssign, Increment, Call, Argument, Value, Arguments, Nil, Cons}
+use Rattle.edd_syntax.specs.Expression.{Expr, Literal, Reference, Value, Arguments, Nil, Cons}
 use Rattle.edd_syntax.specs.Expression as expr
 use Rattle.edd_syntax.specs.Text as texts
 use Rattle.edd_syntax.specs.Words.{words_of}
@@ -31,19 +31,7 @@ variable_named (Reference (Item (item_no.Array n))) fit = absurd cc
 variable_named (Reference (Local slot)) fit = absurd cc
 variable_named (Reference (Function f)) fit = absurd cc
 variable_named (Literal value) fit = absurd cc
-variable_named Decimal fit = absurd cc
-variable_named (Indexed array index) fit = absurd cc
-variable_named (Parentheses inner) fit = absurd cc
-variable_named (Unary op operand) fit = absurd cc
-variable_named (Binary op left right) fit = absurd cc
-variable_named (Compare by left right) fit = absurd cc
-variable_named (LogicalAnd left right) fit = absurd cc
-variable_named (LogicalOr left right) fit = absurd cc
-variable_named (Conditional test first second) fit = absurd cc
-variable_named (Assign to value) fit = absurd cc
-variable_named (CompoundAssign op to value) fit = absurd cc
-variable_named (Increment op to) fit = absurd cc
-variable_named (Call function arguments) fit = absurd cc
+variable_named _ fit = absurd cc
 
 method_named : (e : Expr Target) → is_method (Value e) ≡ true → (m : MethNo)
     × (referred e ≡ Some (Item (item_no.Method m)))
@@ -56,19 +44,7 @@ method_named (Reference (Item (item_no.Array n))) fit = absurd cc
 method_named (Reference (Local slot)) fit = absurd cc
 method_named (Reference (Function f)) fit = absurd cc
 method_named (Literal value) fit = absurd cc
-method_named Decimal fit = absurd cc
-method_named (Indexed array index) fit = absurd cc
-method_named (Parentheses inner) fit = absurd cc
-method_named (Unary op operand) fit = absurd cc
-method_named (Binary op left right) fit = absurd cc
-method_named (Compare by left right) fit = absurd cc
-method_named (LogicalAnd left right) fit = absurd cc
-method_named (LogicalOr left right) fit = absurd cc
-method_named (Conditional test first second) fit = absurd cc
-method_named (Assign to value) fit = absurd cc
-method_named (CompoundAssign op to value) fit = absurd cc
-method_named (Increment op to) fit = absurd cc
-method_named (Call function arguments) fit = absurd cc
+method_named _ fit = absurd cc
 
 -- ---- one argument
 
@@ -133,9 +109,7 @@ evaluated_first ps p e (Stopped why s) others given after rest fit is = absurd c
 text_taken : (p : Parameter) (t : texts.Text) → fits p (expr.Text t) ≡ true
     → IsTaken p (Text (words_of t))
 text_taken parameter.Text t fit = (words_of t, refl)
-text_taken parameter.Number t fit = absurd cc
-text_taken parameter.DeviceVariable t fit = absurd cc
-text_taken parameter.Method t fit = absurd cc
+text_taken _ t fit = absurd cc
 
 all_taken : (env : Environment) (ps : List Parameter) (arguments : Arguments Target)
     (before : State) (given : List Given) (after : State) → all_fit ps arguments ≡ true

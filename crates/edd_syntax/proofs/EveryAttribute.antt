@@ -5,8 +5,6 @@ use Rattle.std.specs.Prelude.{slice_get}
 use Rattle.std.proofs.lemmas.Option.{none-some, same_Some}
 use Rattle.edd_syntax.specs.declared.numbers.Attr.{Attr}
 use Rattle.edd_syntax.specs.declared.numbers.Attr.TheVariants as attr
-use Rattle.edd_syntax.specs.declared.numbers.TextAttribute.{TextAttribute}
-use Rattle.edd_syntax.specs.declared.numbers.TextAttribute.TheVariants as text
 use Rattle.edd_syntax.specs.Numbers.{attr_number}
 use Rattle.edd_syntax.specs.Rows.{attributes_in_order}
 
@@ -23,8 +21,6 @@ agree_on f g xs same n x h =
     same_Some (f x) (g x) (sym (at_its_place f xs n x h) ∙ ap (λ ys. slice_get ys n) same
     ∙ at_its_place g xs n x h)
 
--- ---- all attributes
-
 stands_at : (a : Attr) → slice_get attributes_in_order (attr_number a - 1) ≡ Some a
 stands_at attr.Label = refl
 stands_at _ = refl
@@ -32,18 +28,3 @@ stands_at _ = refl
 pub every_attr : {B : Type 0} (f g : Attr → B) → map f attributes_in_order
     ≡ map g attributes_in_order → (a : Attr) → f a ≡ g a
 every_attr f g same a = agree_on f g attributes_in_order same (attr_number a - 1) a (stands_at a)
-
--- ---- the attributes that are one text
-
-abbrev pub all_texts : List TextAttribute
-all_texts = text.Label ∷ text.Help ∷ text.ConstantUnit ∷ []
-
-text_place : (which : TextAttribute) → (n : ℕ) × (slice_get all_texts n ≡ Some which)
-text_place text.Label = (0, refl)
-text_place text.Help = (1, refl)
-text_place text.ConstantUnit = (2, refl)
-
-pub every_text : {B : Type 0} (f g : TextAttribute → B) → map f all_texts ≡ map g all_texts
-    → (which : TextAttribute) → f which ≡ g which
-every_text f g same which = agree_on f g all_texts same (text_place which).0 which
-    (text_place which).1

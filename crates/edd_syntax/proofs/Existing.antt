@@ -24,27 +24,15 @@ is_item_of count i = nat_lt (index_of i) (count (kind_of i))
 
 kind_is : (k : Kind) (n : ℕ) → kind_of (item_number k n) ≡ k
 kind_is kind.Variable n = refl
-kind_is kind.Command n = refl
-kind_is kind.Menu n = refl
-kind_is kind.Collection n = refl
-kind_is kind.Method n = refl
-kind_is kind.Array n = refl
+kind_is _ n = refl
 
 index_is : (k : Kind) (n : ℕ) → index_of (item_number k n) ≡ n
 index_is kind.Variable n = refl
-index_is kind.Command n = refl
-index_is kind.Menu n = refl
-index_is kind.Collection n = refl
-index_is kind.Method n = refl
-index_is kind.Array n = refl
+index_is _ n = refl
 
 same_self : (k : Kind) → same_kind k k ≡ true
 same_self kind.Variable = refl
-same_self kind.Command = refl
-same_self kind.Menu = refl
-same_self kind.Collection = refl
-same_self kind.Method = refl
-same_self kind.Array = refl
+same_self _ = refl
 
 counted : (k : Kind) (xs ys : List (item.Item Path)) → count_of k (xs ++ ys) ≡ count_of k xs
     + count_of k ys

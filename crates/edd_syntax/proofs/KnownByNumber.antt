@@ -1,11 +1,12 @@
 -- A kind, an attribute and an item are known by their numbers.
-use Rattle.std.proofs.Common.{◌≡◌, refl, sym, ap, ◌∙◌, ℕ, true, Some}
-use Rattle.std.specs.Prelude.{◌==◌, if◌then◌else◌}
+use Rattle.std.proofs.Common.{◌≡◌, refl, sym, ap, ◌∙◌, ℕ, zero, suc, ◌+◌, true, Option, Some, None, arith}
+use Rattle.std.specs.Prelude.{◌==◌, if◌then◌else◌, slice_get}
 use Rattle.std.proofs.lemmas.Bool.{eqb-true}
 use Rattle.std.proofs.lemmas.Option.{same_Some}
 use Rattle.edd_syntax.specs.declared.numbers.Kind.{Kind}
 use Rattle.edd_syntax.specs.declared.numbers.Kind.TheVariants as kind
 use Rattle.edd_syntax.specs.declared.numbers.Attr.{Attr}
+use Rattle.edd_syntax.specs.declared.numbers.TheConstants.{ATTRIBUTES}
 use Rattle.edd_syntax.specs.declared.numbers.ItemNo.{ItemNo}
 use Rattle.edd_syntax.specs.declared.numbers.ItemNo.TheVariants as items
 use Rattle.edd_syntax.specs.Numbers.{kind_number, kind_of, index_of, item_number, attr_number, attr_from_number, same_kind, same_attr, item_from_numbers}
@@ -22,11 +23,7 @@ kind_at n =
 
 kind_again : (k : Kind) → kind_at (kind_number k) ≡ k
 kind_again kind.Variable = refl
-kind_again kind.Command = refl
-kind_again kind.Menu = refl
-kind_again kind.Collection = refl
-kind_again kind.Method = refl
-kind_again kind.Array = refl
+kind_again _ = refl
 
 pub same_kinds : (k j : Kind) → same_kind k j ≡ true → k ≡ j
 same_kinds k j h = sym (kind_again k) ∙ ap kind_at (eqb-true (kind_number k) (kind_number j) h)
@@ -42,24 +39,19 @@ same_attrs a b h = same_Some a b
 
 pub item_again : (i : ItemNo) → item_from_numbers (kind_number (kind_of i)) (index_of i) ≡ Some i
 item_again (items.Variable n) = refl
-item_again (items.Command n) = refl
-item_again (items.Menu n) = refl
-item_again (items.Collection n) = refl
-item_again (items.Method n) = refl
-item_again (items.Array n) = refl
+item_again _ = refl
 
 pub numbered_kind : (k : Kind) (n : ℕ) → kind_of (item_number k n) ≡ k
 numbered_kind kind.Variable n = refl
-numbered_kind kind.Command n = refl
-numbered_kind kind.Menu n = refl
-numbered_kind kind.Collection n = refl
-numbered_kind kind.Method n = refl
-numbered_kind kind.Array n = refl
+numbered_kind _ n = refl
 
 pub numbered_index : (k : Kind) (n : ℕ) → index_of (item_number k n) ≡ n
 numbered_index kind.Variable n = refl
-numbered_index kind.Command n = refl
-numbered_index kind.Menu n = refl
-numbered_index kind.Collection n = refl
-numbered_index kind.Method n = refl
-numbered_index kind.Array n = refl
+numbered_index _ n = refl
+
+-- what is none at 0 and else the one at the place before is the attribute of a number
+pub by_number : (number : ℕ) (found : Option Attr) → (number ≡ 0 → found ≡ None)
+    → ((n : ℕ) → number ≡ n + 1 → found ≡ slice_get ATTRIBUTES n)
+    → found ≡ attr_from_number number
+by_number zero found none one = none refl
+by_number (suc n) found none one = one n (omega arith)

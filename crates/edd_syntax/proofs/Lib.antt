@@ -14,6 +14,7 @@ pub mod KnownByNumber
 pub mod ListedRows
 pub mod Made
 pub mod Marking
+pub mod ReservedWords
 pub mod VersionLaws
 pub mod WithinLimits
 pub mod Existing

@@ -11,9 +11,9 @@ use Rattle.edd_syntax.specs.Marks.{is_marked}
 use Rattle.edd_syntax.specs.Numbers.{attr_number, same_attr}
 use Rattle.edd_syntax.proofs.EveryAttribute.{every_attr}
 
-pub few_attributes : (a : Attr) → attr_number a ≤ 22
-few_attributes a = leb-true (attr_number a) 22
-    (every_attr (λ b. nat_le (attr_number b) 22) (λ b. true) refl a)
+pub few_attributes : (a : Attr) → attr_number a ≤ 31
+few_attributes a = leb-true (attr_number a) 31
+    (every_attr (λ b. nat_le (attr_number b) 31) (λ b. true) refl a)
 
 pub none_marked : (a : Attr) → is_marked 0 a ≡ false
 none_marked a = ap (λ n. n == 1) (bit_at-zero (attr_number a))

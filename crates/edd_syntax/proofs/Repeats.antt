@@ -58,23 +58,12 @@ by_shape before (a ∷ rest) =
 module _ (names : Reading) where
   keeps_part : (p : TypePart Path) (q : TypePart Target) → resolved_type_part names p ≡ Some q
       → type_part_words q ≡ type_part_words p
-  keeps_part (item.DefaultValue c) q h =
+  keeps_part (item.OneNumber which c) q h =
       made type_part_words (resolved_cond (at_attribute names) (resolved_expr (at_attribute names))
       c)
-      item.DefaultValue q _ (λ x is. refl) h
-  keeps_part (item.MinValue c) q h =
-      made type_part_words (resolved_cond (at_attribute names) (resolved_expr (at_attribute names))
-      c)
-      item.MinValue q _ (λ x is. refl) h
-  keeps_part (item.MaxValue c) q h =
-      made type_part_words (resolved_cond (at_attribute names) (resolved_expr (at_attribute names))
-      c)
-      item.MaxValue q _ (λ x is. refl) h
-  keeps_part (item.DisplayFormat c) q h =
-      made type_part_words (resolved_cond (at_attribute names) unchanged c) item.DisplayFormat q _
-      (λ x is. refl) h
-  keeps_part (item.EditFormat c) q h =
-      made type_part_words (resolved_cond (at_attribute names) unchanged c) item.EditFormat q _
+      (item.OneNumber which) q _ (λ x is. refl) h
+  keeps_part (item.OneFormat which c) q h =
+      made type_part_words (resolved_cond (at_attribute names) unchanged c) (item.OneFormat which) q _
       (λ x is. refl) h
   keeps_part (item.Element c) q h =
       made type_part_words (resolved_cond (at_attribute names) unchanged c) item.Element q _

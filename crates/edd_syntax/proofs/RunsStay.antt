@@ -5,18 +5,16 @@ use Rattle.edd_syntax.specs.Device.{environment}
 use Rattle.edd_syntax.specs.Item.{Description}
 use Rattle.edd_syntax.specs.Reference.{Target}
 use Rattle.edd_syntax.specs.Statement.{Block, slots_in}
-use Rattle.edd_syntax.specs.MethodState.{Outcome, Done, Stopped, Trapped, Aborted, Waiting, OutOfTurns, stop}
+use Rattle.edd_syntax.specs.MethodState.{Outcome, Done, Stopped, Aborted, OutOfTurns, stop}
 use Rattle.edd_syntax.specs.Execution as ending
-use Rattle.edd_syntax.specs.Execution.{Completion, Transcript, ended, execute, execute_all, run_body, run_listed, after_body, run, body_of, opening, aborting}
+use Rattle.edd_syntax.specs.Execution.{Completion, ended, execute, execute_all, run_body, run_listed, after_body, run, body_of, opening, aborting}
 use Rattle.edd_syntax.specs.MoreTurns.{IsOver, Extends, BodiesStay, RunsStay}
 use Rattle.edd_syntax.proofs.TurnLaws.{same, and_then_extends, statements_stay}
 
 is_over : (o : Outcome Completion) → (ended o).ending ≢ ending.OutOfTurns → IsOver o
 is_over (Done x s) h = tt
-is_over (Stopped (Trapped why) s) h = tt
-is_over (Stopped Aborted s) h = tt
-is_over (Stopped Waiting s) h = tt
 is_over (Stopped OutOfTurns s) h = absurd (h refl)
+is_over (Stopped _ s) h = tt
 
 pub bodies_stay : BodiesStay
 unfolding run_body execute
@@ -45,11 +43,10 @@ module _ (unit : Description Target) (n m : ℕ) (h : n ≤ m) where
   after_body_stays : (o o' : Outcome Completion) → (IsOver o → o' ≡ o)
       → IsOver (after_body n unit o) → after_body m unit o' ≡ after_body n unit o
   after_body_stays (Done x s) o' same over = ap (after_body m unit) (same tt)
-  after_body_stays (Stopped (Trapped why) s) o' same over = ap (after_body m unit) (same tt)
   after_body_stays (Stopped Aborted s) o' same over =
       ap (after_body m unit) (same tt) ∙ listed_stay s.abort_methods s over
-  after_body_stays (Stopped Waiting s) o' same over = ap (after_body m unit) (same tt)
   after_body_stays (Stopped OutOfTurns s) o' same over = absurd over
+  after_body_stays (Stopped _ s) o' same over = ap (after_body m unit) (same tt)
 
 pub runs_stay : RunsStay
 unfolding run

@@ -26,18 +26,7 @@ module _ (number : ItemNo) (a : Attr) (all : List (Attribute Target)) where
       ++ positions_from (if is_transaction x then suc next else next) xs
   unfolding rows_at
   positions_split next (item.OneText which c) xs = refl
-  positions_split next (item.Class words) xs = refl
-  positions_split next (item.Handling c) xs = refl
-  positions_split next (item.Validity c) xs = refl
-  positions_split next (item.TypeOf word parts) xs = refl
-  positions_split next (item.Number n) xs = refl
-  positions_split next (item.Operation o) xs = refl
-  positions_split next (item.Transaction n parts) xs = refl
-  positions_split next (item.ResponseCodes responses) xs = refl
-  positions_split next (item.Items entries) xs = refl
-  positions_split next (item.Members members) xs = refl
-  positions_split next (item.Elements elements) xs = refl
-  positions_split next (item.Definition body) xs = refl
+  positions_split next _ xs = refl
 
   pub no_positions : (next : ℕ) → positions_from next [] ≡ []
   unfolding rows_at

@@ -5,7 +5,7 @@ use Rattle.edd_syntax.specs.Reference.{Target}
 use Rattle.edd_syntax.specs.Statement.{Stmt, Empty, Evaluate, Block, If, IfElse, While, Do, For, Switch, Break, Continue, Return, Body, Nil, Cons, Declare, Statement, CaseLabel, DefaultLabel}
 use Rattle.edd_syntax.specs.TwosComplement.{wrap, is_zero}
 use Rattle.edd_syntax.specs.Device.{Environment}
-use Rattle.edd_syntax.specs.MethodState.{Outcome, Done, Stopped, Trapped, Aborted, Waiting, OutOfTurns, Action, pure, and_then, ◌>>=◌, ◌>>◌}
+use Rattle.edd_syntax.specs.MethodState.{Outcome, Done, Stopped, OutOfTurns, Action, pure, and_then, ◌>>=◌, ◌>>◌}
 use Rattle.edd_syntax.specs.Evaluation.{evaluate}
 use Rattle.edd_syntax.specs.Execution.{Completion, Normal, Breaks, Continues, Returns, next, next_turn, left, turns, turns_of_do, optional, declare, execute, execute_all, execute_case, execute_default}
 use Rattle.edd_syntax.specs.MoreTurns.{IsOver, Extends, StatementsStay}
@@ -19,10 +19,8 @@ same a s over = refl
 pub and_then_extends : {A B : Type 0} (o o' : Outcome A) (f g : A → Action B) → (IsOver o → o' ≡ o)
     → ((x : A) → Extends (f x) (g x)) → IsOver (and_then o f) → and_then o' g ≡ and_then o f
 and_then_extends (Done x s) o' f g e h over = ap (λ r. and_then r g) (e tt) ∙ h x s over
-and_then_extends (Stopped (Trapped t) s) o' f g e h over = ap (λ r. and_then r g) (e tt)
-and_then_extends (Stopped Aborted s) o' f g e h over = ap (λ r. and_then r g) (e tt)
-and_then_extends (Stopped Waiting s) o' f g e h over = ap (λ r. and_then r g) (e tt)
 and_then_extends (Stopped OutOfTurns s) o' f g e h over = absurd over
+and_then_extends (Stopped _ s) o' f g e h over = ap (λ r. and_then r g) (e tt)
 
 pub then_extends : {A B : Type 0} (a b : Action A) (f g : A → Action B) → Extends a b
     → ((x : A) → Extends (f x) (g x)) → Extends (a >>= f) (b >>= g)
@@ -39,16 +37,13 @@ branch_extends false f g f' g' e h = h
 next_extends : (rest more : Action Completion) → Extends rest more → (c : Completion)
     → Extends (next rest c) (next more c)
 next_extends rest more e Normal = e
-next_extends rest more e Breaks = same (pure Breaks)
-next_extends rest more e Continues = same (pure Continues)
-next_extends rest more e Returns = same (pure Returns)
+next_extends rest more e x = same (pure x)
 
 next_turn_extends : (rest more : Action Completion) → Extends rest more → (c : Completion)
     → Extends (next_turn rest c) (next_turn more c)
-next_turn_extends rest more e Normal = e
 next_turn_extends rest more e Breaks = same (pure Normal)
-next_turn_extends rest more e Continues = e
 next_turn_extends rest more e Returns = same (pure Returns)
+next_turn_extends rest more e _ = e
 
 -- ---- loops
 
@@ -108,27 +103,21 @@ module _ (env : Environment) (n m : ℕ) (h : n ≤ m) where
         (same _) (next_extends _ _ (stays_all rest))
     stays_all (Cons (Statement s) rest) =
         then_extends _ _ _ _ (stays s) (next_extends _ _ (stays_all rest))
-    stays_all (Cons (CaseLabel label) rest) = stays_all rest
-    stays_all (Cons DefaultLabel rest) = stays_all rest
+    stays_all (Cons _ rest) = stays_all rest
 
     stays_case : (a : ℤ) (b : Body Target) (otherwise more : Action Completion)
         → Extends otherwise more
         → Extends (execute_case env a b n otherwise) (execute_case env a b m more)
     stays_case a Nil otherwise more e = e
-    stays_case a (Cons (Declare declarators) rest) otherwise more e =
-        stays_case a rest otherwise more e
-    stays_case a (Cons (Statement s) rest) otherwise more e = stays_case a rest otherwise more e
     stays_case a (Cons (CaseLabel label) rest) otherwise more e =
         branch_extends (int_eq a (wrap 32 label)) _ _ _ _ (stays_all rest)
         (stays_case a rest otherwise more e)
-    stays_case a (Cons DefaultLabel rest) otherwise more e = stays_case a rest otherwise more e
+    stays_case a (Cons _ rest) otherwise more e = stays_case a rest otherwise more e
 
     stays_default : (b : Body Target) → Extends (execute_default env b n) (execute_default env b m)
     stays_default Nil = same (pure Normal)
-    stays_default (Cons (Declare declarators) rest) = stays_default rest
-    stays_default (Cons (Statement s) rest) = stays_default rest
-    stays_default (Cons (CaseLabel label) rest) = stays_default rest
     stays_default (Cons DefaultLabel rest) = stays_all rest
+    stays_default (Cons _ rest) = stays_default rest
 
 pub statements_stay : StatementsStay
 statements_stay env statement n m h = stays env n m h statement

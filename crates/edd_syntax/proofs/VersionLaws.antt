@@ -9,7 +9,7 @@ use Rattle.edd_syntax.specs.declared.reference.Target.{Target}
 use Rattle.edd_syntax.specs.Expression.{Argument, Text, Value, arguments_from}
 use Rattle.edd_syntax.specs.Item.{Attribute, Item}
 use Rattle.edd_syntax.specs.LayoutVersion.{argument_names_it, one_names_it, body_names_it}
-use Rattle.edd_syntax.specs.Statement.{Declarator, Part, Declare, Statement, CaseLabel, DefaultLabel, body_from}
+use Rattle.edd_syntax.specs.Statement.{Declarator, Part, Declare, Statement, body_from}
 use Rattle.edd_syntax.specs.SubsetRules.{bodies_in, optional_part, stmt_expressions}
 
 -- ---- a loop, where a list has it if its first element or the others have it
@@ -79,8 +79,7 @@ pub parts_split : (p : Part Target) (ps : List (Part Target)) → in_parts (p �
 parts_split (Declare ds) ps = any_append _ (flat_map (λ d. optional_part d.value) ds) _
     ∙ grind (arith, common_steps)
 parts_split (Statement s) ps = any_append _ (stmt_expressions s) _ ∙ grind (arith, common_steps)
-parts_split (CaseLabel label) ps = refl
-parts_split DefaultLabel ps = refl
+parts_split _ ps = refl
 
 abbrev pub in_attributes : List (Attribute Target) → Bool
 in_attributes xs = list_any body_names_it (flat_map bodies_in xs)

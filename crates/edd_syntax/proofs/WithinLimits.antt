@@ -156,11 +156,7 @@ none_over n (x ∷ xs) h = grind (arith, common_steps, none_over n xs)
 few_of_kind : (items : List (Item Path)) (k : Kind)
     → list_any (λ j. nat_lt 4096 (count_of j items)) kinds ≡ false → count_of k items ≤ 4096
 few_of_kind items kind.Variable h = grind (arith, common_steps)
-few_of_kind items kind.Command h = grind (arith, common_steps)
-few_of_kind items kind.Menu h = grind (arith, common_steps)
-few_of_kind items kind.Collection h = grind (arith, common_steps)
-few_of_kind items kind.Method h = grind (arith, common_steps)
-few_of_kind items kind.Array h = grind (arith, common_steps)
+few_of_kind items _ h = grind (arith, common_steps)
 
 -- ---- a checked description
 

@@ -1,6 +1,7 @@
 -- Worked examples of refusals: for each rule a unit whose first broken rule it is, computed.
 use Rattle.std.proofs.Common.{◌≡◌, refl, ap, ℕ, zero, suc, pos, negsuc, List, [], ◌∷◌, ◌++◌}
 use Rattle.std.specs.Prelude.{false, Some, None, codes, replicate}
+use Rattle.edd_syntax.specs.declared.numbers.NumberOption.TheVariants as number_option
 use Rattle.edd_syntax.specs.declared.limits.Limit.TheVariants as limit
 use Rattle.edd_syntax.specs.declared.numbers.Kind.TheVariants as kind
 use Rattle.edd_syntax.specs.declared.numbers.TextAttribute.TheVariants as text_attribute
@@ -343,7 +344,7 @@ parenthesized zero = Literal 1
 parenthesized (suc n) = Parentheses (parenthesized n)
 
 abbrev min_value : ℕ → Attribute Path
-min_value n = TypeOf (Known var_type.Integer None) (item.MinValue (Value (parenthesized n)) ∷ [])
+min_value n = TypeOf (Known var_type.Integer None) (item.OneNumber number_option.MinValue (Value (parenthesized n)) ∷ [])
 
 height_of_98_pairs : attribute_height (min_value 98) ≡ 100
 unfolding parenthesized

@@ -1,6 +1,8 @@
 -- Worked examples of the rows of written attributes.
 use Rattle.std.proofs.Common.{◌≡◌, refl, ℕ, pos, List, [], ◌∷◌}
 use Rattle.std.specs.Prelude.{true, Some, None, codes}
+use Rattle.edd_syntax.specs.declared.numbers.NumberOption.TheVariants as number_option
+use Rattle.edd_syntax.specs.declared.numbers.FormatOption.TheVariants as format_option
 use Rattle.edd_syntax.specs.declared.numbers.Kind.TheVariants as kind
 use Rattle.edd_syntax.specs.declared.numbers.Attr.{Attr}
 use Rattle.edd_syntax.specs.declared.numbers.Attr.TheVariants as attr
@@ -65,9 +67,9 @@ everything =
     item_with item.MethodItem (item.Definition Nil ∷ item.Class (codes "C" ∷ []) ∷ [])
     ∷ item_with item.VariableItem
     (integer (item.Element (Value (record { value = pos 1; text = Quoted []; help = None }))
-    ∷ item.EditFormat text ∷ item.DisplayFormat text
-    ∷ item.MaxValue (Value (Literal 9)) ∷ item.MinValue (Value (Literal 1))
-    ∷ item.DefaultValue (Value (Literal 5)) ∷ []) ∷ item.OneText text_attribute.Label text ∷ [])
+    ∷ (item.OneFormat format_option.EditFormat) text ∷ (item.OneFormat format_option.DisplayFormat) text
+    ∷ (item.OneNumber number_option.MaxValue) (Value (Literal 9)) ∷ (item.OneNumber number_option.MinValue) (Value (Literal 1))
+    ∷ (item.OneNumber number_option.DefaultValue) (Value (Literal 5)) ∷ []) ∷ item.OneText text_attribute.Label text ∷ [])
     ∷ item_with item.CommandItem (item.Number 1 ∷ item.Operation operation.Read
     ∷ item.Transaction (Some 0) [] ∷ item.ResponseCodes [] ∷ item.Transaction (Some 1) [] ∷ [])
     ∷ item_with item.VariableItem (item.Validity (Value true)

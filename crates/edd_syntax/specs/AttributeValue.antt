@@ -5,7 +5,7 @@ use Rattle.edd_syntax.specs.declared.numbers.ItemNo.{ItemNo}
 use Rattle.edd_syntax.specs.declared.numbers.ItemNo.TheVariants as item_no
 use Rattle.edd_syntax.specs.declared.answer.Trap.{Trap}
 use Rattle.edd_syntax.specs.Reference.{Target, Local, Item, Function}
-use Rattle.edd_syntax.specs.Expression.{Expr, Literal, Decimal, Reference, Indexed, Parentheses, Unary, Binary, Compare, LogicalAnd, LogicalOr, Conditional, Assign, CompoundAssign, Increment, Call}
+use Rattle.edd_syntax.specs.Expression.{Expr, Literal, Decimal, Reference, Indexed, Parentheses, Unary, Binary, Compare, LogicalAnd, LogicalOr, Conditional}
 use Rattle.edd_syntax.specs.Conditional.{Cond, Value, If, Select, Conds, Nil, Cons, Arms, NoArms, ConsArm, Case, Default}
 use Rattle.edd_syntax.specs.TwosComplement.{wrap, truth, is_zero, operate, compare, apply}
 use Rattle.edd_syntax.specs.DeviceValues.{value_at}
@@ -27,11 +27,7 @@ Err why >>= next = Err why
 -- a variable is read with 64 bits; no checked unit reads another item
 abbrev pub item_value : List ℤ → ItemNo → ℤ
 item_value d (item_no.Variable v) = wrap 64 (value_at d v)
-item_value d (item_no.Command n) = pos 0
-item_value d (item_no.Menu n) = pos 0
-item_value d (item_no.Collection n) = pos 0
-item_value d (item_no.Method n) = pos 0
-item_value d (item_no.Array n) = pos 0
+item_value d _ = pos 0
 
 -- no attribute refers to a local or a function
 abbrev pub read : List ℤ → Target → ℤ
@@ -76,10 +72,7 @@ module _ (env : Environment) (d : List ℤ) where
     elim (is_zero a) [ true ↦ value second | false ↦ value first ]
   -- no attribute of a checked unit has these
   value Decimal = Ok (pos 0)
-  value (Assign to by) = Ok (pos 0)
-  value (CompoundAssign op to by) = Ok (pos 0)
-  value (Increment op to) = Ok (pos 0)
-  value (Call function arguments) = Ok (pos 0)
+  value _ = Ok (pos 0)
 
   -- ---- conditionals: the values that apply
 

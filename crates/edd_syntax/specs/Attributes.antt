@@ -6,6 +6,8 @@ use Rattle.edd_syntax.specs.declared.numbers.ItemNo.{ItemNo}
 use Rattle.edd_syntax.specs.declared.numbers.Attr.{Attr}
 use Rattle.edd_syntax.specs.declared.numbers.Attr.TheVariants as attr
 use Rattle.edd_syntax.specs.declared.numbers.AttrRef.{AttrRef}
+use Rattle.edd_syntax.specs.declared.numbers.Home.{Home}
+use Rattle.edd_syntax.specs.declared.numbers.Home.TheVariants as home
 use Rattle.edd_syntax.specs.declared.types.ResponseClass.{ResponseClass}
 use Rattle.edd_syntax.specs.declared.types.Handling.{Handling}
 use Rattle.edd_syntax.specs.declared.types.Handling.TheVariants as handling
@@ -21,7 +23,7 @@ use Rattle.edd_syntax.specs.Item as item
 use Rattle.edd_syntax.specs.Item.{kind_of_item, MenuEntry, DataItem, TypePart, TransactionPart, Attribute, Description}
 use Rattle.edd_syntax.specs.Words as words
 use Rattle.edd_syntax.specs.Words.{words_of, name_words}
-use Rattle.edd_syntax.specs.Numbers.{has_attr, same_attr, text_attr}
+use Rattle.edd_syntax.specs.Numbers.{has_attr, same_attr, shape_of, text_attr, number_attr, format_attr}
 use Rattle.edd_syntax.specs.Targets.{item_of, variable_of}
 use Rattle.edd_syntax.specs.Device.{Environment, environment, item_at}
 use Rattle.edd_syntax.specs.AttributeValue.{Trapping, ◌>>=◌, value, chosen, all_chosen}
@@ -150,11 +152,8 @@ module _ (env : Environment) where
 
   -- the attribute that an option of a type is; an element of its list is none by itself
   abbrev pub of_part : TypePart Target → List Named
-  of_part (item.DefaultValue c) = (attr.DefaultValue, expressions c) ∷ []
-  of_part (item.MinValue c) = (attr.MinValue, expressions c) ∷ []
-  of_part (item.MaxValue c) = (attr.MaxValue, expressions c) ∷ []
-  of_part (item.DisplayFormat c) = (attr.DisplayFormat, texts c) ∷ []
-  of_part (item.EditFormat c) = (attr.EditFormat, texts c) ∷ []
+  of_part (item.OneNumber which c) = (number_attr which, expressions c) ∷ []
+  of_part (item.OneFormat which c) = (format_attr which, texts c) ∷ []
   of_part (item.Element c) = []
 
   -- the attributes that the options of a type are
@@ -233,12 +232,14 @@ gives_in a (Some transaction) d = gives a (meaning_of a transaction) d
 abbrev pub is_readable : Kind → Attr → Bool
 is_readable kind a = has_attr kind a && not (same_attr a attr.Definition)
 
+-- each transaction has it for itself
+abbrev pub is_in_transaction : Home → Bool
+is_in_transaction home.Transaction = true
+is_in_transaction _ = false
+
 -- each transaction has this attribute for itself
 abbrev pub is_of_transaction : Attr → Bool
-is_of_transaction attr.Transaction = true
-is_of_transaction attr.Request = true
-is_of_transaction attr.Reply = true
-is_of_transaction _ = false
+is_of_transaction a = is_in_transaction (shape_of a).home
 
 -- `sub` is the position of a transaction for its attributes, and else 0
 abbrev pub read_item : Environment → item.Item Target → Attr → (sub : ℕ) → List ℤ → Reading

@@ -71,11 +71,7 @@ abbrev pub item_element : List Element → (width : ℕ) → (values : List ℤ)
     → Result ℤ Trap
 item_element elements width values (item_no.Array n) number =
     element_value elements width values n number
-item_element elements width values (item_no.Variable n) number = Ok (pos 0)
-item_element elements width values (item_no.Command n) number = Ok (pos 0)
-item_element elements width values (item_no.Menu n) number = Ok (pos 0)
-item_element elements width values (item_no.Collection n) number = Ok (pos 0)
-item_element elements width values (item_no.Method n) number = Ok (pos 0)
+item_element elements width values _ number = Ok (pos 0)
 
 -- the value of an element of what is before an index
 abbrev pub indexed_value : List Element → (width : ℕ) → (values : List ℤ) → Target → ℤ

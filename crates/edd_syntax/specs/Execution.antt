@@ -113,15 +113,12 @@ module _ (env : Environment) where
     -- from the first `case` whose label, as 32 bits, equals the value
     pub execute_case : ℤ → Body Target → ℕ → (otherwise : Action Completion) → Action Completion
     execute_case value Nil n otherwise = otherwise
-    execute_case value (Cons (Declare declarators) rest) n otherwise =
-        execute_case value rest n otherwise
-    execute_case value (Cons (Statement s) rest) n otherwise = execute_case value rest n otherwise
     execute_case value (Cons (CaseLabel label) rest) n otherwise =
         elim (int_eq value (wrap 32 label)) [
           | true ↦ execute_all rest n
           | false ↦ execute_case value rest n otherwise
         ]
-    execute_case value (Cons DefaultLabel rest) n otherwise = execute_case value rest n otherwise
+    execute_case value (Cons _ rest) n otherwise = execute_case value rest n otherwise
 
     -- from `default`
     pub execute_default : Body Target → ℕ → Action Completion

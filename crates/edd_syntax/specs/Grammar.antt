@@ -102,10 +102,7 @@ precedence_of operator.Remainder = 12
 abbrev pub comparison_precedence : Comparison → ℕ
 comparison_precedence comparison.Equal = 8
 comparison_precedence comparison.NotEqual = 8
-comparison_precedence comparison.Less = 9
-comparison_precedence comparison.LessOrEqual = 9
-comparison_precedence comparison.Greater = 9
-comparison_precedence comparison.GreaterOrEqual = 9
+comparison_precedence _ = 9
 
 -- the sign of an operator before its operand
 abbrev pub unary_sign : UnaryOperator → Symbol

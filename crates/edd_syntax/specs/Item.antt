@@ -1,7 +1,11 @@
 -- Items, their attributes, and the whole description.
 use Rattle.std.specs.Prelude.{ℕ, ℤ, Bool, List, Option}
+use Rattle.edd_syntax.specs.declared.numbers.Attr.{Attr}
+use Rattle.edd_syntax.specs.declared.numbers.Attr.TheVariants as attr
+use Rattle.edd_syntax.specs.declared.numbers.FormatOption.{FormatOption}
 use Rattle.edd_syntax.specs.declared.numbers.Kind.{Kind}
 use Rattle.edd_syntax.specs.declared.numbers.Kind.TheVariants as kind
+use Rattle.edd_syntax.specs.declared.numbers.NumberOption.{NumberOption}
 use Rattle.edd_syntax.specs.declared.numbers.TextAttribute.{TextAttribute}
 use Rattle.edd_syntax.specs.declared.types.VarType.{VarType}
 use Rattle.edd_syntax.specs.declared.types.Handling as handling
@@ -9,6 +13,7 @@ use Rattle.edd_syntax.specs.declared.types.Operation as operation
 use Rattle.edd_syntax.specs.declared.types.ResponseClass.{ResponseClass}
 use Rattle.edd_syntax.specs.declared.item.MenuQualifiers.{MenuQualifiers}
 use Rattle.edd_syntax.specs.declared.item.DataQualifiers.{DataQualifiers}
+use Rattle.edd_syntax.specs.Numbers.{text_attr}
 use Rattle.edd_syntax.specs.Text as texts
 use Rattle.edd_syntax.specs.Text.{Name}
 use Rattle.edd_syntax.specs.Expression.{Expr}
@@ -58,11 +63,8 @@ pub data TypeWord : Type 0 where
 
 -- what is in the braces of a type
 pub data TypePart (R : Type 0) : Type 0 where
-  DefaultValue : Cond R (Expr R) → TypePart R
-  MinValue : Cond R (Expr R) → TypePart R
-  MaxValue : Cond R (Expr R) → TypePart R
-  DisplayFormat : Cond R texts.Text → TypePart R
-  EditFormat : Cond R texts.Text → TypePart R
+  OneNumber : NumberOption → Cond R (Expr R) → TypePart R
+  OneFormat : FormatOption → Cond R texts.Text → TypePart R
   -- an element of the list of enumerators
   Element : Cond R Enumerator → TypePart R
 
@@ -87,6 +89,22 @@ pub data Attribute (R : Type 0) : Type 0 where
   Definition : Body R → Attribute R
   -- of an array
   Elements : List (ArrayElement R) → Attribute R
+
+-- which attribute it is; of a type it is the list in its braces
+abbrev pub attr_of : {R : Type 0} → Attribute R → Attr
+attr_of (OneText which c) = text_attr which
+attr_of (Class words) = attr.Class
+attr_of (Handling c) = attr.Handling
+attr_of (Validity c) = attr.Validity
+attr_of (TypeOf word parts) = attr.Enumerators
+attr_of (Number n) = attr.Number
+attr_of (Operation o) = attr.Operation
+attr_of (Transaction number parts) = attr.Transaction
+attr_of (ResponseCodes responses) = attr.ResponseCodes
+attr_of (Items entries) = attr.Items
+attr_of (Members members) = attr.Members
+attr_of (Definition body) = attr.Definition
+attr_of (Elements elements) = attr.Elements
 
 -- what an item is; a collection has the kind of its members
 pub data ItemKind : Type 0 where

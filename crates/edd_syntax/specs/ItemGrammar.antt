@@ -4,7 +4,6 @@ use Rattle.std.specs.Prelude.{◌≡◌, ◌⊎◌, ℕ, zero, suc, nat_le, Bool
 use Rattle.std.specs.List.{list_all}
 use Rattle.edd_syntax.specs.declared.numbers.Kind.{Kind}
 use Rattle.edd_syntax.specs.declared.numbers.Kind.TheVariants as kind
-use Rattle.edd_syntax.specs.declared.numbers.TextAttribute.{TextAttribute}
 use Rattle.edd_syntax.specs.declared.types.VarType.{VarType}
 use Rattle.edd_syntax.specs.declared.types.VarType.TheVariants as var_type
 use Rattle.edd_syntax.specs.declared.types.Handling.{Handling}
@@ -30,7 +29,7 @@ use Rattle.edd_syntax.specs.Item as item
 use Rattle.edd_syntax.specs.Item.{ItemKind, VariableItem, CommandItem, MenuItem, CollectionItem, MethodItem, ArrayItem, kind_of_item, TypePart, TransactionPart, Attribute, Item, Identification, Description}
 use Rattle.edd_syntax.specs.Size.{item_height, height_limit}
 use Rattle.edd_syntax.specs.WellFormed.{belongs_to}
-use Rattle.edd_syntax.specs.Numbers.{text_of_word}
+use Rattle.edd_syntax.specs.Numbers.{format_of_word, number_of_word, text_of_word}
 use Rattle.edd_syntax.specs.Refusal.{is_name_in}
 use Rattle.edd_syntax.specs.Grammar.{Next, NextSign, NextWord, OptionalSign, PathHere, PlainHere, TextHere, InAttribute, ExprHere}
 use Rattle.edd_syntax.specs.StatementGrammar.{LabelHere, OneHere, ListHere, ElementHere, BodyHere}
@@ -38,6 +37,10 @@ use Rattle.edd_syntax.specs.StatementGrammar.{LabelHere, OneHere, ListHere, Elem
 -- the next token is this name
 abbrev pub NextName : Name → List Token → List Token → Type 0
 NextName name here rest = Next (Identifier name) here rest
+
+-- a word that stands for this by a table
+abbrev pub WordHere : {A : Type 0} → (Keyword → Option A) → A → List Token → List Token → Type 0
+WordHere table x here rest = (k : Keyword) × (table k ≡ Some x) × NextWord k here rest
 
 -- ---- repetitions
 
@@ -248,16 +251,10 @@ SizeHere (Some size) here rest = here ≡ Sign sign.OpenParenthesis ∷ Integer 
 
 -- an option of a type, or an element of its list with a comma after it or none
 abbrev pub TypePartHere : TypePart Path → List Token → List Token → Type 0
-TypePartHere (item.DefaultValue c) here rest = (behind : List Token)
-    × NextWord word.DefaultValue here behind × OneHere ValueExprHere c behind rest
-TypePartHere (item.MinValue c) here rest = (behind : List Token)
-    × NextWord word.MinValue here behind × OneHere ValueExprHere c behind rest
-TypePartHere (item.MaxValue c) here rest = (behind : List Token)
-    × NextWord word.MaxValue here behind × OneHere ValueExprHere c behind rest
-TypePartHere (item.DisplayFormat c) here rest = (behind : List Token)
-    × NextWord word.DisplayFormat here behind × OneHere TextHere c behind rest
-TypePartHere (item.EditFormat c) here rest = (behind : List Token) × NextWord word.EditFormat here
-    behind × OneHere TextHere c behind rest
+TypePartHere (item.OneNumber which c) here rest = (behind : List Token)
+    × WordHere number_of_word which here behind × OneHere ValueExprHere c behind rest
+TypePartHere (item.OneFormat which c) here rest = (behind : List Token)
+    × WordHere format_of_word which here behind × OneHere TextHere c behind rest
 TypePartHere (item.Element c) here rest =
     (behind : List Token) × ElementHere EnumeratorHere c here behind
     × OptionalSign sign.Comma behind rest
@@ -330,14 +327,10 @@ NumberHere (Some n) here rest = Next (Integer n) here rest
 
 -- ---- attributes
 
--- the word of an attribute that is one text
-abbrev pub TextWordHere : TextAttribute → List Token → List Token → Type 0
-TextWordHere which here rest = (k : Keyword) × (text_of_word k ≡ Some which) × NextWord k here rest
-
 -- an attribute with its word
 abbrev pub AttributeHere : Attribute Path → List Token → List Token → Type 0
 AttributeHere (item.OneText which c) here rest = (behind : List Token)
-    × TextWordHere which here behind × OneHere TextHere c behind rest
+    × WordHere text_of_word which here behind × OneHere TextHere c behind rest
 AttributeHere (item.Class names) here rest =
     (behind : List Token) × NextWord word.Class here behind × NamesHere (sign.Operator operator.And)
     names behind (Sign sign.Semicolon ∷ rest)

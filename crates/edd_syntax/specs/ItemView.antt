@@ -5,7 +5,8 @@ use Rattle.edd_syntax.specs.declared.cond.Cond.TheVariants.{Value, If', Select'}
 use Rattle.edd_syntax.specs.declared.cond.Arm.{Arm}
 use Rattle.edd_syntax.specs.declared.cond.Arm.TheVariants.{Case', Default'}
 use Rattle.edd_syntax.specs.declared.item.Item.{Item}
-use Rattle.edd_syntax.specs.declared.item.Item.TheVariants as item
+use Rattle.edd_syntax.specs.declared.item.ItemKind.{ItemKind}
+use Rattle.edd_syntax.specs.declared.item.ItemKind.TheVariants as item_kind
 use Rattle.edd_syntax.specs.declared.item.Attribute.{Attribute}
 use Rattle.edd_syntax.specs.declared.item.Attribute.TheVariants as attribute
 use Rattle.edd_syntax.specs.declared.item.TypeWord.{TypeWord}
@@ -117,11 +118,8 @@ type_word_of (word.Other text) = items.Other (string_bytes text)
 
 -- what is in the braces of a type
 abbrev pub type_part_of : {R S : Type 0} → (R → S) → TypePart R → items.TypePart S
-type_part_of f (part.DefaultValue at value) = items.DefaultValue (cond_of f (expr_of f) value)
-type_part_of f (part.MinValue at value) = items.MinValue (cond_of f (expr_of f) value)
-type_part_of f (part.MaxValue at value) = items.MaxValue (cond_of f (expr_of f) value)
-type_part_of f (part.DisplayFormat at format) = items.DisplayFormat (cond_of f text_of format)
-type_part_of f (part.EditFormat at format) = items.EditFormat (cond_of f text_of format)
+type_part_of f (part.OneNumber at which value) = items.OneNumber which (cond_of f (expr_of f) value)
+type_part_of f (part.OneFormat at which format) = items.OneFormat which (cond_of f text_of format)
 type_part_of f (part.Element element) = items.Element (cond_of f enumerator_of element)
 
 -- a REQUEST or a REPLY
@@ -155,39 +153,32 @@ attribute_of f (attribute.Definition at parts) =
 -- ---- items
 
 -- what an item is
+abbrev pub item_kind_of : ItemKind → items.ItemKind
+item_kind_of item_kind.Variable = items.VariableItem
+item_kind_of item_kind.Command = items.CommandItem
+item_kind_of item_kind.Menu = items.MenuItem
+item_kind_of (item_kind.Collection of) = items.CollectionItem of
+item_kind_of item_kind.Method = items.MethodItem
+item_kind_of item_kind.Array = items.ArrayItem
+
+-- what this item is
 abbrev pub sort_of : {R : Type 0} → Item R → items.ItemKind
-sort_of (item.Variable d) = items.VariableItem
-sort_of (item.Command d) = items.CommandItem
-sort_of (item.Menu d) = items.MenuItem
-sort_of (item.Collection d) = items.CollectionItem d.of
-sort_of (item.Method d) = items.MethodItem
-sort_of (item.Array d) = items.ArrayItem
+sort_of i = item_kind_of i.sort
 
 -- the name of an item
 abbrev pub name_of : {R : Type 0} → Item R → Name
-name_of (item.Variable d) = string_bytes d.name
-name_of (item.Command d) = string_bytes d.name
-name_of (item.Menu d) = string_bytes d.name
-name_of (item.Collection d) = string_bytes d.name
-name_of (item.Method d) = string_bytes d.name
-name_of (item.Array d) = string_bytes d.name
+name_of i = string_bytes i.name
 
 -- the attributes of an item, still as the code has them
 abbrev pub attributes_of : {R : Type 0} → Item R → List (Attribute R)
-attributes_of (item.Variable d) = d.attributes.items
-attributes_of (item.Command d) = d.attributes.items
-attributes_of (item.Menu d) = d.attributes.items
-attributes_of (item.Collection d) = d.attributes.items
-attributes_of (item.Method d) = d.attributes.items
-attributes_of (item.Array d) = d.attributes.items
+attributes_of i = i.attributes.items
 
 -- an item
 abbrev pub item_of : {R S : Type 0} → (R → S) → Item R → items.Item S
 item_of f i = record {
   sort = sort_of i;
   name = name_of i;
-  attributes = map (attribute_of f)
-      (attributes_of i);
+  attributes = map (attribute_of f) (attributes_of i);
 }
 
 -- an identification

@@ -6,7 +6,7 @@ use Rattle.edd_syntax.specs.declared.numbers.Kind.TheVariants as kind
 use Rattle.edd_syntax.specs.declared.operators.Builtin.TheVariants as builtin
 use Rattle.edd_syntax.specs.Reference.{Target, Function}
 use Rattle.edd_syntax.specs.Expression as expr
-use Rattle.edd_syntax.specs.Expression.{Expr, Literal, Decimal, Reference, Indexed, Parentheses, Unary, Binary, Compare, LogicalAnd, LogicalOr, Conditional, Assign, CompoundAssign, Increment, Call, Arguments}
+use Rattle.edd_syntax.specs.Expression.{Expr, Indexed, Parentheses, Unary, Binary, Compare, LogicalAnd, LogicalOr, Conditional, Assign, CompoundAssign, Call, Arguments}
 use Rattle.edd_syntax.specs.Statement.{Body}
 use Rattle.edd_syntax.specs.Item.{Description}
 use Rattle.edd_syntax.specs.Resolution.{count_of}
@@ -20,9 +20,6 @@ is_add_abort_method _ = false
 -- whether an expression, or one of its arguments, names that function
 abbrev mutual
   pub names_it : Expr Target → Bool
-  names_it (Literal value) = false
-  names_it Decimal = false
-  names_it (Reference from) = false
   names_it (Indexed array index) = names_it index
   names_it (Parentheses inner) = names_it inner
   names_it (Unary op operand) = names_it operand
@@ -34,8 +31,8 @@ abbrev mutual
       names_it test || (names_it first || names_it second)
   names_it (Assign to value) = names_it value
   names_it (CompoundAssign op to value) = names_it value
-  names_it (Increment op to) = false
   names_it (Call function arguments) = is_add_abort_method function || argument_names_it arguments
+  names_it _ = false
 
   -- whether one of these arguments does
   pub argument_names_it : Arguments Target → Bool

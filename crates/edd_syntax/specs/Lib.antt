@@ -15,6 +15,7 @@ pub mod Grammar
 pub mod Item
 pub mod ItemGrammar
 pub mod ItemView
+pub mod Keywords
 pub mod LayoutVersion
 pub mod Marks
 pub mod MethodState

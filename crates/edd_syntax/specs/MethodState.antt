@@ -91,11 +91,7 @@ number (Err why) = stop (Trapped why)
 -- a variable is read with 32 bits; no checked unit reads another item
 abbrev pub item_value : List ℤ → ItemNo → ℤ
 item_value values (item_no.Variable v) = wrap 32 (value_at values v)
-item_value values (item_no.Command n) = pos 0
-item_value values (item_no.Menu n) = pos 0
-item_value values (item_no.Collection n) = pos 0
-item_value values (item_no.Method n) = pos 0
-item_value values (item_no.Array n) = pos 0
+item_value values _ = pos 0
 
 -- the number that is read of a target in a state; no checked unit reads a function
 abbrev pub read_from : State → Target → ℤ
@@ -122,11 +118,7 @@ assign_item env (item_no.Variable v) z =
     let t = type_of_variable env v in
     let kept = store t.type t.size z in
     λ s. Done (wrap 32 kept) (change v kept s)
-assign_item env (item_no.Command n) z = pure z
-assign_item env (item_no.Menu n) z = pure z
-assign_item env (item_no.Collection n) z = pure z
-assign_item env (item_no.Method n) z = pure z
-assign_item env (item_no.Array n) z = pure z
+assign_item env _ z = pure z
 
 -- stores a number in a target, and gives what is then read; no checked unit stores in a function
 abbrev pub assign : Environment → Target → ℤ → Action ℤ

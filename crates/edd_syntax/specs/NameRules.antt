@@ -11,11 +11,12 @@ use Rattle.edd_syntax.specs.declared.symbols.Keyword.TheVariants as keyword
 use Rattle.edd_syntax.specs.Text.{Name}
 use Rattle.edd_syntax.specs.Reference.{Path}
 use Rattle.edd_syntax.specs.Token.{spelling}
-use Rattle.edd_syntax.specs.Numbers.{same_kind, kind_of, attr_word, text_attr}
+use Rattle.edd_syntax.specs.Numbers.{same_kind, kind_of, attr_word}
 use Rattle.edd_syntax.specs.Statement as s
 use Rattle.edd_syntax.specs.Statement.{Declarator, Stmt, Body, Nil, Cons, Declare, Statement, CaseLabel, DefaultLabel, slots_in}
 use Rattle.edd_syntax.specs.Item as item
-use Rattle.edd_syntax.specs.Item.{kind_of_item, TypePart, TransactionPart, Attribute, Item, Description}
+use Rattle.edd_syntax.specs.Item.{attr_of, kind_of_item, TypePart, TransactionPart, Attribute, Item, Description}
+use Rattle.edd_syntax.specs.Rows.{part_attr}
 use Rattle.edd_syntax.specs.Size.{unit_nodes}
 use Rattle.edd_syntax.specs.Resolution.{look_up, count_of, item_named, member_at, item_of_member, array_kinds, builtins, kinds}
 use Rattle.edd_syntax.specs.NameUses.{Use, OfItem, OfArray, OfFunction, unit_uses}
@@ -88,8 +89,6 @@ abbrev mutual
 
   -- braces are blocks of their own
   pub repeated_inside : Stmt Path → List Name
-  repeated_inside s.Empty = []
-  repeated_inside (s.Evaluate e) = []
   repeated_inside (s.Block body) = repeated_locals [] body
   repeated_inside (s.If condition first) = repeated_inside first
   repeated_inside (s.IfElse condition first otherwise) = repeated_inside first
@@ -98,9 +97,7 @@ abbrev mutual
   repeated_inside (s.Do body condition) = repeated_inside body
   repeated_inside (s.For initial condition update body) = repeated_inside body
   repeated_inside (s.Switch on body) = repeated_locals [] body
-  repeated_inside s.Break = []
-  repeated_inside s.Continue = []
-  repeated_inside s.Return = []
+  repeated_inside _ = []
 
 -- `before` are the members of the collection so far
 abbrev pub repeated_in_attributes : (before : List Name) → List (Attribute Path) → List Name
@@ -127,28 +124,13 @@ duplicate_names unit = map DuplicateName (repeated_in_items [] unit.items)
 
 -- the word with which the attribute is written
 abbrev pub attribute_word : {R : Type 0} → Attribute R → Name
-attribute_word (item.OneText which c) = attr_word (text_attr which)
-attribute_word (item.Class words) = attr_word attr.Class
-attribute_word (item.Handling c) = attr_word attr.Handling
-attribute_word (item.Validity c) = attr_word attr.Validity
 attribute_word (item.TypeOf word parts) = spelling keyword.Type
-attribute_word (item.Number n) = attr_word attr.Number
-attribute_word (item.Operation o) = attr_word attr.Operation
-attribute_word (item.Transaction number parts) = attr_word attr.Transaction
-attribute_word (item.ResponseCodes responses) = attr_word attr.ResponseCodes
-attribute_word (item.Items entries) = attr_word attr.Items
-attribute_word (item.Members members) = attr_word attr.Members
-attribute_word (item.Elements elements) = attr_word attr.Elements
-attribute_word (item.Definition body) = attr_word attr.Definition
+attribute_word a = attr_word (attr_of a)
 
 -- the options of a type; the elements of its list may be many
 abbrev pub type_part_words : {R : Type 0} → TypePart R → List Name
-type_part_words (item.DefaultValue c) = attr_word attr.DefaultValue ∷ []
-type_part_words (item.MinValue c) = attr_word attr.MinValue ∷ []
-type_part_words (item.MaxValue c) = attr_word attr.MaxValue ∷ []
-type_part_words (item.DisplayFormat c) = attr_word attr.DisplayFormat ∷ []
-type_part_words (item.EditFormat c) = attr_word attr.EditFormat ∷ []
 type_part_words (item.Element c) = []
+type_part_words p = attr_word (part_attr p) ∷ []
 
 -- REQUEST or REPLY
 abbrev pub transaction_part_word : {R : Type 0} → TransactionPart R → Name

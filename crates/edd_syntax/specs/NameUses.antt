@@ -77,7 +77,6 @@ declarator_uses scope next (d ∷ rest) = optional_uses scope d.value
 -- in a statement
 abbrev mutual
   pub stmt_uses : Stmt Path → Scope → (next : ℕ) → List Use
-  stmt_uses s.Empty scope next = []
   stmt_uses (s.Evaluate e) scope next = expr_uses scope e
   stmt_uses (s.Block body) scope next = body_uses body scope next
   stmt_uses (s.If condition first) scope next = expr_uses scope condition
@@ -94,9 +93,7 @@ abbrev mutual
       ++ (optional_uses scope condition
       ++ (optional_uses scope update ++ stmt_uses body scope next))
   stmt_uses (s.Switch on body) scope next = expr_uses scope on ++ body_uses body scope next
-  stmt_uses s.Break scope next = []
-  stmt_uses s.Continue scope next = []
-  stmt_uses s.Return scope next = []
+  stmt_uses _ scope next = []
 
   -- in a body
   pub body_uses : Body Path → Scope → (next : ℕ) → List Use
@@ -150,11 +147,8 @@ data_uses (item.Variable variable mask qualifiers) = OfItem [] variable_kinds va
 
 -- in an option of a type, or in an element of its list
 abbrev pub type_part_uses : TypePart Path → List Use
-type_part_uses (item.DefaultValue c) = cond_uses attribute_expr_uses c
-type_part_uses (item.MinValue c) = cond_uses attribute_expr_uses c
-type_part_uses (item.MaxValue c) = cond_uses attribute_expr_uses c
-type_part_uses (item.DisplayFormat c) = cond_uses no_uses c
-type_part_uses (item.EditFormat c) = cond_uses no_uses c
+type_part_uses (item.OneNumber which c) = cond_uses attribute_expr_uses c
+type_part_uses (item.OneFormat which c) = cond_uses no_uses c
 type_part_uses (item.Element c) = cond_uses no_uses c
 
 -- in a REQUEST or a REPLY
@@ -165,20 +159,17 @@ transaction_part_uses (item.Reply all) = conds_uses data_uses all
 -- in an attribute of this kind of item
 abbrev pub attribute_uses : ItemKind → Attribute Path → List Use
 attribute_uses sort (item.OneText which c) = cond_uses no_uses c
-attribute_uses sort (item.Class words) = []
 attribute_uses sort (item.Handling c) = cond_uses no_uses c
 attribute_uses sort (item.Validity c) = cond_uses no_uses c
 attribute_uses sort (item.TypeOf word parts) = flat_map type_part_uses parts
-attribute_uses sort (item.Number n) = []
-attribute_uses sort (item.Operation o) = []
 attribute_uses sort (item.Transaction number parts) = flat_map transaction_part_uses parts
-attribute_uses sort (item.ResponseCodes responses) = []
 attribute_uses sort (item.Items entries) = conds_uses entry_uses entries
 attribute_uses sort (item.Members members) =
     flat_map (λ m. OfItem [] (member_kinds sort) m.item ∷ []) members
 attribute_uses sort (item.Elements elements) =
     flat_map (λ e. OfItem [] variable_kinds e.variable ∷ []) elements
 attribute_uses sort (item.Definition body) = body_uses body [] 0
+attribute_uses sort _ = []
 
 -- in an item
 abbrev pub item_uses : item.Item Path → List Use

@@ -1,5 +1,5 @@
--- The numbers and the words of kinds and of attributes, and which kinds have which attributes.
-use Rattle.std.specs.Prelude.{ℕ, Bool, ◌==◌, if◌then◌else◌, List, [], ◌∷◌, Option, Some, None, codes}
+-- The numbers and the words of kinds, and the table of attributes.
+use Rattle.std.specs.Prelude.{ℕ, zero, suc, Bool, ◌==◌, if◌then◌else◌, List, [], ◌∷◌, slice_get, Option, Some, None, codes}
 use Rattle.std.specs.List.{list_any}
 use Rattle.edd_syntax.specs.declared.symbols.Keyword.{Keyword}
 use Rattle.edd_syntax.specs.declared.symbols.Keyword.TheVariants as keyword
@@ -9,8 +9,17 @@ use Rattle.edd_syntax.specs.declared.numbers.ItemNo.{ItemNo}
 use Rattle.edd_syntax.specs.declared.numbers.ItemNo.TheVariants as item_no
 use Rattle.edd_syntax.specs.declared.numbers.Attr.{Attr}
 use Rattle.edd_syntax.specs.declared.numbers.Attr.TheVariants as attr
+use Rattle.edd_syntax.specs.declared.numbers.ValueKind.{ValueKind}
+use Rattle.edd_syntax.specs.declared.numbers.ValueKind.TheVariants as value
+use Rattle.edd_syntax.specs.declared.numbers.Home.{Home}
+use Rattle.edd_syntax.specs.declared.numbers.Home.TheVariants as home
+use Rattle.edd_syntax.specs.declared.numbers.FormatOption.{FormatOption}
+use Rattle.edd_syntax.specs.declared.numbers.FormatOption.TheVariants as format
+use Rattle.edd_syntax.specs.declared.numbers.NumberOption.{NumberOption}
+use Rattle.edd_syntax.specs.declared.numbers.NumberOption.TheVariants as number
 use Rattle.edd_syntax.specs.declared.numbers.TextAttribute.{TextAttribute}
 use Rattle.edd_syntax.specs.declared.numbers.TextAttribute.TheVariants as text
+use Rattle.edd_syntax.specs.declared.numbers.TheConstants.{ATTRIBUTES}
 use Rattle.edd_syntax.specs.Text.{Name}
 use Rattle.edd_syntax.specs.Token.{spelling}
 
@@ -103,86 +112,60 @@ attr_number attr.Members = 20
 attr_number attr.Definition = 21
 attr_number attr.Elements = 22
 
--- the attribute of a number
+-- the attribute of a number, which counts from 1
 abbrev pub attr_from_number : ℕ → Option Attr
-attr_from_number n =
-    if n == 1 then Some attr.Label else
-    if n == 2 then Some attr.Help else
-    if n == 3 then Some attr.Class else
-    if n == 4 then Some attr.Handling else
-    if n == 5 then Some attr.ConstantUnit else
-    if n == 6 then Some attr.Validity else
-    if n == 7 then Some attr.DefaultValue else
-    if n == 8 then Some attr.MinValue else
-    if n == 9 then Some attr.MaxValue else
-    if n == 10 then Some attr.DisplayFormat else
-    if n == 11 then Some attr.EditFormat else
-    if n == 12 then Some attr.Enumerators else
-    if n == 13 then Some attr.Number else
-    if n == 14 then Some attr.Operation else
-    if n == 15 then Some attr.Transaction else
-    if n == 16 then Some attr.Request else
-    if n == 17 then Some attr.Reply else
-    if n == 18 then Some attr.ResponseCodes else
-    if n == 19 then Some attr.Items else
-    if n == 20 then Some attr.Members else
-    if n == 21 then Some attr.Definition else
-    if n == 22 then Some attr.Elements else
-    None
+attr_from_number zero = None
+attr_from_number (suc n) = slice_get ATTRIBUTES n
 
 -- the attributes are the same
 abbrev pub same_attr : Attr → Attr → Bool
 same_attr a b = attr_number a == attr_number b
 
--- the reserved word of an attribute; ENUMERATORS is none, since a type's list has no word
-abbrev pub attr_word : Attr → Name
-attr_word attr.Label = spelling keyword.Label
-attr_word attr.Help = spelling keyword.Help
-attr_word attr.Class = spelling keyword.Class
-attr_word attr.Handling = spelling keyword.Handling
-attr_word attr.ConstantUnit = spelling keyword.ConstantUnit
-attr_word attr.Validity = spelling keyword.Validity
-attr_word attr.DefaultValue = spelling keyword.DefaultValue
-attr_word attr.MinValue = spelling keyword.MinValue
-attr_word attr.MaxValue = spelling keyword.MaxValue
-attr_word attr.DisplayFormat = spelling keyword.DisplayFormat
-attr_word attr.EditFormat = spelling keyword.EditFormat
-attr_word attr.Enumerators = codes "ENUMERATORS"
-attr_word attr.Number = spelling keyword.Number
-attr_word attr.Operation = spelling keyword.Operation
-attr_word attr.Transaction = spelling keyword.Transaction
-attr_word attr.Request = spelling keyword.Request
-attr_word attr.Reply = spelling keyword.Reply
-attr_word attr.ResponseCodes = spelling keyword.ResponseCodes
-attr_word attr.Items = spelling keyword.Items
-attr_word attr.Members = spelling keyword.Members
-attr_word attr.Definition = spelling keyword.Definition
-attr_word attr.Elements = spelling keyword.Elements
+-- A line of the table of attributes: the word with which it is written, which the list of a type has
+-- not; whether an item, its TYPE or its transactions have it; what it gives; and which kinds of items
+-- it may belong to.
+pub record Shape : Type 0 where
+  pub word : Option Keyword
+  pub home : Home
+  pub value : ValueKind
+  pub kinds : List Kind
 
--- the kinds whose items may have an attribute
-abbrev pub kinds_with : Attr → List Kind
-kinds_with attr.Label = Variable ∷ Menu ∷ Collection ∷ Method ∷ Array ∷ []
-kinds_with attr.Help = Variable ∷ Menu ∷ Collection ∷ Method ∷ Array ∷ []
-kinds_with attr.Class = Variable ∷ Method ∷ []
-kinds_with attr.Handling = Variable ∷ []
-kinds_with attr.ConstantUnit = Variable ∷ []
-kinds_with attr.Validity = Variable ∷ Menu ∷ Method ∷ []
-kinds_with attr.DefaultValue = Variable ∷ []
-kinds_with attr.MinValue = Variable ∷ []
-kinds_with attr.MaxValue = Variable ∷ []
-kinds_with attr.DisplayFormat = Variable ∷ []
-kinds_with attr.EditFormat = Variable ∷ []
-kinds_with attr.Enumerators = Variable ∷ []
-kinds_with attr.Number = Command ∷ []
-kinds_with attr.Operation = Command ∷ []
-kinds_with attr.Transaction = Command ∷ []
-kinds_with attr.Request = Command ∷ []
-kinds_with attr.Reply = Command ∷ []
-kinds_with attr.ResponseCodes = Command ∷ []
-kinds_with attr.Items = Menu ∷ []
-kinds_with attr.Members = Collection ∷ []
-kinds_with attr.Definition = Method ∷ []
-kinds_with attr.Elements = Array ∷ []
+-- a line with a word
+abbrev pub line : Keyword → Home → ValueKind → List Kind → Shape
+line word home value kinds = record { word = Some word; home = home; value = value; kinds = kinds }
+
+-- the kinds of items that a technician is shown
+abbrev pub labelled : List Kind
+labelled = Variable ∷ Menu ∷ Collection ∷ Method ∷ Array ∷ []
+
+-- the table
+abbrev pub shape_of : Attr → Shape
+shape_of attr.Label = line keyword.Label home.Item value.Text labelled
+shape_of attr.Help = line keyword.Help home.Item value.Text labelled
+shape_of attr.Class = line keyword.Class home.Item value.ClassWord (Variable ∷ Method ∷ [])
+shape_of attr.Handling = line keyword.Handling home.Item value.Handling (Variable ∷ [])
+shape_of attr.ConstantUnit = line keyword.ConstantUnit home.Item value.Text (Variable ∷ [])
+shape_of attr.Validity = line keyword.Validity home.Item value.Truth (Variable ∷ Menu ∷ Method ∷ [])
+shape_of attr.DefaultValue = line keyword.DefaultValue home.Type value.Expression (Variable ∷ [])
+shape_of attr.MinValue = line keyword.MinValue home.Type value.Expression (Variable ∷ [])
+shape_of attr.MaxValue = line keyword.MaxValue home.Type value.Expression (Variable ∷ [])
+shape_of attr.DisplayFormat = line keyword.DisplayFormat home.Type value.Text (Variable ∷ [])
+shape_of attr.EditFormat = line keyword.EditFormat home.Type value.Text (Variable ∷ [])
+shape_of attr.Enumerators = record { word = None; home = home.Type; value = value.Enumerator; kinds = Variable ∷ [] }
+shape_of attr.Number = line keyword.Number home.Item value.Number (Command ∷ [])
+shape_of attr.Operation = line keyword.Operation home.Item value.Operation (Command ∷ [])
+shape_of attr.Transaction = line keyword.Transaction home.Transaction value.Number (Command ∷ [])
+shape_of attr.Request = line keyword.Request home.Transaction value.DataItem (Command ∷ [])
+shape_of attr.Reply = line keyword.Reply home.Transaction value.DataItem (Command ∷ [])
+shape_of attr.ResponseCodes = line keyword.ResponseCodes home.Item value.ResponseCode (Command ∷ [])
+shape_of attr.Items = line keyword.Items home.Item value.MenuEntry (Menu ∷ [])
+shape_of attr.Members = line keyword.Members home.Item value.Member (Collection ∷ [])
+shape_of attr.Definition = line keyword.Definition home.Item value.Statement (Method ∷ [])
+shape_of attr.Elements = line keyword.Elements home.Item value.Element (Array ∷ [])
+
+-- how the word of an attribute is written; ENUMERATORS is none that is reserved
+abbrev pub attr_word : Attr → Name
+attr_word a = elim (shape_of a).word [ Some word ↦ spelling word | None ↦ codes "ENUMERATORS" ]
 
 -- the attribute that a text is
 abbrev pub text_attr : TextAttribute → Attr
@@ -197,6 +180,30 @@ text_of_word keyword.Help = Some text.Help
 text_of_word keyword.ConstantUnit = Some text.ConstantUnit
 text_of_word _ = None
 
+-- the attribute that a number of a type is
+abbrev pub number_attr : NumberOption → Attr
+number_attr number.DefaultValue = attr.DefaultValue
+number_attr number.MinValue = attr.MinValue
+number_attr number.MaxValue = attr.MaxValue
+
+-- the number of a type with this word
+abbrev pub number_of_word : Keyword → Option NumberOption
+number_of_word keyword.DefaultValue = Some number.DefaultValue
+number_of_word keyword.MinValue = Some number.MinValue
+number_of_word keyword.MaxValue = Some number.MaxValue
+number_of_word _ = None
+
+-- the attribute that a format of a type is
+abbrev pub format_attr : FormatOption → Attr
+format_attr format.DisplayFormat = attr.DisplayFormat
+format_attr format.EditFormat = attr.EditFormat
+
+-- the format of a type with this word
+abbrev pub format_of_word : Keyword → Option FormatOption
+format_of_word keyword.DisplayFormat = Some format.DisplayFormat
+format_of_word keyword.EditFormat = Some format.EditFormat
+format_of_word _ = None
+
 -- whether items of the kind may have the attribute
 abbrev pub has_attr : Kind → Attr → Bool
-has_attr kind a = list_any (same_kind kind) (kinds_with a)
+has_attr kind a = list_any (same_kind kind) (shape_of a).kinds

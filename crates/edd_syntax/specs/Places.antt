@@ -1,18 +1,12 @@
 -- Where items and attributes are.
 use Rattle.edd_syntax.specs.declared.item.Item.{Item}
-use Rattle.edd_syntax.specs.declared.item.Item.TheVariants as item
 use Rattle.edd_syntax.specs.declared.item.Attribute.{Attribute}
 use Rattle.edd_syntax.specs.declared.item.Attribute.TheVariants as attribute
 use Rattle.edd_syntax.specs.declared.numbers.TokenNo.{TokenNo}
 
 -- where the name of an item is
 abbrev pub name_at : {R : Type 0} → Item R → TokenNo
-name_at (item.Variable d) = d.at
-name_at (item.Command d) = d.at
-name_at (item.Menu d) = d.at
-name_at (item.Collection d) = d.at
-name_at (item.Method d) = d.at
-name_at (item.Array d) = d.at
+name_at i = i.at
 
 -- where the word of an attribute is
 abbrev pub word_at : {R : Type 0} → Attribute R → TokenNo

@@ -54,7 +54,6 @@ declarator_references (d ∷ rest) = optional_references d.value ++ declarator_r
 -- of a statement
 abbrev mutual
   pub stmt_references : {R : Type 0} → Stmt R → List R
-  stmt_references s.Empty = []
   stmt_references (s.Evaluate e) = expr_references e
   stmt_references (s.Block body) = body_references body
   stmt_references (s.If condition first) = expr_references condition ++ stmt_references first
@@ -67,9 +66,7 @@ abbrev mutual
       ++ (optional_references condition
       ++ (optional_references update ++ stmt_references body))
   stmt_references (s.Switch on body) = expr_references on ++ body_references body
-  stmt_references s.Break = []
-  stmt_references s.Continue = []
-  stmt_references s.Return = []
+  stmt_references _ = []
 
   -- of a body
   pub body_references : {R : Type 0} → Body R → List R
@@ -120,11 +117,8 @@ data_references (item.Variable variable mask qualifiers) = variable ∷ []
 
 -- of an option of a type, or of an element of its list
 abbrev pub type_part_references : {R : Type 0} → TypePart R → List R
-type_part_references (item.DefaultValue c) = cond_references expr_references c
-type_part_references (item.MinValue c) = cond_references expr_references c
-type_part_references (item.MaxValue c) = cond_references expr_references c
-type_part_references (item.DisplayFormat c) = cond_references no_references c
-type_part_references (item.EditFormat c) = cond_references no_references c
+type_part_references (item.OneNumber which c) = cond_references expr_references c
+type_part_references (item.OneFormat which c) = cond_references no_references c
 type_part_references (item.Element c) = cond_references no_references c
 
 -- of a REQUEST or a REPLY
@@ -143,18 +137,15 @@ element_references e = e.variable ∷ []
 -- of an attribute
 abbrev pub attribute_references : {R : Type 0} → Attribute R → List R
 attribute_references (item.OneText which c) = cond_references no_references c
-attribute_references (item.Class words) = []
 attribute_references (item.Handling c) = cond_references no_references c
 attribute_references (item.Validity c) = cond_references no_references c
 attribute_references (item.TypeOf word parts) = flat_map type_part_references parts
-attribute_references (item.Number n) = []
-attribute_references (item.Operation o) = []
 attribute_references (item.Transaction number parts) = flat_map transaction_part_references parts
-attribute_references (item.ResponseCodes responses) = []
 attribute_references (item.Items entries) = conds_references entry_references entries
 attribute_references (item.Members members) = flat_map member_references members
 attribute_references (item.Elements elements) = flat_map element_references elements
 attribute_references (item.Definition body) = body_references body
+attribute_references _ = []
 
 -- of an item
 abbrev pub item_references : {R : Type 0} → item.Item R → List R

@@ -14,7 +14,7 @@ use Rattle.edd_syntax.specs.Text.{Name}
 use Rattle.edd_syntax.specs.Reference.{Path, Target, Local, Item, Function}
 use Rattle.edd_syntax.specs.Numbers.{same_kind, item_number, kind_of}
 use Rattle.edd_syntax.specs.Item as item
-use Rattle.edd_syntax.specs.Item.{kind_of_item, ItemKind, VariableItem, CommandItem, MenuItem, CollectionItem, MethodItem, ArrayItem, Attribute, Members, Member, Description}
+use Rattle.edd_syntax.specs.Item.{kind_of_item, ItemKind, CollectionItem, Attribute, Members, Member, Description}
 use Rattle.edd_syntax.specs.Statement.{Declarator}
 use Rattle.edd_syntax.specs.Device.{item_at}
 
@@ -54,11 +54,7 @@ members_of i = flat_map members_in i.attributes
 -- the kind of a collection's members; other items have none
 abbrev pub member_kind : ItemKind → Option Kind
 member_kind (CollectionItem of) = Some of
-member_kind VariableItem = None
-member_kind CommandItem = None
-member_kind MenuItem = None
-member_kind MethodItem = None
-member_kind ArrayItem = None
+member_kind _ = None
 
 -- a member, and the kind after OF
 abbrev pub FoundMember : Type 0
@@ -208,11 +204,7 @@ entry_kinds = kind.Variable ∷ kind.Menu ∷ kind.Collection ∷ kind.Method �
 -- the kinds that a member of an item may have; only collections have members
 abbrev pub member_kinds : ItemKind → List Kind
 member_kinds (CollectionItem of) = of ∷ []
-member_kinds VariableItem = []
-member_kinds CommandItem = []
-member_kinds MenuItem = []
-member_kinds MethodItem = []
-member_kinds ArrayItem = []
+member_kinds _ = []
 
 -- ---- locals
 

@@ -284,17 +284,10 @@ module _ (names : Reading) where
 
   -- an option of a type, or an element of its list
   abbrev pub resolved_type_part : TypePart Path → Option (TypePart Target)
-  resolved_type_part (item.DefaultValue c) = do
+  resolved_type_part (item.OneNumber which c) = do
     c' ← resolved_cond at_attribute (resolved_expr at_attribute) c
-    Some (item.DefaultValue c')
-  resolved_type_part (item.MinValue c) = do
-    c' ← resolved_cond at_attribute (resolved_expr at_attribute) c
-    Some (item.MinValue c')
-  resolved_type_part (item.MaxValue c) = do
-    c' ← resolved_cond at_attribute (resolved_expr at_attribute) c
-    Some (item.MaxValue c')
-  resolved_type_part (item.DisplayFormat c) = do c' ← resolved_one c; Some (item.DisplayFormat c')
-  resolved_type_part (item.EditFormat c) = do c' ← resolved_one c; Some (item.EditFormat c')
+    Some (item.OneNumber which c')
+  resolved_type_part (item.OneFormat which c) = do c' ← resolved_one c; Some (item.OneFormat which c')
   resolved_type_part (item.Element c) = do c' ← resolved_one c; Some (item.Element c')
 
   -- a REQUEST or a REPLY

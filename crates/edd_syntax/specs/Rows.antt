@@ -5,13 +5,14 @@ use Rattle.edd_syntax.specs.declared.numbers.Kind.{Kind}
 use Rattle.edd_syntax.specs.declared.numbers.Attr.{Attr}
 use Rattle.edd_syntax.specs.declared.numbers.Attr.TheVariants as attr
 use Rattle.edd_syntax.specs.declared.numbers.ItemNo.{ItemNo}
+use Rattle.edd_syntax.specs.declared.numbers.TheConstants.{ATTRIBUTES}
 use Rattle.edd_syntax.specs.declared.numbers.AttrRef.{AttrRef}
 use Rattle.edd_syntax.specs.declared.reference.Target.{Target}
 use Rattle.edd_syntax.specs.declared.rows.Listed.{Listed}
 use Rattle.edd_syntax.specs.Item as item
-use Rattle.edd_syntax.specs.Item.{kind_of_item, TypePart, Attribute, Item}
+use Rattle.edd_syntax.specs.Item.{attr_of, kind_of_item, TypePart, Attribute, Item}
 use Rattle.edd_syntax.specs.ItemView.{numbered_attribute}
-use Rattle.edd_syntax.specs.Numbers.{same_kind, same_attr, item_number, kind_of, index_of, text_attr}
+use Rattle.edd_syntax.specs.Numbers.{same_kind, same_attr, item_number, kind_of, index_of, number_attr, format_attr}
 use Rattle.edd_syntax.specs.Resolution.{kinds}
 use Rattle.edd_syntax.specs.Attributes.{is_of_transaction}
 
@@ -19,11 +20,8 @@ use Rattle.edd_syntax.specs.Attributes.{is_of_transaction}
 
 -- the attribute to which a part of a type's braces belongs
 abbrev pub part_attr : {R : Type 0} → TypePart R → Attr
-part_attr (item.DefaultValue c) = attr.DefaultValue
-part_attr (item.MinValue c) = attr.MinValue
-part_attr (item.MaxValue c) = attr.MaxValue
-part_attr (item.DisplayFormat c) = attr.DisplayFormat
-part_attr (item.EditFormat c) = attr.EditFormat
+part_attr (item.OneNumber which c) = number_attr which
+part_attr (item.OneFormat which c) = format_attr which
 part_attr (item.Element c) = attr.Enumerators
 
 -- whether it is this attribute
@@ -32,19 +30,9 @@ part_stands_for a p = same_attr a (part_attr p)
 
 -- TYPE stands for what its braces hold; transactions go by their position
 abbrev pub written_attrs : {R : Type 0} → Attribute R → List Attr
-written_attrs (item.OneText which c) = text_attr which ∷ []
-written_attrs (item.Class words) = attr.Class ∷ []
-written_attrs (item.Handling c) = attr.Handling ∷ []
-written_attrs (item.Validity c) = attr.Validity ∷ []
 written_attrs (item.TypeOf word parts) = map part_attr parts
-written_attrs (item.Number n) = attr.Number ∷ []
-written_attrs (item.Operation o) = attr.Operation ∷ []
 written_attrs (item.Transaction number parts) = []
-written_attrs (item.ResponseCodes responses) = attr.ResponseCodes ∷ []
-written_attrs (item.Items entries) = attr.Items ∷ []
-written_attrs (item.Members members) = attr.Members ∷ []
-written_attrs (item.Elements elements) = attr.Elements ∷ []
-written_attrs (item.Definition body) = attr.Definition ∷ []
+written_attrs a = attr_of a ∷ []
 
 -- whether this attribute is among those that a written one stands for
 unfoldable pub stands_for : {R : Type 0} → Attr → Attribute R → Bool
@@ -88,13 +76,7 @@ rows_from k a next (i ∷ rest) = item_rows (item_number k next) a i.attributes
 
 -- the attributes by their numbers
 abbrev pub attributes_in_order : List Attr
-attributes_in_order =
-    attr.Label ∷ attr.Help ∷ attr.Class ∷ attr.Handling ∷ attr.ConstantUnit ∷ attr.Validity
-    ∷ attr.DefaultValue ∷ attr.MinValue
-    ∷ attr.MaxValue ∷ attr.DisplayFormat ∷ attr.EditFormat ∷ attr.Enumerators ∷ attr.Number
-    ∷ attr.Operation ∷ attr.Transaction
-    ∷ attr.Request ∷ attr.Reply ∷ attr.ResponseCodes ∷ attr.Items ∷ attr.Members ∷ attr.Definition
-    ∷ attr.Elements ∷ []
+attributes_in_order = ATTRIBUTES
 
 -- the items of a kind, in their order
 abbrev pub of_kind : {R : Type 0} → Kind → List (Item R) → List (Item R)

@@ -3,9 +3,9 @@
 use Rattle.std.specs.Prelude.{ℕ, ◌+◌, max, Bool, true, false, if◌then◌else◌, List, [], ◌∷◌, length, map, sum, Option, Some, None}
 use Rattle.std.specs.List.{list_any}
 use Rattle.edd_syntax.specs.Expression as expr
-use Rattle.edd_syntax.specs.Expression.{Expr, Literal, Decimal, Reference, Indexed, Parentheses, Unary, Binary, Compare, LogicalAnd, LogicalOr, Conditional, Assign, CompoundAssign, Increment, Call, Argument, Text, Arguments}
+use Rattle.edd_syntax.specs.Expression.{Expr, Indexed, Parentheses, Unary, Binary, Compare, LogicalAnd, LogicalOr, Conditional, Assign, CompoundAssign, Call, Text, Arguments}
 use Rattle.edd_syntax.specs.Conditional as cond
-use Rattle.edd_syntax.specs.Conditional.{Cond, Value, If, Select, Conds, Arm, Arms, NoArms, ConsArm, Case, Default}
+use Rattle.edd_syntax.specs.Conditional.{Cond, Value, If, Select, Conds, Arms, NoArms, ConsArm, Case, Default}
 use Rattle.edd_syntax.specs.Statement as s
 use Rattle.edd_syntax.specs.Statement.{Declarator, Stmt, Body, Nil, Cons, Declare, Statement, CaseLabel, DefaultLabel}
 use Rattle.edd_syntax.specs.Item as item
@@ -16,9 +16,6 @@ use Rattle.edd_syntax.specs.Item.{TypePart, TransactionPart, Attribute, Item, De
 -- the nodes of an expression
 abbrev mutual
   pub nodes : {R : Type 0} → Expr R → ℕ
-  nodes (Literal value) = 1
-  nodes Decimal = 1
-  nodes (Reference from) = 1
   nodes (Indexed array index) = 1 + nodes index
   nodes (Parentheses inner) = 1 + nodes inner
   nodes (Unary op operand) = 1 + nodes operand
@@ -29,8 +26,8 @@ abbrev mutual
   nodes (Conditional test first second) = 1 + (nodes test + (nodes first + nodes second))
   nodes (Assign to value) = 1 + nodes value
   nodes (CompoundAssign op to value) = 1 + nodes value
-  nodes (Increment op to) = 1
   nodes (Call function arguments) = 1 + argument_nodes arguments
+  nodes _ = 1
 
   -- of arguments
   pub argument_nodes : {R : Type 0} → Arguments R → ℕ
@@ -71,7 +68,6 @@ declarator_nodes (d ∷ rest) = 1 + (optional_nodes d.value + declarator_nodes r
 -- the nodes of a statement
 abbrev mutual
   pub statement_nodes : {R : Type 0} → Stmt R → ℕ
-  statement_nodes s.Empty = 1
   statement_nodes (s.Evaluate e) = 1 + nodes e
   statement_nodes (s.Block body) = 1 + body_nodes body
   statement_nodes (s.If condition first) = 1 + (nodes condition + statement_nodes first)
@@ -83,9 +79,7 @@ abbrev mutual
       1 + (optional_nodes initial
       + (optional_nodes condition + (optional_nodes update + statement_nodes body)))
   statement_nodes (s.Switch on body) = 1 + (nodes on + body_nodes body)
-  statement_nodes s.Break = 1
-  statement_nodes s.Continue = 1
-  statement_nodes s.Return = 1
+  statement_nodes _ = 1
 
   -- each declaration, statement and label is a node
   pub body_nodes : {R : Type 0} → Body R → ℕ
@@ -102,21 +96,14 @@ leaf v = 0
 
 -- each option of a type is a node, and each enumerator
 abbrev pub type_part_nodes : {R : Type 0} → TypePart R → ℕ
-type_part_nodes (item.DefaultValue c) = 1 + cond_nodes nodes c
-type_part_nodes (item.MinValue c) = 1 + cond_nodes nodes c
-type_part_nodes (item.MaxValue c) = 1 + cond_nodes nodes c
-type_part_nodes (item.DisplayFormat c) = 1 + cond_nodes leaf c
-type_part_nodes (item.EditFormat c) = 1 + cond_nodes leaf c
+type_part_nodes (item.OneNumber which c) = 1 + cond_nodes nodes c
+type_part_nodes (item.OneFormat which c) = 1 + cond_nodes leaf c
 type_part_nodes (item.Element c) = cond_nodes leaf c
 
 -- the part is an element of the type's list
 abbrev pub is_element : {R : Type 0} → TypePart R → Bool
-is_element (item.DefaultValue c) = false
-is_element (item.MinValue c) = false
-is_element (item.MaxValue c) = false
-is_element (item.DisplayFormat c) = false
-is_element (item.EditFormat c) = false
 is_element (item.Element c) = true
+is_element _ = false
 
 -- the nodes of a REQUEST or a REPLY
 abbrev pub transaction_part_nodes : {R : Type 0} → TransactionPart R → ℕ
@@ -154,9 +141,6 @@ unit_nodes unit = sum (map item_nodes unit.items)
 -- the height of an expression
 abbrev mutual
   pub height : {R : Type 0} → Expr R → ℕ
-  height (Literal value) = 1
-  height Decimal = 1
-  height (Reference from) = 1
   height (Indexed array index) = 1 + height index
   height (Parentheses inner) = 1 + height inner
   height (Unary op operand) = 1 + height operand
@@ -168,8 +152,8 @@ abbrev mutual
       1 + max (height test) (max (height first) (height second))
   height (Assign to value) = 1 + height value
   height (CompoundAssign op to value) = 1 + height value
-  height (Increment op to) = 1
   height (Call function arguments) = 1 + argument_height arguments
+  height _ = 1
 
   -- of arguments
   pub argument_height : {R : Type 0} → Arguments R → ℕ
@@ -209,7 +193,6 @@ declarator_height (d ∷ rest) = max (1 + optional_height d.value) (declarator_h
 -- the height of a statement
 abbrev mutual
   pub statement_height : {R : Type 0} → Stmt R → ℕ
-  statement_height s.Empty = 1
   statement_height (s.Evaluate e) = 1 + height e
   statement_height (s.Block body) = 1 + body_height body
   statement_height (s.If condition first) = 1 + max (height condition) (statement_height first)
@@ -221,9 +204,7 @@ abbrev mutual
       1 + max (max (optional_height initial) (optional_height condition))
       (max (optional_height update) (statement_height body))
   statement_height (s.Switch on body) = 1 + max (height on) (body_height body)
-  statement_height s.Break = 1
-  statement_height s.Continue = 1
-  statement_height s.Return = 1
+  statement_height _ = 1
 
   -- of a body
   pub body_height : {R : Type 0} → Body R → ℕ
@@ -237,11 +218,8 @@ abbrev mutual
 
 -- of an option of a type, or of an element of its list
 abbrev pub type_part_height : {R : Type 0} → TypePart R → ℕ
-type_part_height (item.DefaultValue c) = cond_height height c
-type_part_height (item.MinValue c) = cond_height height c
-type_part_height (item.MaxValue c) = cond_height height c
-type_part_height (item.DisplayFormat c) = cond_height leaf c
-type_part_height (item.EditFormat c) = cond_height leaf c
+type_part_height (item.OneNumber which c) = cond_height height c
+type_part_height (item.OneFormat which c) = cond_height leaf c
 type_part_height (item.Element c) = cond_height leaf c
 
 -- of a REQUEST or a REPLY
@@ -257,18 +235,13 @@ greatest_of (n ∷ rest) = max n (greatest_of rest)
 -- attributes and transactions themselves don't count
 abbrev pub attribute_height : {R : Type 0} → Attribute R → ℕ
 attribute_height (item.OneText which c) = cond_height leaf c
-attribute_height (item.Class words) = 0
 attribute_height (item.Handling c) = cond_height leaf c
 attribute_height (item.Validity c) = cond_height leaf c
 attribute_height (item.TypeOf word parts) = greatest_of (map type_part_height parts)
-attribute_height (item.Number n) = 0
-attribute_height (item.Operation o) = 0
 attribute_height (item.Transaction number parts) = greatest_of (map transaction_part_height parts)
-attribute_height (item.ResponseCodes responses) = 0
 attribute_height (item.Items entries) = conds_height leaf entries
-attribute_height (item.Members members) = 0
-attribute_height (item.Elements elements) = 0
 attribute_height (item.Definition body) = body_height body
+attribute_height _ = 0
 
 -- of an item
 abbrev pub item_height : {R : Type 0} → Item R → ℕ

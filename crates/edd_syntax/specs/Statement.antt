@@ -43,11 +43,6 @@ body_from (p ∷ rest) = Cons p (body_from rest)
 -- the declarators of a statement, each of which has a slot of its own
 unfoldable mutual
   pub slots_of : {R : Type 0} → Stmt R → ℕ
-  slots_of Empty = 0
-  slots_of (Evaluate e) = 0
-  slots_of Break = 0
-  slots_of Continue = 0
-  slots_of Return = 0
   slots_of (Block body) = slots_in body
   slots_of (If condition first) = slots_of first
   slots_of (IfElse condition first otherwise) = slots_of first + slots_of otherwise
@@ -55,6 +50,7 @@ unfoldable mutual
   slots_of (Do body condition) = slots_of body
   slots_of (For initial condition update body) = slots_of body
   slots_of (Switch on body) = slots_in body
+  slots_of _ = 0
 
   -- the declarators of a body
   pub slots_in : {R : Type 0} → Body R → ℕ

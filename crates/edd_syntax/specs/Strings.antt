@@ -6,9 +6,9 @@ use Rattle.edd_syntax.specs.declared.limits.Limit.TheVariants as limit
 use Rattle.edd_syntax.specs.Text as texts
 use Rattle.edd_syntax.specs.Words.{Words, Variant, Variants, Key, words_of, name_words}
 use Rattle.edd_syntax.specs.Expression as expr
-use Rattle.edd_syntax.specs.Expression.{Expr, Literal, Decimal, Reference, Indexed, Parentheses, Unary, Binary, Compare, LogicalAnd, LogicalOr, Conditional, Assign, CompoundAssign, Increment, Call, Arguments}
+use Rattle.edd_syntax.specs.Expression.{Expr, Indexed, Parentheses, Unary, Binary, Compare, LogicalAnd, LogicalOr, Conditional, Assign, CompoundAssign, Call, Arguments}
 use Rattle.edd_syntax.specs.Item as item
-use Rattle.edd_syntax.specs.Item.{TypePart, TransactionPart, Attribute, Description}
+use Rattle.edd_syntax.specs.Item.{TypePart, Attribute, Description}
 use Rattle.edd_syntax.specs.SubsetRules.{body_expressions, values_in, values_of, attributes_of}
 use Rattle.edd_syntax.specs.Refusal.{Refusal, TooMany, refused_if}
 
@@ -20,9 +20,6 @@ optional_text (Some text) = text ∷ []
 -- the texts among the arguments of calls
 abbrev mutual
   pub expr_texts : {R : Type 0} → Expr R → List texts.Text
-  expr_texts (Literal value) = []
-  expr_texts Decimal = []
-  expr_texts (Reference from) = []
   expr_texts (Indexed array index) = expr_texts index
   expr_texts (Parentheses inner) = expr_texts inner
   expr_texts (Unary op operand) = expr_texts operand
@@ -34,8 +31,8 @@ abbrev mutual
       ++ (expr_texts first ++ expr_texts second)
   expr_texts (Assign to value) = expr_texts value
   expr_texts (CompoundAssign op to value) = expr_texts value
-  expr_texts (Increment op to) = []
   expr_texts (Call function arguments) = argument_texts arguments
+  expr_texts _ = []
 
   -- the texts among arguments, and among those of the calls in them
   pub argument_texts : {R : Type 0} → Arguments R → List texts.Text
@@ -54,11 +51,8 @@ entry_texts (item.Reference to qualifiers) = []
 
 -- the texts in an option of a type, or in an element of its list
 abbrev pub type_part_texts : {R : Type 0} → TypePart R → List texts.Text
-type_part_texts (item.DefaultValue c) = []
-type_part_texts (item.MinValue c) = []
-type_part_texts (item.MaxValue c) = []
-type_part_texts (item.DisplayFormat c) = values_in c
-type_part_texts (item.EditFormat c) = values_in c
+type_part_texts (item.OneNumber which c) = []
+type_part_texts (item.OneFormat which c) = values_in c
 type_part_texts (item.Element c) = flat_map enumerator_texts (values_in c)
 
 -- the strings of texts
@@ -78,12 +72,7 @@ array_element_texts e = optional_text e.label ++ optional_text e.help
 abbrev pub attribute_strings : {R : Type 0} → Attribute R → List Words
 attribute_strings (item.OneText which c) = strings_of_texts (values_in c)
 attribute_strings (item.Class words) = map name_words words
-attribute_strings (item.Handling c) = []
-attribute_strings (item.Validity c) = []
 attribute_strings (item.TypeOf word parts) = strings_of_texts (flat_map type_part_texts parts)
-attribute_strings (item.Number n) = []
-attribute_strings (item.Operation o) = []
-attribute_strings (item.Transaction number parts) = []
 attribute_strings (item.ResponseCodes responses) = strings_of_texts (map (λ r. r.text) responses)
 attribute_strings (item.Items entries) = strings_of_texts (flat_map entry_texts (values_of entries))
 attribute_strings (item.Members members) = flat_map member_strings members
@@ -91,6 +80,7 @@ attribute_strings (item.Elements elements) =
     strings_of_texts (flat_map array_element_texts elements)
 attribute_strings (item.Definition body) =
     strings_of_texts (flat_map (λ p. expr_texts p.expression) (body_expressions body))
+attribute_strings _ = []
 
 -- the strings of a description, each as often as it is there
 abbrev pub unit_strings : {R : Type 0} → Description R → List Words

@@ -4,6 +4,7 @@ use Rattle.std.specs.Prelude.{ℕ, Bool, true, false, not, ◌||◌, ◌&&◌, n
 use Rattle.std.specs.Str.{bytes_eq}
 use Rattle.std.specs.List.{list_any, flat_map}
 use Rattle.std.specs.Ordering.{int_eq}
+use Rattle.edd_syntax.specs.declared.numbers.NumberOption.TheVariants as number_option
 use Rattle.edd_syntax.specs.declared.numbers.ItemNo.TheVariants as item_no
 use Rattle.edd_syntax.specs.declared.operators.Builtin.{Builtin}
 use Rattle.edd_syntax.specs.declared.operators.Builtin.TheVariants as builtin
@@ -19,7 +20,7 @@ use Rattle.edd_syntax.specs.Expression.{Expr, Literal, Decimal, Reference, Index
 use Rattle.edd_syntax.specs.Conditional as cond
 use Rattle.edd_syntax.specs.Conditional.{Cond, Value, If, Select, Conds, Arms, NoArms, ConsArm, Case, Default}
 use Rattle.edd_syntax.specs.Statement as s
-use Rattle.edd_syntax.specs.Statement.{Declarator, Stmt, Body, Nil, Cons, Declare, Statement, CaseLabel, DefaultLabel}
+use Rattle.edd_syntax.specs.Statement.{Stmt, Body, Nil, Cons, Declare, Statement, CaseLabel, DefaultLabel}
 use Rattle.edd_syntax.specs.Item as item
 use Rattle.edd_syntax.specs.Item.{TypePart, TransactionPart, Attribute, Description}
 use Rattle.edd_syntax.specs.Refusal.{Refusal, FloatVariable, OtherType, BadSize, Mismatch, FloatValue, BreakOutside, ConstRange, DuplicateCase, DuplicateElement, refused_if}
@@ -64,7 +65,6 @@ optional_part (Some e) = part_of e
 -- the expressions of a statement
 abbrev mutual
   pub stmt_expressions : {R : Type 0} → Stmt R → List (Placed R)
-  stmt_expressions s.Empty = []
   stmt_expressions (s.Evaluate e) = record { is_statement = true; expression = e } ∷ []
   stmt_expressions (s.Block body) = body_expressions body
   stmt_expressions (s.If condition first) = part_of condition ++ stmt_expressions first
@@ -76,9 +76,7 @@ abbrev mutual
       optional_part initial ++ (optional_part condition
       ++ (optional_part update ++ stmt_expressions body))
   stmt_expressions (s.Switch on body) = part_of on ++ body_expressions body
-  stmt_expressions s.Break = []
-  stmt_expressions s.Continue = []
-  stmt_expressions s.Return = []
+  stmt_expressions _ = []
 
   -- of a body
   pub body_expressions : {R : Type 0} → Body R → List (Placed R)
@@ -117,11 +115,8 @@ no_expressions v = []
 
 -- of an option of a type, or of an element of its list
 abbrev pub type_part_expressions : {R : Type 0} → TypePart R → List (Placed R)
-type_part_expressions (item.DefaultValue c) = cond_expressions part_of c
-type_part_expressions (item.MinValue c) = cond_expressions part_of c
-type_part_expressions (item.MaxValue c) = cond_expressions part_of c
-type_part_expressions (item.DisplayFormat c) = cond_expressions no_expressions c
-type_part_expressions (item.EditFormat c) = cond_expressions no_expressions c
+type_part_expressions (item.OneNumber which c) = cond_expressions part_of c
+type_part_expressions (item.OneFormat which c) = cond_expressions no_expressions c
 type_part_expressions (item.Element c) = cond_expressions no_expressions c
 
 -- of a REQUEST or a REPLY
@@ -132,18 +127,13 @@ transaction_part_expressions (item.Reply all) = conds_expressions no_expressions
 -- of an attribute
 abbrev pub attribute_expressions : {R : Type 0} → Attribute R → List (Placed R)
 attribute_expressions (item.OneText which c) = cond_expressions no_expressions c
-attribute_expressions (item.Class words) = []
 attribute_expressions (item.Handling c) = cond_expressions no_expressions c
 attribute_expressions (item.Validity c) = cond_expressions no_expressions c
 attribute_expressions (item.TypeOf word parts) = flat_map type_part_expressions parts
-attribute_expressions (item.Number n) = []
-attribute_expressions (item.Operation o) = []
 attribute_expressions (item.Transaction number parts) = flat_map transaction_part_expressions parts
-attribute_expressions (item.ResponseCodes responses) = []
 attribute_expressions (item.Items entries) = conds_expressions no_expressions entries
-attribute_expressions (item.Members members) = []
-attribute_expressions (item.Elements elements) = []
 attribute_expressions (item.Definition body) = body_expressions body
+attribute_expressions _ = []
 
 -- the attributes of all items
 abbrev pub attributes_of : {R : Type 0} → Description R → List (Attribute R)
@@ -215,9 +205,6 @@ call_breaches is_statement (Item i) arguments = Mismatch ∷ []
 -- the breaches of all calls in an expression, which may be a whole statement
 abbrev mutual
   pub call_mismatches : (is_statement : Bool) → Expr Target → List Refusal
-  call_mismatches is_statement (Literal value) = []
-  call_mismatches is_statement Decimal = []
-  call_mismatches is_statement (Reference from) = []
   call_mismatches is_statement (Indexed array index) = call_mismatches false index
   call_mismatches is_statement (Parentheses inner) = call_mismatches false inner
   call_mismatches is_statement (Unary op operand) = call_mismatches false operand
@@ -233,9 +220,9 @@ abbrev mutual
       call_mismatches false test ++ (call_mismatches false first ++ call_mismatches false second)
   call_mismatches is_statement (Assign to value) = call_mismatches false value
   call_mismatches is_statement (CompoundAssign op to value) = call_mismatches false value
-  call_mismatches is_statement (Increment op to) = []
   call_mismatches is_statement (Call function arguments) =
       call_breaches is_statement function arguments ++ argument_mismatches arguments
+  call_mismatches is_statement _ = []
 
   -- the breaches of all calls in arguments
   pub argument_mismatches : Arguments Target → List Refusal
@@ -273,13 +260,10 @@ abbrev mutual
 
 -- an enumerated type has DEFAULT_VALUE and enumerators alone, and no other type has enumerators
 abbrev pub part_breaches : {R : Type 0} → VarType → TypePart R → List Refusal
-part_breaches type (item.DefaultValue c) = []
-part_breaches type (item.MinValue c) = refused_if (is_enumerated type) Mismatch
-part_breaches type (item.MaxValue c) = refused_if (is_enumerated type) Mismatch
-part_breaches type (item.DisplayFormat c) = refused_if (is_enumerated type) Mismatch
-part_breaches type (item.EditFormat c) = refused_if (is_enumerated type) Mismatch
+part_breaches type (item.OneNumber number_option.DefaultValue c) = []
 part_breaches type (item.Element c) = if is_enumerated type then [] else map (λ e. Mismatch)
     (values_in c)
+part_breaches type _ = refused_if (is_enumerated type) Mismatch
 
 -- the breaches in the braces of a TYPE
 abbrev pub type_option_breaches : {R : Type 0} → Attribute R → List Refusal
@@ -349,13 +333,9 @@ abbrev mutual
   -- the breaches in a body, which may be in a loop or in a `switch`
   pub breaks_outside_in : (in_loop in_switch : Bool) → Body Target → List Refusal
   breaks_outside_in in_loop in_switch Nil = []
-  breaks_outside_in in_loop in_switch (Cons (Declare declarators) rest) =
-      breaks_outside_in in_loop in_switch rest
   breaks_outside_in in_loop in_switch (Cons (Statement first) rest) =
       breaks_outside in_loop in_switch first ++ breaks_outside_in in_loop in_switch rest
-  breaks_outside_in in_loop in_switch (Cons (CaseLabel label) rest) =
-      breaks_outside_in in_loop in_switch rest
-  breaks_outside_in in_loop in_switch (Cons DefaultLabel rest) = breaks_outside_in in_loop in_switch
+  breaks_outside_in in_loop in_switch (Cons _ rest) = breaks_outside_in in_loop in_switch
       rest
 
 -- the body that a DEFINITION is
@@ -424,8 +404,6 @@ abbrev mutual
 
   -- the breaches in the bodies inside a statement, each with labels of its own
   pub repeated_labels_inside : Stmt Target → List Refusal
-  repeated_labels_inside s.Empty = []
-  repeated_labels_inside (s.Evaluate e) = []
   repeated_labels_inside (s.Block body) = repeated_labels no_labels body
   repeated_labels_inside (s.If condition first) = repeated_labels_inside first
   repeated_labels_inside (s.IfElse condition first otherwise) = repeated_labels_inside first
@@ -434,9 +412,7 @@ abbrev mutual
   repeated_labels_inside (s.Do body condition) = repeated_labels_inside body
   repeated_labels_inside (s.For initial condition update body) = repeated_labels_inside body
   repeated_labels_inside (s.Switch on body) = repeated_labels no_labels body
-  repeated_labels_inside s.Break = []
-  repeated_labels_inside s.Continue = []
-  repeated_labels_inside s.Return = []
+  repeated_labels_inside _ = []
 
 -- `had` says whether the SELECT had its DEFAULT
 abbrev mutual
@@ -459,11 +435,8 @@ abbrev mutual
 
 -- of an option of a type, or of an element of its list
 abbrev pub type_part_defaults : {R : Type 0} → TypePart R → List Refusal
-type_part_defaults (item.DefaultValue c) = cond_defaults c
-type_part_defaults (item.MinValue c) = cond_defaults c
-type_part_defaults (item.MaxValue c) = cond_defaults c
-type_part_defaults (item.DisplayFormat c) = cond_defaults c
-type_part_defaults (item.EditFormat c) = cond_defaults c
+type_part_defaults (item.OneNumber which c) = cond_defaults c
+type_part_defaults (item.OneFormat which c) = cond_defaults c
 type_part_defaults (item.Element c) = cond_defaults c
 
 -- of a REQUEST or a REPLY
@@ -474,18 +447,13 @@ transaction_part_defaults (item.Reply all) = conds_defaults all
 -- the breaches in an attribute: in its conditionals, or in its body
 abbrev pub repeated_cases : Attribute Target → List Refusal
 repeated_cases (item.OneText which c) = cond_defaults c
-repeated_cases (item.Class words) = []
 repeated_cases (item.Handling c) = cond_defaults c
 repeated_cases (item.Validity c) = cond_defaults c
 repeated_cases (item.TypeOf word parts) = flat_map type_part_defaults parts
-repeated_cases (item.Number n) = []
-repeated_cases (item.Operation o) = []
 repeated_cases (item.Transaction number parts) = flat_map transaction_part_defaults parts
-repeated_cases (item.ResponseCodes responses) = []
 repeated_cases (item.Items entries) = conds_defaults entries
-repeated_cases (item.Members members) = []
-repeated_cases (item.Elements elements) = []
 repeated_cases (item.Definition body) = repeated_labels no_labels body
+repeated_cases _ = []
 
 -- the breaches of these rules in a description
 abbrev pub duplicate_cases : Description Target → List Refusal

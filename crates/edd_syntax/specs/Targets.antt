@@ -13,11 +13,7 @@ item_of (Function f) = item_no.Variable (record { 0 = 0 })
 -- the variable that an item is; where one is needed, a checked unit names no other item
 abbrev pub variable_of_item : ItemNo → VarNo
 variable_of_item (item_no.Variable v) = v
-variable_of_item (item_no.Command n) = record { 0 = 0 }
-variable_of_item (item_no.Menu n) = record { 0 = 0 }
-variable_of_item (item_no.Collection n) = record { 0 = 0 }
-variable_of_item (item_no.Method n) = record { 0 = 0 }
-variable_of_item (item_no.Array n) = record { 0 = 0 }
+variable_of_item _ = record { 0 = 0 }
 
 -- the variable that a reference of a checked unit names
 abbrev pub variable_of : Target → VarNo

@@ -1,9 +1,10 @@
 -- The tokens of the language, as far as the grammar tells them apart.
-use Rattle.std.specs.Prelude.{ℕ, List, [], ◌∷◌, find, map, Some, None, codes}
+use Rattle.std.specs.Prelude.{ℕ, List, find, Option, Some, None, codes}
 use Rattle.std.specs.Str.{bytes_eq}
 use Rattle.edd_syntax.specs.declared.symbols.Keyword.{Keyword}
 use Rattle.edd_syntax.specs.declared.symbols.Keyword.TheVariants as keyword
 use Rattle.edd_syntax.specs.declared.symbols.Symbol.{Symbol}
+use Rattle.edd_syntax.specs.declared.symbols.TheConstants.{KEYWORDS}
 use Rattle.edd_syntax.specs.Text.{Name}
 
 -- a token, without its place in the text
@@ -81,27 +82,12 @@ spelling keyword.Goto = codes "goto"
 
 -- the reserved words
 abbrev pub all_keywords : List Keyword
-all_keywords =
-    keyword.Manufacturer ∷ keyword.DeviceType ∷ keyword.DeviceRevision ∷ keyword.DdRevision
-    ∷ keyword.Variable ∷ keyword.Command ∷ keyword.Menu ∷ keyword.Collection ∷ keyword.Method
-    ∷ keyword.Array ∷ keyword.Of ∷ keyword.Label ∷ keyword.Help ∷ keyword.Class ∷ keyword.Handling
-    ∷ keyword.ConstantUnit ∷ keyword.Validity ∷ keyword.Type ∷ keyword.Number ∷ keyword.Operation
-    ∷ keyword.Transaction ∷ keyword.ResponseCodes ∷ keyword.Request ∷ keyword.Reply ∷ keyword.Items
-    ∷ keyword.Members ∷ keyword.Definition ∷ keyword.Elements ∷ keyword.If ∷ keyword.Else
-    ∷ keyword.Select ∷ keyword.Case ∷ keyword.Default ∷ keyword.DefaultValue ∷ keyword.MinValue
-    ∷ keyword.MaxValue ∷ keyword.DisplayFormat ∷ keyword.EditFormat ∷ keyword.Int ∷ keyword.Long
-    ∷ keyword.MethodIf ∷ keyword.MethodElse ∷ keyword.While ∷ keyword.Do ∷ keyword.For
-    ∷ keyword.Switch ∷ keyword.MethodCase ∷ keyword.MethodDefault ∷ keyword.Break ∷ keyword.Continue
-    ∷ keyword.Return ∷ keyword.Char ∷ keyword.Short ∷ keyword.Unsigned ∷ keyword.Signed
-    ∷ keyword.Float ∷ keyword.Double ∷ keyword.Goto ∷ []
+all_keywords = KEYWORDS
 
--- the reserved words by their spelling
-abbrev pub keywords : List (Name × Keyword)
-keywords = map (λ k. (spelling k, k)) all_keywords
+-- the reserved word that is written so
+abbrev pub keyword_of : Name → Option Keyword
+keyword_of word = find (λ k. bytes_eq (spelling k) word) all_keywords
 
 -- the token of a word: a reserved word, or a name
 abbrev pub word_token : Name → Token
-word_token word = elim (find (λ k. bytes_eq k.0 word) keywords) [
-  | Some k ↦ Reserved k.1
-  | None ↦ Identifier word
-]
+word_token word = elim (keyword_of word) [ Some k ↦ Reserved k | None ↦ Identifier word ]

@@ -5,7 +5,6 @@ use Rattle.std.specs.Prelude.{ℕ, ◌^◌, Bool, true, false, not, ◌&&◌, na
 use Rattle.std.specs.List.{list_all}
 use Rattle.edd_syntax.specs.declared.numbers.Kind.{Kind}
 use Rattle.edd_syntax.specs.declared.numbers.Kind.TheVariants as kind
-use Rattle.edd_syntax.specs.declared.numbers.Attr.TheVariants as attr
 use Rattle.edd_syntax.specs.Text as texts
 use Rattle.edd_syntax.specs.Text.{Quoted, Key}
 use Rattle.edd_syntax.specs.Names.{is_name}
@@ -15,10 +14,10 @@ use Rattle.edd_syntax.specs.Expression.{Expr, Literal, Decimal, Reference, Index
 use Rattle.edd_syntax.specs.Conditional as cond
 use Rattle.edd_syntax.specs.Conditional.{Cond, Value, If, Select, Conds, Arms, NoArms, ConsArm, Case, Default}
 use Rattle.edd_syntax.specs.Statement as s
-use Rattle.edd_syntax.specs.Statement.{Declarator, Stmt, Part, Body, Nil, Cons, Declare, Statement, CaseLabel, DefaultLabel}
+use Rattle.edd_syntax.specs.Statement.{Declarator, Stmt, Body, Nil, Cons, Declare, Statement, CaseLabel, DefaultLabel}
 use Rattle.edd_syntax.specs.Item as item
-use Rattle.edd_syntax.specs.Item.{ItemKind, CollectionItem, kind_of_item, TypePart, TransactionPart, Attribute, Item}
-use Rattle.edd_syntax.specs.Numbers.{has_attr, same_kind, text_attr}
+use Rattle.edd_syntax.specs.Item.{attr_of, ItemKind, CollectionItem, kind_of_item, TypePart, TransactionPart, Attribute, Item}
+use Rattle.edd_syntax.specs.Numbers.{has_attr, same_kind}
 use Rattle.edd_syntax.specs.Words.{has_escapes}
 use Rattle.edd_syntax.specs.Size.{attribute_height, height_limit}
 
@@ -57,19 +56,8 @@ is_plain p = is_name p.base && not (is_not_empty p.members)
 
 -- an attribute of this kind of item
 abbrev pub belongs_to : {R : Type 0} → Kind → Attribute R → Bool
-belongs_to k (item.OneText which c) = has_attr k (text_attr which)
-belongs_to k (item.Class words) = has_attr k attr.Class
-belongs_to k (item.Handling c) = has_attr k attr.Handling
-belongs_to k (item.Validity c) = has_attr k attr.Validity
 belongs_to k (item.TypeOf word parts) = same_kind k kind.Variable
-belongs_to k (item.Number n) = has_attr k attr.Number
-belongs_to k (item.Operation o) = has_attr k attr.Operation
-belongs_to k (item.Transaction number parts) = has_attr k attr.Transaction
-belongs_to k (item.ResponseCodes responses) = has_attr k attr.ResponseCodes
-belongs_to k (item.Items entries) = has_attr k attr.Items
-belongs_to k (item.Members members) = has_attr k attr.Members
-belongs_to k (item.Elements elements) = has_attr k attr.Elements
-belongs_to k (item.Definition body) = has_attr k attr.Definition
+belongs_to k a = has_attr k (attr_of a)
 
 -- each attribute of an item is one that its kind may have
 abbrev pub has_own_attributes : {R : Type 0} → Item R → Bool
@@ -122,10 +110,7 @@ module _ {R : Type 0} (good plain : R → Bool) where
   is_pure_expr (LogicalOr left right) = is_pure_expr left && is_pure_expr right
   is_pure_expr (Conditional test first second) = is_pure_expr test && is_pure_expr first
       && is_pure_expr second
-  is_pure_expr (Assign to value) = false
-  is_pure_expr (CompoundAssign op to value) = false
-  is_pure_expr (Increment op to) = false
-  is_pure_expr (Call function arguments) = false
+  is_pure_expr _ = false
 
   -- a conditional, whose values pass `of`
   abbrev mutual
@@ -179,7 +164,6 @@ module _ {R : Type 0} (good plain : R → Bool) where
   -- labels are directly in a `switch` alone
   abbrev mutual
     pub is_stmt : Stmt R → Bool
-    is_stmt s.Empty = true
     is_stmt (s.Evaluate e) = is_expr e
     is_stmt (s.Block body) = is_body false body
     is_stmt (s.If condition first) = is_expr condition && is_stmt first
@@ -191,9 +175,7 @@ module _ {R : Type 0} (good plain : R → Bool) where
         if_some is_expr initial && if_some is_expr condition && if_some is_expr update
         && is_stmt body
     is_stmt (s.Switch on body) = is_expr on && is_body true body
-    is_stmt s.Break = true
-    is_stmt s.Continue = true
-    is_stmt s.Return = true
+    is_stmt _ = true
 
     -- what is between braces, where `labels` says whether labels may be
     pub is_body : (labels : Bool) → Body R → Bool
@@ -243,11 +225,8 @@ module _ {R : Type 0} (good plain : R → Bool) where
 
   -- an option of a type with a single value, or an element of its list
   abbrev pub is_type_part : TypePart R → Bool
-  is_type_part (item.DefaultValue c) = one is_pure_expr c
-  is_type_part (item.MinValue c) = one is_pure_expr c
-  is_type_part (item.MaxValue c) = one is_pure_expr c
-  is_type_part (item.DisplayFormat c) = one is_text c
-  is_type_part (item.EditFormat c) = one is_text c
+  is_type_part (item.OneNumber which c) = one is_pure_expr c
+  is_type_part (item.OneFormat which c) = one is_text c
   is_type_part (item.Element c) = is_cond is_enumerator c
 
   -- of a type of another word nothing but the word is kept

@@ -2,12 +2,12 @@
 
 ghost use Rattle.std.specs.Prelude.{◌≡◌};
 ghost use Rattle.edd_syntax.specs.Item.{kind_of_item};
-ghost use Rattle.edd_syntax.specs.ItemView.{sort_of, name_of, attributes_of};
+ghost use Rattle.edd_syntax.specs.ItemView.{item_kind_of, sort_of, name_of, attributes_of};
 ghost use Rattle.edd_syntax.specs.Places.{name_at, word_at};
 
 use crate::cond::Cond;
 use crate::expr::Expr;
-use crate::numbers::{Kind, TextAttribute, TokenNo};
+use crate::numbers::{FormatOption, Kind, NumberOption, TextAttribute, TokenNo};
 use crate::stmt::Part;
 use crate::text::Text;
 use crate::types::{Handling, Operation, ResponseClass, VarType};
@@ -100,24 +100,14 @@ pub enum TypeWord {
 /// What is in the braces of a type. An option is where its word is.
 #[derive(Drop)]
 pub enum TypePart<R> {
-    DefaultValue {
+    OneNumber {
         at: TokenNo,
+        which: NumberOption,
         value: Cond<R, Expr<R>>,
     },
-    MinValue {
+    OneFormat {
         at: TokenNo,
-        value: Cond<R, Expr<R>>,
-    },
-    MaxValue {
-        at: TokenNo,
-        value: Cond<R, Expr<R>>,
-    },
-    DisplayFormat {
-        at: TokenNo,
-        format: Cond<R, Text>,
-    },
-    EditFormat {
-        at: TokenNo,
+        which: FormatOption,
         format: Cond<R, Text>,
     },
     /// An element of the type's list of enumerators.
@@ -180,65 +170,45 @@ impl<R> Attribute<R> {
     }
 }
 
-#[derive(Drop)]
-pub struct VariableDef<R> {
-    /// Where its name is.
-    pub at: TokenNo,
-    pub name: String,
-    pub attributes: Vec<Attribute<R>>,
+/// What an item is; a collection has the kind of its members.
+#[derive(Clone, Copy, PartialEq, Eq, Debug)]
+pub enum ItemKind {
+    Variable,
+    Command,
+    Menu,
+    Collection(Kind),
+    Method,
+    /// An array of variables.
+    Array,
 }
 
-#[derive(Drop)]
-pub struct CommandDef<R> {
-    /// Where its name is.
-    pub at: TokenNo,
-    pub name: String,
-    pub attributes: Vec<Attribute<R>>,
+impl ItemKind {
+    /// The kind of the item, whatever its members are.
+    pub fn kind(self) -> Kind
+        ensures { result ≡ kind_of_item (item_kind_of self) }
+    {
+        match self {
+            ItemKind::Variable => Kind::Variable,
+            ItemKind::Command => Kind::Command,
+            ItemKind::Menu => Kind::Menu,
+            ItemKind::Collection(_) => Kind::Collection,
+            ItemKind::Method => Kind::Method,
+            ItemKind::Array => Kind::Array,
+        }
+    }
 }
 
+/// An item of a description.
 #[derive(Drop)]
-pub struct MenuDef<R> {
+pub struct Item<R> {
+    /// What it is.
+    pub sort: ItemKind,
     /// Where its name is.
     pub at: TokenNo,
+    /// The name under which others refer to it.
     pub name: String,
+    /// As they are written.
     pub attributes: Vec<Attribute<R>>,
-}
-
-#[derive(Drop)]
-pub struct CollectionDef<R> {
-    /// Where its name is.
-    pub at: TokenNo,
-    /// The kind of its members.
-    pub of: Kind,
-    pub name: String,
-    pub attributes: Vec<Attribute<R>>,
-}
-
-#[derive(Drop)]
-pub struct MethodDef<R> {
-    /// Where its name is.
-    pub at: TokenNo,
-    pub name: String,
-    pub attributes: Vec<Attribute<R>>,
-}
-
-/// An array of variables.
-#[derive(Drop)]
-pub struct ArrayDef<R> {
-    /// Where its name is.
-    pub at: TokenNo,
-    pub name: String,
-    pub attributes: Vec<Attribute<R>>,
-}
-
-#[derive(Drop)]
-pub enum Item<R> {
-    Variable(VariableDef<R>),
-    Command(CommandDef<R>),
-    Menu(MenuDef<R>),
-    Collection(CollectionDef<R>),
-    Method(MethodDef<R>),
-    Array(ArrayDef<R>),
 }
 
 impl<R> Item<R> {
@@ -246,56 +216,28 @@ impl<R> Item<R> {
     pub fn kind(&self) -> Kind
         ensures { result ≡ kind_of_item (sort_of self.now) }
     {
-        match self {
-            Item::Variable(_) => Kind::Variable,
-            Item::Command(_) => Kind::Command,
-            Item::Menu(_) => Kind::Menu,
-            Item::Collection(_) => Kind::Collection,
-            Item::Method(_) => Kind::Method,
-            Item::Array(_) => Kind::Array,
-        }
+        self.sort.kind()
     }
 
     /// The name under which others refer to it.
     pub fn name(&self) -> &str
         ensures { result.now ≡ name_of self.now }
     {
-        match self {
-            Item::Variable(d) => &d.name,
-            Item::Command(d) => &d.name,
-            Item::Menu(d) => &d.name,
-            Item::Collection(d) => &d.name,
-            Item::Method(d) => &d.name,
-            Item::Array(d) => &d.name,
-        }
+        &self.name
     }
 
     /// Where its name is.
     pub fn at(&self) -> TokenNo
         ensures { result ≡ name_at self.now }
     {
-        match self {
-            Item::Variable(d) => d.at,
-            Item::Command(d) => d.at,
-            Item::Menu(d) => d.at,
-            Item::Collection(d) => d.at,
-            Item::Method(d) => d.at,
-            Item::Array(d) => d.at,
-        }
+        self.at
     }
 
     /// The attributes, as they are written.
     pub fn attributes(&self) -> &[Attribute<R>]
         ensures { result.now ≡ attributes_of self.now }
     {
-        match self {
-            Item::Variable(d) => &d.attributes,
-            Item::Command(d) => &d.attributes,
-            Item::Menu(d) => &d.attributes,
-            Item::Collection(d) => &d.attributes,
-            Item::Method(d) => &d.attributes,
-            Item::Array(d) => &d.attributes,
-        }
+        &self.attributes
     }
 }
 

@@ -29,11 +29,8 @@ fn part_attr(part: &TypePart<Target>) -> Attr
     ensures { result ≡ order.part_attr (numbered_type_part part.now) }
 {
     match part {
-        TypePart::DefaultValue { .. } => Attr::DefaultValue,
-        TypePart::MinValue { .. } => Attr::MinValue,
-        TypePart::MaxValue { .. } => Attr::MaxValue,
-        TypePart::DisplayFormat { .. } => Attr::DisplayFormat,
-        TypePart::EditFormat { .. } => Attr::EditFormat,
+        TypePart::OneNumber { which, .. } => which.attr(),
+        TypePart::OneFormat { which, .. } => which.attr(),
         TypePart::Element(_) => Attr::Enumerators,
     }
 }

@@ -1,16 +1,12 @@
-//! The tables of kinds, items, attributes and builtin functions, which are here and nowhere else.
+//! The tables of kinds, items and builtin functions, which are here and nowhere else.
 
 ghost use Rattle.std.specs.Prelude.{◌≡◌};
-ghost use Rattle.edd_syntax.specs.Attributes as attributes;
 ghost use Rattle.edd_syntax.specs.Numbers as numbers;
 ghost use Rattle.edd_syntax.specs.Resolution.{builtin_name, builtins, by_name, look_up};
 ghost use Rattle.edd_syntax.specs.SubsetRules.{parameters};
 
-use crate::numbers::{
-    ArrNo, Attr, CmdNo, CollNo, ItemNo, Kind, MenuNo, MethNo, TextAttribute, VarNo,
-};
+use crate::numbers::{ArrNo, CmdNo, CollNo, ItemNo, Kind, MenuNo, MethNo, VarNo};
 use crate::operators::{BUILTINS, Builtin, Parameter};
-use crate::symbols::Keyword;
 
 impl Kind {
     /// The number of the kind in an image, from 1 to 6 (this profile).
@@ -93,139 +89,6 @@ impl ItemNo {
             ItemNo::Collection(number) => number.0,
             ItemNo::Method(number) => number.0,
             ItemNo::Array(number) => number.0,
-        }
-    }
-}
-
-impl Attr {
-    /// The number of the attribute in an image, from 1 to 22 (this profile).
-    pub fn number(self) -> u8
-        ensures { result ≡ numbers.attr_number self }
-    {
-        self as u8
-    }
-
-    /// The attribute of a number in an image, where there is one (this profile).
-    pub fn from_number(number: u8) -> Option<Attr>
-        ensures { result ≡ numbers.attr_from_number number }
-    {
-        match number {
-            1 => Some(Attr::Label),
-            2 => Some(Attr::Help),
-            3 => Some(Attr::Class),
-            4 => Some(Attr::Handling),
-            5 => Some(Attr::ConstantUnit),
-            6 => Some(Attr::Validity),
-            7 => Some(Attr::DefaultValue),
-            8 => Some(Attr::MinValue),
-            9 => Some(Attr::MaxValue),
-            10 => Some(Attr::DisplayFormat),
-            11 => Some(Attr::EditFormat),
-            12 => Some(Attr::Enumerators),
-            13 => Some(Attr::Number),
-            14 => Some(Attr::Operation),
-            15 => Some(Attr::Transaction),
-            16 => Some(Attr::Request),
-            17 => Some(Attr::Reply),
-            18 => Some(Attr::ResponseCodes),
-            19 => Some(Attr::Items),
-            20 => Some(Attr::Members),
-            21 => Some(Attr::Definition),
-            22 => Some(Attr::Elements),
-            _ => None,
-        }
-    }
-
-    /// The word of the attribute, as EDDL has it (IEC 61804-3). ENUMERATORS is a word of this
-    /// profile, since the list of a type has none.
-    pub fn word(self) -> &'static str
-        ensures { result.now ≡ numbers.attr_word self }
-    {
-        match self {
-            Attr::Label => Keyword::Label.spelling(),
-            Attr::Help => Keyword::Help.spelling(),
-            Attr::Class => Keyword::Class.spelling(),
-            Attr::Handling => Keyword::Handling.spelling(),
-            Attr::ConstantUnit => Keyword::ConstantUnit.spelling(),
-            Attr::Validity => Keyword::Validity.spelling(),
-            Attr::DefaultValue => Keyword::DefaultValue.spelling(),
-            Attr::MinValue => Keyword::MinValue.spelling(),
-            Attr::MaxValue => Keyword::MaxValue.spelling(),
-            Attr::DisplayFormat => Keyword::DisplayFormat.spelling(),
-            Attr::EditFormat => Keyword::EditFormat.spelling(),
-            Attr::Enumerators => "ENUMERATORS",
-            Attr::Number => Keyword::Number.spelling(),
-            Attr::Operation => Keyword::Operation.spelling(),
-            Attr::Transaction => Keyword::Transaction.spelling(),
-            Attr::Request => Keyword::Request.spelling(),
-            Attr::Reply => Keyword::Reply.spelling(),
-            Attr::ResponseCodes => Keyword::ResponseCodes.spelling(),
-            Attr::Items => Keyword::Items.spelling(),
-            Attr::Members => Keyword::Members.spelling(),
-            Attr::Definition => Keyword::Definition.spelling(),
-            Attr::Elements => Keyword::Elements.spelling(),
-        }
-    }
-
-    /// Whether items of the kind may have the attribute (this profile of EDDL).
-    pub fn may_belong_to(self, kind: Kind) -> bool
-        ensures { result ≡ numbers.has_attr kind self }
-    {
-        match self {
-            Attr::Label | Attr::Help => !matches!(kind, Kind::Command),
-            Attr::Class => matches!(kind, Kind::Variable | Kind::Method),
-            Attr::Validity => matches!(kind, Kind::Variable | Kind::Menu | Kind::Method),
-            Attr::Handling
-            | Attr::ConstantUnit
-            | Attr::DefaultValue
-            | Attr::MinValue
-            | Attr::MaxValue
-            | Attr::DisplayFormat
-            | Attr::EditFormat
-            | Attr::Enumerators => matches!(kind, Kind::Variable),
-            Attr::Number
-            | Attr::Operation
-            | Attr::Transaction
-            | Attr::Request
-            | Attr::Reply
-            | Attr::ResponseCodes => matches!(kind, Kind::Command),
-            Attr::Items => matches!(kind, Kind::Menu),
-            Attr::Members => matches!(kind, Kind::Collection),
-            Attr::Definition => matches!(kind, Kind::Method),
-            Attr::Elements => matches!(kind, Kind::Array),
-        }
-    }
-
-    /// Whether each transaction of a command has the attribute, and not the command itself (EDDL,
-    /// IEC 61804-3).
-    pub fn is_of_transaction(self) -> bool
-        ensures { result ≡ attributes.is_of_transaction self }
-    {
-        matches!(self, Attr::Transaction | Attr::Request | Attr::Reply)
-    }
-}
-
-impl TextAttribute {
-    /// The attribute of an item that it is (EDDL, IEC 61804-3).
-    pub fn attr(self) -> Attr
-        ensures { result ≡ numbers.text_attr self }
-    {
-        match self {
-            TextAttribute::Label => Attr::Label,
-            TextAttribute::Help => Attr::Help,
-            TextAttribute::ConstantUnit => Attr::ConstantUnit,
-        }
-    }
-
-    /// The attribute with this word, where it is one text (EDDL, IEC 61804-3).
-    pub fn from_word(word: Keyword) -> Option<TextAttribute>
-        ensures { result ≡ numbers.text_of_word word }
-    {
-        match word {
-            Keyword::Label => Some(TextAttribute::Label),
-            Keyword::Help => Some(TextAttribute::Help),
-            Keyword::ConstantUnit => Some(TextAttribute::ConstantUnit),
-            _ => None,
         }
     }
 }

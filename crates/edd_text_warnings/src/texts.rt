@@ -2,6 +2,7 @@
 
 use edd_lexer::token::{Token, TokenKind};
 use edd_lints::tokens_left::{Mark, bytes_of, mark_of};
+use edd_syntax::numbers::TextAttribute;
 use edd_syntax::operators::Builtin;
 use edd_syntax::symbols::{Keyword, Symbol};
 use std::alloc::{AllocError, Global};
@@ -77,21 +78,19 @@ fn inside<'a>(text: &'a [u8], token: &Token) -> &'a [u8] {
 
 // Whether a word begins an attribute, an option or a part of a transaction.
 fn begins_section(word: Keyword) -> bool {
-    matches!(
-        word,
-        Keyword::Label
-            | Keyword::Help
-            | Keyword::ConstantUnit
-            | Keyword::Type
-            | Keyword::DefaultValue
-            | Keyword::DisplayFormat
-            | Keyword::EditFormat
-            | Keyword::ResponseCodes
-            | Keyword::Items
-            | Keyword::Members
-            | Keyword::Elements
-            | Keyword::Definition
-    )
+    TextAttribute::from_word(word).is_some()
+        || matches!(
+            word,
+            Keyword::Type
+                | Keyword::DefaultValue
+                | Keyword::DisplayFormat
+                | Keyword::EditFormat
+                | Keyword::ResponseCodes
+                | Keyword::Items
+                | Keyword::Members
+                | Keyword::Elements
+                | Keyword::Definition
+        )
 }
 
 // Whether a byte is one of a word: a letter, a digit, or part of a letter of more bytes.

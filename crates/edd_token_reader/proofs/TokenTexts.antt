@@ -8,7 +8,7 @@ use Rattle.std.proofs.lemmas.List.Elements.{All-nil, All-cons, All-head, All-tai
 use Rattle.std.proofs.lemmas.Str.{IsUtf8-from_ascii, IsUtf8-drop, IsUtf8-take, IsCharBoundary-after_ascii, IsCharBoundary-before_ascii}
 use Rattle.std.proofs.Math.Seq.{get_or-append_seam}
 use Rattle.edd_syntax.specs.Names.{is_name, begins_name, goes_on_name}
-use Rattle.edd_syntax.specs.Token.{Token, Reserved, Identifier, Integer, Decimal, String, Sign}
+use Rattle.edd_syntax.specs.Token.{Token}
 use Rattle.edd_syntax.specs.Token as pure
 use Rattle.edd_lexer.specs.declared.token.Token as code
 use Rattle.edd_lexer.specs.declared.token.TokenKind.{TokenKind}
@@ -170,12 +170,8 @@ lexemes_have_text text lexemes are = from_text text true _ lexemes are.utf8 (sta
 
 quotes_kept : (kind_of : TokenKind) (bytes : List ℕ) (size : ℕ)
     → IsKept (token_of kind_of bytes) size → HasQuotes kind_of size
-quotes_kept (kind.Keyword k) bytes size h = tt
-quotes_kept kind.Name bytes size h = tt
-quotes_kept (kind.Integer n) bytes size h = tt
-quotes_kept kind.Decimal bytes size h = tt
 quotes_kept kind.String bytes size h = omega (arith, h.1)
-quotes_kept (kind.Symbol s) bytes size h = tt
+quotes_kept _ bytes size h = tt
 
 all_readable : (text : List ℕ) (tokens : List code.Token)
     → All LexemeText (map (lexeme_of text) tokens)

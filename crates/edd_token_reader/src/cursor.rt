@@ -2,8 +2,10 @@
 
 ghost use Rattle.std.specs.Prelude.{◌≡◌, ℕ, All, List, [], ◌∷◌, drop, length, MatchOption, option_map, None, Some, Bool, true, false, if◌then◌else◌};
 ghost use Rattle.edd_grammar.specs.Reading as reading;
+ghost use Rattle.edd_grammar.specs.Reading.{word_by};
 ghost use Rattle.edd_grammar.specs.ExpressionReading.{operator_at, assignment_at, increment_at};
 ghost use Rattle.edd_lexer.specs.Views.{token_of};
+ghost use Rattle.edd_syntax.specs.Numbers.{format_of_word, number_of_word};
 ghost use Rattle.edd_token_reader.specs.TokenTexts.{tokens_in, IsReadable};
 ghost use Rattle.edd_token_reader.specs.Views.{infix_view, assignment_view, Leaves, Takes};
 ghost use Rattle.edd_grammar.specs.WordReading.{integer_at, at_name, expect_name, at_end};
@@ -15,7 +17,7 @@ use crate::fault::ParseFault;
 use crate::operators::{Assignment, Infix, after_of, assignment_of, infix_of, precedence_of};
 use crate::token_text::{name_in, string_in};
 use edd_lexer::token::{Token, TokenKind};
-use edd_syntax::numbers::{Kind, TextAttribute, TokenNo};
+use edd_syntax::numbers::{FormatOption, Kind, NumberOption, TextAttribute, TokenNo};
 use edd_syntax::operators::{IncrementOperator, Operator};
 use edd_syntax::symbols::{Keyword, Symbol};
 use std::alloc::Global;
@@ -413,6 +415,26 @@ impl<'a> Cursor<'a> {
     {
         match self.peek() {
             Some(TokenKind::Keyword(word)) => TextAttribute::from_word(word),
+            _ => None,
+        }
+    }
+
+    /// The option of a type that is a number and of which the word is next.
+    pub fn number_option(&self) -> Option<NumberOption>
+        ensures { result ≡ word_by number_of_word self.now }
+    {
+        match self.peek() {
+            Some(TokenKind::Keyword(word)) => NumberOption::from_word(word),
+            _ => None,
+        }
+    }
+
+    /// The option of a type that is a format and of which the word is next.
+    pub fn format_option(&self) -> Option<FormatOption>
+        ensures { result ≡ word_by format_of_word self.now }
+    {
+        match self.peek() {
+            Some(TokenKind::Keyword(word)) => FormatOption::from_word(word),
             _ => None,
         }
     }

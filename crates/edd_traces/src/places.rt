@@ -6,7 +6,7 @@ use crate::effect::Effect;
 use crate::statements::walk_parts;
 use crate::walk::{Marked, Walk};
 use edd_lexer::token::Token;
-use edd_syntax::item::{Attribute, Item};
+use edd_syntax::item::{Attribute, Item, ItemKind};
 use edd_syntax::numbers::MethNo;
 use edd_syntax::reference::Target;
 use edd_syntax::stmt::Part;
@@ -30,9 +30,9 @@ pub struct Places {
 fn body_of(items: &[Item<Target>], method: MethNo) -> Option<&[Part<Target>]> {
     let mut before: usize = 0;
     for item in items {
-        if let Item::Method(definition) = item {
+        if item.sort == ItemKind::Method {
             if before == usize::from(method.0) {
-                return definition_in(&definition.attributes);
+                return definition_in(&item.attributes);
             }
             before = before.saturating_add(1);
         }

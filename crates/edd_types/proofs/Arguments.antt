@@ -3,7 +3,7 @@ use Rattle.std.proofs.Common.{◌≡◌, refl, sym, ap, ◌∙◌, ◌<◌, ◌�
 use Rattle.edd_breaches.specs.Told.{told_at}
 use Rattle.edd_syntax.specs.declared.numbers.TokenNo.{TokenNo}
 use Rattle.edd_syntax.specs.declared.reference.Target.{Target}
-use Rattle.edd_syntax.specs.declared.reference.Target.TheVariants.{Local, Item, Function}
+use Rattle.edd_syntax.specs.declared.reference.Target.TheVariants.{Function}
 use Rattle.edd_syntax.specs.Expression as expr
 use Rattle.edd_syntax.specs.Expression.{Argument, Arguments, arguments_from}
 use Rattle.edd_syntax.specs.declared.operators.Builtin.{Builtin}
@@ -65,20 +65,7 @@ some_are_not_none view which (x ∷ xs) h = refl
 
 pub few_parameters : (f : Builtin) → length (parameters f) ≤ 2
 few_parameters builtin.PutMessage = omega arith
-few_parameters builtin.Acknowledge = omega arith
-few_parameters builtin.Delay = omega arith
-few_parameters builtin.GetDevVarValue = omega arith
-few_parameters builtin.SelectFromList = omega arith
-few_parameters builtin.SendCommand = omega arith
-few_parameters builtin.SendCommandTrans = omega arith
-few_parameters builtin.SaveValues = omega arith
-few_parameters builtin.IvarValue = omega arith
-few_parameters builtin.LvarValue = omega arith
-few_parameters builtin.Iassign = omega arith
-few_parameters builtin.Lassign = omega arith
-few_parameters builtin.Abort = omega arith
-few_parameters builtin.ProcessAbort = omega arith
-few_parameters builtin.AddAbortMethod = omega arith
+few_parameters _ = omega arith
 
 -- ---- all that do not fit are the breaches of the rule
 
@@ -95,8 +82,7 @@ pub same_breaches : (is_statement : Bool) (function : Target) (arguments : Argum
 same_breaches is_statement (Function f) arguments =
     ap (λ b. refused_if (not b || (is_abort f && not is_statement)) Mismatch)
     (same_fit (parameters f) arguments)
-same_breaches is_statement (Local slot) arguments = refl
-same_breaches is_statement (Item i) arguments = refl
+same_breaches is_statement _ arguments = refl
 
 -- ---- what is told of a call
 

@@ -2,6 +2,7 @@
 use Rattle.std.proofs.Common.{◌≡◌, refl, sym, ap, ◌∙◌, ℕ, Bool, true, false, List, [], ◌∷◌, ◌++◌, map, if◌then◌else◌}
 use Rattle.std.specs.List.{flat_map}
 use Rattle.std.proofs.lemmas.List.{append-nil}
+use Rattle.edd_syntax.specs.declared.numbers.NumberOption.TheVariants as number_option
 use Rattle.edd_breaches.specs.Told.{Told, refusals}
 use Rattle.edd_syntax.specs.declared.numbers.TokenNo.{TokenNo}
 use Rattle.edd_syntax.specs.declared.reference.Target.{Target}
@@ -75,11 +76,8 @@ module _ (b : Sought) (f : Placed Target → List Refusal)
 
   type_part_is : (p : TypePart Target) → refusals (type_part_told b p)
       ≡ flat_map f (type_part_expressions (numbered_type_part p))
-  type_part_is (part.DefaultValue at value) = valued_is value
-  type_part_is (part.MinValue at value) = valued_is value
-  type_part_is (part.MaxValue at value) = valued_is value
-  type_part_is (part.DisplayFormat at format) = bare_is (nothing_told b) text_of (λ v. refl) format
-  type_part_is (part.EditFormat at format) = bare_is (nothing_told b) text_of (λ v. refl) format
+  type_part_is (part.OneNumber at which value) = valued_is value
+  type_part_is (part.OneFormat at which format) = bare_is (nothing_told b) text_of (λ v. refl) format
   type_part_is (part.Element element) = bare_is (enumerator_told b) enumerator_of enumerators element
 
   transaction_part_is : (p : TransactionPart Target) → refusals (transaction_part_told b p)
@@ -92,22 +90,17 @@ module _ (b : Sought) (f : Placed Target → List Refusal)
   expressions_are : (a : Attribute Target) → refusals (method_told b a ++ conditions_told b a)
       ≡ flat_map f (attribute_expressions (numbered_attribute a))
   expressions_are (attribute.OneText at which c) = bare_is (nothing_told b) text_of (λ v. refl) c
-  expressions_are (attribute.Class at words) = refl
   expressions_are (attribute.Handling at c) = bare_is (nothing_told b) (λ v. v) (λ v. refl) c
   expressions_are (attribute.Validity at c) = bare_is (nothing_told b) (λ v. v) (λ v. refl) c
   expressions_are (attribute.TypeOf at type parts) = all_forgotten (type_part_told b)
       numbered_type_part f type_part_expressions type_part_is parts.items
-  expressions_are (attribute.Number at n) = refl
-  expressions_are (attribute.Operation at o) = refl
   expressions_are (attribute.Transaction at number parts) = all_forgotten (transaction_part_told b)
       numbered_transaction_part f transaction_part_expressions transaction_part_is parts.items
-  expressions_are (attribute.ResponseCodes at codes) = refl
   expressions_are (attribute.Items at entries) = bare_list_is (nothing_told b) numbered_entry
       (λ v. refl) entries.items
-  expressions_are (attribute.Members at members) = refl
-  expressions_are (attribute.Elements at elements) = refl
   expressions_are (attribute.Definition at parts) = ap refusals (append-nil _)
       ∙ body_is b f same parts
+  expressions_are _ = refl
 
 pub calls_in_attribute : (a : Attribute Target)
     → refusals (method_told (sought.Call calls.All) a ++ conditions_told (sought.Call calls.All) a)
@@ -137,11 +130,10 @@ unless false xs ps same = same
 
 option_is : (type : VarType) (p : TypePart Target)
     → refusals (option_told type p) ≡ part_breaches type (numbered_type_part p)
-option_is type (part.DefaultValue at value) = refl
-option_is type (part.MinValue at value) = if_forgotten (is_enumerated type) Mismatch at
-option_is type (part.MaxValue at value) = if_forgotten (is_enumerated type) Mismatch at
-option_is type (part.DisplayFormat at format) = if_forgotten (is_enumerated type) Mismatch at
-option_is type (part.EditFormat at format) = if_forgotten (is_enumerated type) Mismatch at
+option_is type (part.OneNumber at number_option.DefaultValue value) = refl
+option_is type (part.OneNumber at number_option.MinValue value) = if_forgotten (is_enumerated type) Mismatch at
+option_is type (part.OneNumber at number_option.MaxValue value) = if_forgotten (is_enumerated type) Mismatch at
+option_is type (part.OneFormat at which format) = if_forgotten (is_enumerated type) Mismatch at
 option_is type (part.Element element) =
     unless (is_enumerated type) _ _ (cond_is sought.Enumerator (enumerator_told sought.Enumerator)
     enumerator_of (gathered_values (λ e. Mismatch ∷ [])) (λ e. refl) (λ had at. refl) (λ e. refl)
@@ -169,38 +161,16 @@ options_are (attribute.Definition at parts) = refl
 
 pub type_is : (variable : Name) (a : Attribute Target) → refusals (type_told variable a)
     ≡ flat_map (type_breaches variable) (types_in (numbered_attribute a))
-type_is variable (attribute.OneText at which c) = refl
-type_is variable (attribute.Class at words) = refl
-type_is variable (attribute.Handling at c) = refl
-type_is variable (attribute.Validity at c) = refl
 type_is variable (attribute.TypeOf at type parts) = place_forgotten _ at ∙ sym (append-nil _)
-type_is variable (attribute.Number at n) = refl
-type_is variable (attribute.Operation at o) = refl
-type_is variable (attribute.Transaction at number parts) = refl
-type_is variable (attribute.ResponseCodes at codes) = refl
-type_is variable (attribute.Items at entries) = refl
-type_is variable (attribute.Members at members) = refl
-type_is variable (attribute.Elements at elements) = refl
-type_is variable (attribute.Definition at parts) = refl
+type_is variable _ = refl
 
 -- ---- `break` and `continue`
 
 pub breaks_in_attribute : (a : Attribute Target) → refusals (breaks_told_in_method a)
     ≡ flat_map (breaks_outside_in false false) (bodies_in (numbered_attribute a))
-breaks_in_attribute (attribute.OneText at which c) = refl
-breaks_in_attribute (attribute.Class at words) = refl
-breaks_in_attribute (attribute.Handling at c) = refl
-breaks_in_attribute (attribute.Validity at c) = refl
-breaks_in_attribute (attribute.TypeOf at type parts) = refl
-breaks_in_attribute (attribute.Number at n) = refl
-breaks_in_attribute (attribute.Operation at o) = refl
-breaks_in_attribute (attribute.Transaction at number parts) = refl
-breaks_in_attribute (attribute.ResponseCodes at codes) = refl
-breaks_in_attribute (attribute.Items at entries) = refl
-breaks_in_attribute (attribute.Members at members) = refl
-breaks_in_attribute (attribute.Elements at elements) = refl
 breaks_in_attribute (attribute.Definition at parts) = body_breaks_are false false parts
     ∙ sym (append-nil _)
+breaks_in_attribute _ = refl
 
 -- ---- constants and masks
 
@@ -216,21 +186,10 @@ constants_in_part (transaction.Reply at all) = list_is sought.Constant
 
 pub constants_are : (a : Attribute Target)
     → refusals (constants_told a) ≡ attribute_data_breaches (numbered_attribute a)
-constants_are (attribute.OneText at which c) = refl
-constants_are (attribute.Class at words) = refl
-constants_are (attribute.Handling at c) = refl
-constants_are (attribute.Validity at c) = refl
-constants_are (attribute.TypeOf at type parts) = refl
-constants_are (attribute.Number at n) = refl
-constants_are (attribute.Operation at o) = refl
 constants_are (attribute.Transaction at number parts) =
     each_forgotten (transaction_part_told sought.Constant) numbered_transaction_part
     transaction_part_breaches constants_in_part parts.items
-constants_are (attribute.ResponseCodes at codes) = refl
-constants_are (attribute.Items at entries) = refl
-constants_are (attribute.Members at members) = refl
-constants_are (attribute.Elements at elements) = refl
-constants_are (attribute.Definition at parts) = refl
+constants_are _ = refl
 
 -- ---- labels, and a second DEFAULT
 
@@ -247,15 +206,9 @@ defaults_in_list of g none = list_is sought.Default of g gathered_defaults (λ e
 
 defaults_in_type_part : (p : TypePart Target) → refusals (type_part_told sought.Default p)
     ≡ type_part_defaults (numbered_type_part p)
-defaults_in_type_part (part.DefaultValue at c) = defaults_in (condition_told sought.Default)
+defaults_in_type_part (part.OneNumber at which c) = defaults_in (condition_told sought.Default)
     numbered_expr (λ v. refl) c
-defaults_in_type_part (part.MinValue at c) = defaults_in (condition_told sought.Default)
-    numbered_expr (λ v. refl) c
-defaults_in_type_part (part.MaxValue at c) = defaults_in (condition_told sought.Default)
-    numbered_expr (λ v. refl) c
-defaults_in_type_part (part.DisplayFormat at c) = defaults_in (nothing_told sought.Default)
-    text_of (λ v. refl) c
-defaults_in_type_part (part.EditFormat at c) = defaults_in (nothing_told sought.Default)
+defaults_in_type_part (part.OneFormat at which c) = defaults_in (nothing_told sought.Default)
     text_of (λ v. refl) c
 defaults_in_type_part (part.Element c) = defaults_in (enumerator_told sought.Default)
     enumerator_of (λ v. refl) c
@@ -273,24 +226,19 @@ pub cases_are : (a : Attribute Target)
     ≡ repeated_cases (numbered_attribute a)
 cases_are (attribute.OneText at which c) = defaults_in (nothing_told sought.Default) text_of
     (λ v. refl) c
-cases_are (attribute.Class at words) = refl
 cases_are (attribute.Handling at c) = defaults_in (nothing_told sought.Default) (λ v. v)
     (λ v. refl) c
 cases_are (attribute.Validity at c) = defaults_in (nothing_told sought.Default) (λ v. v)
     (λ v. refl) c
 cases_are (attribute.TypeOf at type parts) = each_forgotten (type_part_told sought.Default)
     numbered_type_part type_part_defaults defaults_in_type_part parts.items
-cases_are (attribute.Number at n) = refl
-cases_are (attribute.Operation at o) = refl
 cases_are (attribute.Transaction at number parts) =
     each_forgotten (transaction_part_told sought.Default) numbered_transaction_part
     transaction_part_defaults defaults_in_transaction_part parts.items
-cases_are (attribute.ResponseCodes at codes) = refl
 cases_are (attribute.Items at entries) = defaults_in_list (nothing_told sought.Default)
     numbered_entry (λ v. refl) entries.items
-cases_are (attribute.Members at members) = refl
-cases_are (attribute.Elements at elements) = refl
 cases_are (attribute.Definition at parts) = ap refusals (append-nil _) ∙ body_labels_are parts
+cases_are _ = refl
 
 -- ---- elements
 
@@ -303,16 +251,5 @@ numbers_are before (e ∷ rest) = joined _ _ _ _ (if_forgotten (is_number_in bef
 
 pub elements_are : (a : Attribute Target)
     → refusals (elements_told a) ≡ repeated_elements (numbered_attribute a)
-elements_are (attribute.OneText at which c) = refl
-elements_are (attribute.Class at words) = refl
-elements_are (attribute.Handling at c) = refl
-elements_are (attribute.Validity at c) = refl
-elements_are (attribute.TypeOf at type parts) = refl
-elements_are (attribute.Number at n) = refl
-elements_are (attribute.Operation at o) = refl
-elements_are (attribute.Transaction at number parts) = refl
-elements_are (attribute.ResponseCodes at codes) = refl
-elements_are (attribute.Items at entries) = refl
-elements_are (attribute.Members at members) = refl
 elements_are (attribute.Elements at elements) = numbers_are [] elements.items
-elements_are (attribute.Definition at parts) = refl
+elements_are _ = refl

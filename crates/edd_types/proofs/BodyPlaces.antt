@@ -43,11 +43,9 @@ mutual
       → refusals (breaks_told_in l w row)
       ≡ breaks_outside_in l w (body_from (parts_in (λ r. r) row))
   breaks_in_are l w n end_of-Part = refl
-  breaks_in_are l w n (more_of-Part (Declare declarators) rest) = breaks_in_are l w _ rest
   breaks_in_are l w n (more_of-Part (Statement first) rest) =
       joined _ _ _ _ (breaks_are l w first) (breaks_in_are l w _ rest)
-  breaks_in_are l w n (more_of-Part (CaseLabel at label) rest) = breaks_in_are l w _ rest
-  breaks_in_are l w n (more_of-Part (DefaultLabel at) rest) = breaks_in_are l w _ rest
+  breaks_in_are l w n (more_of-Part _ rest) = breaks_in_are l w _ rest
 
 pub body_breaks_are : (l w : Bool) (v : Vec (Part Target) Global)
     → refusals (flat_map (breaks_told_of l w) v.items)

@@ -13,7 +13,7 @@ use Rattle.edd_syntax.specs.declared.stmt.Stmt.{Stmt, Row_of-Part, end_of-Part, 
 use Rattle.edd_syntax.specs.declared.stmt.Stmt.TheVariants.{Empty, Evaluate, Block', If', IfElse', While', Do', For', Switch', Break, Continue, Return}
 use Rattle.edd_syntax.specs.declared.stmt.Stmt.TheVariants as s
 use Rattle.edd_syntax.specs.declared.stmt.Part.{Part}
-use Rattle.edd_syntax.specs.declared.stmt.Part.TheVariants.{Declare, Statement, CaseLabel, DefaultLabel}
+use Rattle.edd_syntax.specs.declared.stmt.Part.TheVariants.{Declare, Statement}
 use Rattle.edd_syntax.specs.declared.stmt.Declarator.{Declarator}
 use Rattle.edd_syntax.specs.Expression.{arguments_from}
 use Rattle.edd_syntax.specs.Statement.{body_from}
@@ -157,8 +157,7 @@ module _ (b : Sought) (f : Placed Target → List Refusal)
     parts_are n (more_of-Part (Statement first) rest) =
         spread f _ _ (stmt_expressions (numbered_stmt first))
         (body_expressions (body_from (parts_in (λ r. r) rest))) (stmt_is first) (parts_are _ rest)
-    parts_are n (more_of-Part (CaseLabel at label) rest) = parts_are _ rest
-    parts_are n (more_of-Part (DefaultLabel at) rest) = parts_are _ rest
+    parts_are n (more_of-Part _ rest) = parts_are _ rest
 
   -- those of a method's body, which is a block
   pub body_is : (v : Vec (Part Target) Global) → refusals (flat_map (part_told b) v.items)

@@ -15,11 +15,8 @@ use Rattle.edd_types.specs.Conditionals.{nothing_told, enumerator_told, data_tol
 
 -- of an option of a type, or of an element of its list
 abbrev pub type_part_told : Sought → TypePart Target → List Told
-type_part_told s (part.DefaultValue at value) = cond_told s (condition_told s) value
-type_part_told s (part.MinValue at value) = cond_told s (condition_told s) value
-type_part_told s (part.MaxValue at value) = cond_told s (condition_told s) value
-type_part_told s (part.DisplayFormat at format) = cond_told s (nothing_told s) format
-type_part_told s (part.EditFormat at format) = cond_told s (nothing_told s) format
+type_part_told s (part.OneNumber at which value) = cond_told s (condition_told s) value
+type_part_told s (part.OneFormat at which format) = cond_told s (nothing_told s) format
 type_part_told s (part.Element element) = cond_told s (enumerator_told s) element
 
 -- of a REQUEST or a REPLY
@@ -30,19 +27,13 @@ transaction_part_told s (transaction.Reply at all) = flat_map (cond_told s (data
 -- of what an attribute has under conditions
 abbrev pub conditions_told : Sought → Attribute Target → List Told
 conditions_told s (attribute.OneText at which c) = cond_told s (nothing_told s) c
-conditions_told s (attribute.Class at words) = []
 conditions_told s (attribute.Handling at c) = cond_told s (nothing_told s) c
 conditions_told s (attribute.Validity at c) = cond_told s (nothing_told s) c
 conditions_told s (attribute.TypeOf at word parts) = flat_map (type_part_told s) parts.items
-conditions_told s (attribute.Number at n) = []
-conditions_told s (attribute.Operation at operation) = []
 conditions_told s (attribute.Transaction at number parts) =
     flat_map (transaction_part_told s) parts.items
-conditions_told s (attribute.ResponseCodes at codes) = []
 conditions_told s (attribute.Items at entries) = flat_map (cond_told s (nothing_told s)) entries.items
-conditions_told s (attribute.Members at members) = []
-conditions_told s (attribute.Elements at elements) = []
-conditions_told s (attribute.Definition at parts) = []
+conditions_told s _ = []
 
 -- of the expressions of a method
 abbrev pub method_told : Sought → Attribute Target → List Told

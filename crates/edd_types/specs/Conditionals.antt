@@ -26,10 +26,7 @@ nothing_told s v = []
 -- of an enumerator, which is itself the breach where enumerators are looked for
 abbrev pub enumerator_told : Sought → Enumerator → List Told
 enumerator_told sought.Enumerator e = told_at Mismatch e.at ∷ []
-enumerator_told (sought.Call which) e = []
-enumerator_told sought.Decimal e = []
-enumerator_told sought.Constant e = []
-enumerator_told sought.Default e = []
+enumerator_told _ e = []
 
 -- where a data item is
 abbrev pub place_of : DataItem Target → TokenNo
@@ -38,22 +35,16 @@ place_of (data_item.Variable at variable mask qualifiers) = at
 
 -- of a data item, where constants and masks are looked for
 abbrev pub data_told : Sought → DataItem Target → List Told
-data_told sought.Enumerator d = []
-data_told (sought.Call which) d = []
-data_told sought.Decimal d = []
 data_told sought.Constant d =
     map (λ why. told_at why (place_of d)) (data_breaches (numbered_data_item d))
-data_told sought.Default d = []
+data_told _ d = []
 
 -- ---- conditionals
 
 -- of a DEFAULT, where its SELECT had one already or not
 abbrev pub default_told : Sought → (had : Bool) → (at : TokenNo) → List Told
-default_told sought.Enumerator had at = []
-default_told (sought.Call which) had at = []
-default_told sought.Decimal had at = []
-default_told sought.Constant had at = []
 default_told sought.Default had at = told_if had DuplicateCase at
+default_told _ had at = []
 
 -- whether the SELECT has its DEFAULT after this arm
 abbrev pub has_default : {V : Type 0} → (had : Bool) → Arm Target V → Bool

@@ -28,11 +28,8 @@ use Rattle.edd_types.specs.declared.sought.Sought.TheVariants as sought
 
 -- of a decimal
 abbrev pub decimal_told : Sought → (at : TokenNo) → List Told
-decimal_told sought.Enumerator at = []
-decimal_told (sought.Call which) at = []
 decimal_told sought.Decimal at = told_at FloatValue at ∷ []
-decimal_told sought.Constant at = []
-decimal_told sought.Default at = []
+decimal_told _ at = []
 
 -- ---- calls
 
@@ -73,12 +70,9 @@ call_breaches_among which is_statement (Item i) arguments = nameless_breaches wh
 -- of one call, which may be a whole statement
 abbrev pub call_told : Sought → (is_statement : Bool) → (function : Target) → Arguments Target
     → (at : TokenNo) → List Told
-call_told sought.Enumerator is_statement function arguments at = []
 call_told (sought.Call which) is_statement function arguments at =
     map (λ why. told_at why at) (call_breaches_among which is_statement function arguments)
-call_told sought.Decimal is_statement function arguments at = []
-call_told sought.Constant is_statement function arguments at = []
-call_told sought.Default is_statement function arguments at = []
+call_told _ is_statement function arguments at = []
 
 -- of an expression, which may be a whole statement
 abbrev mutual

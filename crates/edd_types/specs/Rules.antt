@@ -1,6 +1,7 @@
 -- What is told of the rules of the profile, rule after rule.
 use Rattle.std.specs.Prelude.{false, List, [], ◌++◌, map, if◌then◌else◌}
 use Rattle.std.specs.List.{flat_map}
+use Rattle.edd_syntax.specs.declared.numbers.NumberOption.TheVariants as number_option
 use Rattle.edd_breaches.specs.Told.{Told, told_at, told_if}
 use Rattle.edd_breaches.specs.declared.breach.Rule.{Rule}
 use Rattle.edd_breaches.specs.declared.breach.Rule.TheVariants as rule
@@ -41,11 +42,9 @@ type_told variable _ = []
 
 -- of an option of such a type, or of an element of its list
 abbrev pub option_told : VarType → TypePart Target → List Told
-option_told type (part.DefaultValue at value) = []
-option_told type (part.MinValue at value) = told_if (is_enumerated type) Mismatch at
-option_told type (part.MaxValue at value) = told_if (is_enumerated type) Mismatch at
-option_told type (part.DisplayFormat at format) = told_if (is_enumerated type) Mismatch at
-option_told type (part.EditFormat at format) = told_if (is_enumerated type) Mismatch at
+option_told type (part.OneNumber at number_option.DefaultValue value) = []
+option_told type (part.OneNumber at which value) = told_if (is_enumerated type) Mismatch at
+option_told type (part.OneFormat at which format) = told_if (is_enumerated type) Mismatch at
 option_told type (part.Element element) =
     if is_enumerated type then [] else type_part_told sought.Enumerator (part.Element element)
 

@@ -23,11 +23,8 @@ pub fn tell_type_part<'a>(
         (Tells (type_part_told sought part.now) told.old.items told.new.items) }
 {
     match part {
-        TypePart::DefaultValue { value, .. } => tell_cond(value, sought, told),
-        TypePart::MinValue { value, .. } => tell_cond(value, sought, told),
-        TypePart::MaxValue { value, .. } => tell_cond(value, sought, told),
-        TypePart::DisplayFormat { format, .. } => tell_cond(format, sought, told),
-        TypePart::EditFormat { format, .. } => tell_cond(format, sought, told),
+        TypePart::OneNumber { value, .. } => tell_cond(value, sought, told),
+        TypePart::OneFormat { format, .. } => tell_cond(format, sought, told),
         TypePart::Element(c) => tell_cond(c, sought, told),
     }
 }

@@ -10,6 +10,7 @@ use crate::attributes::tell_type_part;
 use crate::sought::Sought;
 use edd_breaches::{Breach, Rule, tell};
 use edd_syntax::item::{Attribute, TypePart, TypeWord};
+use edd_syntax::numbers::NumberOption;
 use edd_syntax::reference::Target;
 use edd_syntax::types::VarType;
 use std::alloc::AllocError;
@@ -32,16 +33,16 @@ fn tell_option<'a>(
     ensures told { OnOk result (Tells (option_told kind part.now) told.old.items told.new.items) }
 {
     match (part, is_enumerated(kind)) {
-        (TypePart::DefaultValue { .. }, _) => Ok(()),
+        (
+            TypePart::OneNumber {
+                which: NumberOption::DefaultValue,
+                ..
+            },
+            _,
+        ) => Ok(()),
         (TypePart::Element(_), true) => Ok(()),
         (TypePart::Element(_), false) => tell_type_part(part, Sought::Enumerator, told),
-        (
-            TypePart::MinValue { at, .. }
-            | TypePart::MaxValue { at, .. }
-            | TypePart::DisplayFormat { at, .. }
-            | TypePart::EditFormat { at, .. },
-            is_enumerated,
-        ) => {
+        (TypePart::OneNumber { at, .. } | TypePart::OneFormat { at, .. }, is_enumerated) => {
             if is_enumerated {
                 return tell(Rule::Mismatch, *at, told);
             }

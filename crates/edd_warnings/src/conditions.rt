@@ -129,12 +129,8 @@ fn check_type_part(
     findings: &mut Findings,
 ) -> Result<(), AllocError> {
     match part {
-        TypePart::DefaultValue { value, .. }
-        | TypePart::MinValue { value, .. }
-        | TypePart::MaxValue { value, .. } => check_cond(value, walk, findings),
-        TypePart::DisplayFormat { format, .. } | TypePart::EditFormat { format, .. } => {
-            check_cond(format, walk, findings)
-        }
+        TypePart::OneNumber { value, .. } => check_cond(value, walk, findings),
+        TypePart::OneFormat { format, .. } => check_cond(format, walk, findings),
         TypePart::Element(c) => check_cond(c, walk, findings),
     }
 }

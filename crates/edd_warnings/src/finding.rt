@@ -14,6 +14,7 @@ use edd_menu_warnings::check_uses;
 use edd_method_warnings::check_method;
 use edd_syntax::checked::Checked;
 use edd_syntax::item::{Attribute, Item};
+use edd_syntax::numbers::Kind;
 use edd_syntax::reference::Target;
 use edd_text_warnings::check_texts;
 use std::alloc::{AllocError, Global};
@@ -52,18 +53,18 @@ fn check_item<'a>(
     let attributes = item.attributes();
     check_conditionals(attributes, tokens_left, instrument, findings)?;
     check_branches(text, tokens, findings)?;
-    match item {
-        Item::Variable(_) => {
+    match item.kind() {
+        Kind::Variable => {
             let variable = gathered.variables;
             gathered.variables = variable.saturating_add(1);
             check_variable(attributes, variable, instrument, findings)
         }
-        Item::Command(_) => {
+        Kind::Command => {
             let commands = &mut gathered.commands;
             check_command(attributes, tokens_left, instrument, commands, findings)
         }
-        Item::Method(_) => check_method(attributes, text, tokens, instrument, findings),
-        Item::Menu(_) | Item::Collection(_) | Item::Array(_) => Ok(()),
+        Kind::Method => check_method(attributes, text, tokens, instrument, findings),
+        Kind::Menu | Kind::Collection | Kind::Array => Ok(()),
     }
 }
 

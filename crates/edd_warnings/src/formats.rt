@@ -78,11 +78,8 @@ pub fn check_formats(
     findings: &mut Findings,
 ) -> Result<(), AllocError> {
     for part in parts {
-        match part {
-            TypePart::DisplayFormat { at, format } | TypePart::EditFormat { at, format } => {
-                check_format(*at, format, findings)?;
-            }
-            _ => {}
+        if let TypePart::OneFormat { at, format, .. } = part {
+            check_format(*at, format, findings)?;
         }
     }
     Ok(())

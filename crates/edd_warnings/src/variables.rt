@@ -13,7 +13,7 @@ use edd_lints::warning::Findings;
 use edd_syntax::cond::Cond;
 use edd_syntax::expr::Expr;
 use edd_syntax::item::{Attribute, TypePart, TypeWord};
-use edd_syntax::numbers::{Attr, TokenNo};
+use edd_syntax::numbers::{NumberOption, TokenNo};
 use edd_syntax::reference::Target;
 use edd_syntax::types::VarType;
 use std::alloc::{AllocError, Global};
@@ -73,12 +73,13 @@ fn options_of(parts: &[TypePart<Target>]) -> Options {
         greatest: None,
     };
     for part in parts {
-        match part {
-            TypePart::DefaultValue { at, value } => options.default = constant_of(value, *at),
-            TypePart::MinValue { at, value } => options.least = constant_of(value, *at),
-            TypePart::MaxValue { at, value } => options.greatest = constant_of(value, *at),
-            TypePart::DisplayFormat { .. } | TypePart::EditFormat { .. } | TypePart::Element(_) =>
-                {}
+        if let TypePart::OneNumber { at, which, value } = part {
+            let constant = constant_of(value, *at);
+            match which {
+                NumberOption::DefaultValue => options.default = constant,
+                NumberOption::MinValue => options.least = constant,
+                NumberOption::MaxValue => options.greatest = constant,
+            }
         }
     }
     options
@@ -129,18 +130,13 @@ fn check_option(
     range: Range,
     findings: &mut Findings,
 ) -> Result<(), AllocError> {
-    let (attr, at, value) = match part {
-        TypePart::DefaultValue { at, value } => (Attr::DefaultValue, *at, value),
-        TypePart::MinValue { at, value } => (Attr::MinValue, *at, value),
-        TypePart::MaxValue { at, value } => (Attr::MaxValue, *at, value),
-        TypePart::DisplayFormat { .. } | TypePart::EditFormat { .. } | TypePart::Element(_) => {
-            return Ok(());
-        }
+    let TypePart::OneNumber { at, which, value } = part else {
+        return Ok(());
     };
-    let at = findings.mark(at);
+    let at = findings.mark(*at);
     for (_, e) in &values_in(findings.alloc, value)? {
         if let Some(number) = number_of(e) {
-            check_range(range, attr.word(), number, at, findings)?;
+            check_range(range, which.attr().word(), number, at, findings)?;
         }
     }
     Ok(())
@@ -183,7 +179,12 @@ fn check_named(
     instrument: &Instrument,
     findings: &mut Findings,
 ) -> Result<(), AllocError> {
-    let TypePart::DefaultValue { at, value } = part else {
+    let TypePart::OneNumber {
+        at,
+        which: NumberOption::DefaultValue,
+        value,
+    } = part
+    else {
         return Ok(());
     };
     let alloc = findings.alloc;
@@ -209,7 +210,13 @@ fn check_defaults(
     instrument: &Instrument,
     findings: &mut Findings,
 ) -> Result<(), AllocError> {
-    let is_default = |part: &TypePart<Target>| matches!(part, TypePart::DefaultValue { .. });
+    let is_default = |part: &TypePart<Target>| matches!(
+        part,
+        TypePart::OneNumber {
+            which: NumberOption::DefaultValue,
+            ..
+        }
+    );
     if !parts.iter().any(is_default) {
         return Ok(());
     }

@@ -1,8 +1,8 @@
 use Rattle.std.proofs.Common.{rules}
 use Rattle.edd_breach_reports.proofs.kinds.collection_of.Goals as goal
 
-pub returns-then-is_member : goal.returns-then-is_member
-returns-then-is_member c = (
+pub returns : goal.returns
+returns c = (
   c.in-WrongKind-Some.field-0-0.now,
   c.in-WrongKind-Some.at,
   search rules,

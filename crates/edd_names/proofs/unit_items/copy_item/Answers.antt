@@ -4,7 +4,7 @@ use Rattle.edd_syntax.specs.ItemView.{attribute_of, item_of, numbered_attribute,
 use Rattle.edd_syntax.specs.TreeView.{path_of}
 use Rattle.edd_name_meanings.specs.PathsIn.{paths_in_attributes, paths_in_item}
 use Rattle.edd_name_meanings.specs.Directory.{description_of, read_by}
-use Rattle.edd_name_meanings.specs.TokensIn.{token_of_item, tokens_in_attribute}
+use Rattle.edd_name_meanings.specs.TokensIn.{tokens_in_attribute}
 use Rattle.edd_names.proofs.ItemSteps.{item_told, item_means}
 use Rattle.edd_names.proofs.unit_items.copy_item.Goals as goal
 
@@ -28,5 +28,5 @@ returns-clause-sound c =
 
 pub returns-clause-kept : goal.returns-clause-kept
 returns-clause-kept c =
-    c.like.ensures.kept ∙ ap (λ ts. token_of_item c.args.item.now ∷ ts)
+    c.like.ensures.kept ∙ ap (λ ts. c.args.item.now.at ∷ ts)
     (c.in_ok-attributes.ensures.kept ∙ ap (flat_map tokens_in_attribute) c.attributes.ensures)
