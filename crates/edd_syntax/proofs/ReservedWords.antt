@@ -4,6 +4,7 @@ use Rattle.std.specs.Prelude.{bytes_eq, find}
 use Rattle.std.proofs.lemmas.Bool.{eqb-false}
 use Rattle.std.proofs.lemmas.Slice.Eq.{bytes_eq-Decides}
 use Rattle.edd_syntax.specs.declared.symbols.Keyword.{Keyword}
+use Rattle.edd_syntax.specs.declared.symbols.Keyword.TheVariants as word
 use Rattle.edd_syntax.specs.Keywords.{place, keyword_at}
 use Rattle.edd_syntax.specs.Token.{all_keywords, keyword_of, spelling}
 
@@ -30,3 +31,8 @@ found word (k ∷ ks) =
 pub at_its_place : (word : List ℕ) (p : ℕ) → p ≡ place word
     → keyword_at p word all_keywords ≡ keyword_of word
 at_its_place word p is = rw is (found word all_keywords)
+
+-- each reserved word is found by its spelling, so that the list of them lacks none
+pub each_is_found : (k : Keyword) → keyword_of (spelling k) ≡ Some k
+each_is_found word.Manufacturer = refl
+each_is_found _ = refl
