@@ -6,20 +6,31 @@ use Rattle.edd_syntax.specs.Words.{Words}
 use Rattle.edd_syntax.specs.DeviceValues.{VariableType}
 use Rattle.edd_syntax.specs.MethodState as source
 use Rattle.edd_syntax.specs.Execution.{Transcript}
-use Rattle.edd_instructions.specs.declared.records.Request.{Request}
+use Rattle.edd_instructions.specs.declared.requests.Request.{Request}
+use Rattle.edd_instructions.specs.declared.requests.RequestArgument.{RequestArgument}
+use Rattle.edd_instructions.specs.declared.requests.RequestArgument.TheVariants as argument
+use Rattle.edd_instructions.specs.Requests.{arguments_asked}
 use Rattle.edd_instructions.specs.Execution.{Outcome, preceded}
-use Rattle.edd_instructions.specs.MethodAgreement.{SameRequest, SameRequests, SameOutcome, FollowsBody}
+use Rattle.edd_instructions.specs.MethodAgreement.{SameArgument, SameArguments, SameRequest, SameRequests, SameOutcome, FollowsBody}
 
 module _ (f g : StrNo → Option Words) (kept : (n : StrNo) (w : Words) → f n ≡ Some w → g n ≡ Some w)
   where
+    argument_kept : (x : source.RequestArgument) (r : RequestArgument) → SameArgument f x r
+        → SameArgument g x r
+    argument_kept (source.TextArgument text) (argument.Text n) h = kept n text h
+    argument_kept (source.NumberArgument z) (argument.Number n) h = h
+    argument_kept (source.VariableArgument v) (argument.Variable n) h = h
+    argument_kept _ _ h = absurd h
+
+    arguments_kept : (xs : List source.RequestArgument) (rs : List RequestArgument)
+        → SameArguments f xs rs → SameArguments g xs rs
+    arguments_kept [] [] h = h
+    arguments_kept [] (r ∷ rs) h = h
+    arguments_kept (x ∷ xs) [] h = h
+    arguments_kept (x ∷ xs) (r ∷ rs) h = (argument_kept x r h.0, arguments_kept xs rs h.1)
+
     request_kept : (x : source.Request) (r : Request) → SameRequest f x r → SameRequest g x r
-    request_kept (source.PutMessage text) r h = (h.0, h.1, kept h.0 text h.2)
-    request_kept (source.Acknowledge text) r h = (h.0, h.1, kept h.0 text h.2)
-    request_kept (source.Delay seconds text) r h = (h.0, h.1, kept h.0 text h.2)
-    request_kept (source.GetDevVarValue text variable) r h = (h.0, h.1, kept h.0 text h.2)
-    request_kept (source.SelectFromList text choices) r h =
-        (h.0, h.1, h.2, kept h.0 text h.3, kept h.1 choices h.4)
-    request_kept _ r h = h
+    request_kept x r h = (h.0, arguments_kept x.arguments (arguments_asked r) h.1)
 
     requests_kept : (xs : List source.Request) (rs : List Request) → SameRequests f xs rs
         → SameRequests g xs rs

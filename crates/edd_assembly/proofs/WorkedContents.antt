@@ -4,6 +4,7 @@ use Rattle.std.specs.Prelude.{Some, None, codes}
 use Rattle.edd_syntax.specs.declared.numbers.NumberOption.TheVariants as number_option
 use Rattle.edd_syntax.specs.declared.numbers.TextAttribute.TheVariants as text_attribute
 use Rattle.edd_syntax.specs.declared.operators.Builtin.TheVariants as builtin
+use Rattle.edd_syntax.specs.declared.operators.RequestKind.TheVariants as kind
 use Rattle.edd_syntax.specs.declared.reference.Target.{Target}
 use Rattle.edd_syntax.specs.declared.reference.Target.TheVariants.{Function}
 use Rattle.edd_syntax.specs.declared.types.Operation.TheVariants as operation
@@ -51,7 +52,7 @@ small = record {
       ∷ item_with item.MethodItem
       (item.Definition (s.Cons
       (s.Statement (s.Evaluate
-      (Call (Function builtin.Acknowledge)
+      (Call (Function (builtin.Ask kind.Acknowledge))
       (expr.Cons (expr.Text (texts.Key (codes "c"))) expr.Nil)))) s.Nil) ∷ [])
       ∷ [];
 }

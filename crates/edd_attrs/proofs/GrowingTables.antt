@@ -1,5 +1,5 @@
 -- What may be in an attribute still may when the table of strings grows.
-use Rattle.std.proofs.Common.{◌≡◌, refl, Bool, true, List, ◌++◌, length, Option, Some, None, arith, length-append}
+use Rattle.std.proofs.Common.{◌≡◌, refl, Bool, true, ℕ, List, [], ◌∷◌, ◌++◌, length, Option, Some, None, arith, length-append}
 use Rattle.std.specs.Prelude.{nat_lt}
 use Rattle.std.proofs.lemmas.Bool.{lt-ltb, ltb-true}
 use Rattle.edd_syntax.specs.declared.numbers.StrNo.{StrNo}
@@ -9,11 +9,13 @@ use Rattle.edd_syntax.specs.declared.numbers.ItemNo.TheVariants as items
 use Rattle.edd_syntax.specs.Item.{Description}
 use Rattle.edd_syntax.specs.Words.{Words}
 use Rattle.edd_instructions.specs.declared.instruction.Ask.{Ask}
-use Rattle.edd_instructions.specs.declared.instruction.Ask.TheVariants as ask
+use Rattle.edd_syntax.specs.Builtins.{request_parameters}
+use Rattle.edd_syntax.specs.declared.operators.Parameter.{Parameter}
+use Rattle.edd_syntax.specs.declared.operators.Parameter.TheVariants as parameter
 use Rattle.edd_instructions.specs.declared.instruction.Instruction.{Instruction}
 use Rattle.edd_instructions.specs.declared.instruction.Instruction.TheVariants as instruction
 use Rattle.edd_image.specs.Existing.{optional_string_exists, variable_exists, item_exists}
-use Rattle.edd_instructions.specs.References.{request_exists, names_exist}
+use Rattle.edd_instructions.specs.References.{named_exist, request_exists, names_exist}
 use Rattle.edd_instructions.specs.declared.unit.Sort.TheVariants.{Attribute}
 use Rattle.edd_instructions.specs.Agreement.{attribute_context}
 use Rattle.edd_instructions.specs.Units.{is_allowed}
@@ -61,17 +63,23 @@ module _ (unit : Description Target) (strings later : List Words) where
   item_still (items.Variable n) h = h
   item_still _ h = h
 
+  named_still : (ps : List Parameter) (s t : ℕ)
+      → named_exist (attribute_context unit strings).counts ps s t ≡ true
+      → named_exist (attribute_context unit (strings ++ later)).counts ps s t ≡ true
+  named_still [] s t h = refl
+  named_still (parameter.Text ∷ ps) s t h =
+      let parts = both_of (nat_lt s (length strings)) _ h in
+      both_true (string_still (record { 0 = s }) parts.0) (named_still ps t 0 parts.1)
+  named_still (parameter.DeviceVariable ∷ ps) s t h =
+      let parts = both_of (variable_exists (attribute_context unit strings).counts
+      (record { 0 = s })) _ h in
+      both_true parts.0 (named_still ps t 0 parts.1)
+  named_still (parameter.Number ∷ ps) s t h = named_still ps s t h
+  named_still (parameter.Method ∷ ps) s t h = named_still ps s t h
+
   request_still : (a : Ask) → request_exists (attribute_context unit strings).counts a ≡ true
       → request_exists (attribute_context unit (strings ++ later)).counts a ≡ true
-  request_still (ask.PutMessage s) h = string_still s h
-  request_still (ask.Acknowledge s) h = string_still s h
-  request_still (ask.Delay s) h = string_still s h
-  request_still (ask.GetDevVarValue s v) h = let parts = both_of (nat_lt s.0 (length strings)) _
-      h in both_true (string_still s parts.0) parts.1
-  request_still (ask.SelectFromList s t) h =
-      let parts = both_of (nat_lt s.0 (length strings)) (nat_lt t.0 (length strings)) h in both_true
-      (string_still s parts.0) (string_still t parts.1)
-  request_still _ h = refl
+  request_still a h = named_still (request_parameters a.kind) a.first a.second h
 
   names_still : (i : Instruction) → now i ≡ true → then i ≡ true
   names_still (instruction.Variable v) h = h

@@ -13,7 +13,7 @@ use edd_reports::diagnostic::{Diagnostic, Finding};
 use edd_reports::nearest::Nearest;
 use edd_reports::words::kind_word;
 use edd_syntax::limits::Limit;
-use edd_syntax::operators::{Builtin, Parameter};
+use edd_syntax::operators::{Builtin, Parameter, RequestKind};
 use edd_syntax::symbols::Keyword;
 use std::alloc::{AllocError, Global};
 
@@ -71,7 +71,7 @@ fn mismatch_help(alloc: Global, word: &str) -> Result<String, AllocError> {
         Some(Builtin::Abort | Builtin::ProcessAbort) => {
             format!(in alloc; "{word} takes nothing and is a statement of its own")
         }
-        Some(Builtin::SelectFromList) => String::from_str(
+        Some(Builtin::Ask(RequestKind::SelectFromList)) => String::from_str(
             alloc,
             "SELECT_FROM_LIST takes a text, and one text with all choices, as in \"Yes;No\"",
         ),

@@ -28,7 +28,7 @@ pub record Runs (b : Block) (d n : ℕ) : Type 0 where
   pub flows : FlowsIn Two Method b d
   pub after : depth_after b d ≡ n
 
-nothing_runs : (d : ℕ) → Runs Nothing d d
+pub nothing_runs : (d : ℕ) → Runs Nothing d d
 nothing_runs d = record { flows = tt; after = refl }
 
 pub straight_runs : (i : Instruction) (d n : ℕ) → IsTrue (is_straight_in Two Method i) → takes i ≤ d

@@ -9,19 +9,13 @@ use Rattle.edd_syntax.specs.declared.operators.Builtin.TheVariants as builtin
 use Rattle.edd_syntax.specs.declared.reference.Target.{Target}
 use Rattle.edd_syntax.specs.declared.reference.Target.TheVariants.{Local, Item, Function}
 use Rattle.edd_syntax.specs.Expression.{Expr, Literal, Reference, Argument, Text, Value, Arguments, Nil, Cons}
-use Rattle.edd_syntax.specs.Text as texts
 use Rattle.edd_syntax.specs.Words.{Words}
-use Rattle.edd_instructions.specs.declared.instruction.Ask.TheVariants as ask
 use Rattle.edd_instructions.specs.declared.instruction.Instruction.TheVariants as instruction
-use Rattle.edd_code.specs.Arguments.{as_text, as_value, as_target, as_variable, as_method, only, pair, both, alone_block}
+use Rattle.edd_code.specs.Arguments.{as_value, as_target, as_variable, as_method, only, pair, both, alone_block}
 use Rattle.edd_code.specs.Expressions.{no_value}
 use Rattle.edd_code.specs.MethodExpressions.{call_block}
 
 -- ---- one argument
-
-text_is : (x : Argument Target) (t : texts.Text) → as_text x ≡ Some t → x ≡ Text t
-text_is (Text u) t h = cc
-text_is (Value e) t h = absurd cc
 
 value_is : (x : Argument Target) (e : Expr Target) → as_value x ≡ Some e → x ≡ Value e
 value_is (Text u) e h = absurd cc
@@ -87,11 +81,6 @@ module _ {A B : Type 0} (kind : Argument Target → Option A) (other : Argument 
         pair_is (kind x) (other w) y z h in (x, w, refl, parts.0, parts.1)
     both_are (Cons x (Cons w (Cons v rest))) y z h = absurd cc
 
-pub only_text_is : (a : Arguments Target) (t : texts.Text) → Some t ≡ only as_text a
-    → a ≡ Cons (Text t) Nil
-only_text_is a t h = let all = only_is as_text a t h in all.1
-    ∙ ap (λ (x : Argument Target). Cons x Nil) (text_is all.0 t all.2)
-
 pub only_value_is : (a : Arguments Target) (e : Expr Target) → Some e ≡ only as_value a
     → a ≡ Cons (Value e) Nil
 only_value_is a e h = let all = only_is as_value a e h in all.1
@@ -106,29 +95,6 @@ two_are : (a : Arguments Target) (x y z w : Argument Target) → a ≡ Cons x (C
     → y ≡ w → a ≡ Cons z (Cons w Nil)
 two_are a x y z w is one other = cc
 
-pub two_texts_are : (a : Arguments Target) (t u : texts.Text) → Some (t, u) ≡ both as_text as_text a
-    → a ≡ Cons (Text t) (Cons (Text u) Nil)
-two_texts_are a t u h = let all = both_are as_text as_text a t u h in two_are a all.0 all.1 (Text t)
-    (Text u) all.2 (text_is all.0 t all.3) (text_is all.1 u all.4)
-
-pub two_values_are : (a : Arguments Target) (e f : Expr Target)
-    → Some (e, f) ≡ both as_value as_value a → a ≡ Cons (Value e) (Cons (Value f) Nil)
-two_values_are a e f h = let all = both_are as_value as_value a e f h in two_are a all.0 all.1
-    (Value e) (Value f) all.2 (value_is all.0 e all.3) (value_is all.1 f all.4)
-
-pub value_and_text_are : (a : Arguments Target) (e : Expr Target) (t : texts.Text)
-    → Some (e, t) ≡ both as_value as_text a → a ≡ Cons (Value e) (Cons (Text t) Nil)
-value_and_text_are a e t h = let all = both_are as_value as_text a e t h in two_are a all.0 all.1
-    (Value e) (Text t) all.2 (value_is all.0 e all.3) (text_is all.1 t all.4)
-
-pub text_and_variable_are : (a : Arguments Target) (t : texts.Text) (v : VarNo)
-    → Some (t, v) ≡ both as_text as_variable a
-    → a ≡ Cons (Text t) (Cons (Value (Reference (Item (item_no.Variable v)))) Nil)
-text_and_variable_are a t v h =
-    let all = both_are as_text as_variable a t v h in two_are a all.0 all.1 (Text t)
-    (Value (Reference (Item (item_no.Variable v)))) all.2 (text_is all.0 t all.3)
-    (variable_is all.1 v all.4)
-
 pub target_and_value_are : (a : Arguments Target) (to : Target) (e : Expr Target)
     → Some (to, e) ≡ both as_target as_value a
     → a ≡ Cons (Value (Reference to)) (Cons (Value e) Nil)
@@ -139,33 +105,6 @@ target_and_value_are a to e h =
 -- ---- calls that don't fit
 
 module _ (number : Words → StrNo) where
-  pub no_message : (a : Arguments Target) → None ≡ only as_text a
-      → call_block number builtin.PutMessage a ≡ no_value
-  unfolding call_block
-  no_message Nil h = refl
-  no_message (Cons (Text t) Nil) h = absurd cc
-  no_message (Cons (Value e) Nil) h = refl
-  no_message (Cons (Text t) (Cons y rest)) h = refl
-  no_message (Cons (Value e) (Cons y rest)) h = refl
-
-  pub no_acknowledge : (a : Arguments Target) → None ≡ only as_text a
-      → call_block number builtin.Acknowledge a ≡ no_value
-  unfolding call_block
-  no_acknowledge Nil h = refl
-  no_acknowledge (Cons (Text t) Nil) h = absurd cc
-  no_acknowledge (Cons (Value e) Nil) h = refl
-  no_acknowledge (Cons (Text t) (Cons y rest)) h = refl
-  no_acknowledge (Cons (Value e) (Cons y rest)) h = refl
-
-  pub no_send : (a : Arguments Target) → None ≡ only as_value a
-      → call_block number builtin.SendCommand a ≡ no_value
-  unfolding call_block
-  no_send Nil h = refl
-  no_send (Cons (Value e) Nil) h = absurd cc
-  no_send (Cons (Text t) Nil) h = refl
-  no_send (Cons (Value e) (Cons y rest)) h = refl
-  no_send (Cons (Text t) (Cons y rest)) h = refl
-
   pub no_value_alone : (a : Arguments Target) → None ≡ only as_value a
       → call_block number builtin.IvarValue a ≡ no_value
   unfolding call_block
@@ -174,56 +113,6 @@ module _ (number : Words → StrNo) where
   no_value_alone (Cons (Text t) Nil) h = refl
   no_value_alone (Cons (Value e) (Cons y rest)) h = refl
   no_value_alone (Cons (Text t) (Cons y rest)) h = refl
-
-  pub no_delay : (a : Arguments Target) → None ≡ both as_value as_text a
-      → call_block number builtin.Delay a ≡ no_value
-  unfolding call_block
-  no_delay Nil h = refl
-  no_delay (Cons (Text t) rest) h = refl
-  no_delay (Cons (Value e) Nil) h = refl
-  no_delay (Cons (Value e) (Cons (Value f) rest)) h = refl
-  no_delay (Cons (Value e) (Cons (Text u) Nil)) h = absurd cc
-  no_delay (Cons (Value e) (Cons (Text u) (Cons z rest))) h = refl
-
-  pub no_select : (a : Arguments Target) → None ≡ both as_text as_text a
-      → call_block number builtin.SelectFromList a ≡ no_value
-  unfolding call_block
-  no_select Nil h = refl
-  no_select (Cons (Value e) rest) h = refl
-  no_select (Cons (Text t) Nil) h = refl
-  no_select (Cons (Text t) (Cons (Value f) rest)) h = refl
-  no_select (Cons (Text t) (Cons (Text u) Nil)) h = absurd cc
-  no_select (Cons (Text t) (Cons (Text u) (Cons z rest))) h = refl
-
-  pub no_transaction : (a : Arguments Target) → None ≡ both as_value as_value a
-      → call_block number builtin.SendCommandTrans a ≡ no_value
-  unfolding call_block
-  no_transaction Nil h = refl
-  no_transaction (Cons (Text t) rest) h = refl
-  no_transaction (Cons (Value e) Nil) h = refl
-  no_transaction (Cons (Value e) (Cons (Text u) rest)) h = refl
-  no_transaction (Cons (Value e) (Cons (Value f) Nil)) h = absurd cc
-  no_transaction (Cons (Value e) (Cons (Value f) (Cons z rest))) h = refl
-
-  pub no_get : (a : Arguments Target) → None ≡ both as_text as_variable a
-      → call_block number builtin.GetDevVarValue a ≡ no_value
-  unfolding call_block
-  no_get Nil h = refl
-  no_get (Cons (Value e) rest) h = refl
-  no_get (Cons (Text t) Nil) h = refl
-  no_get (Cons (Text t) (Cons (Text u) rest)) h = refl
-  no_get (Cons (Text t) (Cons (Value (Reference (Item (item_no.Variable v)))) Nil)) h = absurd cc
-  no_get (Cons (Text t) (Cons (Value (Reference (Item (item_no.Variable v)))) (Cons z rest))) h =
-      refl
-  no_get (Cons (Text t) (Cons (Value (Reference (Item (item_no.Command n)))) rest)) h = refl
-  no_get (Cons (Text t) (Cons (Value (Reference (Item (item_no.Menu n)))) rest)) h = refl
-  no_get (Cons (Text t) (Cons (Value (Reference (Item (item_no.Collection n)))) rest)) h = refl
-  no_get (Cons (Text t) (Cons (Value (Reference (Item (item_no.Method n)))) rest)) h = refl
-  no_get (Cons (Text t) (Cons (Value (Reference (Item (item_no.Array n)))) rest)) h = refl
-  no_get (Cons (Text t) (Cons (Value (Reference (Local slot))) rest)) h = refl
-  no_get (Cons (Text t) (Cons (Value (Reference (Function f))) rest)) h = refl
-  no_get (Cons (Text t) (Cons (Value (Literal value)) rest)) h = refl
-  no_get (Cons (Text t) (Cons (Value _) rest)) h = refl
 
   pub no_assignment : (a : Arguments Target) → None ≡ both as_target as_value a
       → call_block number builtin.Iassign a ≡ no_value
@@ -275,12 +164,6 @@ module _ (number : Words → StrNo) where
   same_assignment (Cons (Value (Reference to)) (Cons (Value e) (Cons z rest))) = refl
   same_assignment (Cons (Value (Literal value)) rest) = refl
   same_assignment (Cons (Value _) rest) = refl
-
-  pub save_alone : (a : Arguments Target) → alone_block (instruction.Ask ask.SaveValues) a
-      ≡ call_block number builtin.SaveValues a
-  unfolding call_block
-  save_alone Nil = refl
-  save_alone (Cons x rest) = refl
 
   pub abort_alone : (a : Arguments Target) → alone_block (instruction.Abort) a
       ≡ call_block number builtin.Abort a

@@ -1,8 +1,10 @@
 -- Arguments that are too few or too many.
-use Rattle.std.proofs.Common.{◌≡◌, refl, ◌<◌, ◌≤◌, List, [], ◌∷◌, length, map, arith}
+use Rattle.std.proofs.Common.{◌≡◌, refl, false, ◌<◌, ◌≤◌, List, [], ◌∷◌, length, map, arith}
 use Rattle.std.specs.Prelude.{Option, None}
 use Rattle.edd_syntax.specs.declared.reference.Target.{Target}
 use Rattle.edd_syntax.specs.Expression.{Argument, arguments_from}
+use Rattle.edd_syntax.specs.declared.operators.Parameter.{Parameter}
+use Rattle.edd_syntax.specs.SubsetRules.{all_fit}
 use Rattle.edd_code.specs.Arguments.{only, both}
 
 module _ {X A : Type 0} (view : X → Argument Target) (kind : Argument Target → Option A) where
@@ -35,3 +37,18 @@ module _ {X A B : Type 0} (view : X → Argument Target) (kind : Argument Target
 pub ruleset not_one = (none_is_not_one, many_are_not_one)
 
 pub ruleset not_two = (few_are_not_two, many_are_not_two)
+
+-- ---- more arguments than parameters, and fewer
+
+module _ {X : Type 0} (view : X → Argument Target) where
+  pub too_many : (ps : List Parameter) (xs : List X) → length ps < 1 → 1 ≤ length xs
+      → false ≡ all_fit ps (arguments_from (map view xs))
+  too_many [] [] none some = absurd (omega arith)
+  too_many [] (x ∷ xs) none some = refl
+  too_many (p ∷ ps) xs none some = absurd (omega arith)
+
+  pub too_few : (ps : List Parameter) (xs : List X) → 1 ≤ length ps → length xs < 1
+      → false ≡ all_fit ps (arguments_from (map view xs))
+  too_few [] xs some none = absurd (omega arith)
+  too_few (p ∷ ps) [] some none = refl
+  too_few (p ∷ ps) (x ∷ xs) some none = absurd (omega arith)

@@ -28,6 +28,8 @@ pub mod MethodSizes
 pub mod MethodSpelling
 pub mod SameBlocks
 pub mod AbortBlocks
+pub mod AskedArguments
+pub mod Asking
 pub mod CheckedCalls
 pub mod Growing
 pub mod Different

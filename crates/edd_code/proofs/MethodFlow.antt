@@ -1,6 +1,7 @@
 -- The block of an expression of a method finds its operands, and leaves one.
-use Rattle.std.proofs.Common.{◌≡◌, refl, ℕ, suc, ◌+◌, ◌≤◌, Bool, true, false, [], ◌++◌, arith}
-use Rattle.std.specs.Prelude.{◌&&◌}
+use Rattle.std.proofs.Common.{◌≡◌, refl, sym, subst, List, ◌∷◌, length, ℕ, suc, ◌+◌, ◌≤◌, Bool, true, false, [], ◌++◌, arith}
+use Rattle.std.specs.Prelude.{◌&&◌, filter}
+use Rattle.std.proofs.lemmas.Bool.{and_parts}
 use Rattle.edd_syntax.specs.declared.numbers.ItemNo.TheVariants as item_no
 use Rattle.edd_syntax.specs.declared.numbers.StrNo.{StrNo}
 use Rattle.edd_syntax.specs.declared.operators.Builtin.{Builtin}
@@ -9,15 +10,21 @@ use Rattle.edd_syntax.specs.declared.reference.Target.{Target}
 use Rattle.edd_syntax.specs.declared.reference.Target.TheVariants.{Item, Function}
 use Rattle.edd_syntax.specs.Expression.{Expr, Literal, Decimal, Reference, Indexed, Parentheses, Unary, Binary, Compare, LogicalAnd, LogicalOr, Conditional, Assign, CompoundAssign, Increment, Call, Text, Value, Arguments, Nil, Cons}
 use Rattle.edd_syntax.specs.Size.{height, argument_height}
-use Rattle.edd_syntax.specs.SubsetRules.{parameters, all_fit, is_abort, call_breaches, call_mismatches, argument_mismatches}
+use Rattle.edd_syntax.specs.declared.operators.Parameter.{Parameter}
+use Rattle.edd_syntax.specs.declared.operators.Parameter.TheVariants as parameter
+use Rattle.edd_syntax.specs.Builtins.{is_number, numbers_taken, parameters, request_parameters}
+use Rattle.edd_syntax.proofs.KnownByNumber.{few_numbers}
+use Rattle.edd_syntax.specs.SubsetRules as rules
+use Rattle.edd_syntax.specs.SubsetRules.{all_fit, is_abort, call_breaches, call_mismatches, argument_mismatches}
 use Rattle.edd_syntax.specs.Words.{Words, words_of}
-use Rattle.edd_instructions.specs.declared.instruction.Ask.TheVariants as ask
 use Rattle.edd_instructions.specs.declared.instruction.Instruction.TheVariants as instruction
-use Rattle.edd_code.specs.Blocks.{Straight, Then, WhenNotZero, WhenZero, Either}
+use Rattle.edd_code.specs.Arguments.{asking, names_of}
+use Rattle.edd_code.specs.Blocks.{Nothing, Straight, Then, WhenNotZero, WhenZero, Either}
 use Rattle.edd_code.specs.Expressions.{no_value, element_block, unary_block, truth_block, then_test, instead}
-use Rattle.edd_code.specs.MethodExpressions.{load_block, store_block, ask_block, method_block, call_block}
-use Rattle.edd_code.proofs.BlockFlow.{Runs, then_runs, either_runs, push_runs, change_runs, join_runs, pop_runs, no_value_runs, element_runs, read_runs, store_runs, unary_runs, operate_runs, two_run, increment_runs, and_runs, or_runs}
-use Rattle.edd_code.proofs.Fitting.{front_none, fits, of_none, of_text, of_number, of_number_text, of_texts, of_numbers, of_variable, of_method, of_variable_number, of_text_variable}
+use Rattle.edd_code.specs.MethodExpressions.{load_block, store_block, ask_block, method_block, call_block, argument_block, argument_blocks, number_block, numbers_block}
+use Rattle.edd_code.proofs.Asking.{asks_block}
+use Rattle.edd_code.proofs.BlockFlow.{Runs, nothing_runs, straight_runs, then_runs, either_runs, push_runs, change_runs, join_runs, pop_runs, no_value_runs, element_runs, read_runs, store_runs, unary_runs, operate_runs, two_run, increment_runs, and_runs, or_runs}
+use Rattle.edd_code.proofs.Fitting.{front_none, fits, of_none, of_variable, of_method, of_variable_number}
 
 high : (e : Expr Target) → 1 ≤ height e
 high (Literal value) = omega arith
@@ -26,6 +33,12 @@ high _ = omega arith
 no_abort : (b : Bool) → (b && true) ≡ false → b ≡ false
 no_abort false h = refl
 no_abort true h = absurd cc
+
+zero_more : (d : ℕ) → d + 0 ≡ d
+zero_more d = omega arith
+
+suc_more : (d n : ℕ) → d + suc n ≡ suc d + n
+suc_more d n = omega arith
 
 module _ (number : Words → StrNo) where
   -- two operands more than the expression is high are enough: so many `x++` needs
@@ -55,46 +68,43 @@ module _ (number : Words → StrNo) where
       (then_runs (Straight instruction.Pop) no_value (suc d) d (suc d) (pop_runs d (omega arith))
       (no_value_runs d (omega arith))))
 
+  -- each number is one operand more
+  numbers_run : (ps : List Parameter) (arguments : Arguments Target) → all_fit ps arguments ≡ true
+      → AreRun arguments → (d : ℕ)
+      → d + length (filter is_number ps) + (argument_height arguments + 1) ≤ 128
+      → Runs (numbers_block ps (argument_blocks number arguments)) d (d + length (filter is_number ps))
+  unfolding argument_block argument_blocks
+  numbers_run [] arguments is run d few = subst (λ m. Runs Nothing d m) (sym (zero_more d)) (nothing_runs d)
+  numbers_run (p ∷ ps) Nil is run d few = absurd cc
+  numbers_run (parameter.Text ∷ ps) (Cons (Text t) rest) is run d few =
+      then_runs Nothing (numbers_block ps (argument_blocks number rest)) d d (d + length (filter is_number ps))
+      (nothing_runs d) (numbers_run ps rest is run d (omega arith))
+  numbers_run (parameter.Number ∷ ps) (Cons (Text t) rest) is run d few = absurd cc
+  numbers_run (parameter.DeviceVariable ∷ ps) (Cons (Text t) rest) is run d few = absurd cc
+  numbers_run (parameter.Method ∷ ps) (Cons (Text t) rest) is run d few = absurd cc
+  numbers_run (parameter.Number ∷ ps) (Cons (Value e) rest) is run d few =
+      let n = length (filter is_number ps) in
+      then_runs (method_block number e) (numbers_block ps (argument_blocks number rest)) d (suc d) (d + suc n)
+      (run.0 d (omega arith))
+      (subst (λ m. Runs (numbers_block ps (argument_blocks number rest)) (suc d) m)
+      (sym (suc_more d n)) (numbers_run ps rest is run.1 (suc d) (omega arith)))
+  numbers_run (parameter.Text ∷ ps) (Cons (Value e) rest) is run d few = absurd cc
+  numbers_run (p ∷ ps) (Cons (Value e) rest) is run d few =
+      then_runs Nothing (numbers_block ps (argument_blocks number rest)) d d (d + length (filter is_number ps))
+      (nothing_runs d)
+      (numbers_run ps rest (and_parts (rules.fits p (Value e)) (all_fit ps rest) is).1 run.1 d (omega arith))
+
   call_runs : (f : Builtin) (arguments : Arguments Target) → is_abort f ≡ false
       → all_fit (parameters f) arguments ≡ true → CallRuns f arguments
   unfolding method_block call_block
-  call_runs builtin.PutMessage arguments here is = of_text (CallRuns builtin.PutMessage)
-      (λ t run d few. push_runs (instruction.Ask (ask.PutMessage (number (words_of t)))) d refl refl
-      refl (omega arith)) arguments is
-  call_runs builtin.Acknowledge arguments here is = of_text (CallRuns builtin.Acknowledge)
-      (λ t run d few. push_runs (instruction.Ask (ask.Acknowledge (number (words_of t)))) d refl
-      refl refl (omega arith)) arguments is
-  call_runs builtin.Delay arguments here is =
-      of_number_text (CallRuns builtin.Delay)
-      (λ e t run d few. then_runs (method_block number e)
-      (ask_block (ask.Delay (number (words_of t)))) d (suc d) (suc d) (run.0 d (omega arith))
-      (change_runs (instruction.Ask (ask.Delay (number (words_of t)))) d refl refl refl
-      (omega arith)))
-      arguments is
-  call_runs builtin.GetDevVarValue arguments here is =
-      of_text_variable (CallRuns builtin.GetDevVarValue)
-      (λ t v run d few. push_runs (instruction.Ask (ask.GetDevVarValue (number (words_of t)) v)) d
-      refl refl refl (omega arith)) arguments is
-  call_runs builtin.SelectFromList arguments here is = of_texts (CallRuns builtin.SelectFromList)
-      (λ t u run d few. push_runs
-      (instruction.Ask (ask.SelectFromList (number (words_of t)) (number (words_of u)))) d refl refl
-      refl (omega arith)) arguments is
-  call_runs builtin.SendCommand arguments here is =
-      of_number (CallRuns builtin.SendCommand)
-      (λ e run d few. then_runs (method_block number e) (ask_block ask.SendCommand) d (suc d)
-      (suc d) (run.0 d (omega arith)) (change_runs (instruction.Ask ask.SendCommand) d refl refl
-      refl (omega arith)))
-      arguments is
-  call_runs builtin.SendCommandTrans arguments here is =
-      of_numbers (CallRuns builtin.SendCommandTrans)
-      (λ e x run d few. two_run (method_block number e) (method_block number x)
-      (ask_block ask.SendCommandTrans) d (run.0 d (omega arith)) (run.1.0 (suc d) (omega arith))
-      (join_runs (instruction.Ask ask.SendCommandTrans) d refl refl refl
-      (omega (arith, high x))))
-      arguments is
-  call_runs builtin.SaveValues arguments here is = of_none (CallRuns builtin.SaveValues)
-      (λ run d few. push_runs (instruction.Ask ask.SaveValues) d refl refl refl (omega arith))
-      arguments is
+  call_runs (builtin.Ask kind) arguments here is = λ run d few.
+      let ps = request_parameters kind in
+      let a = asking kind (names_of number ps arguments) in
+      rw (asks_block number kind arguments is)
+      (then_runs (numbers_block ps (argument_blocks number arguments)) (ask_block a) d (d + numbers_taken kind) (suc d)
+      (numbers_run ps arguments is run d (omega (arith, few, few_numbers kind)))
+      (straight_runs (instruction.Ask a) (d + numbers_taken kind) (suc d) refl (omega arith)
+      (omega (arith, few, few_numbers kind)) (omega arith)))
   call_runs builtin.IvarValue arguments here is = of_variable (CallRuns builtin.IvarValue)
       (λ v run d few. read_runs (Item (item_no.Variable v)) d (omega arith)) arguments is
   call_runs builtin.LvarValue arguments here is = of_variable (CallRuns builtin.LvarValue)

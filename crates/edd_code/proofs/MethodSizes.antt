@@ -1,5 +1,5 @@
 -- The block of an expression of a method is short.
-use Rattle.std.proofs.Common.{◌≡◌, ◌+◌, ◌*◌, ◌≤◌, Bool, true, false, [], ◌++◌, arith}
+use Rattle.std.proofs.Common.{◌≡◌, ◌+◌, ◌*◌, ◌≤◌, Bool, true, false, [], ◌++◌, arith, List, ◌∷◌, length}
 use Rattle.edd_syntax.specs.declared.numbers.ItemNo.{ItemNo}
 use Rattle.edd_syntax.specs.declared.numbers.ItemNo.TheVariants as item_no
 use Rattle.edd_syntax.specs.declared.numbers.StrNo.{StrNo}
@@ -13,13 +13,17 @@ use Rattle.edd_syntax.specs.declared.reference.Target.{Target}
 use Rattle.edd_syntax.specs.declared.reference.Target.TheVariants.{Item, Function}
 use Rattle.edd_syntax.specs.Expression.{Expr, Literal, Decimal, Reference, Indexed, Parentheses, Unary, Binary, Compare, LogicalAnd, LogicalOr, Conditional, Assign, CompoundAssign, Increment, Call, Text, Value, Arguments, Nil, Cons}
 use Rattle.edd_syntax.specs.Size.{nodes, argument_nodes}
-use Rattle.edd_syntax.specs.SubsetRules.{parameters, all_fit, call_breaches, call_mismatches, argument_mismatches}
+use Rattle.edd_syntax.specs.declared.operators.Parameter.{Parameter}
+use Rattle.edd_syntax.specs.declared.operators.Parameter.TheVariants as parameter
+use Rattle.edd_syntax.specs.Builtins.{parameters, request_parameters}
+use Rattle.edd_syntax.specs.SubsetRules.{all_fit, call_breaches, call_mismatches, argument_mismatches}
 use Rattle.edd_syntax.specs.Words.{Words}
 use Rattle.edd_code.specs.Blocks.{size}
 use Rattle.edd_code.specs.Expressions.{item_block, unary_block}
 use Rattle.edd_code.proofs.ExpressionSizes.{element_size}
-use Rattle.edd_code.specs.MethodExpressions.{load_block, store_item_block, store_block, increment_block, method_block, call_block}
-use Rattle.edd_code.proofs.Fitting.{front_none, fits, of_none, of_text, of_number, of_number_text, of_texts, of_numbers, of_variable, of_method, of_variable_number, of_text_variable}
+use Rattle.edd_code.specs.MethodExpressions.{load_block, store_item_block, store_block, increment_block, method_block, call_block, argument_block, argument_blocks, number_block, numbers_block}
+use Rattle.edd_code.proofs.Asking.{asks_block}
+use Rattle.edd_code.proofs.Fitting.{front_none, fits, of_none, of_variable, of_method, of_variable_number}
 
 -- ---- locals, variables and operators
 
@@ -60,22 +64,25 @@ module _ (number : Words → StrNo) where
   CallShort f arguments = AreShort arguments → size (call_block number f arguments)
       ≤ 32 * (1 + argument_nodes arguments)
 
+  numbers_short : (ps : List Parameter) (arguments : Arguments Target) → AreShort arguments
+      → size (numbers_block ps (argument_blocks number arguments)) ≤ 32 * argument_nodes arguments
+  unfolding argument_block argument_blocks
+  numbers_short [] arguments short = omega arith
+  numbers_short (p ∷ ps) Nil short = omega arith
+  numbers_short (parameter.Number ∷ ps) (Cons (Text t) rest) short =
+      omega (arith, numbers_short ps rest short)
+  numbers_short (p ∷ ps) (Cons (Text t) rest) short = omega (arith, numbers_short ps rest short)
+  numbers_short (parameter.Number ∷ ps) (Cons (Value e) rest) short =
+      omega (arith, short.0, numbers_short ps rest short.1)
+  numbers_short (p ∷ ps) (Cons (Value e) rest) short =
+      omega (arith, numbers_short ps rest short.1)
+
   call_short : (f : Builtin) (arguments : Arguments Target) → all_fit (parameters f) arguments
       ≡ true → CallShort f arguments
   unfolding method_block call_block
-  call_short builtin.PutMessage = of_text (CallShort builtin.PutMessage) (λ t short. omega arith)
-  call_short builtin.Acknowledge = of_text (CallShort builtin.Acknowledge) (λ t short. omega arith)
-  call_short builtin.Delay = of_number_text (CallShort builtin.Delay)
-      (λ e t short. omega (arith, short.0))
-  call_short builtin.GetDevVarValue = of_text_variable (CallShort builtin.GetDevVarValue)
-      (λ t v short. omega arith)
-  call_short builtin.SelectFromList = of_texts (CallShort builtin.SelectFromList)
-      (λ t u short. omega arith)
-  call_short builtin.SendCommand = of_number (CallShort builtin.SendCommand)
-      (λ e short. omega (arith, short.0))
-  call_short builtin.SendCommandTrans = of_numbers (CallShort builtin.SendCommandTrans)
-      (λ e x short. omega (arith, short.0, short.1.0))
-  call_short builtin.SaveValues = of_none (CallShort builtin.SaveValues) (λ short. omega arith)
+  call_short (builtin.Ask kind) = λ arguments is short.
+      rw (asks_block number kind arguments is)
+      (omega (arith, numbers_short (request_parameters kind) arguments short))
   call_short builtin.IvarValue = of_variable (CallShort builtin.IvarValue) (λ v short. omega arith)
   call_short builtin.LvarValue = of_variable (CallShort builtin.LvarValue) (λ v short. omega arith)
   call_short builtin.Abort = of_none (CallShort builtin.Abort) (λ short. omega arith)

@@ -1,7 +1,7 @@
 -- The operands of the block of an expression of a method are in their ranges, and what it names
 -- exists.
-use Rattle.std.proofs.Common.{◌≡◌, refl, ℕ, ◌<◌, ◌≤◌, ◌^◌, Bool, true, false, List, [], ◌++◌, arith}
-use Rattle.std.specs.Prelude.{◌&&◌, ◌||◌, nat_lt}
+use Rattle.std.proofs.Common.{◌≡◌, refl, subst, ℕ, zero, suc, ◌<◌, ◌≤◌, ◌^◌, Bool, true, false, List, [], ◌∷◌, ◌++◌, length, arith}
+use Rattle.std.specs.Prelude.{◌&&◌, ◌||◌, nat_lt, slice_index_or}
 use Rattle.std.specs.List.{AllByRecursion}
 use Rattle.std.proofs.lemmas.Bool.{ltb-true, and_parts, and_from, or_left, or_right}
 use Rattle.edd_syntax.specs.declared.numbers.ItemNo.{ItemNo}
@@ -24,7 +24,11 @@ use Rattle.edd_syntax.specs.Text as texts
 use Rattle.edd_syntax.specs.Expression.{Expr, Literal, Decimal, Reference, Indexed, Parentheses, Unary, Binary, Compare, LogicalAnd, LogicalOr, Conditional, Assign, CompoundAssign, Increment, Call, Text, Value, Arguments, Nil, Cons}
 use Rattle.edd_syntax.specs.LayoutVersion.{is_add_abort_method, names_it, argument_names_it}
 use Rattle.edd_syntax.specs.Strings.{expr_texts, argument_texts}
-use Rattle.edd_syntax.specs.SubsetRules.{parameters, all_fit, call_breaches, call_mismatches, argument_mismatches}
+use Rattle.edd_syntax.specs.declared.operators.Parameter.{Parameter}
+use Rattle.edd_syntax.specs.declared.operators.Parameter.TheVariants as parameter
+use Rattle.edd_syntax.specs.Builtins.{names_taken, parameters, request_parameters}
+use Rattle.edd_syntax.specs.SubsetRules as rules
+use Rattle.edd_syntax.specs.SubsetRules.{all_fit, is_device_variable, is_method, call_breaches, call_mismatches, argument_mismatches}
 use Rattle.edd_syntax.specs.WellFormed.{is_text, is_expr, are_arguments}
 use Rattle.edd_syntax.specs.Words.{Words, words_of}
 use Rattle.edd_instructions.specs.declared.instruction.Instruction.{Instruction}
@@ -35,15 +39,18 @@ use Rattle.edd_instructions.specs.declared.unit.Sort.TheVariants.{Method}
 use Rattle.edd_image.specs.declared.versions.Version.{Version}
 use Rattle.edd_image.specs.declared.versions.Version.TheVariants.{Two}
 use Rattle.edd_image.specs.Existing.{string_exists, variable_exists, array_exists, method_exists}
+use Rattle.edd_instructions.specs.References.{named_exist}
 use Rattle.edd_instructions.specs.Spelling.{IsSpelled}
+use Rattle.edd_code.specs.Arguments.{asking, named_one, names_of}
 use Rattle.edd_code.specs.Blocks.{Block, Nothing, Straight, Then, WhenNotZero, WhenZero, Either}
 use Rattle.edd_code.specs.Expressions.{no_value, item_block, item_element_block, element_block, no_element, unary_block, truth_block, then_test, instead}
 use Rattle.edd_code.specs.Flow.{AreSpelled, all_straight, may_stand}
 use Rattle.edd_code.specs.Reads.{item_is_there}
-use Rattle.edd_code.specs.MethodExpressions.{load_block, store_item_block, store_block, store_next_block, store_behind_block, increment_block, method_block, call_block}
+use Rattle.edd_code.specs.MethodExpressions.{load_block, store_item_block, store_block, store_next_block, store_behind_block, increment_block, method_block, call_block, argument_block, argument_blocks, number_block, numbers_block}
 use Rattle.edd_code.specs.MethodReads.{uses_existing}
 use Rattle.edd_code.proofs.Versions.{in_methods, abort_methods_allowed}
-use Rattle.edd_code.proofs.Fitting.{front_none, all_parts, fits, of_none, of_text, of_number, of_number_text, of_texts, of_numbers, of_variable, of_method, of_variable_number, of_text_variable}
+use Rattle.edd_code.proofs.Asking.{asks_block, few_names, names_fit, unused}
+use Rattle.edd_code.proofs.Fitting.{front_none, all_parts, fits, of_none, of_variable, of_method, of_variable_in, of_method_in, of_variable_number}
 
 module _ (version : Version) (counts : Counts) (slots : ℕ)
     (holds_arrays : nat_lt 0 counts.arrays ≡ true → version ≡ Two)
@@ -216,28 +223,123 @@ module _ (version : Version) (counts : Counts) (slots : ℕ)
     unfolding method_block
     variable_there v is = is.named
 
+    numbers_stand : (ps : List Parameter) (arguments : Arguments Target)
+        → all_fit ps arguments ≡ true → AllStand arguments
+        → Stands (numbers_block ps (argument_blocks number arguments))
+    unfolding argument_block argument_blocks
+    numbers_stand [] arguments fit is = nothing_stands
+    numbers_stand (p ∷ ps) Nil fit is = nothing_stands
+    numbers_stand (parameter.Number ∷ ps) (Cons (Text t) rest) fit is = absurd cc
+    numbers_stand (p ∷ ps) (Cons (Text t) rest) fit is =
+        then_stand nothing_stands
+        (numbers_stand ps rest (and_parts (rules.fits p (Text t)) (all_fit ps rest) fit).1 is.1)
+    numbers_stand (parameter.Number ∷ ps) (Cons (Value e) rest) fit is =
+        then_stand is.0 (numbers_stand ps rest fit is.1)
+    numbers_stand (p ∷ ps) (Cons (Value e) rest) fit is =
+        then_stand nothing_stands
+        (numbers_stand ps rest (and_parts (rules.fits p (Value e)) (all_fit ps rest) fit).1 is.1)
+
+    -- what is named has two bytes
+    one_more_short : (n : ℕ) (names : List ℕ) → n < 2 ^ 16
+        → ((i : ℕ) → slice_index_or names i 0 < 2 ^ 16) → (i : ℕ)
+        → slice_index_or (n ∷ names) i 0 < 2 ^ 16
+    one_more_short n names is more zero = is
+    one_more_short n names is more (suc i) = more i
+
+    names_short : (ps : List Parameter) (arguments : Arguments Target)
+        → all_fit ps arguments ≡ true → AllStand arguments → (i : ℕ)
+        → slice_index_or (names_of number ps arguments) i 0 < 2 ^ 16
+    names_short [] arguments fit is i = omega arith
+    names_short (p ∷ ps) Nil fit is i = omega arith
+    names_short (p ∷ ps) (Cons (Text t) rest) fit is i =
+        one_more_short (number (words_of t)).0 (names_of number ps rest) (string_short t is.0)
+        (names_short ps rest (and_parts (rules.fits p (Text t)) (all_fit ps rest) fit).1 is.1) i
+    names_short (parameter.Number ∷ ps) (Cons (Value e) rest) fit is i =
+        names_short ps rest fit is.1 i
+    names_short (parameter.Text ∷ ps) (Cons (Value e) rest) fit is i = absurd cc
+    names_short (parameter.DeviceVariable ∷ ps) (Cons (Value e) rest) fit is i =
+        let parts = and_parts (is_device_variable (Value e)) (all_fit ps rest) fit in
+        of_variable_in (λ x. Stands (method_block number x)
+        → slice_index_or (named_one number (Value x) parameter.DeviceVariable
+        ++ names_of number ps rest) i 0 < 2 ^ 16)
+        (λ v there. one_more_short v.0 (names_of number ps rest)
+        (short_variable v (variable_there v there)) (names_short ps rest parts.1 is.1) i)
+        e parts.0 is.0
+    names_short (parameter.Method ∷ ps) (Cons (Value e) rest) fit is i =
+        let parts = and_parts (is_method (Value e)) (all_fit ps rest) fit in
+        of_method_in (λ x. slice_index_or (named_one number (Value x) parameter.Method
+        ++ names_of number ps rest) i 0 < 2 ^ 16)
+        (λ m. names_short ps rest parts.1 is.1 i) e parts.0
+
+    last_unused : (names : List ℕ) → length names ≤ 1 → slice_index_or names 1 0 ≡ 0
+    last_unused [] h = refl
+    last_unused (n ∷ []) h = refl
+    last_unused (n ∷ m ∷ names) h = absurd (omega arith)
+
+    -- behind one name there is one more, or none
+    behind_one : (ps : List Parameter) (names : List ℕ) → length names ≤ 1
+        → named_exist counts ps (slice_index_or names 0 0) (slice_index_or names 1 0) ≡ true
+        → named_exist counts ps (slice_index_or names 0 0) 0 ≡ true
+    behind_one ps names few exist = subst
+        (λ n. named_exist counts ps (slice_index_or names 0 0) n ≡ true) (last_unused names few)
+        exist
+
+    -- what is named exists
+    names_exist : (ps : List Parameter) (arguments : Arguments Target)
+        → all_fit ps arguments ≡ true → AllStand arguments
+        → length (names_of number ps arguments) ≤ 2
+        → named_exist counts ps (slice_index_or (names_of number ps arguments) 0 0)
+        (slice_index_or (names_of number ps arguments) 1 0) ≡ true
+    names_exist [] arguments fit is few = refl
+    names_exist (p ∷ ps) Nil fit is few = absurd cc
+    names_exist (parameter.Text ∷ ps) (Cons (Text t) rest) fit is few =
+        and_from _ _ is.0 (behind_one ps (names_of number ps rest) (omega arith)
+        (names_exist ps rest fit is.1 (omega arith)))
+    names_exist (parameter.Number ∷ ps) (Cons (Text t) rest) fit is few = absurd cc
+    names_exist (parameter.DeviceVariable ∷ ps) (Cons (Text t) rest) fit is few = absurd cc
+    names_exist (parameter.Method ∷ ps) (Cons (Text t) rest) fit is few = absurd cc
+    names_exist (parameter.Text ∷ ps) (Cons (Value e) rest) fit is few = absurd cc
+    names_exist (parameter.Number ∷ ps) (Cons (Value e) rest) fit is few =
+        names_exist ps rest fit is.1 few
+    names_exist (parameter.DeviceVariable ∷ ps) (Cons (Value e) rest) fit is few =
+        let parts = and_parts (is_device_variable (Value e)) (all_fit ps rest) fit in
+        of_variable_in (λ x. Stands (method_block number x)
+        → length (named_one number (Value x) parameter.DeviceVariable ++ names_of number ps rest)
+        ≤ 2
+        → named_exist counts (parameter.DeviceVariable ∷ ps)
+        (slice_index_or (named_one number (Value x) parameter.DeviceVariable
+        ++ names_of number ps rest) 0 0)
+        (slice_index_or (named_one number (Value x) parameter.DeviceVariable
+        ++ names_of number ps rest) 1 0) ≡ true)
+        (λ v there short. and_from _ _ (variable_there v there)
+        (behind_one ps (names_of number ps rest) (omega arith)
+        (names_exist ps rest parts.1 is.1 (omega arith)))) e parts.0 is.0 few
+    names_exist (parameter.Method ∷ ps) (Cons (Value e) rest) fit is few =
+        let parts = and_parts (is_method (Value e)) (all_fit ps rest) fit in
+        of_method_in (λ x.
+        length (named_one number (Value x) parameter.Method ++ names_of number ps rest) ≤ 2
+        → named_exist counts ps
+        (slice_index_or (named_one number (Value x) parameter.Method
+        ++ names_of number ps rest) 0 0)
+        (slice_index_or (named_one number (Value x) parameter.Method
+        ++ names_of number ps rest) 1 0) ≡ true)
+        (λ m short. names_exist ps rest parts.1 is.1 short) e parts.0 few
+
     call_stands : (f : Builtin) (arguments : Arguments Target) → all_fit (parameters f) arguments
         ≡ true → CallStands f arguments
     unfolding method_block call_block
-    call_stands builtin.PutMessage = of_text (CallStands builtin.PutMessage)
-        (λ t is are second. one_stands _ (string_short t is.0) is.0)
-    call_stands builtin.Acknowledge = of_text (CallStands builtin.Acknowledge)
-        (λ t is are second. one_stands _ (string_short t is.0) is.0)
-    call_stands builtin.Delay = of_number_text (CallStands builtin.Delay)
-        (λ e t is are second. then_stand is.0 (one_stands _ (string_short t is.1.0) is.1.0))
-    call_stands builtin.GetDevVarValue =
-        of_text_variable (CallStands builtin.GetDevVarValue)
-        (λ t v is are second. let there = variable_there v is.1.0 in one_stands _
-        (string_short t is.0, short_variable v there) (and_from _ _ is.0 there))
-    call_stands builtin.SelectFromList = of_texts (CallStands builtin.SelectFromList)
-        (λ t u is are second. one_stands _ (string_short t is.0, string_short u is.1.0)
-        (and_from _ _ is.0 is.1.0))
-    call_stands builtin.SendCommand = of_number (CallStands builtin.SendCommand)
-        (λ e is are second. then_stand is.0 (one_stands _ tt refl))
-    call_stands builtin.SendCommandTrans = of_numbers (CallStands builtin.SendCommandTrans)
-        (λ e x is are second. then_stand is.0 (then_stand is.1.0 (one_stands _ tt refl)))
-    call_stands builtin.SaveValues = of_none (CallStands builtin.SaveValues)
-        (λ is are second. one_stands _ tt refl)
+    call_stands (builtin.Ask kind) = λ arguments fit is are second.
+        let ps = request_parameters kind in
+        let names = names_of number ps arguments in
+        let few : length names ≤ names_taken kind = names_fit number ps arguments fit in
+        rw (asks_block number kind arguments fit)
+        (then_stand (numbers_stand ps arguments fit is)
+        (one_stands (instruction.Ask (asking kind names)) (
+          names_short ps arguments fit is 0,
+          names_short ps arguments fit is 1,
+          unused (names_taken kind) names few,
+        )
+        (names_exist ps arguments fit is (omega (arith, few, few_names kind)))))
     call_stands builtin.IvarValue = of_variable (CallStands builtin.IvarValue)
         (λ v is are second. is.0)
     call_stands builtin.LvarValue = of_variable (CallStands builtin.LvarValue)

@@ -1,5 +1,5 @@
 -- Parts of code that are blocks, with the strings of texts by number.
-use Rattle.std.proofs.Common.{◌≡◌, refl, sym, ap, subst, ◌∙◌, ℕ, zero, suc, ◌+◌, List, [], ◌∷◌, ◌++◌, length, arith, ◌<◌, ◌≤◌, map, length-append}
+use Rattle.std.proofs.Common.{◌≡◌, refl, sym, ap, subst, ◌∙◌, ℕ, zero, suc, ◌+◌, List, [], ◌∷◌, ◌++◌, length, arith, ◌<◌, ◌≤◌, map, append_assoc, length-append}
 use Rattle.std.specs.List.{Contains}
 use Rattle.std.proofs.lemmas.List.{append-nil}
 use Rattle.edd_syntax.specs.declared.numbers.StrNo.{StrNo}
@@ -10,7 +10,6 @@ use Rattle.edd_syntax.specs.Strings.{argument_texts, expr_texts, strings_of_text
 use Rattle.edd_syntax.specs.Text as texts
 use Rattle.edd_syntax.specs.Words.{Words, words_of}
 use Rattle.edd_instructions.specs.declared.instruction.Ask.{Ask}
-use Rattle.edd_instructions.specs.declared.instruction.Ask.TheVariants as ask
 use Rattle.edd_instructions.specs.declared.instruction.Instruction.{Instruction}
 use Rattle.edd_instructions.specs.declared.instruction.Instruction.TheVariants as instruction
 use Rattle.edd_instructions.specs.Spelling.{spelling}
@@ -20,7 +19,7 @@ use Rattle.edd_code.specs.Blocks.{Block, Straight, Then, WhenNotZero, WhenZero, 
 use Rattle.edd_code.specs.Closing.{closed}
 use Rattle.edd_code.specs.MethodExpressions.{call_block, method_block}
 use Rattle.edd_code.specs.Tables.{GrowsBy, Keeps, Overflows, number_in}
-use Rattle.edd_code.specs.Written.{HoldsTexts, WritesPart}
+use Rattle.edd_code.specs.Written.{ByNumber, HoldsTexts, WritesPart}
 use Rattle.edd_code.proofs.Closing.{when_not_zero_closed, when_zero_closed, either_closed}
 use Rattle.edd_code.proofs.Growing.{no_growth, both_added, growth, keeps_on}
 use Rattle.edd_code.proofs.Numbered.{parts_written, part_written, plain_written, string_written, strings_listed, texts_listed, texts_overflow_first, texts_overflow_second}
@@ -120,51 +119,38 @@ module _ {old mid new : List Words} where
       is ∙ ap (closed c5) behind ∙ either_closed before c1 c2 c3 c4 c5 (first number)
       (otherwise number) one two three (four ∙ ap (closed c3) at) five))
 
--- ---- requests that name strings
+-- ---- what depends on the numbers of strings
 
-pub ask_part : (old new : List Words) (before after : List ℕ) (t : texts.Text) (n : StrNo)
-    (a : StrNo → Ask) → GrowsBy old (words_of t ∷ []) new → Keeps new (words_of t) n
-    → after ≡ before ++ spelling (instruction.Ask (a n))
-    → WritesPart old before (t ∷ [])
-    (λ number. Straight (instruction.Ask (a (number (words_of t))))) new after
-ask_part old new before after t n a table keeps is =
-    string_written old new before after (words_of t) n
-    (λ k place. bytes_at place (Straight (instruction.Ask (a k)))) table keeps
-    (one_more before after (instruction.Ask (a n)) is)
+-- what is known by the numbers of a table is known by those of one that begins with it
+pub known_on : {A : Type 0} (old : List Words) {mid new strings : List Words} (of : (Words → StrNo) → A) (x : A)
+    → ByNumber old mid of x → GrowsBy mid strings new → ByNumber old new of x
+known_on {A} old {mid} {new} of x known table d later =
+    known d (table.more ++ later)
+    ∙ ap (λ (t : List Words). of (number_in t)) (sym (append_assoc mid table.more later)
+    ∙ ap (λ (t : List Words). t ++ later) (sym table.grown))
 
--- two strings in one request
-pub select_part : (old mid new : List Words) (before after : List ℕ) (t u : texts.Text)
-    (n m : StrNo) → GrowsBy old (words_of t ∷ []) mid → Keeps mid (words_of t) n
-    → GrowsBy mid (words_of u ∷ []) new → Keeps new (words_of u) m
-    → after ≡ before ++ spelling (instruction.Ask (ask.SelectFromList n m))
-    → WritesPart old before (t ∷ u ∷ [])
-    (λ number. Straight (instruction.Ask
-    (ask.SelectFromList (number (words_of t)) (number (words_of u))))) new after
-select_part old mid new before after t u n m first kept second keeps is = record {
-  table = both_added first second;
-  holds = λ v held. here v held;
+-- a part, and a request that names what depends on the numbers of strings
+pub ask_part : {old new : List Words} (before between after : List ℕ) (ts : List texts.Text)
+    (a : Numbered) (of : (Words → StrNo) → Ask) (x : Ask) → WritesPart old before ts a new between
+    → ByNumber old new of x → after ≡ between ++ spelling (instruction.Ask x)
+    → WritesPart old before ts (λ number. Then (a number) (Straight (instruction.Ask (of number))))
+    new after
+ask_part {new = new} before between after ts a of x w known is = record {
+  table = w.table;
+  holds = w.holds;
   written = λ d later.
-      let one = number_is new later (words_of t) n (second.different (first.different d)) still in
-      let two = number_is new later (words_of u) m (second.different (first.different d)) keeps in
-      one_more before after (instruction.Ask (ask.SelectFromList n m)) is
-      ∙ ap (λ (k : StrNo). before
-      ++ bytes_at (length before) (Straight (instruction.Ask (ask.SelectFromList k m))))
-      (sym one)
-      ∙ ap (λ (k : StrNo). before
-      ++ bytes_at (length before)
-      (Straight (instruction.Ask (ask.SelectFromList (number_in (new ++ later) (words_of t))
-      k)))) (sym two);
+      let number = number_in (new ++ later) in
+      goes_on before between after (a number) (Straight (instruction.Ask (of number)))
+      (w.written d later)
+      (one_more between after (instruction.Ask (of number))
+      (is ∙ ap (λ (y : Ask). between ++ spelling (instruction.Ask y)) (known d later)));
 }
-  where
-    still : Keeps new (words_of t) n
-    still = keeps_on mid new (words_of t) n kept (growth second)
 
-    here : (v : Words) → Contains (words_of t ∷ words_of u ∷ []) v → Contains new v
-    here v (zero, below, is) = subst (λ (x : Words). Contains new x) is
-        (kept_held new (words_of t) n still)
-    here v (suc zero, below, is) = subst (λ (x : Words). Contains new x) is
-        (kept_held new (words_of u) m keeps)
-    here v (suc (suc k), below, is) = absurd (omega arith)
+-- the number of a text
+pub text_known : (old new : List Words) (w : Words) (n : StrNo) → GrowsBy old (w ∷ []) new
+    → Keeps new w n → ByNumber old new (λ number. (number w).0 ∷ []) (n.0 ∷ [])
+text_known old new w n table keeps d later =
+    ap (λ (k : StrNo). k.0 ∷ []) (sym (number_is new later w n (table.different d) keeps))
 
 -- ---- calls without arguments
 

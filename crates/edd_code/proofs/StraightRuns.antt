@@ -1,5 +1,5 @@
 -- A straight instruction does the same wherever it is.
-use Rattle.std.proofs.Common.{◌≡◌, refl, ap, ℕ, suc, ℤ, pos, negsuc, List, [], ◌∷◌, ◌++◌, Option, Some, None, Result, Ok, Err, arith}
+use Rattle.std.proofs.Common.{◌≡◌, refl, ap, ℕ, zero, suc, ℤ, pos, negsuc, List, [], ◌∷◌, ◌++◌, Option, Some, None, Result, Ok, Err, arith}
 use Rattle.edd_syntax.specs.declared.numbers.MethNo.{MethNo}
 use Rattle.edd_syntax.specs.declared.numbers.StrNo.{StrNo}
 use Rattle.edd_syntax.specs.declared.answer.Trap.{Trap}
@@ -9,14 +9,14 @@ use Rattle.edd_syntax.specs.Words.{Words}
 use Rattle.edd_syntax.specs.Answers.{Change}
 use Rattle.edd_syntax.specs.MethodState as source
 use Rattle.edd_syntax.specs.MethodState.{State}
-use Rattle.edd_instructions.specs.declared.records.Request.{Request}
+use Rattle.edd_instructions.specs.declared.requests.Request.{Request}
 use Rattle.edd_instructions.specs.declared.records.Record.{Record}
 use Rattle.edd_instructions.specs.declared.records.Emitted.TheVariants as emitted
-use Rattle.edd_instructions.specs.declared.instruction.Ask.TheVariants as ask
+use Rattle.edd_syntax.specs.Builtins.{numbers_taken}
 use Rattle.edd_instructions.specs.declared.instruction.Instruction.{Instruction}
 use Rattle.edd_instructions.specs.declared.instruction.Instruction.TheVariants as instruction
 use Rattle.edd_instructions.specs.Decoding.{instruction_at}
-use Rattle.edd_instructions.specs.Steps.{Environment, Effect, act, go, give, ask_for, push_or_trap}
+use Rattle.edd_instructions.specs.Steps.{Environment, Effect, act, ask_with, go, give, ask_for, push_or_trap}
 use Rattle.edd_syntax.specs.Elements.{element_value}
 use Rattle.edd_code.specs.BlockEffects.{Goes}
 use Rattle.edd_code.specs.Reports.{at, worded}
@@ -159,26 +159,21 @@ module _ (text : StrNo → Option Words) (env : Environment) (code : List ℕ) (
       gives (instruction.Member name item label help) h operands operands _ refl
   straight_comes (instruction.Element n v label help) operands h =
       gives (instruction.Element n v label help) h operands operands _ refl
-  straight_comes (instruction.Ask (ask.PutMessage t)) operands h =
-      asks (instruction.Ask (ask.PutMessage t)) h operands operands _ refl
-  straight_comes (instruction.Ask (ask.Acknowledge t)) operands h =
-      asks (instruction.Ask (ask.Acknowledge t)) h operands operands _ refl
-  straight_comes (instruction.Ask (ask.Delay t)) [] h = tt
-  straight_comes (instruction.Ask (ask.Delay t)) (a ∷ below) h =
-      asks (instruction.Ask (ask.Delay t)) h (a ∷ below) below _ refl
-  straight_comes (instruction.Ask (ask.GetDevVarValue t v)) operands h =
-      asks (instruction.Ask (ask.GetDevVarValue t v)) h operands operands _ refl
-  straight_comes (instruction.Ask (ask.SelectFromList t u)) operands h =
-      asks (instruction.Ask (ask.SelectFromList t u)) h operands operands _ refl
-  straight_comes (instruction.Ask ask.SendCommand) [] h = tt
-  straight_comes (instruction.Ask ask.SendCommand) (a ∷ below) h =
-      asks (instruction.Ask ask.SendCommand) h (a ∷ below) below _ refl
-  straight_comes (instruction.Ask ask.SendCommandTrans) [] h = tt
-  straight_comes (instruction.Ask ask.SendCommandTrans) (b ∷ []) h = tt
-  straight_comes (instruction.Ask ask.SendCommandTrans) (b ∷ (a ∷ below)) h =
-      asks (instruction.Ask ask.SendCommandTrans) h (b ∷ (a ∷ below)) below _ refl
-  straight_comes (instruction.Ask ask.SaveValues) operands h = asks (instruction.Ask ask.SaveValues)
-      h operands operands _ refl
+  straight_comes (instruction.Ask a) operands h =
+      by_count (numbers_taken a.kind) refl operands
+    where
+      by_count : (n : ℕ) → numbers_taken a.kind ≡ n → (operands : List ℤ)
+          → Comes text env code p next operands s
+          (outcome_of text env s (ask_with n a 0 (at [] 0 operands s)))
+      by_count zero is operands = asks (instruction.Ask a) h operands operands _
+          (ap (λ m. ask_with m a next (at code p operands s)) is)
+      by_count (suc zero) is [] = tt
+      by_count (suc zero) is (x ∷ below) = asks (instruction.Ask a) h (x ∷ below) below _
+          (ap (λ m. ask_with m a next (at code p (x ∷ below) s)) is)
+      by_count (suc (suc n)) is [] = tt
+      by_count (suc (suc n)) is (y ∷ []) = tt
+      by_count (suc (suc n)) is (y ∷ (x ∷ below)) = asks (instruction.Ask a) h (y ∷ (x ∷ below))
+          below _ (ap (λ m. ask_with m a next (at code p (y ∷ (x ∷ below)) s)) is)
   straight_comes instruction.Abort operands h = λ k. (
     suc k,
     omega arith,

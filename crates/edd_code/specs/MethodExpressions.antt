@@ -1,5 +1,6 @@
 -- The block of an expression of a method, which leaves its value on top. What no checked
 -- description has is the block of 0.
+use Rattle.std.specs.Prelude.{List, [], ◌∷◌, if◌then◌else◌}
 use Rattle.edd_syntax.specs.declared.numbers.ItemNo.{ItemNo}
 use Rattle.edd_syntax.specs.declared.numbers.ItemNo.TheVariants as item_no
 use Rattle.edd_syntax.specs.declared.numbers.StrNo.{StrNo}
@@ -9,13 +10,18 @@ use Rattle.edd_syntax.specs.declared.operators.IncrementOperator.{IncrementOpera
 use Rattle.edd_syntax.specs.declared.operators.IncrementOperator.TheVariants.{PreIncrement, PostIncrement, PreDecrement, PostDecrement}
 use Rattle.edd_syntax.specs.declared.operators.Builtin.{Builtin}
 use Rattle.edd_syntax.specs.declared.operators.Builtin.TheVariants as builtin
+use Rattle.edd_syntax.specs.declared.operators.Parameter.{Parameter}
+use Rattle.edd_syntax.specs.declared.operators.Parameter.TheVariants as parameter
+use Rattle.edd_syntax.specs.declared.operators.RequestKind.{RequestKind}
 use Rattle.edd_syntax.specs.declared.reference.Target.{Target}
 use Rattle.edd_syntax.specs.declared.reference.Target.TheVariants.{Local, Item, Function}
-use Rattle.edd_syntax.specs.Expression.{Expr, Literal, Decimal, Reference, Indexed, Parentheses, Unary, Binary, Compare, LogicalAnd, LogicalOr, Conditional, Assign, CompoundAssign, Increment, Call, Text, Value, Arguments, Nil, Cons}
-use Rattle.edd_syntax.specs.Words.{Words, words_of}
+use Rattle.edd_syntax.specs.Expression.{Expr, Literal, Decimal, Reference, Indexed, Parentheses, Unary, Binary, Compare, LogicalAnd, LogicalOr, Conditional, Assign, CompoundAssign, Increment, Call, Argument, Text, Value, Arguments, Nil, Cons}
+use Rattle.edd_syntax.specs.Builtins.{request_parameters}
+use Rattle.edd_syntax.specs.SubsetRules.{all_fit}
+use Rattle.edd_syntax.specs.Words.{Words}
 use Rattle.edd_instructions.specs.declared.instruction.Ask.{Ask}
-use Rattle.edd_instructions.specs.declared.instruction.Ask.TheVariants as ask
 use Rattle.edd_instructions.specs.declared.instruction.Instruction.TheVariants as instruction
+use Rattle.edd_code.specs.Arguments.{asking, names_of}
 use Rattle.edd_code.specs.Blocks.{Block, Nothing, Straight, Then, WhenNotZero, WhenZero, Either}
 use Rattle.edd_code.specs.Expressions.{no_value, item_block, element_block, unary_block, truth_block, then_test, instead}
 
@@ -61,6 +67,27 @@ increment_block PostDecrement to = Then (load_block to) (store_behind_block oper
 abbrev pub ask_block : Ask → Block
 ask_block a = Straight (instruction.Ask a)
 
+-- an argument that is a number is an operand; the instruction names the others
+abbrev pub number_block : Parameter → Block → Block
+number_block parameter.Number value = value
+number_block _ value = Nothing
+
+-- the numbers among the arguments, in their order
+abbrev pub numbers_block : List Parameter → (values : List Block) → Block
+numbers_block [] values = Nothing
+numbers_block (p ∷ parameters) [] = Nothing
+numbers_block (p ∷ parameters) (value ∷ values) = Then (number_block p value)
+    (numbers_block parameters values)
+
+-- a request whose arguments have these values
+abbrev pub request_block : (number : Words → StrNo) → RequestKind → Arguments Target
+    → (values : List Block) → Block
+request_block number kind arguments values =
+    if all_fit (request_parameters kind) arguments then
+    Then (numbers_block (request_parameters kind) values)
+    (ask_block (asking kind (names_of number (request_parameters kind) arguments))) else
+    no_value
+
 -- ---- expressions
 
 module _ (number : Words → StrNo) where
@@ -95,25 +122,11 @@ module _ (number : Words → StrNo) where
     method_block (Call (Local slot) arguments) = no_value
     method_block (Call (Item i) arguments) = no_value
 
-    -- its numbers in their order, and the request or the store; the value of an assignment by a
-    -- function is 0
+    -- a request, or what else a function does; the value of an assignment by a function is 0
     pub call_block : Builtin → Arguments Target → Block
-    call_block builtin.PutMessage (Cons (Text text) Nil) =
-        ask_block (ask.PutMessage (number (words_of text)))
-    call_block builtin.Acknowledge (Cons (Text text) Nil) =
-        ask_block (ask.Acknowledge (number (words_of text)))
-    call_block builtin.Delay (Cons (Value seconds) (Cons (Text text) Nil)) =
-        Then (method_block seconds) (ask_block (ask.Delay (number (words_of text))))
-    call_block builtin.GetDevVarValue
-        (Cons (Text text) (Cons (Value (Reference (Item (item_no.Variable v)))) Nil)) =
-        ask_block (ask.GetDevVarValue (number (words_of text)) v)
-    call_block builtin.SelectFromList (Cons (Text text) (Cons (Text choices) Nil)) =
-        ask_block (ask.SelectFromList (number (words_of text)) (number (words_of choices)))
-    call_block builtin.SendCommand (Cons (Value n) Nil) =
-        Then (method_block n) (ask_block ask.SendCommand)
-    call_block builtin.SendCommandTrans (Cons (Value n) (Cons (Value transaction) Nil)) =
-        Then (method_block n) (Then (method_block transaction) (ask_block ask.SendCommandTrans))
-    call_block builtin.SaveValues Nil = ask_block ask.SaveValues
+    call_block (builtin.Ask kind) Nil = request_block number kind Nil []
+    call_block (builtin.Ask kind) (Cons first rest) = request_block number kind (Cons first rest)
+        (argument_block first ∷ argument_blocks rest)
     call_block builtin.IvarValue (Cons (Value e) Nil) = method_block e
     call_block builtin.LvarValue (Cons (Value e) Nil) = method_block e
     call_block builtin.Iassign (Cons (Value (Reference to)) (Cons (Value e) Nil)) =
@@ -125,3 +138,12 @@ module _ (number : Words → StrNo) where
     call_block builtin.AddAbortMethod (Cons (Value (Reference (Item (item_no.Method m)))) Nil) =
         Straight (instruction.AddAbortMethod m)
     call_block _ _ = no_value
+
+    -- the value of an argument; a text has none
+    pub argument_block : Argument Target → Block
+    argument_block (Text text) = Nothing
+    argument_block (Value e) = method_block e
+
+    pub argument_blocks : Arguments Target → List Block
+    argument_blocks Nil = []
+    argument_blocks (Cons first rest) = argument_block first ∷ argument_blocks rest

@@ -1,14 +1,16 @@
 -- What a host sees of a method's run: by the machine that runs it, and by the state that the source
 -- reaches.
-use Rattle.std.specs.Prelude.{ℕ, ℤ, List, ◌++◌, map, Option, Some, None, option_map}
+use Rattle.std.specs.Prelude.{ℕ, ℤ, List, [], ◌∷◌, ◌++◌, map, Option, Some, None, option_map}
 use Rattle.edd_syntax.specs.declared.numbers.MethNo.{MethNo}
 use Rattle.edd_syntax.specs.declared.numbers.StrNo.{StrNo}
 use Rattle.edd_syntax.specs.Words.{Words}
 use Rattle.edd_syntax.specs.Answers.{Change, Answer}
 use Rattle.edd_syntax.specs.MethodState as source
 use Rattle.edd_syntax.specs.Execution.{Transcript}
-use Rattle.edd_instructions.specs.declared.records.Request as image
-use Rattle.edd_instructions.specs.declared.records.Request.TheVariants as asks
+use Rattle.edd_instructions.specs.declared.requests.Request as image
+use Rattle.edd_instructions.specs.declared.requests.RequestArgument as image_argument
+use Rattle.edd_instructions.specs.declared.requests.RequestArgument.TheVariants as argument
+use Rattle.edd_instructions.specs.Requests.{arguments_asked, kind_asked}
 use Rattle.edd_instructions.specs.declared.records.Status.TheVariants.{Running}
 use Rattle.edd_instructions.specs.declared.unit.Sort.TheVariants.{Method}
 use Rattle.edd_instructions.specs.Steps.{State, Environment}
@@ -56,17 +58,22 @@ at code place operands s = record {
 
 -- text: the words of each number, where it is the number of a string
 module _ (text : StrNo → Option Words) where
-  -- the request with its words in place of their numbers, where they are numbers of strings
+  -- arguments with their words in place of their numbers, where they are numbers of strings
+  abbrev pub words_told : List image_argument.RequestArgument → Option (List source.RequestArgument)
+  words_told [] = Some []
+  words_told (argument.Text t ∷ rest) = elim (text t) [
+    | None ↦ None
+    | Some w ↦ option_map (λ more. source.TextArgument w ∷ more) (words_told rest)
+  ]
+  words_told (argument.Number z ∷ rest) =
+      option_map (λ more. source.NumberArgument z ∷ more) (words_told rest)
+  words_told (argument.Variable v ∷ rest) =
+      option_map (λ more. source.VariableArgument v ∷ more) (words_told rest)
+
+  -- the same of a request
   abbrev pub worded : image.Request → Option source.Request
-  worded (asks.PutMessage t) = option_map source.PutMessage (text t)
-  worded (asks.Acknowledge t) = option_map source.Acknowledge (text t)
-  worded (asks.Delay seconds t) = option_map (source.Delay seconds) (text t)
-  worded (asks.GetDevVarValue t v) = option_map (λ w. source.GetDevVarValue w v) (text t)
-  worded (asks.SelectFromList t u) =
-      elim (text t) [ None ↦ None | Some w ↦ option_map (source.SelectFromList w) (text u) ]
-  worded (asks.SendCommand n) = Some (source.SendCommand n)
-  worded (asks.SendCommandTrans n transaction) = Some (source.SendCommandTrans n transaction)
-  worded asks.SaveValues = Some source.SaveValues
+  worded r = option_map (λ all. record { kind = kind_asked r; arguments = all })
+      (words_told (arguments_asked r))
 
   -- what the machine did, after what was asked and changed before
   abbrev pub report_after : source.State → Outcome → Report

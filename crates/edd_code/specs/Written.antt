@@ -39,3 +39,8 @@ WritesPart old before texts block new after = WritesNumbered old before (strings
 abbrev pub HoldsTexts : (old : List Words) (texts : List Text) (new : List Words) → Type 0
 HoldsTexts old texts new = WritesNumbered old [] (strings_of_texts texts) (λ number place. []) new
     []
+
+-- what depends on the numbers of strings, by those in the new table and in any that begins with it
+abbrev pub ByNumber : {A : Type 0} → (old new : List Words) → (of : (Words → StrNo) → A) → A
+    → Type 0
+ByNumber old new of x = AreDifferent old → (later : List Words) → x ≡ of (number_in (new ++ later))

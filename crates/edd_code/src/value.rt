@@ -1,31 +1,31 @@
 //! The code of expressions of methods.
 
-ghost use Rattle.std.specs.Prelude.{◌≤◌, ◌++◌, IsErrOf, IsTrue, OnOk, length, map};
+ghost use Rattle.std.specs.Prelude.{◌≤◌, [], ◌∷◌, ◌++◌, IfOk, IsErrOf, IsTrue, OnOk, length, map};
 ghost use Rattle.std.specs.List.{list_all};
+ghost use Rattle.std.specs.Option.{option_to_list};
 ghost use Rattle.edd_syntax.specs.Expression.{Call, arguments_from};
 ghost use Rattle.edd_syntax.specs.Strings.{argument_texts, expr_texts, strings_of_texts};
+ghost use Rattle.edd_syntax.specs.SubsetRules.{all_fit, fits};
 ghost use Rattle.edd_syntax.specs.TreeView.{numbered_argument, numbered_expr};
 ghost use Rattle.edd_syntax.specs.WellFormed.{is_text};
 ghost use Rattle.edd_code.specs.Blocks.{Either, Straight, Then, WhenNotZero, WhenZero, bytes_at};
 ghost use Rattle.edd_code.specs.Expressions.{instead, then_test, truth_block};
-ghost use Rattle.edd_code.specs.MethodExpressions.{call_block, load_block, method_block, store_block};
+ghost use Rattle.edd_code.specs.Arguments.{asking, named_one, names_of};
+ghost use Rattle.edd_code.specs.MethodExpressions.{argument_block, argument_blocks, call_block, load_block, method_block, number_block, numbers_block, store_block};
 ghost use Rattle.edd_code.specs.Tables.{Grows, Overflows};
-ghost use Rattle.edd_code.specs.Written.{WritesNumbered, WritesPart};
+ghost use Rattle.edd_code.specs.Written.{ByNumber, WritesNumbered, WritesPart};
 
-use crate::arguments::{only_value, target_and_value, two_values, value_and_text};
+use crate::arguments::{all_fit, only_value, target_and_value, variable_number};
 use crate::emit::{close, open, put};
 use crate::expression::{write_element, write_truth, write_unary};
 use crate::fault::LowerFault;
-use crate::requests::{
-    write_abort_method, write_acknowledge, write_alone, write_get, write_message, write_misfit,
-    write_select,
-};
+use crate::requests::{named_before, write_abort_method, write_alone, write_misfit};
 use crate::storing::{write_increment, write_load, write_store};
 use crate::strings::add_text;
 use edd_instructions::{Ask, Emitter, Instruction, Jump};
 use edd_strings::Table;
 use edd_syntax::expr::{Argument, Expr};
-use edd_syntax::operators::{Builtin, Operator};
+use edd_syntax::operators::{Builtin, Operator, Parameter, RequestKind};
 use edd_syntax::reference::Target;
 use std::alloc::Global;
 
@@ -321,22 +321,7 @@ fn write_builtin(
     ensures longer { OnOk result (length code.old ≤ length code.new) }
 {
     match f {
-        Builtin::PutMessage => write_message(alloc, code, table, arguments),
-        Builtin::Acknowledge => write_acknowledge(alloc, code, table, arguments),
-        Builtin::Delay => write_delay(alloc, code, table, arguments),
-        Builtin::GetDevVarValue => write_get(alloc, code, table, arguments),
-        Builtin::SelectFromList => write_select(alloc, code, table, arguments),
-        Builtin::SendCommand => write_send(alloc, code, table, arguments),
-        Builtin::SendCommandTrans => write_transaction(alloc, code, table, arguments),
-        Builtin::SaveValues => {
-            write_alone(
-                alloc,
-                code,
-                table,
-                Instruction::Ask(Ask::SaveValues),
-                arguments,
-            )
-        }
+        Builtin::Ask(kind) => write_ask(alloc, code, table, kind, arguments),
         Builtin::IvarValue => write_only(alloc, code, table, arguments),
         Builtin::LvarValue => write_only(alloc, code, table, arguments),
         Builtin::Iassign => write_assigned(alloc, code, table, arguments),
@@ -347,13 +332,15 @@ fn write_builtin(
     }
 }
 
-// The request to wait, with a message.
+// A request: its numbers in their order, and the instruction, which names its texts and its
+// variable.
 #[cycle(values)]
 #[tactic(auto, using(crate::proofs::NumberedBlocks::writing))]
-fn write_delay(
+fn write_ask(
     alloc: Global,
     code: &mut Emitter,
     table: &mut Table,
+    kind: RequestKind,
     arguments: &[Argument<Target>],
 ) -> Result<(), LowerFault>
     requires { IsTrue (list_all is_text
@@ -361,7 +348,7 @@ fn write_delay(
     ensures sound { OnOk result
         (WritesPart table.old code.old
         (argument_texts (arguments_from (map numbered_argument arguments.now)))
-        (λ number. call_block number Builtin.Delay
+        (λ number. call_block number (Builtin.Ask kind)
         (arguments_from (map numbered_argument arguments.now))) table.new code.new) }
     ensures grows { Grows table.old table.new }
     ensures refused { IsErrOf result LowerFault.TooMany
@@ -369,79 +356,94 @@ fn write_delay(
         (argument_texts (arguments_from (map numbered_argument arguments.now)))) }
     ensures longer { OnOk result (length code.old ≤ length code.new) }
 {
-    match value_and_text(arguments) {
-        Some((seconds, text)) => {
-            write_value(alloc, code, table, seconds)?;
-            let number = add_text(alloc, table, text)?;
-            Ok(put(code, Instruction::Ask(Ask::Delay(number)))?)
-        }
-        None => write_misfit(alloc, code, table, arguments),
+    if !all_fit(kind.parameters(), arguments) {
+        return write_misfit(alloc, code, table, arguments);
+    }
+    let ask = write_arguments(alloc, code, table, kind, kind.parameters(), arguments)?;
+    Ok(put(code, Instruction::Ask(ask))?)
+}
+
+// The numbers among the arguments of a request. It answers the instruction with what it names.
+#[cycle(values)]
+#[tactic(auto, using(crate::proofs::NumberedBlocks::writing))]
+fn write_arguments(
+    alloc: Global,
+    code: &mut Emitter,
+    table: &mut Table,
+    kind: RequestKind,
+    parameters: &[Parameter],
+    arguments: &[Argument<Target>],
+) -> Result<Ask, LowerFault>
+    requires few { length parameters.now ≤ 2 }
+    requires fits { IsTrue (all_fit parameters.now (arguments_from (map numbered_argument arguments.now))) }
+    requires texts { IsTrue (list_all is_text
+        (argument_texts (arguments_from (map numbered_argument arguments.now)))) }
+    ensures sound { OnOk result
+        (WritesPart table.old code.old
+        (argument_texts (arguments_from (map numbered_argument arguments.now)))
+        (λ number. numbers_block parameters.now (argument_blocks number
+        (arguments_from (map numbered_argument arguments.now)))) table.new code.new) }
+    ensures named { IfOk result (ByNumber table.old table.new (λ number. asking kind
+        (names_of number parameters.now (arguments_from (map numbered_argument arguments.now))))) }
+    ensures grows { Grows table.old table.new }
+    ensures refused { IsErrOf result LowerFault.TooMany
+        → Overflows table.old (strings_of_texts
+        (argument_texts (arguments_from (map numbered_argument arguments.now)))) }
+    ensures longer { OnOk result (length code.old ≤ length code.new) }
+{
+    match arguments {
+        [] => Ok(Ask {
+            kind,
+            first: 0,
+            second: 0,
+        }),
+        [argument, rest @ ..] => match parameters {
+            [] => unreachable!(),
+            [parameter, more @ ..] => {
+                let name = write_argument(alloc, code, table, *parameter, argument)?;
+                let ask = write_arguments(alloc, code, table, kind, more, rest)?;
+                Ok(named_before(name, ask))
+            }
+        },
     }
 }
 
-// The request to send a command.
+// An argument of a request, where it is a number. It answers what the instruction names of it.
 #[cycle(values)]
 #[tactic(auto, using(crate::proofs::NumberedBlocks::writing))]
-fn write_send(
+fn write_argument(
     alloc: Global,
     code: &mut Emitter,
     table: &mut Table,
-    arguments: &[Argument<Target>],
-) -> Result<(), LowerFault>
-    requires { IsTrue (list_all is_text
-        (argument_texts (arguments_from (map numbered_argument arguments.now)))) }
+    parameter: Parameter,
+    argument: &Argument<Target>,
+) -> Result<Option<u16>, LowerFault>
+    requires fits { IsTrue (fits parameter (numbered_argument argument.now)) }
+    requires texts { IsTrue (list_all is_text
+        (argument_texts (arguments_from (numbered_argument argument.now ∷ [])))) }
     ensures sound { OnOk result
         (WritesPart table.old code.old
-        (argument_texts (arguments_from (map numbered_argument arguments.now)))
-        (λ number. call_block number Builtin.SendCommand
-        (arguments_from (map numbered_argument arguments.now))) table.new code.new) }
+        (argument_texts (arguments_from (numbered_argument argument.now ∷ [])))
+        (λ number. number_block parameter
+        (argument_block number (numbered_argument argument.now))) table.new code.new) }
+    ensures named { IfOk result (λ name. ByNumber table.old table.new
+        (λ number. named_one number (numbered_argument argument.now) parameter)
+        (option_to_list name)) }
     ensures grows { Grows table.old table.new }
     ensures refused { IsErrOf result LowerFault.TooMany
         → Overflows table.old (strings_of_texts
-        (argument_texts (arguments_from (map numbered_argument arguments.now)))) }
+        (argument_texts (arguments_from (numbered_argument argument.now ∷ [])))) }
     ensures longer { OnOk result (length code.old ≤ length code.new) }
 {
-    match only_value(arguments) {
-        Some(n) => {
-            write_value(alloc, code, table, n)?;
-            Ok(put(code, Instruction::Ask(Ask::SendCommand))?)
-        }
-        None => write_misfit(alloc, code, table, arguments),
-    }
-}
-
-// The request to send a transaction of a command.
-#[cycle(values)]
-#[tactic(auto, using(crate::proofs::NumberedBlocks::writing))]
-fn write_transaction(
-    alloc: Global,
-    code: &mut Emitter,
-    table: &mut Table,
-    arguments: &[Argument<Target>],
-) -> Result<(), LowerFault>
-    requires { IsTrue (list_all is_text
-        (argument_texts (arguments_from (map numbered_argument arguments.now)))) }
-    ensures sound { OnOk result
-        (WritesPart table.old code.old
-        (argument_texts (arguments_from (map numbered_argument arguments.now)))
-        (λ number. call_block number Builtin.SendCommandTrans
-        (arguments_from (map numbered_argument arguments.now))) table.new code.new) }
-    ensures grows { Grows table.old table.new }
-    ensures refused { IsErrOf result LowerFault.TooMany
-        → Overflows table.old (strings_of_texts
-        (argument_texts (arguments_from (map numbered_argument arguments.now)))) }
-    ensures longer { OnOk result (length code.old ≤ length code.new) }
-{
-    match two_values(arguments) {
-        Some((n, transaction)) => write_operands(
-            alloc,
-            code,
-            table,
-            n,
-            transaction,
-            Instruction::Ask(Ask::SendCommandTrans),
-        ),
-        None => write_misfit(alloc, code, table, arguments),
+    match argument {
+        Argument::Text(text) => Ok(Some(add_text(alloc, table, text)?.0)),
+        Argument::Value(e) => match parameter {
+            Parameter::Number => {
+                write_value(alloc, code, table, e)?;
+                Ok(None)
+            }
+            _ => Ok(variable_number(argument)),
+        },
     }
 }
 

@@ -4,7 +4,7 @@ use Rattle.std.specs.Prelude.{option_map}
 use Rattle.edd_syntax.specs.Answers.{Answer, Go, Abort, SetFault, answer_fault, IsValidAnswer}
 use Rattle.edd_syntax.specs.DeviceValues.{VariableType}
 use Rattle.edd_image.specs.Contents.{Contents, contents_in}
-use Rattle.edd_instructions.specs.declared.records.Request.{Request}
+use Rattle.edd_instructions.specs.declared.requests.Request.{Request}
 use Rattle.edd_instructions.specs.declared.records.Status.{Status}
 use Rattle.edd_instructions.specs.declared.records.Status.TheVariants as status
 use Rattle.edd_instructions.specs.AbortMethods.{answered_in, execute_in, next, start_in, step_in}

@@ -3,8 +3,8 @@ use Rattle.std.specs.Prelude.{◌≡◌, ℕ, ℤ, pos, List, [], Option, Some, 
 use Rattle.edd_syntax.specs.declared.numbers.MethNo.{MethNo}
 use Rattle.edd_syntax.specs.Answers.{Answer, Go, IsValidAnswer}
 use Rattle.edd_instructions.specs.declared.records.Record.{Record}
-use Rattle.edd_instructions.specs.declared.records.Request.{Request}
-use Rattle.edd_instructions.specs.declared.records.Request.TheVariants as request
+use Rattle.edd_instructions.specs.declared.requests.Request.{Request}
+use Rattle.edd_instructions.specs.declared.requests.Request.TheVariants as request
 use Rattle.edd_machine.specs.Types.{types_in}
 use Rattle.edd_device.specs.declared.fault.DeviceFault.{DeviceFault}
 use Rattle.edd_device.specs.Copies.{requested, replied, code_cleared, code_of}
@@ -77,15 +77,10 @@ delayed s seconds = waited s.image seconds (record { values = s.values; left = m
 -- What comes of a request that is made under the instrument's values. A command without the number
 -- of a transaction is that with the number 0; what asks the user is not for the device.
 abbrev pub IsReply : Simulated → (values : List ℤ) → Request → Result Step DeviceFault → Type 0
-IsReply s values (request.PutMessage text) r = r ≡ Ok (done s.values)
-IsReply s values (request.Acknowledge text) r =
-    r ≡ Ok (record { values = s.values; answer = None })
-IsReply s values (request.Delay seconds text) r = r ≡ delayed s seconds
-IsReply s values (request.GetDevVarValue text v) r =
-    r ≡ Ok (record { values = s.values; answer = None })
-IsReply s values (request.SelectFromList text choices) r =
-    r ≡ Ok (record { values = s.values; answer = None })
 IsReply s values (request.SendCommand number) r = IsSent s values number (pos 0) r
 IsReply s values (request.SendCommandTrans number transaction) r =
     IsSent s values number transaction r
+IsReply s values (request.Delay seconds text) r = r ≡ delayed s seconds
+IsReply s values (request.PutMessage text) r = r ≡ Ok (done s.values)
 IsReply s values request.SaveValues r = r ≡ Ok (done s.values)
+IsReply s values _ r = r ≡ Ok (record { values = s.values; answer = None })

@@ -3,7 +3,7 @@ use Rattle.std.specs.Prelude.{◌≡◌, ◌⊎◌, ℕ, ◌-◌, ℤ, List, [],
 use Rattle.edd_syntax.specs.declared.numbers.MethNo.{MethNo}
 use Rattle.edd_syntax.specs.Answers.{Answer, Abort, answer_fault}
 use Rattle.edd_image.specs.Contents.{contents_in}
-use Rattle.edd_instructions.specs.declared.records.Request.{Request}
+use Rattle.edd_instructions.specs.declared.requests.Request.{Request}
 use Rattle.edd_instructions.specs.declared.records.Status.TheVariants.{Asking}
 use Rattle.edd_instructions.specs.AbortMethods.{answered_in, execute_in}
 use Rattle.edd_instructions.specs.Steps.{State}

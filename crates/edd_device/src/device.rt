@@ -280,9 +280,7 @@ impl<'i, 'b> Device<'i, 'b> {
             Request::Delay(seconds, _) => self.delay(alloc, *seconds),
             Request::PutMessage(_) => Ok(self.stay(alloc, Some(done(alloc)))?),
             Request::SaveValues => Ok(self.stay(alloc, Some(done(alloc)))?),
-            Request::Acknowledge(_) => Ok(self.stay(alloc, None)?),
-            Request::GetDevVarValue(_, _) => Ok(self.stay(alloc, None)?),
-            Request::SelectFromList(_, _) => Ok(self.stay(alloc, None)?),
+            _ => Ok(self.stay(alloc, None)?),
         }
     }
 

@@ -4,7 +4,7 @@ ghost use Rattle.std.specs.Prelude.{◌≡◌, ℕ, ℤ, List, Ok, Result};
 ghost use Rattle.std.specs.List.{AllByRecursion};
 ghost use Rattle.edd_syntax.specs.Answers.{Change};
 ghost use Rattle.edd_instructions.specs.declared.records.Record.{Record};
-ghost use Rattle.edd_instructions.specs.declared.records.Request.{Request};
+ghost use Rattle.edd_instructions.specs.declared.requests.Request.{Request};
 ghost use Rattle.edd_device.specs.declared.fault.DeviceFault.{DeviceFault};
 ghost use Rattle.edd_device.specs.Copies.{IsAmong, replied};
 ghost use Rattle.edd_device.specs.Devices.{IsReply, Simulated, Step};

@@ -1,12 +1,12 @@
 //! One attribute of two images.
 
-use crate::code::{Pair, texts_of};
+use crate::code::{Pair, named};
 use crate::difference::{Difference, Item, Note, What};
 use crate::lists::{By, Chain, have_same_conditions, joined, push_line};
 use edd_contents::{Content, Line, Shape, shape_of};
 use edd_display::ShowFault;
 use edd_fault_places::variants::{Variant, first_variant};
-use edd_instructions::{Ask, Instruction};
+use edd_instructions::{Ask, Instruction, RequestArgument};
 use edd_syntax::numbers::{Attr, StrNo};
 use std::alloc::{AllocError, Global};
 
@@ -386,8 +386,10 @@ impl<'a> Comparison<'_, 'a> {
     }
 
     fn compare_requests(&mut self, old: Ask, new: Ask) -> Result<(), ShowFault> {
-        for (first, second) in texts_of(old).iter().zip(texts_of(new).iter()) {
-            if let (Some(first), Some(second)) = (*first, *second) {
+        for (first, second) in named(old).iter().zip(named(new).iter()) {
+            if let (RequestArgument::Text(first), RequestArgument::Text(second)) = (
+                *first, *second,
+            ) {
                 if !self.compare_strings("", first, second)? {
                     self.tell_code()?;
                 }

@@ -1,7 +1,7 @@
 //! Code compared by what its instructions name.
 
 use edd_fault_places::sections::Sections;
-use edd_instructions::{Ask, Instruction, decode};
+use edd_instructions::{Ask, Instruction, RequestArgument, RequestArguments, decode};
 use edd_syntax::numbers::{ArrNo, ItemNo, MethNo, StrNo, VarNo};
 use std::alloc::{AllocError, Global};
 
@@ -34,19 +34,39 @@ impl Pair<'_, '_> {
         self.old.string(usize::from(old.0)) == self.new.string(usize::from(new.0))
     }
 
-    fn is_same_request(&self, old: Ask, new: Ask) -> bool {
+    // Whether two arguments in the same place name the same; texts may differ.
+    fn is_same_form_of_argument(&self, old: RequestArgument, new: RequestArgument) -> bool {
         match (old, new) {
-            (Ask::PutMessage(old), Ask::PutMessage(new))
-            | (Ask::Acknowledge(old), Ask::Acknowledge(new))
-            | (Ask::Delay(old), Ask::Delay(new)) => self.is_same_string(old, new),
-            (Ask::GetDevVarValue(old, from), Ask::GetDevVarValue(new, other)) => {
-                self.is_same_string(old, new) && self.is_same_variable(from, other)
+            (RequestArgument::Variable(old), RequestArgument::Variable(new)) => {
+                self.is_same_variable(old, new)
             }
-            (Ask::SelectFromList(old, choices), Ask::SelectFromList(new, others)) => {
-                self.is_same_string(old, new) && self.is_same_string(choices, others)
-            }
-            (old, new) => old == new,
+            _ => true,
         }
+    }
+
+    fn is_same_argument(&self, old: RequestArgument, new: RequestArgument) -> bool {
+        match (old, new) {
+            (RequestArgument::Text(old), RequestArgument::Text(new)) => {
+                self.is_same_string(old, new)
+            }
+            (old, new) => self.is_same_form_of_argument(old, new),
+        }
+    }
+
+    fn is_same_request(&self, old: Ask, new: Ask) -> bool {
+        old.kind == new.kind
+            && (named(old).iter().zip(named(new).iter())).all(|(old, new)| self.is_same_argument(
+                *old, *new,
+            ))
+    }
+
+    // Whether two requests differ in their texts alone.
+    fn is_same_form_of_request(&self, old: Ask, new: Ask) -> bool {
+        old.kind == new.kind
+            && (named(old).iter().zip(named(new).iter())).all(|(
+                old,
+                new,
+            )| self.is_same_form_of_argument(*old, *new))
     }
 
     // Whether two instructions of methods do the same.
@@ -61,20 +81,6 @@ impl Pair<'_, '_> {
                 self.is_same_method(old, new)
             }
             (Instruction::Ask(old), Instruction::Ask(new)) => self.is_same_request(old, new),
-            (old, new) => old == new,
-        }
-    }
-
-    // Whether two requests differ in their texts alone.
-    fn is_same_form_of_request(&self, old: Ask, new: Ask) -> bool {
-        match (old, new) {
-            (Ask::PutMessage(_), Ask::PutMessage(_))
-            | (Ask::Acknowledge(_), Ask::Acknowledge(_))
-            | (Ask::Delay(_), Ask::Delay(_))
-            | (Ask::SelectFromList(_, _), Ask::SelectFromList(_, _)) => true,
-            (Ask::GetDevVarValue(_, from), Ask::GetDevVarValue(_, other)) => {
-                self.is_same_variable(from, other)
-            }
             (old, new) => old == new,
         }
     }
@@ -142,12 +148,7 @@ impl Pair<'_, '_> {
     }
 }
 
-/// The texts of a request.
-pub fn texts_of(ask: Ask) -> [Option<StrNo>; 2] {
-    match ask {
-        Ask::PutMessage(text) | Ask::Acknowledge(text) | Ask::Delay(text) => [Some(text), None],
-        Ask::GetDevVarValue(text, _) => [Some(text), None],
-        Ask::SelectFromList(text, choices) => [Some(text), Some(choices)],
-        Ask::SendCommand | Ask::SendCommandTrans | Ask::SaveValues => [None, None],
-    }
+/// The arguments of a request, whose numbers its instruction does not have.
+pub fn named(ask: Ask) -> RequestArguments {
+    ask.request(0, 0).arguments()
 }

@@ -3,47 +3,31 @@ use Rattle.std.specs.Prelude.{ℕ, ℤ, List, [], ◌∷◌, ◌++◌, Some, Non
 use Rattle.std.specs.Fmt.{signed_decimal}
 use Rattle.std.specs.List.{flat_map, range_with_len}
 use Rattle.edd_syntax.specs.declared.numbers.ItemNo.TheVariants as items
-use Rattle.edd_syntax.specs.declared.operators.Builtin.{Builtin}
-use Rattle.edd_syntax.specs.declared.operators.Builtin.TheVariants as builtin
-use Rattle.edd_syntax.specs.Resolution.{builtin_name}
+use Rattle.edd_syntax.specs.Builtins.{request_name}
 use Rattle.edd_image.specs.Contents.{Contents}
-use Rattle.edd_instructions.specs.declared.records.Request.{Request}
-use Rattle.edd_instructions.specs.declared.records.Request.TheVariants as request
+use Rattle.edd_instructions.specs.declared.requests.Request.{Request}
+use Rattle.edd_instructions.specs.declared.requests.RequestArgument.{RequestArgument}
+use Rattle.edd_instructions.specs.declared.requests.RequestArgument.TheVariants as argument
+use Rattle.edd_instructions.specs.Requests.{arguments_asked, kind_asked}
 use Rattle.edd_port.specs.declared.playing.Ending.{Ending}
 use Rattle.edd_port.specs.declared.playing.Ending.TheVariants.{Ended, Aborted, Trapped, Waiting, Spent}
 use Rattle.edd_port.specs.declared.playing.Transcript.{Transcript}
 use Rattle.edd_display.specs.Words.{trap_word, string_shown, name_of}
 
--- the function that makes a request
-abbrev pub function_of : Request → Builtin
-function_of (request.PutMessage text) = builtin.PutMessage
-function_of (request.Acknowledge text) = builtin.Acknowledge
-function_of (request.Delay seconds text) = builtin.Delay
-function_of (request.GetDevVarValue text var) = builtin.GetDevVarValue
-function_of (request.SelectFromList text choices) = builtin.SelectFromList
-function_of (request.SendCommand number) = builtin.SendCommand
-function_of (request.SendCommandTrans number transaction) = builtin.SendCommandTrans
-function_of request.SaveValues = builtin.SaveValues
+-- an argument of a request, after a blank
+abbrev pub argument_shown : Contents → (code : List ℕ) → RequestArgument → List ℕ
+argument_shown c code (argument.Text text) = 32 ∷ string_shown c code text
+argument_shown c code (argument.Number number) = 32 ∷ signed_decimal number
+argument_shown c code (argument.Variable variable) = 32 ∷ name_of c (items.Variable variable)
 
--- the arguments of a request in written order, each after a blank
+-- the arguments of a request in written order
 unfoldable pub arguments_shown : Contents → (code : List ℕ) → Request → List ℕ
-arguments_shown c code (request.PutMessage text) = 32 ∷ string_shown c code text
-arguments_shown c code (request.Acknowledge text) = 32 ∷ string_shown c code text
-arguments_shown c code (request.Delay seconds text) =
-    32 ∷ signed_decimal seconds ++ 32 ∷ string_shown c code text
-arguments_shown c code (request.GetDevVarValue text var) =
-    32 ∷ string_shown c code text ++ 32 ∷ name_of c (items.Variable var)
-arguments_shown c code (request.SelectFromList text choices) =
-    32 ∷ string_shown c code text ++ 32 ∷ string_shown c code choices
-arguments_shown c code (request.SendCommand number) = 32 ∷ signed_decimal number
-arguments_shown c code (request.SendCommandTrans number transaction) =
-    32 ∷ signed_decimal number ++ 32 ∷ signed_decimal transaction
-arguments_shown c code request.SaveValues = []
+arguments_shown c code r = flat_map (argument_shown c code) (arguments_asked r)
 
 -- the line of a request
 unfoldable pub request_line : Contents → (code : List ℕ) → Request → List ℕ
 request_line c code r =
-    codes "ask " ++ builtin_name (function_of r) ++ arguments_shown c code r ++ 10 ∷ []
+    codes "ask " ++ request_name (kind_asked r) ++ arguments_shown c code r ++ 10 ∷ []
 
 -- how a run ended
 abbrev pub ending_shown : Ending → List ℕ

@@ -13,30 +13,13 @@ use crate::fault::ShowFault;
 use crate::lines::print;
 use crate::page::Page;
 use crate::words::trap_word;
-use edd_instructions::Request;
+use edd_instructions::{Request, RequestArgument};
 use edd_loader::Image;
 use edd_machine::Values;
 use edd_port::{Ending, Transcript};
 use edd_syntax::numbers::{ItemNo, VarNo};
-use edd_syntax::operators::Builtin;
 use std::alloc::{AllocError, Global};
 use std::io::Write;
-
-// The function that makes the request.
-fn function_of(request: Request) -> Builtin
-    ensures { result ≡ played.function_of request }
-{
-    match request {
-        Request::PutMessage(_) => Builtin::PutMessage,
-        Request::Acknowledge(_) => Builtin::Acknowledge,
-        Request::Delay(_, _) => Builtin::Delay,
-        Request::GetDevVarValue(_, _) => Builtin::GetDevVarValue,
-        Request::SelectFromList(_, _) => Builtin::SelectFromList,
-        Request::SendCommand(_) => Builtin::SendCommand,
-        Request::SendCommandTrans(_, _) => Builtin::SendCommandTrans,
-        Request::SaveValues => Builtin::SaveValues,
-    }
-}
 
 fn push_variable(page: &Page<'_, '_>, line: &mut String, variable: VarNo) -> Result<(), AllocError>
     ensures { OnOk result (string_bytes line.new ≡ string_bytes line.old
@@ -46,39 +29,39 @@ fn push_variable(page: &Page<'_, '_>, line: &mut String, variable: VarNo) -> Res
     line.push_str(page.name(ItemNo::Variable(variable)))
 }
 
-// The arguments in their order, each after a blank.
-#[tactic(auto, unfolding(crate::specs::Played::arguments_shown))]
-fn push_arguments(
+// An argument of a request, after a blank.
+fn push_argument(
     page: &Page<'_, '_>,
     line: &mut String,
-    request: Request,
+    argument: RequestArgument,
 ) -> Result<(), AllocError>
     ensures { OnOk result (string_bytes line.new ≡ string_bytes line.old
-        ++ played.arguments_shown (contents_in page.now.image.now) page.now.language.now request) }
+        ++ played.argument_shown (contents_in page.now.image.now) page.now.language.now argument) }
 {
-    match request {
-        Request::PutMessage(text) | Request::Acknowledge(text) => {
-            page.push_optional(line, Some(text))
-        }
-        Request::Delay(seconds, text) => {
-            write!(line, " {seconds}")?;
-            page.push_optional(line, Some(text))
-        }
-        Request::GetDevVarValue(text, variable) => {
-            page.push_optional(line, Some(text))?;
-            push_variable(page, line, variable)
-        }
-        Request::SelectFromList(text, choices) => {
-            page.push_optional(line, Some(text))?;
-            page.push_optional(line, Some(choices))
-        }
-        Request::SendCommand(number) => write!(line, " {number}"),
-        Request::SendCommandTrans(number, transaction) => write!(line, " {number} {transaction}"),
-        Request::SaveValues => Ok(()),
+    match argument {
+        RequestArgument::Text(text) => page.push_optional(line, Some(text)),
+        RequestArgument::Number(number) => write!(line, " {number}"),
+        RequestArgument::Variable(variable) => push_variable(page, line, variable),
     }
 }
 
-#[tactic(auto, unfolding(crate::specs::Played::request_line))]
+// The arguments in their order.
+fn push_arguments(
+    page: &Page<'_, '_>,
+    line: &mut String,
+    arguments: &[RequestArgument],
+) -> Result<(), AllocError>
+    ensures { OnOk result (string_bytes line.new ≡ string_bytes line.old
+        ++ flat_map (played.argument_shown (contents_in page.now.image.now) page.now.language.now)
+        arguments.now) }
+{
+    for argument in arguments {
+        push_argument(page, line, *argument)?;
+    }
+    Ok(())
+}
+
+#[tactic(auto, unfolding(crate::specs::Played::request_line, crate::specs::Played::arguments_shown))]
 fn print_request<W: Write>(
     alloc: Global,
     page: &Page<'_, '_>,
@@ -89,8 +72,8 @@ fn print_request<W: Write>(
         (played.request_line (contents_in page.now.image.now) page.now.language.now request)) }
 {
     let mut line = String::from_str(alloc, "ask ")?;
-    line.push_str(function_of(request).name())?;
-    push_arguments(page, &mut line, request)?;
+    line.push_str(request.kind().name())?;
+    push_arguments(page, &mut line, request.arguments().as_slice())?;
     print(alloc, out, line.as_str())
 }
 

@@ -3,9 +3,9 @@
 use crate::excerpts::Excerpts;
 use edd_display::{DATA_QUALIFIERS, MENU_QUALIFIERS, ShowFault, class_word, push_qualifiers};
 use edd_fault_places::sections::Sections;
-use edd_instructions::{Ask, Instruction};
+use edd_instructions::{Ask, Instruction, RequestArgument};
 use edd_syntax::numbers::{ItemNo, StrNo, VarNo};
-use edd_syntax::operators::{Builtin, Comparison, Operator};
+use edd_syntax::operators::{Comparison, Operator};
 use std::fmt::Write as _;
 
 /// An image's sections, and what its strings say.
@@ -76,19 +76,6 @@ fn word_of(instruction: Instruction) -> &'static str {
     }
 }
 
-fn function_of(ask: Ask) -> Builtin {
-    match ask {
-        Ask::PutMessage(_) => Builtin::PutMessage,
-        Ask::Acknowledge(_) => Builtin::Acknowledge,
-        Ask::Delay(_) => Builtin::Delay,
-        Ask::GetDevVarValue(_, _) => Builtin::GetDevVarValue,
-        Ask::SelectFromList(_, _) => Builtin::SelectFromList,
-        Ask::SendCommand => Builtin::SendCommand,
-        Ask::SendCommandTrans => Builtin::SendCommandTrans,
-        Ask::SaveValues => Builtin::SaveValues,
-    }
-}
-
 impl Page<'_, '_> {
     // A blank, the number of an item and its name, where there is such an item.
     fn push_number(&self, line: &mut String, item: ItemNo) -> Result<(), ShowFault> {
@@ -138,21 +125,16 @@ impl Page<'_, '_> {
     }
 
     fn push_ask(&self, line: &mut String, ask: Ask) -> Result<(), ShowFault> {
-        write!(line, " {}", function_of(ask).name())?;
-        match ask {
-            Ask::PutMessage(text) | Ask::Acknowledge(text) | Ask::Delay(text) => {
-                self.excerpts.push(line, text)
+        write!(line, " {}", ask.kind.name())?;
+        let arguments = ask.request(0, 0).arguments();
+        for argument in &arguments {
+            match *argument {
+                RequestArgument::Text(text) => self.excerpts.push(line, text)?,
+                RequestArgument::Variable(variable) => self.push_variable(line, variable)?,
+                RequestArgument::Number(_) => {}
             }
-            Ask::GetDevVarValue(text, variable) => {
-                self.excerpts.push(line, text)?;
-                self.push_variable(line, variable)
-            }
-            Ask::SelectFromList(text, choices) => {
-                self.excerpts.push(line, text)?;
-                self.excerpts.push(line, choices)
-            }
-            Ask::SendCommand | Ask::SendCommandTrans | Ask::SaveValues => Ok(()),
         }
+        Ok(())
     }
 
     // The operands of a member or an element.

@@ -1,26 +1,35 @@
 //! The functions that methods may call, and what they do.
 
 use edd_reports::words::Span;
-use edd_syntax::operators::{Builtin, Parameter};
+use edd_syntax::operators::{Builtin, Parameter, RequestKind};
 use std::alloc::{AllocError, Global};
+
+// What a request asks for, in a line.
+fn meaning_of(request: RequestKind) -> &'static str {
+    match request {
+        RequestKind::PutMessage => "Shows a text.",
+        RequestKind::Acknowledge => "Shows a text until it is acknowledged.",
+        RequestKind::Delay => "Shows a text for a time.",
+        RequestKind::GetDevVarValue => {
+            "Asks the technician for a value of a variable, with a text."
+        }
+        RequestKind::SelectFromList => {
+            "Asks for one of the choices of the second text; its value says which."
+        }
+        RequestKind::SendCommand => {
+            "Sends the command with this NUMBER; its value is the code of the answer."
+        }
+        RequestKind::SendCommandTrans => {
+            "Sends a transaction, by the second number, of the command with this NUMBER."
+        }
+        RequestKind::SaveValues => "Keeps the values of the variables in the device.",
+    }
+}
 
 /// What a function does, in a line.
 pub fn effect_of(function: Builtin) -> &'static str {
     match function {
-        Builtin::PutMessage => "Shows a text.",
-        Builtin::Acknowledge => "Shows a text until it is acknowledged.",
-        Builtin::Delay => "Shows a text for a time.",
-        Builtin::GetDevVarValue => "Asks the technician for a value of a variable, with a text.",
-        Builtin::SelectFromList => {
-            "Asks for one of the choices of the second text; its value says which."
-        }
-        Builtin::SendCommand => {
-            "Sends the command with this NUMBER; its value is the code of the answer."
-        }
-        Builtin::SendCommandTrans => {
-            "Sends a transaction, by the second number, of the command with this NUMBER."
-        }
-        Builtin::SaveValues => "Keeps the values of the variables in the device.",
+        Builtin::Ask(request) => meaning_of(request),
         Builtin::IvarValue | Builtin::LvarValue => "The value of a variable.",
         Builtin::Iassign | Builtin::Lassign => "Stores a number in a variable.",
         Builtin::Abort | Builtin::ProcessAbort => "Ends the method, after its abort methods.",

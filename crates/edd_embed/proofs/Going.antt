@@ -2,7 +2,7 @@
 use Rattle.std.proofs.Common.{◌≡◌, ◌∙◌, ℕ, ℤ, List, Option, Some, None, sym, ap, subst}
 use Rattle.edd_syntax.specs.Answers.{Answer, answer_fault, values_set}
 use Rattle.edd_image.specs.Contents.{contents_in}
-use Rattle.edd_instructions.specs.declared.records.Request.{Request}
+use Rattle.edd_instructions.specs.declared.requests.Request.{Request}
 use Rattle.edd_instructions.specs.declared.records.Status.TheVariants.{Asking}
 use Rattle.edd_instructions.specs.AbortMethods.{answered_in}
 use Rattle.edd_instructions.specs.Steps.{State}

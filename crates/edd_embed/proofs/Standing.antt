@@ -7,7 +7,7 @@ use Rattle.std.proofs.lemmas.List.{length-replicate, reverse-reverse}
 use Rattle.edd_syntax.specs.declared.numbers.MethNo.{MethNo}
 use Rattle.edd_image.specs.Front.{◌>>=◌}
 use Rattle.edd_image.specs.Contents.{AttributeFields, Contents, contents_in}
-use Rattle.edd_instructions.specs.declared.records.Request.TheVariants as requests
+use Rattle.edd_instructions.specs.declared.requests.Request.TheVariants as requests
 use Rattle.edd_instructions.specs.declared.records.Status.{Status}
 use Rattle.edd_instructions.specs.declared.records.Status.TheVariants as status
 use Rattle.edd_instructions.specs.declared.unit.Context.{Context}
@@ -33,13 +33,7 @@ use Rattle.edd_port.proofs.MethodBodies.{body_found}
 pub status_back : (st : Status) → status_from (plain_turn (turn_of st)) ≡ Some st
 status_back status.Running = refl
 status_back (status.Asking (requests.PutMessage t)) = refl
-status_back (status.Asking (requests.Acknowledge t)) = refl
-status_back (status.Asking (requests.Delay n t)) = refl
-status_back (status.Asking (requests.GetDevVarValue t v)) = refl
-status_back (status.Asking (requests.SelectFromList t u)) = refl
-status_back (status.Asking (requests.SendCommand n)) = refl
-status_back (status.Asking (requests.SendCommandTrans n t)) = refl
-status_back (status.Asking requests.SaveValues) = refl
+status_back (status.Asking _) = refl
 status_back status.Ended = refl
 status_back status.Aborted = refl
 status_back (status.Trapped trap.DivZero) = refl

@@ -3,8 +3,13 @@ use Rattle.std.specs.Prelude.{◌≡◌, ◌≢◌, ◌==◌, ℕ, ℤ, pos, if�
 use Rattle.edd_syntax.specs.declared.answer.Trap.{Trap}
 use Rattle.edd_syntax.specs.declared.answer.Trap.TheVariants as trap
 use Rattle.edd_syntax.specs.Answers.{Answer, Go, Abort, Change}
-use Rattle.edd_instructions.specs.declared.records.Request.{Request}
-use Rattle.edd_instructions.specs.declared.records.Request.TheVariants as requests
+use Rattle.edd_instructions.specs.declared.requests.Request.{Request}
+use Rattle.edd_instructions.specs.declared.requests.RequestArgument.{RequestArgument}
+use Rattle.edd_instructions.specs.declared.requests.RequestArgument.TheVariants as argument
+use Rattle.edd_instructions.specs.declared.requests.Wanted.{Wanted}
+use Rattle.edd_instructions.specs.declared.requests.Wanted.TheVariants as wanted
+use Rattle.edd_instructions.specs.Requests.{arguments_asked, kind_asked, numbers_in, wanted_by}
+use Rattle.edd_syntax.specs.Builtins.{request_number}
 use Rattle.edd_syntax.specs.declared.numbers.MethNo.{MethNo}
 use Rattle.edd_port.specs.declared.fault.PlayFault.TheVariants as play_fault
 use Rattle.edd_port.specs.Plays.{IsPlayFault, ending_shown, played}
@@ -48,16 +53,32 @@ bare tag = record {
   tag = tag;
 }
 
--- what a request is in C: a tag from 1 to 8, and in the fields of its sort what it has
+-- the first text
+abbrev pub first_text : List RequestArgument → ℕ
+first_text [] = no_string
+first_text (argument.Text t ∷ rest) = t.0
+first_text (_ ∷ rest) = first_text rest
+
+-- the choices among which one is wanted
+abbrev pub choices_wanted : Wanted → ℕ
+choices_wanted (wanted.Choice choices) = choices.0
+choices_wanted _ = no_string
+
+-- the variable for which a value is wanted
+abbrev pub variable_wanted : Wanted → ℕ
+variable_wanted (wanted.Value v) = v.0
+variable_wanted _ = 0
+
+-- what a request is in C: its tag, and what it has in the fields of its sort
 abbrev pub plain_request : Request → PlainRequest
-plain_request (requests.PutMessage t) = record (bare 1) { text = t.0 }
-plain_request (requests.Acknowledge t) = record (bare 2) { text = t.0 }
-plain_request (requests.Delay seconds t) = record (bare 3) { first = seconds; text = t.0 }
-plain_request (requests.GetDevVarValue t v) = record (bare 4) { text = t.0; variable = v.0 }
-plain_request (requests.SelectFromList t u) = record (bare 5) { text = t.0; choices = u.0 }
-plain_request (requests.SendCommand n) = record (bare 6) { first = n }
-plain_request (requests.SendCommandTrans n t) = record (bare 7) { first = n; second = t }
-plain_request requests.SaveValues = bare 8
+plain_request r = record {
+  first = (numbers_in r).0;
+  second = (numbers_in r).1;
+  text = first_text (arguments_asked r);
+  choices = choices_wanted (wanted_by r);
+  variable = variable_wanted (wanted_by r);
+  tag = request_number (kind_asked r);
+}
 
 -- ---- endings
 

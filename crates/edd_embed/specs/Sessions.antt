@@ -7,8 +7,11 @@ use Rattle.edd_syntax.specs.Answers.{Answer}
 use Rattle.edd_syntax.specs.declared.numbers.MethNo.{MethNo}
 use Rattle.edd_image.specs.Contents.{AttributeFields, contents_in}
 use Rattle.edd_image.specs.Front.{◌>>=◌}
-use Rattle.edd_instructions.specs.declared.records.Request.{Request}
-use Rattle.edd_instructions.specs.declared.records.Request.TheVariants as requests
+use Rattle.edd_instructions.specs.declared.requests.Request.{Request}
+use Rattle.edd_instructions.specs.Requests.{request_with}
+use Rattle.edd_syntax.specs.Builtins.{request_from_number}
+use Rattle.edd_syntax.specs.declared.operators.RequestKind.{RequestKind}
+use Rattle.edd_syntax.specs.declared.operators.RequestKind.TheVariants as kind
 use Rattle.edd_instructions.specs.declared.records.Status.{Status}
 use Rattle.edd_instructions.specs.declared.records.Status.TheVariants as status
 use Rattle.edd_instructions.specs.declared.unit.Sort.TheVariants.{Method}
@@ -48,21 +51,16 @@ trap_from n =
     if n == 213 then Some trap.NoElement else
     None
 
+-- the last that a request in C names: its choices, if it has some, or its variable
+abbrev pub last_name : RequestKind → PlainRequest → ℕ
+last_name kind.SelectFromList r = r.choices
+last_name _ r = r.variable
+
 -- the request that is this one in C, where the tag is that of a request; the fields that are not of
 -- its sort mean nothing
 abbrev pub request_from : PlainRequest → Option Request
-request_from r =
-    if r.tag == 1 then Some (requests.PutMessage (record { 0 = r.text })) else
-    if r.tag == 2 then Some (requests.Acknowledge (record { 0 = r.text })) else
-    if r.tag == 3 then Some (requests.Delay r.first (record { 0 = r.text })) else
-    if r.tag == 4 then Some (requests.GetDevVarValue (record { 0 = r.text })
-    (record { 0 = r.variable })) else
-    if r.tag == 5 then Some (requests.SelectFromList (record { 0 = r.text })
-    (record { 0 = r.choices })) else
-    if r.tag == 6 then Some (requests.SendCommand r.first) else
-    if r.tag == 7 then Some (requests.SendCommandTrans r.first r.second) else
-    if r.tag == 8 then Some requests.SaveValues else
-    None
+request_from r = option_map (λ kind. request_with kind r.text (last_name kind r) r.first r.second)
+    (request_from_number r.tag)
 
 -- The status that shows as this turn, where its numbers are known. The trap counts only where it
 -- trapped, and the request only where one is pending.

@@ -1,10 +1,10 @@
 //! Requests of a method as a program in C has them.
 
 ghost use Rattle.std.specs.Prelude.{◌≡◌, length, map, take};
-ghost use Rattle.edd_embed.specs.Playing.{bare, plain_request};
+ghost use Rattle.edd_embed.specs.Playing.{bare, choices_wanted, first_text, plain_request, variable_wanted};
 ghost use Rattle.edd_embed.specs.Records.{written_over};
 
-use edd_instructions::Request;
+use edd_instructions::{Request, RequestArgument, Wanted};
 
 // What stands where a request has no string.
 const NO_STRING: u16 = 65_535;
@@ -38,44 +38,48 @@ pub(crate) fn bare(tag: u8) -> PlainRequest
     }
 }
 
+// The number of the first text.
+fn first_text(arguments: &[RequestArgument]) -> u16
+    ensures { result ≡ first_text arguments.now }
+{
+    for argument in arguments {
+        if let RequestArgument::Text(text) = argument {
+            return text.0;
+        }
+    }
+    NO_STRING
+}
+
+fn choices_wanted(wanted: Wanted) -> u16
+    ensures { result ≡ choices_wanted wanted }
+{
+    match wanted {
+        Wanted::Choice(choices) => choices.0,
+        Wanted::Nothing | Wanted::Value(_) | Wanted::Code => NO_STRING,
+    }
+}
+
+fn variable_wanted(wanted: Wanted) -> u16
+    ensures { result ≡ variable_wanted wanted }
+{
+    match wanted {
+        Wanted::Value(variable) => variable.0,
+        Wanted::Nothing | Wanted::Choice(_) | Wanted::Code => 0,
+    }
+}
+
 /// What a request is in C.
 pub fn plain_request(request: Request) -> PlainRequest
     ensures { result ≡ plain_request request }
 {
-    match request {
-        Request::PutMessage(text) => PlainRequest {
-            text: text.0,
-            ..bare(1)
-        },
-        Request::Acknowledge(text) => PlainRequest {
-            text: text.0,
-            ..bare(2)
-        },
-        Request::Delay(seconds, text) => PlainRequest {
-            first: seconds,
-            text: text.0,
-            ..bare(3)
-        },
-        Request::GetDevVarValue(text, variable) => PlainRequest {
-            text: text.0,
-            variable: variable.0,
-            ..bare(4)
-        },
-        Request::SelectFromList(text, choices) => PlainRequest {
-            text: text.0,
-            choices: choices.0,
-            ..bare(5)
-        },
-        Request::SendCommand(number) => PlainRequest {
-            first: number,
-            ..bare(6)
-        },
-        Request::SendCommandTrans(number, transaction) => PlainRequest {
-            first: number,
-            second: transaction,
-            ..bare(7)
-        },
-        Request::SaveValues => bare(8),
+    let (first, second) = request.numbers();
+    PlainRequest {
+        first,
+        second,
+        text: first_text(request.arguments().as_slice()),
+        choices: choices_wanted(request.wanted()),
+        variable: variable_wanted(request.wanted()),
+        tag: request.kind().number(),
     }
 }
 

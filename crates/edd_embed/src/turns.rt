@@ -1,14 +1,14 @@
 //! Where a session is, as a program in C has it, and why an answer is not taken.
 
 ghost use Rattle.std.specs.Prelude.{◌≡◌};
-ghost use Rattle.edd_embed.specs.Sessions.{plain_turn, request_from, status_from, trap_from, turn_number, turn_request, turn_trap};
+ghost use Rattle.edd_embed.specs.Sessions.{last_name, plain_turn, request_from, status_from, trap_from, turn_number, turn_request, turn_trap};
 
 use crate::playing::trap_number;
 use crate::requests::{PlainRequest, bare, plain_request};
-use edd_instructions::{Request, Status};
+use edd_instructions::{Ask, Request, Status};
 use edd_port::{AnswerFault, Turn};
 use edd_syntax::answer::Trap;
-use edd_syntax::numbers::{StrNo, VarNo};
+use edd_syntax::operators::RequestKind;
 
 /// Where a session is, by the numbers of endings: 0 it came to its end, 1 it was aborted, 2 it
 /// trapped, 3 the request waits for its answer, 4 it goes on. `trap` is the number of the trap, or
@@ -83,22 +83,27 @@ pub(crate) fn trap_from(number: u16) -> Option<Trap>
     }
 }
 
+// The last that a request names: its choices, if it has some, or its variable.
+fn last_name(kind: RequestKind, request: PlainRequest) -> u16
+    ensures { result ≡ last_name kind request }
+{
+    match kind {
+        RequestKind::SelectFromList => request.choices,
+        _ => request.variable,
+    }
+}
+
 /// The request that is this one in C, if its tag is that of a request.
 pub(crate) fn request_from(request: PlainRequest) -> Option<Request>
     ensures { result ≡ request_from request }
 {
-    let text = StrNo(request.text);
-    match request.tag {
-        1 => Some(Request::PutMessage(text)),
-        2 => Some(Request::Acknowledge(text)),
-        3 => Some(Request::Delay(request.first, text)),
-        4 => Some(Request::GetDevVarValue(text, VarNo(request.variable))),
-        5 => Some(Request::SelectFromList(text, StrNo(request.choices))),
-        6 => Some(Request::SendCommand(request.first)),
-        7 => Some(Request::SendCommandTrans(request.first, request.second)),
-        8 => Some(Request::SaveValues),
-        _ => None,
-    }
+    let kind = RequestKind::from_number(request.tag)?;
+    let ask = Ask {
+        kind,
+        first: request.text,
+        second: last_name(kind, request),
+    };
+    Some(ask.request(request.first, request.second))
 }
 
 /// The status that shows as this turn, if its numbers are known.

@@ -9,29 +9,13 @@ use edd_lints::lint::Lint;
 use edd_lints::tokens_left::Mark;
 use edd_lints::warning::Findings;
 use edd_syntax::expr::{Argument, Expr};
-use edd_syntax::operators::Builtin;
+use edd_syntax::operators::{Builtin, RequestKind};
 use edd_syntax::reference::Target;
 use std::alloc::AllocError;
 
 /// Whether a call of the function is a request.
 pub fn asks(function: Builtin) -> bool {
-    match function {
-        Builtin::PutMessage
-        | Builtin::Acknowledge
-        | Builtin::Delay
-        | Builtin::GetDevVarValue
-        | Builtin::SelectFromList
-        | Builtin::SendCommand
-        | Builtin::SendCommandTrans
-        | Builtin::SaveValues => true,
-        Builtin::IvarValue
-        | Builtin::LvarValue
-        | Builtin::Iassign
-        | Builtin::Lassign
-        | Builtin::Abort
-        | Builtin::ProcessAbort
-        | Builtin::AddAbortMethod => false,
-    }
+    matches!(function, Builtin::Ask(_))
 }
 
 // The number that an argument is in a method, where that is known.
@@ -63,10 +47,10 @@ pub fn check_call(
 ) -> Result<(), AllocError> {
     match function {
         Builtin::Iassign | Builtin::Lassign => check_iassign(arguments, at, walk, findings),
-        Builtin::SendCommand | Builtin::SendCommandTrans => {
+        Builtin::Ask(RequestKind::SendCommand | RequestKind::SendCommandTrans) => {
             check_command(arguments, at, walk, findings)
         }
-        Builtin::GetDevVarValue => check_entered(arguments, at, walk, findings),
+        Builtin::Ask(RequestKind::GetDevVarValue) => check_entered(arguments, at, walk, findings),
         Builtin::Abort | Builtin::ProcessAbort => {
             walk.acts = true;
             Ok(())

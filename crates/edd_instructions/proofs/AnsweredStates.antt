@@ -5,7 +5,7 @@ use Rattle.std.specs.Prelude.{FitsSigned, IsTrue, slice_get, slice_set}
 use Rattle.std.specs.Int.{w32}
 use Rattle.edd_syntax.specs.DeviceValues.{VariableType, is_in_range, AreDeviceValues}
 use Rattle.edd_syntax.specs.Answers.{Change, Answer, Go, Abort, SetFault, sets_fault, IsValidAnswer, values_set}
-use Rattle.edd_instructions.specs.declared.records.Request.{Request}
+use Rattle.edd_instructions.specs.declared.requests.Request.{Request}
 use Rattle.edd_instructions.specs.declared.records.Status.{Status}
 use Rattle.edd_instructions.specs.declared.records.Status.TheVariants as status
 use Rattle.edd_instructions.specs.declared.unit.Context.{Context}

@@ -4,7 +4,7 @@ use Rattle.std.proofs.Common.{◌≡◌, refl, sym, subst, ◌∙◌, ℕ, zero,
 use Rattle.std.specs.Prelude.{unwrap_or, ⊤}
 use Rattle.std.specs.List.{AllByRecursion}
 use Rattle.edd_syntax.specs.Answers.{Answer, Go, Abort, SetFault, answer_fault, IsValidAnswer}
-use Rattle.edd_instructions.specs.declared.records.Request.{Request}
+use Rattle.edd_instructions.specs.declared.requests.Request.{Request}
 use Rattle.edd_instructions.specs.declared.records.Status.{Status}
 use Rattle.edd_instructions.specs.declared.records.Status.TheVariants as status
 use Rattle.edd_instructions.specs.declared.unit.Context.{Context}

@@ -14,7 +14,7 @@ use Rattle.edd_syntax.specs.MethodState as source
 use Rattle.edd_syntax.specs.MethodState.{Done, Stopped, and_then}
 use Rattle.edd_syntax.specs.Execution as run
 use Rattle.edd_syntax.specs.Execution.{Completion, Transcript, transcript, ended, execute_all, run_body, run_listed, after_body, body_of}
-use Rattle.edd_instructions.specs.declared.records.Request.{Request}
+use Rattle.edd_instructions.specs.declared.requests.Request.{Request}
 use Rattle.edd_instructions.specs.declared.records.Status.{Status}
 use Rattle.edd_instructions.specs.declared.records.Status.TheVariants as status
 use Rattle.edd_instructions.specs.Steps.{State, Environment, Effect, opening, step}

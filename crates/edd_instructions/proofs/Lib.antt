@@ -5,6 +5,7 @@ pub mod KnownInstructions
 pub mod LayoutValid
 pub mod Lengths
 pub mod Meetings
+pub mod Names
 pub mod NextStates
 pub mod Progress
 pub mod ReadIsSpelled

@@ -1,7 +1,7 @@
 -- What follows an abort makes no request, and changes no state that runs or asks.
 use Rattle.std.proofs.Common.{◌≡◌, refl, Bool, true, false, List, [], ◌∷◌, Option, Some, None}
 use Rattle.edd_syntax.specs.declared.numbers.MethNo.{MethNo}
-use Rattle.edd_instructions.specs.declared.records.Request.{Request}
+use Rattle.edd_instructions.specs.declared.requests.Request.{Request}
 use Rattle.edd_instructions.specs.declared.records.Status.{Status}
 use Rattle.edd_instructions.specs.declared.records.Status.TheVariants.{Running, Asking, Ended, Aborted, Trapped}
 use Rattle.edd_instructions.specs.Steps.{State}

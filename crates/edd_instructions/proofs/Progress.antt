@@ -10,18 +10,19 @@ use Rattle.edd_syntax.specs.declared.numbers.MethNo.{MethNo}
 use Rattle.edd_syntax.specs.AbortMethods.{listed}
 use Rattle.edd_syntax.specs.TwosComplement.{store, operate, is_zero}
 use Rattle.edd_syntax.specs.DeviceValues.{VariableType, type_at, value_at, AreDeviceValues}
-use Rattle.edd_instructions.specs.declared.records.Request.{Request}
+use Rattle.edd_instructions.specs.declared.requests.Request.{Request}
 use Rattle.edd_instructions.specs.declared.records.Status.{Status}
 use Rattle.edd_instructions.specs.declared.records.Status.TheVariants.{Running, Asking, Ended, Aborted, Trapped}
 use Rattle.edd_instructions.specs.declared.instruction.Ask.{Ask}
-use Rattle.edd_instructions.specs.declared.instruction.Ask.TheVariants as ask
+use Rattle.edd_syntax.specs.Builtins.{numbers_taken}
+use Rattle.edd_syntax.proofs.KnownByNumber.{few_numbers}
 use Rattle.edd_instructions.specs.declared.instruction.Instruction.{Instruction}
 use Rattle.edd_instructions.specs.declared.instruction.Instruction.TheVariants as instruction
 use Rattle.edd_instructions.specs.declared.unit.Sort.{Sort}
 use Rattle.edd_instructions.specs.declared.unit.Sort.TheVariants.{Attribute, Method}
 use Rattle.edd_instructions.specs.declared.unit.Way.{Way}
 use Rattle.edd_instructions.specs.Units.{takes, leaves, onward, jump}
-use Rattle.edd_instructions.specs.Steps.{State, Environment, Effect, Fits, width_of, go, give, ask_for, on_top, on_two, push_or_trap, act_ask, act}
+use Rattle.edd_instructions.specs.Steps.{State, Environment, Effect, Fits, width_of, go, give, ask_for, on_top, on_two, push_or_trap, ask_with, act_ask, act}
 use Rattle.edd_syntax.specs.Elements.{element_variable, element_value}
 use Rattle.edd_instructions.proofs.Widths.{value_fits, wrap_fits, compare_fits, minus_fits, not_fits, complement_fits, operate_fits, store_in_range}
 
@@ -216,13 +217,19 @@ module _ (env : Environment) (s : State) (running : s.status ≡ Running)
   request_acts : (request : Ask) (next : ℕ) → AllFit s.unit.sort s.operands
       → takes (instruction.Ask request) ≤ length s.operands
       → Acts env (instruction.Ask request) next s (act_ask request next s)
-  request_acts (ask.Delay t) next fit le = top_acts _ next s.operands _ fit le
-      (λ a below e fa fb. ask_acts _ next below _ refl (omega (arith, e)) fb)
-  request_acts ask.SendCommand next fit le = top_acts _ next s.operands _ fit le
-      (λ a below e fa fb. ask_acts _ next below _ refl (omega (arith, e)) fb)
-  request_acts ask.SendCommandTrans next fit le = two_act _ next s.operands _ fit le
-      (λ a b below e fa fb fc. ask_acts _ next below _ refl (omega (arith, e)) fc)
-  request_acts _ next fit le = ask_acts _ next s.operands _ refl (omega arith) fit
+  request_acts request next fit le =
+      by_count (numbers_taken request.kind) refl (few_numbers request.kind)
+    where
+      by_count : (n : ℕ) → numbers_taken request.kind ≡ n → n ≤ 2
+          → Acts env (instruction.Ask request) next s (ask_with n request next s)
+      by_count zero is few = ask_acts _ next s.operands _ refl (omega (arith, is)) fit
+      by_count (suc zero) is few = top_acts _ next s.operands _ fit
+          (omega (arith, le, is))
+          (λ a below e fa fb. ask_acts _ next below _ refl (omega (arith, e, is)) fb)
+      by_count (suc (suc zero)) is few = two_act _ next s.operands _ fit
+          (omega (arith, le, is))
+          (λ a b below e fa fb fc. ask_acts _ next below _ refl (omega (arith, e, is)) fc)
+      by_count (suc (suc (suc n))) is few = absurd (omega arith)
 
   -- an instruction that finds its operands has an effect
   pub instruction_acts : (i : Instruction) (next : ℕ) → AllFit s.unit.sort s.operands

@@ -12,12 +12,13 @@ use Rattle.edd_syntax.specs.declared.operators.Comparison.{Comparison}
 use Rattle.edd_syntax.specs.declared.operators.Comparison.TheVariants as comparison
 use Rattle.edd_syntax.specs.Numbers.{kind_number, kind_of, index_of}
 use Rattle.edd_instructions.specs.declared.instruction.Ask.{Ask}
-use Rattle.edd_instructions.specs.declared.instruction.Ask.TheVariants as ask
+use Rattle.edd_syntax.specs.Builtins.{names_taken, request_from_number}
+use Rattle.edd_syntax.proofs.KnownByNumber.{number_of_request}
 use Rattle.edd_instructions.specs.declared.instruction.Instruction.{Instruction}
 use Rattle.edd_instructions.specs.declared.instruction.Instruction.TheVariants as instruction
 use Rattle.edd_image.specs.Layout.{u16, u32}
 use Rattle.edd_image.specs.Front.{byte_from, number_from}
-use Rattle.edd_instructions.specs.Decoding.{signed_from, optional_string, item_from, basic_from, operator_of, comparison_of, unary_of, jump_from, entry_from, data_from, enumerator_from, response_from, member_from, element_from, record_from, ask_of, ask_from, abort_method_from, instruction_from, instruction_at, listed_item}
+use Rattle.edd_instructions.specs.Decoding.{unused_are_zero, signed_from, optional_string, item_from, basic_from, operator_of, comparison_of, unary_of, jump_from, entry_from, data_from, enumerator_from, response_from, member_from, element_from, record_from, ask_of, ask_from, abort_method_from, instruction_from, instruction_at, listed_item}
 use Rattle.edd_instructions.specs.Spelling.{AreBytes, i64, item_bytes, optional_number, optional_bytes, operator_code, comparison_code, ask_bytes, spelling, IsOptional, IsAsk, IsListed, IsSpelled}
 use Rattle.edd_instructions.proofs.Readings.{Gives, gives_none, gives_some, gives_choice, gives_then, gives_map, Begins, drop_bytes, byte_took, u16_took, u32_took, i64_took}
 
@@ -331,38 +332,11 @@ ask_is : (b s t : ℕ) → s < 2 ^ 16 → t < 2 ^ 16
 unfolding ask_of
 ask_is b s t sl tl =
     let P : Ask → Type 0 = λ a. IsAsk a × (ask_bytes a ≡ b ∷ (u16 s ++ u16 t)) in
-    gives_choice P (b == 5) _ _
-    (λ e. gives_some P (ask.SelectFromList (record { 0 = s }) (record { 0 = t }))
-    ((sl, tl), numbered 5 s t e)) (λ _.
-    gives_choice P (b == 4) _ _
-    (λ e. gives_some P (ask.GetDevVarValue (record { 0 = s }) (record { 0 = t }))
-    ((sl, tl), numbered 4 s t e)) (λ _.
-    gives_choice P (nat_lt 0 t) _ _ (λ _. gives_none P) (λ e0.
-    let t0 : t ≡ 0 = let le = ltb-false 0 t e0 in omega arith in
-    gives_choice P (b == 1) _ _ (λ e. gives_some P (ask.PutMessage (record { 0 = s }))
-    (sl, without_t 1 s e t0)) (λ _.
-    gives_choice P (b == 2) _ _ (λ e. gives_some P (ask.Acknowledge (record { 0 = s }))
-    (sl, without_t 2 s e t0)) (λ _.
-    gives_choice P (b == 3) _ _
-    (λ e. gives_some P (ask.Delay (record { 0 = s })) (sl, without_t 3 s e t0)) (λ _.
-    gives_choice P (nat_lt 0 s) _ _ (λ _. gives_none P) (λ e1.
-    let s0 : s ≡ 0 = let le = ltb-false 0 s e1 in omega arith in
-    gives_choice P (b == 6) _ _ (λ e. gives_some P ask.SendCommand (tt, without_both 6 e s0 t0))
-    (λ _.
-    gives_choice P (b == 7) _ _
-    (λ e. gives_some P ask.SendCommandTrans (tt, without_both 7 e s0 t0)) (λ _.
-    gives_choice P (b == 8) _ _ (λ e. gives_some P ask.SaveValues (tt, without_both 8 e s0 t0))
-    (λ _. gives_none P))))))))))
-  where
-    numbered : (c s' t' : ℕ) → (b == c) ≡ true → c ∷ (u16 s' ++ u16 t') ≡ b ∷ (u16 s' ++ u16 t')
-    numbered c s' t' e = ap (λ (n : ℕ). n ∷ (u16 s' ++ u16 t')) (sym (eqb-true b c e))
-
-    without_t : (c s' : ℕ) → (b == c) ≡ true → t ≡ 0 → c ∷ (u16 s' ++ u16 0) ≡ b ∷ (u16 s' ++ u16 t)
-    without_t c s' e z = numbered c s' 0 e ∙ ap (λ (n : ℕ). b ∷ (u16 s' ++ u16 n)) (sym z)
-
-    without_both : (c : ℕ) → (b == c) ≡ true → s ≡ 0 → t ≡ 0 → c ∷ (u16 0 ++ u16 0) ≡ b
-        ∷ (u16 s ++ u16 t)
-    without_both c e y z = without_t c 0 e z ∙ ap (λ (n : ℕ). b ∷ (u16 n ++ u16 t)) (sym y)
+    gives_then P (request_from_number b) _ (λ kind is.
+    gives_choice P (unused_are_zero (names_taken kind) s t) _ _
+    (λ e. gives_some P (record { kind = kind; first = s; second = t })
+    ((sl, tl, e), ap (λ (n : ℕ). n ∷ (u16 s ++ u16 t)) (number_of_request b kind is)))
+    (λ _. gives_none P))
 
 ask_says : (code : ℕ) (bytes : List ℕ) → AreBytes bytes → (code == 0x50) ≡ true
     → Gives (Says (code ∷ bytes)) (ask_from bytes)

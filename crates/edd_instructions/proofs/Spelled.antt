@@ -13,7 +13,7 @@ use Rattle.edd_syntax.specs.declared.operators.Operator.TheVariants as operator
 use Rattle.edd_syntax.specs.declared.operators.Comparison.{Comparison}
 use Rattle.edd_syntax.specs.declared.operators.Comparison.TheVariants as comparison
 use Rattle.edd_instructions.specs.declared.instruction.Ask.{Ask}
-use Rattle.edd_instructions.specs.declared.instruction.Ask.TheVariants as ask
+use Rattle.edd_syntax.proofs.KnownByNumber.{request_again}
 use Rattle.edd_instructions.specs.declared.instruction.Instruction.{Instruction}
 use Rattle.edd_instructions.specs.declared.instruction.Instruction.TheVariants as instruction
 use Rattle.edd_image.specs.Layout.{u16, u32}
@@ -76,18 +76,13 @@ entry_again item quals rest h lt =
 ask_again : (a : Ask) (rest : List ℕ) → IsAsk a → ask_from (ask_bytes a ++ rest)
     ≡ Some (instruction.Ask a, rest)
 unfolding ask_from byte_from ask_of
-ask_again (ask.PutMessage s) rest h =
-    rw (u16_again s.0 (u16 0 ++ rest) h, u16_again 0 rest (omega arith)) refl
-ask_again (ask.Acknowledge s) rest h =
-    rw (u16_again s.0 (u16 0 ++ rest) h, u16_again 0 rest (omega arith)) refl
-ask_again (ask.Delay s) rest h =
-    rw (u16_again s.0 (u16 0 ++ rest) h, u16_again 0 rest (omega arith)) refl
-ask_again (ask.GetDevVarValue s v) rest h =
-    rw (u16_again s.0 (u16 v.0 ++ rest) h.0, u16_again v.0 rest h.1) refl
-ask_again (ask.SelectFromList s t) rest h =
-    rw (u16_again s.0 (u16 t.0 ++ rest) h.0, u16_again t.0 rest h.1) refl
-ask_again _ rest h =
-    rw (u16_again 0 (u16 0 ++ rest) (omega arith), u16_again 0 rest (omega arith)) refl
+ask_again a rest h =
+    rw (
+      u16_again a.first (u16 a.second ++ rest) h.0,
+      u16_again a.second rest h.1,
+      request_again a.kind,
+      h.2,
+    ) refl
 
 operator_again : (op : Operator) (rest : List ℕ) → instruction_from (operator_code op ∷ rest)
     ≡ Some (instruction.Operate op, rest)

@@ -1,5 +1,5 @@
 -- A run that is aborting stays so, and so does what is left of its list.
-use Rattle.std.proofs.Common.{◌≡◌, refl, subst, ◌∙◌, ℕ, Bool, true, false, cond, ℤ, pos, negsuc, List, [], ◌∷◌, ◌++◌, length, Option, Some, None, Result, Ok, Err}
+use Rattle.std.proofs.Common.{◌≡◌, refl, subst, ◌∙◌, ℕ, zero, suc, Bool, true, false, cond, ℤ, pos, negsuc, List, [], ◌∷◌, ◌++◌, length, Option, Some, None, Result, Ok, Err}
 use Rattle.std.specs.Prelude.{nat_le}
 use Rattle.std.specs.Ordering.{int_eq}
 use Rattle.edd_syntax.specs.declared.answer.Trap as trap
@@ -10,12 +10,12 @@ use Rattle.edd_syntax.specs.Elements.{element_value}
 use Rattle.edd_instructions.specs.declared.records.Status.{Status}
 use Rattle.edd_instructions.specs.declared.records.Status.TheVariants.{Running}
 use Rattle.edd_instructions.specs.declared.instruction.Ask.{Ask}
-use Rattle.edd_instructions.specs.declared.instruction.Ask.TheVariants as ask
+use Rattle.edd_syntax.specs.Builtins.{numbers_taken}
 use Rattle.edd_instructions.specs.declared.instruction.Instruction.{Instruction}
 use Rattle.edd_instructions.specs.declared.instruction.Instruction.TheVariants as instruction
 use Rattle.edd_image.specs.Front.{◌>>=◌}
 use Rattle.edd_instructions.specs.Decoding.{instruction_at}
-use Rattle.edd_instructions.specs.Steps.{State, Environment, Effect, width_of, go, on_top, on_two, push_or_trap, act_ask, act, if_running, step}
+use Rattle.edd_instructions.specs.Steps.{State, Environment, Effect, width_of, go, on_top, on_two, push_or_trap, ask_with, act_ask, act, if_running, step}
 
 abbrev pub Kept : State → State → Type 0
 Kept s t = (t.is_aborting ≡ s.is_aborting)
@@ -73,10 +73,12 @@ module _ (s : State) where
       by_room false = same_list _ (refl, λ on. absurd (cc (is, on)))
 
   asked : (a : Ask) (next : ℕ) → Leaves s (act_ask a next s)
-  asked (ask.Delay t) next = top s.operands _ (λ a below. same_list _ (refl, λ on. refl))
-  asked ask.SendCommand next = top s.operands _ (λ a below. same_list _ (refl, λ on. refl))
-  asked ask.SendCommandTrans next = two s.operands _ (λ a b below. same_list _ (refl, λ on. refl))
-  asked _ next = same_list _ (refl, λ on. refl)
+  asked a next = by_count (numbers_taken a.kind)
+    where
+      by_count : (n : ℕ) → Leaves s (ask_with n a next s)
+      by_count zero = same_list _ (refl, λ on. refl)
+      by_count (suc zero) = top s.operands _ (λ x below. same_list _ (refl, λ on. refl))
+      by_count (suc (suc n)) = two s.operands _ (λ x y below. same_list _ (refl, λ on. refl))
 
   module _ (env : Environment) (next : ℕ) where
     acted : (i : Instruction) → Leaves s (act env i next s)

@@ -23,8 +23,9 @@ use Rattle.edd_syntax.specs.MethodState.{State, apply_sets, pure, ◌>>=◌, ◌
 use Rattle.edd_syntax.specs.Evaluation.{evaluate, call}
 use Rattle.edd_syntax.specs.Execution as run
 use Rattle.edd_syntax.specs.Execution.{Transcript, Completion, Normal, execute, execute_all, run_body, turns, next, next_turn}
-use Rattle.edd_instructions.specs.declared.records.Request.{Request}
-use Rattle.edd_instructions.specs.declared.records.Request.TheVariants as requests
+use Rattle.edd_syntax.specs.declared.operators.RequestKind.TheVariants as kind
+use Rattle.edd_instructions.specs.declared.requests.Request.{Request}
+use Rattle.edd_instructions.specs.declared.requests.Request.TheVariants as requests
 use Rattle.edd_instructions.specs.declared.records.Status.TheVariants as status
 use Rattle.edd_instructions.specs.declared.unit.Sort.TheVariants as sort
 use Rattle.edd_image.specs.Front.{byte_from, number_from}
@@ -68,6 +69,9 @@ after_turn values = slice_set (slice_set values 0 (one_more values)) 1 two
 
 abbrev says : Words
 says = words_of (Quoted (codes "a"))
+
+abbrev puts : source.Request
+puts = record { kind = kind.PutMessage; arguments = source.TextArgument says ∷ [] }
 
 abbrev st : List ℤ → List source.Request → List Change → List Answer → State
 st values requests changes answers =
@@ -131,25 +135,25 @@ module _ (n m : ℕ) (values : List ℤ) (asked : List source.Request) (changed 
   source_ends answers is = ap (λ b. branch b answers) is
 
   source_waits : is_done values ≡ false → loop_run (suc n) m (st values asked changed [])
-      ≡ run.transcript run.Waiting (st values (asked ++ source.PutMessage says ∷ []) changed [])
+      ≡ run.transcript run.Waiting (st values (asked ++ puts ∷ []) changed [])
   unfolding turns evaluate call execute
   source_waits is = ap (λ b. branch b []) is
 
   source_aborts : (rest : List Answer) → is_done values ≡ false
       → loop_run (suc n) m (st values asked changed (Abort ∷ rest))
-      ≡ run.transcript run.Aborted (st values (asked ++ source.PutMessage says ∷ []) changed rest)
+      ≡ run.transcript run.Aborted (st values (asked ++ puts ∷ []) changed rest)
   unfolding turns evaluate call execute run.run_listed
   source_aborts rest is = ap (λ b. branch b (Abort ∷ rest)) is
 
   source_asks : (code : ℤ) (sets : List Change) (rest : List Answer) → is_done values ≡ false
       → loop_run (suc n) m (st values asked changed (Go code sets ∷ rest))
       ≡ behind n m
-      (st (values_set values sets) (asked ++ source.PutMessage says ∷ []) (changed ++ sets) rest)
+      (st (values_set values sets) (asked ++ puts ∷ []) (changed ++ sets) rest)
   unfolding turns evaluate call execute
   source_asks code sets rest is =
       ap (λ b. branch b (Go code sets ∷ rest)) is
       ∙ ap (behind n m)
-      (sets_applied sets (st values (asked ++ source.PutMessage says ∷ []) changed rest))
+      (sets_applied sets (st values (asked ++ puts ∷ []) changed rest))
 
   source_stores : (answers : List Answer) → behind n m (st values asked changed answers)
       ≡ loop_run n m
@@ -284,9 +288,9 @@ module _ (string_numbered : StrNo → Option Words) (known : string_numbered (re
       (machine_run (suc k) (at (if b then 48 else 14) [] values) answers)) is
       ∙ ap (stepping 4) (machine_asks k values answers)
 
-  asked_once : SameRequests string_numbered (source.PutMessage says ∷ [])
+  asked_once : SameRequests string_numbered (puts ∷ [])
       (requests.PutMessage (record { 0 = 0 }) ∷ [])
-  asked_once = ((record { 0 = 0 }, refl, known), tt)
+  asked_once = ((refl, (known, tt)), tt)
 
   one_turn : (n m : ℕ) (values : List ℤ) (asked : List source.Request) (changed : List Change)
       (answers : List Answer) → AllByRecursion (IsValidAnswer env.types) answers
@@ -320,7 +324,7 @@ module _ (string_numbered : StrNo → Option Words) (known : string_numbered (re
       (still_waits follow (next_asks_nothing (start_in held)) env (asks values)
       (requests.PutMessage (record { 0 = 0 })) refl n))
       (record {
-        more = source.PutMessage says ∷ [];
+        more = puts ∷ [];
         requests = refl;
         same = asked_once;
         changes = sym (append-nil changed);
@@ -339,7 +343,7 @@ module _ (string_numbered : StrNo → Option Words) (known : string_numbered (re
       ∙ ap (preceded [] [])
       (stays follow (next_asks_nothing (start_in held)) env _ rest image.Aborted refl n)))
       (record {
-        more = source.PutMessage says ∷ [];
+        more = puts ∷ [];
         requests = refl;
         same = asked_once;
         changes = sym (append-nil changed);
@@ -350,7 +354,7 @@ module _ (string_numbered : StrNo → Option Words) (known : string_numbered (re
       })
   one_turn n m values asked changed (Go code sets ∷ rest) valid more false is =
       let values' = values_set values sets in
-      let h = more (after_turn values') (asked ++ source.PutMessage says ∷ [])
+      let h = more (after_turn values') (asked ++ puts ∷ [])
       (((changed ++ sets) ++ record { variable = x; value = one_more values' } ∷ [])
       ++ record { variable = y; value = two } ∷ []) rest valid.1 in
       let k = suc (suc (suc (suc (suc (suc (suc (suc (suc (suc h.0))))))))) in
@@ -358,7 +362,7 @@ module _ (string_numbered : StrNo → Option Words) (known : string_numbered (re
       goes (suc n) m asked changed (suc (suc (suc (suc (suc k))))) values (Go code sets ∷ rest) _ _
       (omega (arith, h.1))
       (source_asks n m values asked changed code sets rest is
-      ∙ source_stores n m values' (asked ++ source.PutMessage says ∷ []) (changed ++ sets) rest)
+      ∙ source_stores n m values' (asked ++ puts ∷ []) (changed ++ sets) rest)
       (to_request k values (Go code sets ∷ rest) is
       ∙ ap (λ (o : Outcome). stepping 4 (ask_step o))
       (answer_met follow (next_asks_nothing (start_in held)) env (asks values)
@@ -366,9 +370,9 @@ module _ (string_numbered : StrNo → Option Words) (known : string_numbered (re
       ∙ ap (λ (o' : Outcome). stepping 4 (ask_step (preceded [] sets o')))
       (machine_stores h.0 values' rest code))
       (record {
-        more = source.PutMessage says ∷ h.2.more;
-        requests = h.2.requests ∙ one_behind asked (source.PutMessage says) h.2.more;
-        same = ((record { 0 = 0 }, refl, known), h.2.same);
+        more = puts ∷ h.2.more;
+        requests = h.2.requests ∙ one_behind asked puts h.2.more;
+        same = ((refl, (known, tt)), h.2.same);
         changes = h.2.changes
             ∙ one_behind
             ((changed ++ sets) ++ record { variable = x; value = one_more values' } ∷ [])
@@ -515,7 +519,7 @@ one_answer = Go (pos 0) [] ∷ []
 
 abbrev put : Transcript
 put = record {
-  requests = source.PutMessage says ∷ [];
+  requests = puts ∷ [];
   changes = record { variable = x; value = pos 1 } ∷ record { variable = y; value = pos 2 } ∷ [];
   values = pos 1 ∷ pos 2 ∷ [];
   abort_methods = [];

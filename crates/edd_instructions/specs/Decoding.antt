@@ -1,5 +1,5 @@
 -- The instruction whose bytes are at a place of a unit.
-use Rattle.std.specs.Prelude.{ℕ, ℤ, ◌-◌, ◌==◌, List, [], ◌∷◌, length, take, drop, Option, Some, None, option_map, nat_lt, if◌then◌else◌}
+use Rattle.std.specs.Prelude.{ℕ, zero, suc, ℤ, ◌-◌, ◌==◌, Bool, true, ◌&&◌, List, [], ◌∷◌, length, take, drop, Option, Some, None, option_map, nat_lt, if◌then◌else◌}
 use Rattle.std.specs.Int.{Width, w16, w32, w64, byte_len, from_be_bytes, cast_signed}
 use Rattle.edd_syntax.specs.declared.numbers.VarNo.{VarNo}
 use Rattle.edd_syntax.specs.declared.numbers.ArrNo.{ArrNo}
@@ -7,6 +7,7 @@ use Rattle.edd_syntax.specs.declared.numbers.MethNo.{MethNo}
 use Rattle.edd_syntax.specs.declared.numbers.StrNo.{StrNo}
 use Rattle.edd_syntax.specs.declared.numbers.ItemNo.{ItemNo}
 use Rattle.edd_syntax.specs.declared.numbers.Kind.TheVariants.{Array}
+use Rattle.edd_syntax.specs.Builtins.{names_taken, request_from_number}
 use Rattle.edd_syntax.specs.Numbers.{kind_number, item_from_numbers}
 use Rattle.edd_syntax.specs.declared.operators.Operator.{Operator}
 use Rattle.edd_syntax.specs.declared.operators.Operator.TheVariants as operator
@@ -14,7 +15,6 @@ use Rattle.edd_syntax.specs.declared.operators.Comparison.{Comparison}
 use Rattle.edd_syntax.specs.declared.operators.Comparison.TheVariants as comparison
 use Rattle.edd_image.specs.Front.{◌>>=◌, byte_from, number_from}
 use Rattle.edd_instructions.specs.declared.instruction.Ask.{Ask}
-use Rattle.edd_instructions.specs.declared.instruction.Ask.TheVariants as ask
 use Rattle.edd_instructions.specs.declared.instruction.Instruction.{Instruction}
 use Rattle.edd_instructions.specs.declared.instruction.Instruction.TheVariants as instruction
 
@@ -195,20 +195,21 @@ record_from code bytes =
     if code == 0x48 then element_from bytes else
     None
 
--- a request by its number, with the operands s and t, which are 0 where they are not used
+-- of two operands, those that name nothing are 0
+abbrev pub unused_are_zero : (names : ℕ) → (s t : ℕ) → Bool
+unused_are_zero zero s t = s == 0 && t == 0
+unused_are_zero (suc zero) s t = t == 0
+unused_are_zero (suc (suc n)) s t = true
+
+-- a request by its number, with the operands s and t, which are 0 where they name nothing
 unfoldable pub ask_of : ℕ → ℕ → ℕ → Option Ask
-ask_of b s t =
-    if b == 5 then Some (ask.SelectFromList (string s) (string t)) else
-    if b == 4 then Some (ask.GetDevVarValue (string s) (variable t)) else
-    if nat_lt 0 t then None else
-    if b == 1 then Some (ask.PutMessage (string s)) else
-    if b == 2 then Some (ask.Acknowledge (string s)) else
-    if b == 3 then Some (ask.Delay (string s)) else
-    if nat_lt 0 s then None else
-    if b == 6 then Some ask.SendCommand else
-    if b == 7 then Some ask.SendCommandTrans else
-    if b == 8 then Some ask.SaveValues else
-    None
+ask_of b s t = do
+  kind ← request_from_number b
+  if unused_are_zero (names_taken kind) s t then Some (record {
+    kind = kind;
+    first = s;
+    second = t;
+  }) else None
 
 -- a request: its number and its two operands
 unfoldable pub ask_from : List ℕ → Option (Instruction × List ℕ)

@@ -5,6 +5,7 @@ pub mod AbortMethods
 pub mod MethodAgreement
 pub mod Reading
 pub mod References
+pub mod Requests
 pub mod Spelling
 pub mod Steps
 pub mod Units

@@ -14,8 +14,9 @@ use Rattle.edd_syntax.specs.Device.{environment}
 use Rattle.edd_syntax.specs.MethodState as source
 use Rattle.edd_syntax.specs.Execution as run
 use Rattle.edd_syntax.specs.Execution.{Transcript, body_of}
-use Rattle.edd_instructions.specs.declared.records.Request.{Request}
-use Rattle.edd_instructions.specs.declared.records.Request.TheVariants as requests
+use Rattle.edd_instructions.specs.declared.requests.Request.{Request}
+use Rattle.edd_instructions.specs.declared.requests.RequestArgument.{RequestArgument}
+use Rattle.edd_instructions.specs.declared.requests.RequestArgument.TheVariants as argument
 use Rattle.edd_instructions.specs.declared.records.Status.TheVariants.{Running}
 use Rattle.edd_instructions.specs.declared.unit.Context.{Context}
 use Rattle.edd_instructions.specs.declared.unit.Sort.TheVariants as sort
@@ -24,6 +25,7 @@ use Rattle.edd_image.specs.Contents.{AttributeFields, Contents}
 use Rattle.edd_image.specs.Existing.{item_exists}
 use Rattle.edd_instructions.specs.Reading as image
 use Rattle.edd_instructions.specs.Reading.{environment_of, opening_of}
+use Rattle.edd_instructions.specs.Requests.{arguments_asked, kind_asked}
 use Rattle.edd_instructions.specs.Steps.{RunningUnit, State}
 use Rattle.edd_instructions.specs.AbortMethods.{Start, start_in, execute_in}
 use Rattle.edd_instructions.specs.Execution.{Ending, Ended, Aborted, Trapped, Waiting, OutOfSteps, Outcome, preceded, execute}
@@ -40,23 +42,23 @@ ending_of run.Waiting = Waiting
 ending_of run.OutOfTurns = OutOfSteps
 
 module _ (string_numbered : StrNo → Option Words) where
-  -- the image's request asks the same as the source's, its texts by number
+  -- the argument says the same as the source's, its text by number
+  abbrev pub SameArgument : source.RequestArgument → RequestArgument → Type 0
+  SameArgument (source.TextArgument text) (argument.Text n) = IsString string_numbered text n
+  SameArgument (source.NumberArgument number) (argument.Number n) = n ≡ number
+  SameArgument (source.VariableArgument variable) (argument.Variable v) = v ≡ variable
+  SameArgument _ _ = ⊥
+
+  -- There are as many arguments on both sides, and each says the same as its counterpart.
+  abbrev pub SameArguments : List source.RequestArgument → List RequestArgument → Type 0
+  SameArguments [] [] = ⊤
+  SameArguments [] (r ∷ rs) = ⊥
+  SameArguments (x ∷ xs) [] = ⊥
+  SameArguments (x ∷ xs) (r ∷ rs) = SameArgument x r × SameArguments xs rs
+
+  -- the image's request is of the same kind and has the same arguments
   abbrev pub SameRequest : source.Request → Request → Type 0
-  SameRequest (source.PutMessage text) r = (n : StrNo) × (r ≡ requests.PutMessage n)
-      × IsString string_numbered text n
-  SameRequest (source.Acknowledge text) r = (n : StrNo) × (r ≡ requests.Acknowledge n)
-      × IsString string_numbered text n
-  SameRequest (source.Delay seconds text) r = (n : StrNo) × (r ≡ requests.Delay seconds n)
-      × IsString string_numbered text n
-  SameRequest (source.GetDevVarValue text variable) r = (n : StrNo)
-      × (r ≡ requests.GetDevVarValue n variable) × IsString string_numbered text n
-  SameRequest (source.SelectFromList text choices) r =
-      (n c : StrNo) × (r ≡ requests.SelectFromList n c) × IsString string_numbered text n
-      × IsString string_numbered choices c
-  SameRequest (source.SendCommand number) r = r ≡ requests.SendCommand number
-  SameRequest (source.SendCommandTrans number transaction) r = r ≡ requests.SendCommandTrans number
-      transaction
-  SameRequest source.SaveValues r = r ≡ requests.SaveValues
+  SameRequest x r = (kind_asked r ≡ x.kind) × SameArguments x.arguments (arguments_asked r)
 
   -- There are as many requests on both sides, and each asks the same as its counterpart.
   abbrev pub SameRequests : List source.Request → List Request → Type 0

@@ -1,23 +1,28 @@
 -- What an instruction names, and whether it exists.
-use Rattle.std.specs.Prelude.{Bool, true, ◌&&◌, nat_lt}
+use Rattle.std.specs.Prelude.{ℕ, List, [], ◌∷◌, Bool, true, ◌&&◌, nat_lt}
+use Rattle.edd_syntax.specs.Builtins.{request_parameters}
+use Rattle.edd_syntax.specs.declared.operators.Parameter.{Parameter}
+use Rattle.edd_syntax.specs.declared.operators.Parameter.TheVariants as parameter
 use Rattle.edd_instructions.specs.declared.instruction.Ask.{Ask}
-use Rattle.edd_instructions.specs.declared.instruction.Ask.TheVariants as ask
 use Rattle.edd_instructions.specs.declared.instruction.Instruction.{Instruction}
 use Rattle.edd_instructions.specs.declared.instruction.Instruction.TheVariants as instruction
 use Rattle.edd_image.specs.declared.parts.Counts.{Counts}
 use Rattle.edd_image.specs.Existing.{string_exists, optional_string_exists, variable_exists, array_exists, method_exists, item_exists}
 use Rattle.edd_instructions.specs.declared.unit.Context.{Context}
+use Rattle.edd_instructions.specs.Decoding.{string, variable}
+
+-- what the operands s and t name, one after the other, exists
+abbrev pub named_exist : Counts → List Parameter → (s t : ℕ) → Bool
+named_exist counts [] s t = true
+named_exist counts (parameter.Text ∷ more) s t = string_exists counts (string s)
+    && named_exist counts more t 0
+named_exist counts (parameter.DeviceVariable ∷ more) s t = variable_exists counts (variable s)
+    && named_exist counts more t 0
+named_exist counts (_ ∷ more) s t = named_exist counts more s t
 
 -- the strings and the variable that a request names exist
 abbrev pub request_exists : Counts → Ask → Bool
-request_exists counts (ask.PutMessage s) = string_exists counts s
-request_exists counts (ask.Acknowledge s) = string_exists counts s
-request_exists counts (ask.Delay s) = string_exists counts s
-request_exists counts (ask.GetDevVarValue s v) = string_exists counts s && variable_exists counts v
-request_exists counts (ask.SelectFromList s t) = string_exists counts s && string_exists counts t
-request_exists counts ask.SendCommand = true
-request_exists counts ask.SendCommandTrans = true
-request_exists counts ask.SaveValues = true
+request_exists counts a = named_exist counts (request_parameters a.kind) a.first a.second
 
 -- the strings, variables, arrays and items that it names, and the slot
 abbrev pub names_exist : Context → Instruction → Bool

@@ -1,5 +1,5 @@
 -- The bytes of an instruction: its code and its operands.
-use Rattle.std.specs.Prelude.{ℕ, ◌<◌, ◌^◌, ℤ, List, [], ◌∷◌, ◌++◌, Option, Some, None, IfSome, ⊤, FitsSigned, slice_index}
+use Rattle.std.specs.Prelude.{◌≡◌, true, ℕ, ◌<◌, ◌^◌, ℤ, List, [], ◌∷◌, ◌++◌, Option, Some, None, IfSome, ⊤, FitsSigned, slice_index}
 use Rattle.std.specs.Int.{w64, to_be_bytes, cast_unsigned}
 use Rattle.edd_syntax.specs.declared.numbers.StrNo.{StrNo}
 use Rattle.edd_syntax.specs.declared.numbers.ItemNo.{ItemNo}
@@ -8,14 +8,15 @@ use Rattle.edd_syntax.specs.declared.operators.Operator.{Operator}
 use Rattle.edd_syntax.specs.declared.operators.Operator.TheVariants as operator
 use Rattle.edd_syntax.specs.declared.operators.Comparison.{Comparison}
 use Rattle.edd_syntax.specs.declared.operators.Comparison.TheVariants as comparison
+use Rattle.edd_syntax.specs.Builtins.{names_taken, request_number}
 use Rattle.edd_syntax.specs.Numbers.{kind_number, kind_of, index_of}
 use Rattle.edd_instructions.specs.declared.instruction.Ask.{Ask}
-use Rattle.edd_instructions.specs.declared.instruction.Ask.TheVariants as ask
 use Rattle.edd_instructions.specs.declared.instruction.Instruction.{Instruction}
 use Rattle.edd_instructions.specs.declared.instruction.Instruction.TheVariants as instruction
 use Rattle.edd_instructions.specs.declared.instruction.Jump.{Jump}
 use Rattle.edd_instructions.specs.declared.instruction.Jump.TheVariants as jump
 use Rattle.edd_image.specs.Layout.{u16, u32}
+use Rattle.edd_instructions.specs.Decoding.{unused_are_zero}
 
 -- the eight bytes of a signed number, in two's complement
 abbrev pub i64 : ℤ → List ℕ
@@ -56,16 +57,9 @@ comparison_code comparison.LessOrEqual = 0x1d
 comparison_code comparison.Greater = 0x1e
 comparison_code comparison.GreaterOrEqual = 0x1f
 
--- the number of a request, and its two operands, which are 0 where they are not used
+-- the number of a request, and its two operands
 abbrev pub ask_bytes : Ask → List ℕ
-ask_bytes (ask.PutMessage s) = 1 ∷ (u16 s.0 ++ u16 0)
-ask_bytes (ask.Acknowledge s) = 2 ∷ (u16 s.0 ++ u16 0)
-ask_bytes (ask.Delay s) = 3 ∷ (u16 s.0 ++ u16 0)
-ask_bytes (ask.GetDevVarValue s v) = 4 ∷ (u16 s.0 ++ u16 v.0)
-ask_bytes (ask.SelectFromList s t) = 5 ∷ (u16 s.0 ++ u16 t.0)
-ask_bytes ask.SendCommand = 6 ∷ (u16 0 ++ u16 0)
-ask_bytes ask.SendCommandTrans = 7 ∷ (u16 0 ++ u16 0)
-ask_bytes ask.SaveValues = 8 ∷ (u16 0 ++ u16 0)
+ask_bytes a = request_number a.kind ∷ (u16 a.first ++ u16 a.second)
 
 -- the code of an instruction, then its operands
 abbrev pub spelling : Instruction → List ℕ
@@ -123,16 +117,10 @@ head_length (jump.IfLabel label) = 9
 abbrev pub IsOptional : Option StrNo → Type 0
 IsOptional o = IfSome o (λ s. s.0 < 0xffff)
 
--- Each number that the request names fits its two bytes.
+-- Each number that the request names fits its two bytes, and is 0 where it names nothing.
 abbrev pub IsAsk : Ask → Type 0
-IsAsk (ask.PutMessage s) = s.0 < 2 ^ 16
-IsAsk (ask.Acknowledge s) = s.0 < 2 ^ 16
-IsAsk (ask.Delay s) = s.0 < 2 ^ 16
-IsAsk (ask.GetDevVarValue s v) = (s.0 < 2 ^ 16) × (v.0 < 2 ^ 16)
-IsAsk (ask.SelectFromList s t) = (s.0 < 2 ^ 16) × (t.0 < 2 ^ 16)
-IsAsk ask.SendCommand = ⊤
-IsAsk ask.SendCommandTrans = ⊤
-IsAsk ask.SaveValues = ⊤
+IsAsk a = (a.first < 2 ^ 16) × (a.second < 2 ^ 16)
+    × (unused_are_zero (names_taken a.kind) a.first a.second ≡ true)
 
 -- an item that an entry or a member may name; an array is neither
 abbrev pub IsListed : ItemNo → Type 0

@@ -1,5 +1,5 @@
 -- One step of the machine: the effect of the instruction at its place.
-use Rattle.std.specs.Prelude.{◌≡◌, ℕ, suc, ℤ, pos, negsuc, Bool, false, List, [], ◌∷◌, length, Option, Some, None, Result, Ok, Err, if◌then◌else◌, ⊤, IsTrue, FitsSigned, replicate, slice_index_or, slice_set}
+use Rattle.std.specs.Prelude.{◌≡◌, ℕ, zero, suc, ℤ, pos, negsuc, Bool, false, List, [], ◌∷◌, length, Option, Some, None, Result, Ok, Err, if◌then◌else◌, ⊤, IsTrue, FitsSigned, replicate, slice_index_or, slice_set}
 use Rattle.std.specs.Int.{w32, w64}
 use Rattle.std.specs.List.{AllByRecursion}
 use Rattle.std.specs.Ordering.{int_eq}
@@ -8,20 +8,19 @@ use Rattle.edd_syntax.specs.declared.numbers.Element.{Element}
 use Rattle.edd_syntax.specs.declared.operators.UnaryOperator.TheVariants as unary_operator
 use Rattle.edd_syntax.specs.declared.numbers.MethNo.{MethNo}
 use Rattle.edd_syntax.specs.AbortMethods.{listed}
+use Rattle.edd_syntax.specs.Builtins.{numbers_taken}
 use Rattle.edd_syntax.specs.Elements.{element_value}
 use Rattle.edd_syntax.specs.TwosComplement.{wrap, store, operate, compare, apply, is_zero}
 use Rattle.edd_syntax.specs.DeviceValues.{VariableType, type_at, value_at, AreDeviceValues}
 use Rattle.edd_syntax.specs.Answers.{Change}
 use Rattle.edd_instructions.specs.declared.records.Record.{Record}
 use Rattle.edd_instructions.specs.declared.records.Record.TheVariants as records
-use Rattle.edd_instructions.specs.declared.records.Request.{Request}
-use Rattle.edd_instructions.specs.declared.records.Request.TheVariants as request
+use Rattle.edd_instructions.specs.declared.requests.Request.{Request}
 use Rattle.edd_instructions.specs.declared.records.Status.{Status}
 use Rattle.edd_instructions.specs.declared.records.Status.TheVariants.{Running, Asking, Ended, Aborted, Trapped}
 use Rattle.edd_instructions.specs.declared.records.Emitted.{Emitted}
 use Rattle.edd_instructions.specs.declared.records.Emitted.TheVariants as emitted
 use Rattle.edd_instructions.specs.declared.instruction.Ask.{Ask}
-use Rattle.edd_instructions.specs.declared.instruction.Ask.TheVariants as ask
 use Rattle.edd_instructions.specs.declared.instruction.Instruction.{Instruction}
 use Rattle.edd_instructions.specs.declared.instruction.Instruction.TheVariants as instruction
 use Rattle.edd_instructions.specs.declared.unit.Sort.{Sort}
@@ -29,6 +28,7 @@ use Rattle.edd_instructions.specs.declared.unit.Sort.TheVariants.{Attribute, Met
 use Rattle.edd_instructions.specs.declared.unit.Context.{Context}
 use Rattle.edd_image.specs.Front.{◌>>=◌}
 use Rattle.edd_instructions.specs.Decoding.{instruction_at}
+use Rattle.edd_instructions.specs.Requests.{request_of}
 use Rattle.edd_instructions.specs.Units.{instructions, is_start, AreDepths}
 
 -- ---- states
@@ -141,19 +141,17 @@ store_in env s next below kept change = Some (record {
 
 -- ---- instructions
 
--- the effect of a request: it takes its numbers off the operands, if they are there, and waits
+-- the effect of a request that takes so many numbers off the operands, if they are there: it waits
+abbrev pub ask_with : (numbers : ℕ) → Ask → ℕ → State → Option Effect
+ask_with zero a next s = ask_for s next s.operands (request_of a (pos 0) (pos 0))
+ask_with (suc zero) a next s =
+    on_top s.operands (λ x below. ask_for s next below (request_of a x (pos 0)))
+ask_with (suc (suc n)) a next s =
+    on_two s.operands (λ x y below. ask_for s next below (request_of a x y))
+
+-- the effect of a request; none takes more than two numbers
 abbrev pub act_ask : Ask → ℕ → State → Option Effect
-act_ask (ask.PutMessage t) next s = ask_for s next s.operands (request.PutMessage t)
-act_ask (ask.Acknowledge t) next s = ask_for s next s.operands (request.Acknowledge t)
-act_ask (ask.Delay t) next s =
-    on_top s.operands (λ a below. ask_for s next below (request.Delay a t))
-act_ask (ask.GetDevVarValue t v) next s = ask_for s next s.operands (request.GetDevVarValue t v)
-act_ask (ask.SelectFromList t u) next s = ask_for s next s.operands (request.SelectFromList t u)
-act_ask ask.SendCommand next s =
-    on_top s.operands (λ a below. ask_for s next below (request.SendCommand a))
-act_ask ask.SendCommandTrans next s =
-    on_two s.operands (λ a b below. ask_for s next below (request.SendCommandTrans a b))
-act_ask ask.SaveValues next s = ask_for s next s.operands request.SaveValues
+act_ask a next s = ask_with (numbers_taken a.kind) a next s
 
 -- The effect of an instruction, after which the place `next` lies, where it finds the operands
 -- that it needs.

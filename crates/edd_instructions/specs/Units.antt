@@ -3,7 +3,7 @@ use Rattle.std.specs.Prelude.{◌≡◌, ℕ, zero, suc, ◌+◌, ◌-◌, ◌<�
 use Rattle.std.specs.List.{AllByRecursion, list_all, list_any}
 use Rattle.std.specs.Option.{option_to_list, option_map_or}
 use Rattle.edd_instructions.specs.declared.instruction.Ask.{Ask}
-use Rattle.edd_instructions.specs.declared.instruction.Ask.TheVariants as ask
+use Rattle.edd_syntax.specs.Builtins.{numbers_taken}
 use Rattle.edd_instructions.specs.declared.instruction.Instruction.{Instruction}
 use Rattle.edd_instructions.specs.declared.instruction.Instruction.TheVariants as instruction
 use Rattle.edd_image.specs.declared.versions.Version.{Version}
@@ -50,10 +50,7 @@ end_of place (x ∷ xs) = end_of x.next xs
 
 -- how many numbers a request has
 abbrev pub numbers_asked : Ask → ℕ
-numbers_asked (ask.Delay s) = 1
-numbers_asked ask.SendCommand = 1
-numbers_asked ask.SendCommandTrans = 2
-numbers_asked _ = 0
+numbers_asked a = numbers_taken a.kind
 
 -- how many operands it takes off the stack, or reads there
 abbrev pub takes : Instruction → ℕ

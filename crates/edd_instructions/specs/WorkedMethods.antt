@@ -5,6 +5,7 @@ use Rattle.edd_syntax.specs.declared.numbers.VarNo.{VarNo}
 use Rattle.edd_syntax.specs.declared.numbers.ItemNo.TheVariants as items
 use Rattle.edd_syntax.specs.declared.numbers.Attr.TheVariants as attr
 use Rattle.edd_syntax.specs.declared.operators.Builtin.TheVariants as builtin
+use Rattle.edd_syntax.specs.declared.operators.RequestKind.TheVariants as kind
 use Rattle.edd_syntax.specs.declared.operators.Comparison.TheVariants.{Less}
 use Rattle.edd_syntax.specs.declared.operators.Operator.TheVariants.{Add}
 use Rattle.edd_syntax.specs.declared.reference.Target.{Target}
@@ -59,7 +60,7 @@ test = Compare Less (Reference (variable x)) (Literal 1)
 
 -- `PUT_MESSAGE("a")`
 abbrev pub message : Expr Target
-message = Call (target.Function builtin.PutMessage)
+message = Call (target.Function (builtin.Ask kind.PutMessage))
     (arguments_from (Text (Quoted (codes "a")) ∷ []))
 
 -- `x = x + 1`

@@ -4,11 +4,11 @@ ghost use Rattle.std.specs.Prelude.{◌≡◌, ◌-◌, ◌<◌, ◌≤◌, ◌�
 ghost use Rattle.edd_instructions.specs.declared.instruction.Instruction.TheVariants as instructions;
 ghost use Rattle.std.specs.Int.{w16, w32, w64};
 ghost use Rattle.edd_image.specs.Front.{byte_from, number_from};
-ghost use Rattle.edd_instructions.specs.Decoding.{signed_from, basic_from, jump_from, item_from, optional_string, entry_from, data_from, enumerator_from, response_from, member_from, element_from, record_from, ask_of, ask_from, abort_method_from, instruction_from, instruction_at};
+ghost use Rattle.edd_instructions.specs.Decoding.{signed_from, basic_from, jump_from, item_from, optional_string, entry_from, data_from, enumerator_from, response_from, member_from, element_from, record_from, unused_are_zero, ask_of, ask_from, abort_method_from, instruction_from, instruction_at};
 
 use crate::instruction::{Ask, Instruction};
 use edd_syntax::numbers::{ArrNo, ItemNo, Kind, MethNo, StrNo, VarNo};
-use edd_syntax::operators::{Comparison, Operator};
+use edd_syntax::operators::{Comparison, Operator, RequestKind};
 
 #[inline(always)]
 #[tactic(auto, unfolding(edd_image::specs::Front::byte_from))]
@@ -331,24 +331,31 @@ fn data_const_from(bytes: &[u8]) -> Option<(Instruction, &[u8])>
     Some((Instruction::DataConst(constant), rest))
 }
 
-#[inline(always)]
-#[tactic(auto, unfolding(crate::specs::Decoding::ask_of))]
-fn ask_of(number: u8, s: u16, t: u16) -> Option<Ask>
-    ensures { result ≡ ask_of number s t }
+// Of two operands, those that name nothing are 0.
+#[tactic(auto, using(crate::proofs::Names::by_names))]
+fn unused_are_zero(names: u8, first: u16, second: u16) -> bool
+    ensures { result ≡ unused_are_zero names first second }
 {
-    match number {
-        5 => Some(Ask::SelectFromList(StrNo(s), StrNo(t))),
-        4 => Some(Ask::GetDevVarValue(StrNo(s), VarNo(t))),
-        _ if t > 0 => None,
-        1 => Some(Ask::PutMessage(StrNo(s))),
-        2 => Some(Ask::Acknowledge(StrNo(s))),
-        3 => Some(Ask::Delay(StrNo(s))),
-        _ if s > 0 => None,
-        6 => Some(Ask::SendCommand),
-        7 => Some(Ask::SendCommandTrans),
-        8 => Some(Ask::SaveValues),
-        _ => None,
+    match names {
+        0 => first == 0 && second == 0,
+        1 => second == 0,
+        _ => true,
     }
+}
+
+#[tactic(auto, unfolding(crate::specs::Decoding::ask_of))]
+fn ask_of(number: u8, first: u16, second: u16) -> Option<Ask>
+    ensures { result ≡ ask_of number first second }
+{
+    let kind = RequestKind::from_number(number)?;
+    if unused_are_zero(kind.names_taken(), first, second) {
+        return Some(Ask {
+            kind,
+            first,
+            second,
+        });
+    }
+    None
 }
 
 // A function of its own, since otherwise no instruction would be decoded inline.
@@ -359,9 +366,9 @@ fn ask_from(bytes: &[u8]) -> Option<(Instruction, &[u8])>
     ensures left { IfSome result (λ x. length x.1.now ≤ length bytes.now) }
 {
     let (number, rest) = byte_from(bytes)?;
-    let (s, rest) = u16_from(rest)?;
-    let (t, rest) = u16_from(rest)?;
-    let request = ask_of(number, s, t)?;
+    let (first, rest) = u16_from(rest)?;
+    let (second, rest) = u16_from(rest)?;
+    let request = ask_of(number, first, second)?;
     Some((Instruction::Ask(request), rest))
 }
 

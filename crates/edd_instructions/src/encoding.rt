@@ -203,30 +203,14 @@ fn jump_to(jump: Jump, target: u32) -> Encoding
     bytes
 }
 
-// A request of this number, with two operands.
-fn asked(number: u8, first: u16, second: u16) -> Encoding
-    ensures { result.items ≡ 0x50 ∷ number ∷ (u16 first ++ u16 second) }
-{
-    let mut bytes = alone(0x50);
-    bytes.push(number);
-    put(&mut bytes, &first.to_be_bytes());
-    put(&mut bytes, &second.to_be_bytes());
-    bytes
-}
-
 fn ask(request: Ask) -> Encoding
     ensures { result.items ≡ 0x50 ∷ ask_bytes request }
 {
-    match request {
-        Ask::PutMessage(text) => asked(1, text.0, 0),
-        Ask::Acknowledge(text) => asked(2, text.0, 0),
-        Ask::Delay(text) => asked(3, text.0, 0),
-        Ask::GetDevVarValue(text, variable) => asked(4, text.0, variable.0),
-        Ask::SelectFromList(text, choices) => asked(5, text.0, choices.0),
-        Ask::SendCommand => asked(6, 0, 0),
-        Ask::SendCommandTrans => asked(7, 0, 0),
-        Ask::SaveValues => asked(8, 0, 0),
-    }
+    let mut bytes = alone(0x50);
+    bytes.push(request.kind.number());
+    put(&mut bytes, &request.first.to_be_bytes());
+    put(&mut bytes, &request.second.to_be_bytes());
+    bytes
 }
 
 /// The bytes of an instruction: its code, and its operands with the highest byte first.

@@ -1,19 +1,15 @@
 //! The instructions of a unit.
 
 use edd_syntax::numbers::{ArrNo, ItemNo, MethNo, StrNo, VarNo};
-use edd_syntax::operators::{Comparison, Operator};
+use edd_syntax::operators::{Comparison, Operator, RequestKind};
 
-/// A request as an instruction names it: its numbers come from the operands.
+/// A request as an instruction names it: its texts and its variable by their numbers, in written
+/// order, with 0 where there are fewer than two. Its numbers come from the operands.
 #[derive(Clone, Copy, PartialEq, Eq, Debug)]
-pub enum Ask {
-    PutMessage(StrNo),
-    Acknowledge(StrNo),
-    Delay(StrNo),
-    GetDevVarValue(StrNo, VarNo),
-    SelectFromList(StrNo, StrNo),
-    SendCommand,
-    SendCommandTrans,
-    SaveValues,
+pub struct Ask {
+    pub kind: RequestKind,
+    pub first: u16,
+    pub second: u16,
 }
 
 /// What leads to another place: always, where the topmost operand is 0 or isn't, or where it is a

@@ -11,7 +11,7 @@ ghost use Rattle.edd_syntax.specs.Answers.{Answer, IsValidAnswer, answer_fault};
 ghost use Rattle.edd_syntax.specs.declared.numbers.AttrRef.{AttrRef};
 ghost use Rattle.edd_syntax.specs.DeviceValues.{AreDeviceValues, VariableType};
 ghost use Rattle.edd_syntax.specs.Words.{Words};
-ghost use Rattle.edd_instructions.specs.declared.records.Request.{Request};
+ghost use Rattle.edd_instructions.specs.declared.requests.Request.{Request};
 ghost use Rattle.edd_instructions.specs.declared.records.Status.TheVariants.{Running, Asking};
 ghost use Rattle.edd_instructions.specs.declared.unit.Context.{Context};
 ghost use Rattle.edd_instructions.specs.Steps.{State, Environment, Effect, IsState, opening, step};

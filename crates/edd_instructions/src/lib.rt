@@ -8,6 +8,7 @@ mod encoding;
 mod instruction;
 mod laws;
 mod records;
+mod requests;
 mod rules;
 mod unit;
 pub mod worked;
@@ -22,6 +23,7 @@ pub use laws::{
     sound_parts_are_valid, spelled_is_read, steps_are_counted, steps_keep_the_state,
     what_is_over_stays,
 };
-pub use records::{Emitted, Record, Request, Status};
+pub use records::{Emitted, Record, Status};
+pub use requests::{Request, RequestArgument, RequestArguments, Wanted};
 pub use rules::{Rule, UnitRule};
 pub use unit::{Context, Sort, Way};

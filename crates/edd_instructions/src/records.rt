@@ -1,5 +1,6 @@
-//! What the steps of a unit give: records of an attribute, requests of a method.
+//! What the steps of a unit give: records of an attribute, the status of a method.
 
+use crate::requests::Request;
 use edd_syntax::answer::Trap;
 use edd_syntax::numbers::{ItemNo, StrNo, VarNo};
 
@@ -46,19 +47,6 @@ pub enum Record {
         label: Option<StrNo>,
         help: Option<StrNo>,
     },
-}
-
-/// One request of a method, its arguments in written order.
-#[derive(Clone, Copy, PartialEq, Eq, Debug)]
-pub enum Request {
-    PutMessage(StrNo),
-    Acknowledge(StrNo),
-    Delay(i32, StrNo),
-    GetDevVarValue(StrNo, VarNo),
-    SelectFromList(StrNo, StrNo),
-    SendCommand(i32),
-    SendCommandTrans(i32, i32),
-    SaveValues,
 }
 
 /// Whether a run goes on, waits for an answer or is over.

@@ -2,10 +2,12 @@
 
 ghost use Rattle.std.specs.Prelude.{◌≡◌};
 ghost use Rattle.edd_instructions.specs.Units.{takes, onward, jump, allowed, is_allowed};
-ghost use Rattle.edd_instructions.specs.References.{names_exist, request_exists};
+ghost use Rattle.edd_instructions.specs.References.{named_exist, names_exist, request_exists};
 
 use crate::instruction::{Ask, Instruction};
 use edd_image::{Counts, Version};
+use edd_syntax::numbers::{StrNo, VarNo};
+use edd_syntax::operators::Parameter;
 
 /// Whether a unit gives an attribute or runs a method.
 #[derive(Clone, Copy, PartialEq, Eq, Debug)]
@@ -50,12 +52,9 @@ impl Instruction {
             | Instruction::JumpIfNotZero(_)
             | Instruction::Case { .. }
             | Instruction::Number
-            | Instruction::ReadElement(_)
-            | Instruction::Ask(Ask::Delay(_))
-            | Instruction::Ask(Ask::SendCommand) => 1,
-            Instruction::Operate(_)
-            | Instruction::Compare(_)
-            | Instruction::Ask(Ask::SendCommandTrans) => 2,
+            | Instruction::ReadElement(_) => 1,
+            Instruction::Operate(_) | Instruction::Compare(_) => 2,
+            Instruction::Ask(request) => request.kind.numbers_taken(),
             _ => 0,
         }
     }
@@ -157,16 +156,32 @@ impl Instruction {
     }
 }
 
+// Whether there is all that two operands name, one after the other.
+fn has_named(counts: Counts, parameters: &[Parameter], first: u16, second: u16) -> bool
+    ensures { result ≡ named_exist counts parameters.now first second }
+{
+    match parameters {
+        [] => true,
+        [Parameter::Text, more @ ..] => {
+            counts.has_string(StrNo(first)) && has_named(counts, more, second, 0)
+        }
+        [Parameter::DeviceVariable, more @ ..] => {
+            counts.has_variable(VarNo(first)) && has_named(counts, more, second, 0)
+        }
+        [_, more @ ..] => has_named(counts, more, first, second),
+    }
+}
+
 // Whether there is all that a request names.
 fn has_request(counts: Counts, request: Ask) -> bool
     ensures { result ≡ request_exists counts request }
 {
-    match request {
-        Ask::PutMessage(s) | Ask::Acknowledge(s) | Ask::Delay(s) => counts.has_string(s),
-        Ask::GetDevVarValue(s, variable) => counts.has_string(s) && counts.has_variable(variable),
-        Ask::SelectFromList(s, t) => counts.has_string(s) && counts.has_string(t),
-        Ask::SendCommand | Ask::SendCommandTrans | Ask::SaveValues => true,
-    }
+    has_named(
+        counts,
+        request.kind.parameters(),
+        request.first,
+        request.second,
+    )
 }
 
 impl Context {

@@ -15,7 +15,7 @@ use Rattle.edd_instructions.specs.declared.instruction.Instruction.TheVariants a
 use Rattle.edd_image.specs.declared.parts.VarKind.{VarKind}
 use Rattle.edd_image.specs.declared.versions.Version.TheVariants.{One, Two}
 use Rattle.edd_instructions.specs.declared.instruction.Ask.{Ask}
-use Rattle.edd_instructions.specs.declared.records.Request.{Request}
+use Rattle.edd_instructions.specs.declared.requests.Request.{Request}
 use Rattle.edd_image.specs.Contents.{contents_in, fields_of_variable}
 use Rattle.edd_instructions.specs.References.{names_exist}
 use Rattle.edd_image.specs.Fields.{counts_in}

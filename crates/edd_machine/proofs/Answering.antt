@@ -2,7 +2,7 @@
 use Rattle.std.proofs.Common.{◌≡◌, ℕ, suc, ◌<◌, ◌≤◌, ℤ, List, length, refl, sym, ap, subst, ◌∙◌, arith}
 use Rattle.edd_syntax.specs.Answers.{Answer, Go, Abort, IsValidAnswer}
 use Rattle.edd_syntax.specs.DeviceValues.{AreDeviceValues}
-use Rattle.edd_instructions.specs.declared.records.Request.{Request}
+use Rattle.edd_instructions.specs.declared.requests.Request.{Request}
 use Rattle.edd_instructions.specs.declared.records.Status.{Status}
 use Rattle.edd_instructions.specs.declared.records.Status.TheVariants.{Asking}
 use Rattle.edd_instructions.specs.declared.unit.Context.{Context}

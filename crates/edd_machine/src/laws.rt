@@ -3,7 +3,7 @@
 ghost use Rattle.std.specs.Prelude.{◌≡◌, ℕ, ℤ, ◌<◌, List, Some, length};
 ghost use Rattle.edd_syntax.specs.Answers.{Answer, IsValidAnswer};
 ghost use Rattle.edd_syntax.specs.DeviceValues.{AreDeviceValues};
-ghost use Rattle.edd_instructions.specs.declared.records.Request.{Request};
+ghost use Rattle.edd_instructions.specs.declared.requests.Request.{Request};
 ghost use Rattle.edd_instructions.specs.declared.records.Status.TheVariants.{Asking};
 ghost use Rattle.edd_image.specs.Contents.{AttributeFields, contents_in};
 ghost use Rattle.edd_instructions.specs.Execution.{answered};

@@ -205,29 +205,17 @@ impl Machine {
         ensures acts { (b : List ℕ) (values : List ℤ)
             → IsEffect (act_ask ask next (state_of b self.old values)) b self.new values }
     {
-        match ask {
-            Ask::PutMessage(text) => self.wait(next, Request::PutMessage(text)),
-            Ask::Acknowledge(text) => self.wait(next, Request::Acknowledge(text)),
-            Ask::Delay(text) => {
+        match ask.kind.numbers_taken() {
+            0 => self.wait(next, ask.request(0, 0)),
+            1 => {
                 let number = self.take_number();
-                self.wait(next, Request::Delay(number, text));
+                self.wait(next, ask.request(number, 0));
             }
-            Ask::GetDevVarValue(text, variable) => {
-                self.wait(next, Request::GetDevVarValue(text, variable));
+            _ => {
+                let second = self.take_number();
+                let first = self.take_number();
+                self.wait(next, ask.request(first, second));
             }
-            Ask::SelectFromList(text, list) => {
-                self.wait(next, Request::SelectFromList(text, list));
-            }
-            Ask::SendCommand => {
-                let command = self.take_number();
-                self.wait(next, Request::SendCommand(command));
-            }
-            Ask::SendCommandTrans => {
-                let transaction = self.take_number();
-                let command = self.take_number();
-                self.wait(next, Request::SendCommandTrans(command, transaction));
-            }
-            Ask::SaveValues => self.wait(next, Request::SaveValues),
         }
     }
 

@@ -12,7 +12,8 @@ use Rattle.edd_syntax.specs.declared.reference.Target.TheVariants.{Local, Functi
 use Rattle.edd_syntax.specs.Expression as expr
 use Rattle.edd_syntax.specs.Expression.{Expr, Literal, Decimal, Reference, Indexed, Parentheses, Unary, Binary, Compare, LogicalAnd, LogicalOr, Conditional, Assign, CompoundAssign, Increment, Call, Arguments}
 use Rattle.edd_syntax.specs.Statement.{Declarator}
-use Rattle.edd_syntax.specs.SubsetRules.{Placed, parameters, all_fit, is_abort, call_breaches, call_mismatches, argument_mismatches}
+use Rattle.edd_syntax.specs.Builtins.{parameters}
+use Rattle.edd_syntax.specs.SubsetRules.{Placed, all_fit, is_abort, call_breaches, call_mismatches, argument_mismatches}
 use Rattle.edd_syntax.specs.Words.{Words}
 use Rattle.edd_instructions.specs.declared.instruction.Instruction.TheVariants as instruction
 use Rattle.edd_instructions.specs.declared.unit.Context.{Context}

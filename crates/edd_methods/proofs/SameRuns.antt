@@ -9,13 +9,15 @@ use Rattle.edd_syntax.specs.DeviceValues.{VariableType}
 use Rattle.edd_syntax.specs.MethodState as source
 use Rattle.edd_syntax.specs.MethodState.{Action}
 use Rattle.edd_syntax.specs.Execution.{Completion, ended}
-use Rattle.edd_instructions.specs.declared.records.Request as image
-use Rattle.edd_instructions.specs.declared.records.Request.TheVariants as asks
+use Rattle.edd_instructions.specs.declared.requests.Request as image
+use Rattle.edd_instructions.specs.declared.requests.RequestArgument.{RequestArgument}
+use Rattle.edd_instructions.specs.declared.requests.RequestArgument.TheVariants as argument
+use Rattle.edd_instructions.specs.Requests.{arguments_asked, kind_asked}
 use Rattle.edd_instructions.specs.declared.unit.Sort.TheVariants.{Method}
 use Rattle.edd_instructions.specs.Steps.{RunningUnit, Environment}
 use Rattle.edd_instructions.specs.Execution.{preceded, execute}
-use Rattle.edd_instructions.specs.MethodAgreement.{SameRequest, SameRequests, SameOutcome, started, FollowsBody}
-use Rattle.edd_code.specs.Reports.{Report, transcript_report, worded, report}
+use Rattle.edd_instructions.specs.MethodAgreement.{SameArguments, SameRequest, SameRequests, SameOutcome, started, FollowsBody}
+use Rattle.edd_code.specs.Reports.{Report, transcript_report, worded, words_told, report}
 use Rattle.edd_methods.specs.Following.{Follows}
 use Rattle.edd_methods.proofs.UnitRuns.{valid_are_taken}
 
@@ -23,46 +25,70 @@ same_Some : {A : Type 0} (x y : A) → Some x ≡ Some y → x ≡ y
 same_Some x y h = cc h
 
 module _ (text : StrNo → Option Words) where
-  -- a request with one text, whose words are those of its number
-  one_text : (o : Option Words) (f : Words → source.Request) (q : source.Request)
-      → option_map f o ≡ Some q → (w : Words) × (o ≡ Some w) × (f w ≡ q)
-  one_text (Some w) f q h = (w, refl, same_Some (f w) q h)
-  one_text None f q h = absurd (cc h)
+  -- arguments whose words are those of their numbers say the same
+  same_arguments : (rs : List RequestArgument) (qs : List source.RequestArgument)
+      → words_told text rs ≡ Some qs → SameArguments text qs rs
+  same_arguments [] qs h = subst (λ (qs : List source.RequestArgument). SameArguments text qs [])
+      (same_Some [] qs h) tt
+  same_arguments (argument.Text n ∷ rs) qs h =
+      by_text (text n) refl (words_told text rs) (same_arguments rs) refl h
+    where
+      by_text : (o : Option Words) → text n ≡ o → (p : Option (List source.RequestArgument))
+          → ((more : List source.RequestArgument) → words_told text rs ≡ Some more
+          → SameArguments text more rs)
+          → words_told text rs ≡ p
+          → (elim o as (λ _. Option (List source.RequestArgument)) [
+            | None ↦ None
+            | Some w ↦ option_map (λ more. source.TextArgument w ∷ more) p
+          ]) ≡ Some qs
+          → SameArguments text qs (argument.Text n ∷ rs)
+      by_text None is p same told h = absurd (cc h)
+      by_text (Some w) is None same told h = absurd (cc h)
+      by_text (Some w) is (Some more) same told h =
+          subst (λ (qs : List source.RequestArgument). SameArguments text qs (argument.Text n ∷ rs))
+          (same_Some (source.TextArgument w ∷ more) qs h) (is, same more told)
+  same_arguments (argument.Number z ∷ rs) qs h =
+      by_rest (words_told text rs) (same_arguments rs) refl h
+    where
+      by_rest : (p : Option (List source.RequestArgument))
+          → ((more : List source.RequestArgument) → words_told text rs ≡ Some more
+          → SameArguments text more rs)
+          → words_told text rs ≡ p
+          → option_map (λ more. source.NumberArgument z ∷ more) p ≡ Some qs
+          → SameArguments text qs (argument.Number z ∷ rs)
+      by_rest None same told h = absurd (cc h)
+      by_rest (Some more) same told h =
+          subst (λ (qs : List source.RequestArgument).
+          SameArguments text qs (argument.Number z ∷ rs))
+          (same_Some (source.NumberArgument z ∷ more) qs h) (refl, same more told)
+  same_arguments (argument.Variable v ∷ rs) qs h =
+      by_rest (words_told text rs) (same_arguments rs) refl h
+    where
+      by_rest : (p : Option (List source.RequestArgument))
+          → ((more : List source.RequestArgument) → words_told text rs ≡ Some more
+          → SameArguments text more rs)
+          → words_told text rs ≡ p
+          → option_map (λ more. source.VariableArgument v ∷ more) p ≡ Some qs
+          → SameArguments text qs (argument.Variable v ∷ rs)
+      by_rest None same told h = absurd (cc h)
+      by_rest (Some more) same told h =
+          subst (λ (qs : List source.RequestArgument).
+          SameArguments text qs (argument.Variable v ∷ rs))
+          (same_Some (source.VariableArgument v ∷ more) qs h) (refl, same more told)
 
   same_request : (r : image.Request) (q : source.Request) → worded text r ≡ Some q
       → SameRequest text q r
-  same_request (asks.PutMessage n) q h =
-      let x = one_text (text n) (λ w. source.PutMessage w) q h in subst
-      (λ (q : source.Request). SameRequest text q (asks.PutMessage n)) x.2 (n, refl, x.1)
-  same_request (asks.Acknowledge n) q h =
-      let x = one_text (text n) (λ w. source.Acknowledge w) q h in subst
-      (λ (q : source.Request). SameRequest text q (asks.Acknowledge n)) x.2 (n, refl, x.1)
-  same_request (asks.Delay seconds n) q h =
-      let x = one_text (text n) (λ w. source.Delay seconds w) q h in subst
-      (λ (q : source.Request). SameRequest text q (asks.Delay seconds n)) x.2 (n, refl, x.1)
-  same_request (asks.GetDevVarValue n v) q h =
-      let x = one_text (text n) (λ w. source.GetDevVarValue w v) q h in subst
-      (λ (q : source.Request). SameRequest text q (asks.GetDevVarValue n v)) x.2 (n, refl, x.1)
-  same_request (asks.SelectFromList n c) q h = two_texts (text n) refl h
+  same_request r q h = by_arguments (words_told text (arguments_asked r)) refl h
     where
-      two_texts : (o : Option Words) → text n ≡ o
-          → (elim o as (λ _. Option source.Request) [
-            | None ↦ None
-            | Some w ↦ option_map (source.SelectFromList w) (text c)
-          ]) ≡ Some q
-          → SameRequest text q (asks.SelectFromList n c)
-      two_texts None is h = absurd (cc h)
-      two_texts (Some w) is h =
-          let x = one_text (text c) (λ v. source.SelectFromList w v) q h in subst
-          (λ (q : source.Request). SameRequest text q (asks.SelectFromList n c)) x.2
-          (n, c, refl, is, x.1)
-  same_request (asks.SendCommand n) q h =
-      subst (λ (q : source.Request). SameRequest text q (asks.SendCommand n)) (same_Some _ q h) refl
-  same_request (asks.SendCommandTrans n t) q h =
-      subst (λ (q : source.Request). SameRequest text q (asks.SendCommandTrans n t))
-      (same_Some _ q h) refl
-  same_request asks.SaveValues q h =
-      subst (λ (q : source.Request). SameRequest text q asks.SaveValues) (same_Some _ q h) refl
+      by_arguments : (p : Option (List source.RequestArgument))
+          → words_told text (arguments_asked r) ≡ p
+          → option_map (λ all. record { kind = kind_asked r; arguments = all }) p ≡ Some q
+          → SameRequest text q r
+      by_arguments None told h = absurd (cc h)
+      by_arguments (Some all) told h =
+          subst (λ (q : source.Request). SameRequest text q r)
+          (same_Some (record { kind = kind_asked r; arguments = all }) q h)
+          (refl, same_arguments (arguments_asked r) all told)
 
   same_requests : (qs : List source.Request) (rs : List image.Request)
       → map (worded text) rs ≡ map Some qs → SameRequests text qs rs
@@ -77,24 +103,32 @@ module _ (text : StrNo → Option Words) where
 
   -- ---- what was asked before
 
-  -- a request that asks the same has the words of the numbers in it
+  -- arguments that say the same have the words of the numbers in them
+  words_so : (qs : List source.RequestArgument) (rs : List RequestArgument)
+      → SameArguments text qs rs → words_told text rs ≡ Some qs
+  words_so [] [] h = refl
+  words_so [] (r ∷ rs) h = absurd h
+  words_so (q ∷ qs) [] h = absurd h
+  words_so (source.TextArgument w ∷ qs) (argument.Text n ∷ rs) h =
+      ap (λ (o : Option Words). elim o as (λ _. Option (List source.RequestArgument)) [
+        | None ↦ None
+        | Some v ↦ option_map (λ more. source.TextArgument v ∷ more) (words_told text rs)
+      ]) h.0
+      ∙ ap (option_map (λ more. source.TextArgument w ∷ more)) (words_so qs rs h.1)
+  words_so (source.NumberArgument z ∷ qs) (argument.Number n ∷ rs) h =
+      ap (λ y. option_map (λ more. source.NumberArgument y ∷ more) (words_told text rs)) h.0
+      ∙ ap (option_map (λ more. source.NumberArgument z ∷ more)) (words_so qs rs h.1)
+  words_so (source.VariableArgument v ∷ qs) (argument.Variable n ∷ rs) h =
+      ap (λ y. option_map (λ more. source.VariableArgument y ∷ more) (words_told text rs)) h.0
+      ∙ ap (option_map (λ more. source.VariableArgument v ∷ more)) (words_so qs rs h.1)
+  words_so (_ ∷ qs) (_ ∷ rs) h = absurd h.0
+
   worded_so : (q : source.Request) (r : image.Request) → SameRequest text q r
       → worded text r ≡ Some q
-  worded_so (source.PutMessage w) r h =
-      ap (worded text) h.1 ∙ ap (option_map source.PutMessage) h.2
-  worded_so (source.Acknowledge w) r h =
-      ap (worded text) h.1 ∙ ap (option_map source.Acknowledge) h.2
-  worded_so (source.Delay seconds w) r h =
-      ap (worded text) h.1 ∙ ap (option_map (source.Delay seconds)) h.2
-  worded_so (source.GetDevVarValue w v) r h =
-      ap (worded text) h.1 ∙ ap (option_map (λ x. source.GetDevVarValue x v)) h.2
-  worded_so (source.SelectFromList w choices) r h =
-      ap (worded text) h.2
-      ∙ ap (λ (o : Option Words). elim o as (λ _. Option source.Request) [
-        | None ↦ None
-        | Some x ↦ option_map (source.SelectFromList x) (text h.1)
-      ]) h.3 ∙ ap (option_map (source.SelectFromList w)) h.4
-  worded_so _ r h = ap (worded text) h
+  worded_so q r h =
+      ap (option_map (λ all. record { kind = kind_asked r; arguments = all }))
+      (words_so q.arguments (arguments_asked r) h.1)
+      ∙ ap (λ k. Some (record { kind = k; arguments = q.arguments })) h.0
 
   all_worded : (qs : List source.Request) (rs : List image.Request) → SameRequests text qs rs
       → map (worded text) rs ≡ map Some qs

@@ -6,8 +6,10 @@ use Rattle.edd_syntax.specs.DeviceValues.{VariableType, value_at}
 use Rattle.edd_syntax.specs.declared.numbers.VarNo.{VarNo}
 use Rattle.edd_image.specs.Contents.{contents_in}
 use Rattle.edd_instructions.specs.AbortMethods.{answered_in}
-use Rattle.edd_instructions.specs.declared.records.Request.{Request}
-use Rattle.edd_instructions.specs.declared.records.Request.TheVariants as request
+use Rattle.edd_instructions.specs.declared.requests.Request.{Request}
+use Rattle.edd_instructions.specs.declared.requests.Wanted.{Wanted}
+use Rattle.edd_instructions.specs.declared.requests.Wanted.TheVariants as wanted
+use Rattle.edd_instructions.specs.Requests.{wanted_by}
 use Rattle.edd_instructions.specs.declared.records.Status.TheVariants.{Asking}
 use Rattle.edd_machine.specs.Types.{types_in}
 use Rattle.edd_port.specs.Runs.{Run}
@@ -49,27 +51,25 @@ SaysChoice n (said.Answer a) = answer_of a ≡ Go (n -ℤ pos 1) []
 SaysChoice n (said.Refused why) = why ≡ fault.NoChoice
 SaysChoice n said.Nothing = ⊥
 
+-- what a number says where this is wanted
+abbrev pub SaysWanted : List ℕ → List ℤ → Wanted → ℤ → Said → Type 0
+SaysWanted b values wanted.Nothing n s = s ≡ said.Nothing
+SaysWanted b values (wanted.Value v) n s = SaysValue b values v n s
+SaysWanted b values (wanted.Choice choices) n s = SaysChoice n s
+SaysWanted b values wanted.Code n s = SaysCode n s
+
 -- what a number says to a request
 abbrev pub SaysNumber : List ℕ → List ℤ → Request → ℤ → Said → Type 0
-SaysNumber b values (request.PutMessage text) n s = s ≡ said.Nothing
-SaysNumber b values (request.Acknowledge text) n s = s ≡ said.Nothing
-SaysNumber b values (request.Delay time text) n s = s ≡ said.Nothing
-SaysNumber b values (request.GetDevVarValue text v) n s = SaysValue b values v n s
-SaysNumber b values (request.SelectFromList text choices) n s = SaysChoice n s
-SaysNumber b values (request.SendCommand number) n s = SaysCode n s
-SaysNumber b values (request.SendCommandTrans number transaction) n s = SaysCode n s
-SaysNumber b values request.SaveValues n s = SaysCode n s
+SaysNumber b values r n s = SaysWanted b values (wanted_by r) n s
 
--- what Enter alone says: what needs no number is answered
+-- what Enter alone says: where nothing else is wanted it is the answer
+abbrev pub SaysSeen : Wanted → Said → Type 0
+SaysSeen wanted.Nothing s = SaysAnswer s (Go (pos 0) [])
+SaysSeen _ s = s ≡ said.Nothing
+
+-- what it says to a request
 abbrev pub SaysEnter : Request → Said → Type 0
-SaysEnter (request.PutMessage text) s = SaysAnswer s (Go (pos 0) [])
-SaysEnter (request.Acknowledge text) s = SaysAnswer s (Go (pos 0) [])
-SaysEnter (request.Delay time text) s = SaysAnswer s (Go (pos 0) [])
-SaysEnter (request.GetDevVarValue text v) s = s ≡ said.Nothing
-SaysEnter (request.SelectFromList text choices) s = s ≡ said.Nothing
-SaysEnter (request.SendCommand number) s = s ≡ said.Nothing
-SaysEnter (request.SendCommandTrans number transaction) s = s ≡ said.Nothing
-SaysEnter request.SaveValues s = s ≡ said.Nothing
+SaysEnter r s = SaysSeen (wanted_by r) s
 
 -- what a command says to a request under the values of the method
 abbrev pub Says : List ℕ → List ℤ → Request → Command → Said → Type 0

@@ -11,7 +11,7 @@ use crate::choices::count_choices;
 use crate::command::{Command, Happened, Said};
 use crate::deciding::decide_value;
 use crate::fault::EditFault;
-use edd_instructions::Request;
+use edd_instructions::{Request, Wanted};
 use edd_loader::Image;
 use edd_machine::Values;
 use edd_port::{Session, Turn};
@@ -85,17 +85,11 @@ fn say_number(
     ensures says { IfOk result (SaysNumber image.now values.now.numbers.items request number) }
     ensures taken { IfOk result (IsTaken (types_in image.now)) }
 {
-    match request {
-        Request::PutMessage(_) | Request::Acknowledge(_) | Request::Delay(_, _) => {
-            Ok(Said::Nothing)
-        }
-        Request::GetDevVarValue(_, variable) => say_value(alloc, image, values, variable, number),
-        Request::SelectFromList(_, choices) => {
-            Ok(say_choice(alloc, image, language, choices, number))
-        }
-        Request::SendCommand(_) | Request::SendCommandTrans(_, _) | Request::SaveValues => {
-            Ok(say_code(alloc, number))
-        }
+    match request.wanted() {
+        Wanted::Nothing => Ok(Said::Nothing),
+        Wanted::Value(variable) => say_value(alloc, image, values, variable, number),
+        Wanted::Choice(choices) => Ok(say_choice(alloc, image, language, choices, number)),
+        Wanted::Code => Ok(say_code(alloc, number)),
     }
 }
 
@@ -104,15 +98,9 @@ fn say_enter(alloc: Global, request: Request) -> Said
     ensures says { SaysEnter request result }
     ensures taken { (types : List VariableType) → IsTaken types result }
 {
-    match request {
-        Request::PutMessage(_) | Request::Acknowledge(_) | Request::Delay(_, _) => {
-            Said::Answer(plain(alloc, 0))
-        }
-        Request::GetDevVarValue(_, _)
-        | Request::SelectFromList(_, _)
-        | Request::SendCommand(_)
-        | Request::SendCommandTrans(_, _)
-        | Request::SaveValues => Said::Nothing,
+    match request.wanted() {
+        Wanted::Nothing => Said::Answer(plain(alloc, 0)),
+        Wanted::Value(_) | Wanted::Choice(_) | Wanted::Code => Said::Nothing,
     }
 }
 

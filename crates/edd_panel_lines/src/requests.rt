@@ -2,7 +2,7 @@
 
 use crate::numbers::push_decimal;
 use crate::texts::{push_escaped, push_text};
-use edd_instructions::Request;
+use edd_instructions::{Request, RequestArgument, Wanted};
 use edd_panel::text_of_choices;
 use edd_screens::Page;
 use edd_syntax::numbers::StrNo;
@@ -33,12 +33,35 @@ pub fn push_choices(
     Ok(())
 }
 
-// The command that is to be sent.
-fn push_command(lines: &mut String, word: &str, numbers: &[i32]) -> Result<(), AllocError> {
-    lines.push_str(word)?;
-    for number in numbers {
-        lines.push(' ')?;
-        push_decimal(lines, i64::from(*number))?;
+// The name of a request, and its numbers.
+fn push_command(lines: &mut String, request: Request) -> Result<(), AllocError> {
+    lines.push_str(request.kind().name())?;
+    let arguments = request.arguments();
+    for argument in &arguments {
+        if let RequestArgument::Number(number) = argument {
+            lines.push(' ')?;
+            push_decimal(lines, i64::from(*number))?;
+        }
+    }
+    lines.push('\n')
+}
+
+// What a request shows: its first text, after the time for which it is shown.
+fn push_shown(lines: &mut String, page: &Page<'_, '_>, request: Request) -> Result<(), AllocError> {
+    let arguments = request.arguments();
+    for argument in &arguments {
+        match *argument {
+            RequestArgument::Number(time) => {
+                lines.push_str("wait ")?;
+                push_decimal(lines, i64::from(time))?;
+                lines.push_str(": ")?;
+            }
+            RequestArgument::Text(text) => {
+                push_string(lines, page, text)?;
+                break;
+            }
+            RequestArgument::Variable(_) => {}
+        }
     }
     lines.push('\n')
 }
@@ -49,26 +72,9 @@ pub fn push_question(
     page: &Page<'_, '_>,
     request: Request,
 ) -> Result<(), AllocError> {
-    match request {
-        Request::PutMessage(text)
-        | Request::Acknowledge(text)
-        | Request::GetDevVarValue(text, _)
-        | Request::SelectFromList(text, _) => {
-            push_string(lines, page, text)?;
-            lines.push('\n')
-        }
-        Request::Delay(time, text) => {
-            lines.push_str("wait ")?;
-            push_decimal(lines, i64::from(time))?;
-            lines.push_str(": ")?;
-            push_string(lines, page, text)?;
-            lines.push('\n')
-        }
-        Request::SendCommand(number) => push_command(lines, "send_command", &[number]),
-        Request::SendCommandTrans(number, transaction) => {
-            push_command(lines, "send_command_trans", &[number, transaction])
-        }
-        Request::SaveValues => push_command(lines, "save_values", &[]),
+    match request.wanted() {
+        Wanted::Code => push_command(lines, request),
+        Wanted::Nothing | Wanted::Value(_) | Wanted::Choice(_) => push_shown(lines, page, request),
     }
 }
 
@@ -80,18 +86,18 @@ pub fn push_request(
     request: Request,
 ) -> Result<(), AllocError> {
     push_question(lines, page, request)?;
-    match request {
-        Request::SelectFromList(_, choices) => push_choices(lines, page, choices),
-        _ => Ok(()),
+    match request.wanted() {
+        Wanted::Choice(choices) => push_choices(lines, page, choices),
+        Wanted::Nothing | Wanted::Value(_) | Wanted::Code => Ok(()),
     }
 }
 
 /// What a request asks of the user.
 pub fn asks_for(request: Request) -> &'static str {
-    match request {
-        Request::PutMessage(_) | Request::Acknowledge(_) | Request::Delay(_, _) => "Enter?",
-        Request::GetDevVarValue(_, _) => "value?",
-        Request::SelectFromList(_, _) => "choice?",
-        Request::SendCommand(_) | Request::SendCommandTrans(_, _) | Request::SaveValues => "code?",
+    match request.wanted() {
+        Wanted::Nothing => "Enter?",
+        Wanted::Value(_) => "value?",
+        Wanted::Choice(_) => "choice?",
+        Wanted::Code => "code?",
     }
 }

@@ -5,7 +5,7 @@ use Rattle.std.specs.List.{AllByRecursion}
 use Rattle.std.proofs.lemmas.Slice.Zip.{AllZip-long}
 use Rattle.edd_syntax.specs.Answers.{Answer, Go, Abort, SetFault, answer_fault, values_set, IsValidAnswer}
 use Rattle.edd_syntax.specs.DeviceValues.{VariableType, AreDeviceValues}
-use Rattle.edd_instructions.specs.declared.records.Request.{Request}
+use Rattle.edd_instructions.specs.declared.requests.Request.{Request}
 use Rattle.edd_instructions.specs.declared.records.Status.{Status}
 use Rattle.edd_instructions.specs.declared.records.Status.TheVariants as status
 use Rattle.edd_image.specs.Contents.{Contents}

@@ -4,10 +4,10 @@ use Rattle.std.specs.Prelude.{option_map, Result, Ok, Err, if◌then◌else◌, 
 use Rattle.std.specs.Ordering.{int_eq}
 use Rattle.edd_syntax.specs.declared.answer.Trap.{Trap}
 use Rattle.edd_instructions.specs.declared.instruction.Ask.{Ask}
-use Rattle.edd_instructions.specs.declared.instruction.Ask.TheVariants as ask
+use Rattle.edd_syntax.specs.Builtins.{numbers_taken}
 use Rattle.edd_instructions.specs.declared.instruction.Instruction.{Instruction}
 use Rattle.edd_instructions.specs.declared.instruction.Instruction.TheVariants as instruction
-use Rattle.edd_instructions.specs.declared.records.Request.{Request}
+use Rattle.edd_instructions.specs.declared.requests.Request.{Request}
 use Rattle.edd_instructions.specs.declared.records.Status.{Status}
 use Rattle.edd_instructions.specs.declared.records.Status.TheVariants as status
 use Rattle.edd_image.specs.Front.{◌>>=◌}
@@ -20,7 +20,7 @@ use Rattle.edd_instructions.proofs.NextMethods.{next_asks_nothing, next_of_live}
 use Rattle.edd_syntax.specs.AbortMethods.{listed}
 use Rattle.edd_syntax.specs.declared.numbers.MethNo.{MethNo}
 use Rattle.edd_instructions.specs.Execution.{Outcome, request_in}
-use Rattle.edd_instructions.specs.Steps.{State, Environment, Effect, go, on_top, on_two, push_or_trap, act_ask, act, if_running, step}
+use Rattle.edd_instructions.specs.Steps.{State, Environment, Effect, go, on_top, on_two, push_or_trap, ask_with, act_ask, act, if_running, step}
 use Rattle.edd_port.specs.Drives.{standing}
 use Rattle.edd_port.proofs.Cuts.{by_running}
 use Rattle.edd_port.proofs.Outcomes.{without_steps, at_rest, steps_on, gets_stuck}
@@ -56,10 +56,12 @@ module _ (s : State) (runs : s.status ≡ status.Running) where
   pushes next below (Err why) = refl
 
   asks : (request : Ask) (next : ℕ) → Emits (act_ask request next s)
-  asks (ask.Delay t) next = top s.operands _ (λ a below. refl)
-  asks ask.SendCommand next = top s.operands _ (λ a below. refl)
-  asks ask.SendCommandTrans next = two s.operands _ (λ a b below. refl)
-  asks _ next = refl
+  asks request next = by_count (numbers_taken request.kind)
+    where
+      by_count : (n : ℕ) → Emits (ask_with n request next s)
+      by_count zero = refl
+      by_count (suc zero) = top s.operands _ (λ x below. refl)
+      by_count (suc (suc n)) = two s.operands _ (λ x y below. refl)
 
   adds : (o : Option (List MethNo)) (next : ℕ) → Emits (elim o [
     | Some methods ↦ go (record s { abort_methods = methods }) next (pos 0 ∷ s.operands)

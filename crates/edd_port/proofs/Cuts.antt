@@ -1,7 +1,7 @@
 -- A run without answers, and what comes of the state that it reaches.
 use Rattle.std.proofs.Common.{◌≡◌, ◌≢◌, ℕ, zero, suc, ◌+◌, ◌-◌, List, [], ◌∷◌, Option, Some, None, refl, sym, ap, subst, ◌∙◌, append_assoc, zero-add, arith}
 use Rattle.edd_syntax.specs.Answers.{Answer, answer_fault}
-use Rattle.edd_instructions.specs.declared.records.Request.{Request}
+use Rattle.edd_instructions.specs.declared.requests.Request.{Request}
 use Rattle.edd_instructions.specs.declared.records.Status.{Status}
 use Rattle.edd_instructions.specs.declared.records.Status.TheVariants as status
 use Rattle.edd_instructions.specs.Execution.{Ending, Stuck, Outcome, request_in, preceded, stepped, resumed_following}

@@ -4,7 +4,7 @@ use Rattle.std.specs.Prelude.{option_map}
 use Rattle.std.proofs.Math.Seq.{drop-append_seam, take-append_seam}
 use Rattle.std.proofs.lemmas.List.{length-append}
 use Rattle.edd_syntax.specs.Answers.{answer_fault}
-use Rattle.edd_instructions.specs.declared.records.Request.{Request}
+use Rattle.edd_instructions.specs.declared.requests.Request.{Request}
 use Rattle.edd_instructions.specs.declared.records.Status.{Status}
 use Rattle.edd_instructions.specs.declared.records.Status.TheVariants as status
 use Rattle.edd_image.specs.Contents.{contents_in}

@@ -1,7 +1,7 @@
 -- A play, turn by turn.
 use Rattle.std.proofs.Common.{◌≡◌, ◌≢◌, ℕ, suc, ◌+◌, ◌*◌, ◌<◌, ◌≤◌, List, [], ◌∷◌, ◌++◌, length, drop, get_or, drop-cons, add-one, Some, None, refl, sym, ap, ◌∙◌, append_assoc, append-nil, arith}
 use Rattle.edd_syntax.specs.Answers.{Answer, Change, SetFault, answer_fault}
-use Rattle.edd_instructions.specs.declared.records.Request.{Request}
+use Rattle.edd_instructions.specs.declared.requests.Request.{Request}
 use Rattle.edd_instructions.specs.declared.records.Status.{Status}
 use Rattle.edd_instructions.specs.declared.records.Status.TheVariants as status
 use Rattle.edd_instructions.specs.AbortMethods.{answered_in, execute_in, next, start_in}

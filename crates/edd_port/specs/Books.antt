@@ -1,7 +1,7 @@
 -- What a host has been asked, and what it answered.
 use Rattle.std.specs.Prelude.{◌≡◌, ℕ, ◌+◌, List, [], ◌∷◌, ◌++◌}
 use Rattle.edd_syntax.specs.Answers.{Answer}
-use Rattle.edd_instructions.specs.declared.records.Request.{Request}
+use Rattle.edd_instructions.specs.declared.requests.Request.{Request}
 use Rattle.edd_port.specs.declared.host.Reply.{Reply}
 use Rattle.edd_port.specs.declared.host.Reply.TheVariants.{Give, Nothing, Failed}
 use Rattle.edd_port.specs.Runs.{counted}

@@ -3,7 +3,7 @@ use Rattle.std.specs.Prelude.{◌≡◌, ◌≢◌, ℕ, ◌+◌, ◌-◌, ◌<�
 use Rattle.std.specs.List.{AllByRecursion}
 use Rattle.edd_syntax.specs.Answers.{answer_fault}
 use Rattle.edd_syntax.specs.DeviceValues.{VariableType}
-use Rattle.edd_instructions.specs.declared.records.Request.{Request}
+use Rattle.edd_instructions.specs.declared.requests.Request.{Request}
 use Rattle.edd_instructions.specs.declared.records.Status.{Status}
 use Rattle.edd_instructions.specs.declared.records.Status.TheVariants as status
 use Rattle.edd_instructions.specs.AbortMethods.{answered_in, execute_in}

@@ -2,7 +2,7 @@
 
 ghost use Rattle.std.specs.Prelude.{◌≡◌, ◌≢◌, ℕ, ◌+◌, ◌-◌, ℤ, List, [], ◌∷◌, None};
 ghost use Rattle.edd_syntax.specs.Answers.{Answer, answer_fault, values_set};
-ghost use Rattle.edd_instructions.specs.declared.records.Request.{Request};
+ghost use Rattle.edd_instructions.specs.declared.requests.Request.{Request};
 ghost use Rattle.edd_instructions.specs.declared.records.Status.TheVariants.{Asking};
 ghost use Rattle.edd_instructions.specs.declared.unit.Sort.TheVariants.{Method};
 ghost use Rattle.edd_instructions.specs.AbortMethods.{answered_in, execute_in, next, start_in};

@@ -1,7 +1,7 @@
 -- What comes of calls on a session is one run.
 use Rattle.std.proofs.Common.{◌≡◌, refl, sym, ap, subst, ◌∙◌, ℕ, ◌+◌, List, [], ◌∷◌, ◌++◌, None, append-nil, arith}
 use Rattle.edd_syntax.specs.Answers.{Answer, answer_fault}
-use Rattle.edd_instructions.specs.declared.records.Request.{Request}
+use Rattle.edd_instructions.specs.declared.requests.Request.{Request}
 use Rattle.edd_image.specs.Contents.{Contents, contents_in}
 use Rattle.edd_instructions.specs.Reading.{environment_of}
 use Rattle.edd_instructions.specs.Steps.{State}

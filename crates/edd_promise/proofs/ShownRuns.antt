@@ -11,7 +11,7 @@ use Rattle.edd_syntax.specs.DeviceValues.{VariableType, AreDeviceValues}
 use Rattle.edd_syntax.specs.Execution as source
 use Rattle.edd_syntax.specs.Execution.{Transcript, run}
 use Rattle.edd_image.specs.Contents.{AttributeFields, Contents, contents_in}
-use Rattle.edd_instructions.specs.declared.records.Request.{Request}
+use Rattle.edd_instructions.specs.declared.requests.Request.{Request}
 use Rattle.edd_instructions.specs.AbortMethods.{execute_in}
 use Rattle.edd_instructions.specs.Agreement.{string_numbered}
 use Rattle.edd_instructions.specs.Execution as image

@@ -21,7 +21,7 @@ use Rattle.edd_syntax.specs.Execution.{Transcript, run}
 use Rattle.edd_image.specs.declared.parts.Counts.{Counts}
 use Rattle.edd_image.specs.Contents.{AttributeFields, Contents, contents_in}
 use Rattle.edd_image.specs.Existing.{item_exists}
-use Rattle.edd_instructions.specs.declared.records.Request.{Request}
+use Rattle.edd_instructions.specs.declared.requests.Request.{Request}
 use Rattle.edd_instructions.specs.declared.rules.Rule.TheVariants as rule
 use Rattle.edd_instructions.specs.AbortMethods.{start_in, next, execute_in}
 use Rattle.edd_instructions.specs.Agreement.{string_numbered}

@@ -10,7 +10,7 @@ use Rattle.edd_syntax.specs.Answers.{Answer}
 use Rattle.edd_syntax.specs.DeviceValues.{AreDeviceValues}
 use Rattle.edd_syntax.specs.Device.{environment, item_at}
 use Rattle.edd_syntax.specs.Execution.{Transcript, run}
-use Rattle.edd_instructions.specs.declared.records.Request.{Request}
+use Rattle.edd_instructions.specs.declared.requests.Request.{Request}
 use Rattle.edd_instructions.specs.MethodAgreement.{SameRequests, ending_of}
 use Rattle.edd_machine.specs.Types.{types_in}
 use Rattle.edd_port.specs.declared.fault.PlayFault.{PlayFault}

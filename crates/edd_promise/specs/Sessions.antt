@@ -4,7 +4,7 @@ use Rattle.edd_syntax.specs.declared.numbers.MethNo.{MethNo}
 use Rattle.edd_syntax.specs.Answers.{Answer}
 use Rattle.edd_syntax.specs.DeviceValues.{AreDeviceValues}
 use Rattle.edd_image.specs.Contents.{contents_in}
-use Rattle.edd_instructions.specs.declared.records.Request.{Request}
+use Rattle.edd_instructions.specs.declared.requests.Request.{Request}
 use Rattle.edd_instructions.specs.AbortMethods.{execute_in}
 use Rattle.edd_instructions.specs.Execution.{Outcome}
 use Rattle.edd_machine.specs.Types.{types_in}

@@ -2,7 +2,7 @@
 //! premise of a law, so that the laws hold of what the calls do.
 
 ghost use Rattle.std.specs.Prelude.{◌≡◌, IfOk, OnOk, map};
-ghost use Rattle.edd_instructions.specs.declared.records.Request.{Request};
+ghost use Rattle.edd_instructions.specs.declared.requests.Request.{Request};
 ghost use Rattle.edd_port.specs.Drives.{AreMet, Takes, accepted, added, driven};
 ghost use Rattle.edd_promise.specs.Plays.{PlayShows};
 ghost use Rattle.edd_promise.specs.Sessions.{Advances, Drives, requests_of};

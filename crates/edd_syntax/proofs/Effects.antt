@@ -13,7 +13,8 @@ use Rattle.edd_syntax.specs.Expression as expr
 use Rattle.edd_syntax.specs.Text as texts
 use Rattle.edd_syntax.specs.Words.{words_of}
 use Rattle.edd_syntax.specs.Device.{Environment}
-use Rattle.edd_syntax.specs.SubsetRules.{parameters, fits, all_fit, is_device_variable, is_method}
+use Rattle.edd_syntax.specs.Builtins.{parameters}
+use Rattle.edd_syntax.specs.SubsetRules.{fits, all_fit, is_device_variable, is_method}
 use Rattle.edd_syntax.specs.MethodState.{State, Outcome, Done, Stopped, Action, pure, and_then}
 use Rattle.edd_syntax.specs.Evaluation.{Given, Text, Number, FittingOne, Fitting, fitted_one, fitted, referred, effect_of, evaluate, evaluate_all}
 use Rattle.edd_syntax.specs.EffectLaw.{FittingCallsHaveTheirEffect}

@@ -9,7 +9,7 @@ use Rattle.edd_syntax.specs.Numbers.{attr_number}
 use Rattle.edd_syntax.specs.Rows.{attributes_in_order}
 
 -- what a member of a list gives stands at its place
-at_its_place : {A B : Type 0} (f : A → B) (xs : List A) (n : ℕ) (x : A) → slice_get xs n ≡ Some x
+pub at_its_place : {A B : Type 0} (f : A → B) (xs : List A) (n : ℕ) (x : A) → slice_get xs n ≡ Some x
     → slice_get (map f xs) n ≡ Some (f x)
 at_its_place f [] n x h = absurd (none-some x h)
 at_its_place f (y ∷ ys) zero x h = ap (λ z. Some (f z)) (same_Some y x h)

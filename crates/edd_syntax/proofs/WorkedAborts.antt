@@ -3,6 +3,7 @@ use Rattle.std.proofs.Common.{◌≡◌, refl, ℕ, pos, negsuc, List, [], ◌�
 use Rattle.edd_syntax.specs.declared.numbers.MethNo.{MethNo}
 use Rattle.edd_syntax.specs.declared.numbers.ItemNo.TheVariants as item_no
 use Rattle.edd_syntax.specs.declared.operators.Builtin.TheVariants as builtin
+use Rattle.edd_syntax.specs.declared.operators.RequestKind.TheVariants as kind
 use Rattle.edd_syntax.specs.declared.operators.Operator.TheVariants.{Divide}
 use Rattle.edd_syntax.specs.declared.types.VarType.TheVariants.{Integer}
 use Rattle.edd_syntax.specs.declared.answer.Trap.TheVariants.{DivZero}
@@ -32,7 +33,7 @@ abbrev eval : E → Part Target
 eval e = Statement (Evaluate e)
 
 abbrev send : ℕ → Part Target
-send n = eval (Call (Function builtin.SendCommand) (arguments_from (Value (Literal n) ∷ [])))
+send n = eval (Call (Function (builtin.Ask kind.SendCommand)) (arguments_from (Value (Literal n) ∷ [])))
 
 -- `add_abort_method(m)`
 abbrev add : ℕ → E
@@ -73,7 +74,7 @@ abbrev ok : Answer
 ok = Go (pos 0) []
 
 abbrev sent : ℕ → asks.Request
-sent n = asks.SendCommand (pos n)
+sent n = record { kind = kind.SendCommand; arguments = asks.NumberArgument (pos n) ∷ [] }
 
 -- ---- in the order in which they were listed
 

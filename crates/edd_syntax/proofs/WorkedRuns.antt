@@ -9,6 +9,8 @@ use Rattle.edd_syntax.specs.declared.operators.UnaryOperator.TheVariants as unar
 use Rattle.edd_syntax.specs.declared.operators.IncrementOperator.TheVariants as increment
 use Rattle.edd_syntax.specs.declared.operators.Builtin.{Builtin}
 use Rattle.edd_syntax.specs.declared.operators.Builtin.TheVariants as builtin
+use Rattle.edd_syntax.specs.declared.operators.RequestKind.{RequestKind}
+use Rattle.edd_syntax.specs.declared.operators.RequestKind.TheVariants as kind
 use Rattle.edd_syntax.specs.declared.types.VarType.TheVariants as var_type
 use Rattle.edd_syntax.specs.declared.answer.Trap.TheVariants as trap
 use Rattle.edd_syntax.specs.Text as texts
@@ -21,8 +23,7 @@ use Rattle.edd_syntax.specs.Words as strings
 use Rattle.edd_syntax.specs.Words.{Words, Variants, words_of, text_for, pieces, unescape, english}
 use Rattle.edd_syntax.specs.DeviceValues.{VariableType}
 use Rattle.edd_syntax.specs.Device.{Environment}
-use Rattle.edd_syntax.specs.MethodState as asks
-use Rattle.edd_syntax.specs.MethodState.{Request}
+use Rattle.edd_syntax.specs.MethodState.{Request, RequestArgument, TextArgument, NumberArgument, VariableArgument}
 use Rattle.edd_syntax.specs.Answers.{Change, Answer, Go, Abort}
 use Rattle.edd_syntax.specs.Evaluation.{call, evaluate}
 use Rattle.edd_syntax.specs.Execution.{turns, turns_of_do, execute, Ending, Ended, Aborted, Trapped, Waiting, OutOfTurns, Transcript, opening, run_body}
@@ -72,16 +73,22 @@ abbrev ok : Answer
 ok = Go (pos 0) []
 
 abbrev print : List ℕ → S
-print t = Evaluate (calls builtin.PutMessage (Text (text t) ∷ []))
+print t = Evaluate (calls (builtin.Ask kind.PutMessage) (Text (text t) ∷ []))
+
+abbrev asked : RequestKind → List RequestArgument → Request
+asked kind arguments = record { kind = kind; arguments = arguments }
 
 abbrev put : List ℕ → Request
-put t = asks.PutMessage (says t)
+put t = asked kind.PutMessage (TextArgument (says t) ∷ [])
 
 abbrev send : E → S
-send e = Evaluate (calls builtin.SendCommand (Value e ∷ []))
+send e = Evaluate (calls (builtin.Ask kind.SendCommand) (Value e ∷ []))
+
+abbrev sends_number : ℤ → Request
+sends_number z = asked kind.SendCommand (NumberArgument z ∷ [])
 
 abbrev sent : ℕ → Request
-sent n = asks.SendCommand (pos n)
+sent n = sends_number (pos n)
 
 abbrev local : E
 local = Reference (Local 0)
@@ -151,10 +158,10 @@ forever = refl
 -- `x += ACKNOWLEDGE("a");` reads x before the answer sets it, and keeps the low 8 bits of 260
 adds_before : runs 1 unsigned1
     (body_from (eval (CompoundAssign operator.Add (var 0)
-    (calls builtin.Acknowledge (Text (text (codes "a")) ∷ []))) ∷ [])) (pos 250 ∷ [])
+    (calls (builtin.Ask kind.Acknowledge) (Text (text (codes "a")) ∷ []))) ∷ [])) (pos 250 ∷ [])
     (Go (pos 10) ((changed 0 (pos 1)) ∷ []) ∷ [])
     ≡ record {
-      requests = asks.Acknowledge (says (codes "a")) ∷ [];
+      requests = asked kind.Acknowledge (TextArgument (says (codes "a")) ∷ []) ∷ [];
       changes = (changed 0 (pos 1))
           ∷ (changed 0 (pos 4)) ∷ [];
       values = pos 4 ∷ [];
@@ -236,7 +243,7 @@ continues = refl
 -- `if (0 && ACKNOWLEDGE("a")) ; PUT_MESSAGE("b");`
 short : Body Target
 short = body_from (do_ (If
-    (LogicalAnd (Literal 0) (calls builtin.Acknowledge (Text (text (codes "a")) ∷ []))) Empty)
+    (LogicalAnd (Literal 0) (calls (builtin.Ask kind.Acknowledge) (Text (text (codes "a")) ∷ []))) Empty)
     ∷ do_ (print (codes "b")) ∷ [])
 
 asks_only_b : runs 1 no_variables short [] (ok ∷ []) ≡ quiet (put (codes "b") ∷ []) [] Ended
@@ -250,15 +257,20 @@ aborts = refl
 -- `GET_DEV_VAR_VALUE("t", x); DELAY(x - 9, [k]); send_command_trans(1, x);`
 gets_value : runs 1 int4
     (body_from (
-    eval (calls builtin.GetDevVarValue (Text (text (codes "t")) ∷ Value (Reference (var 0)) ∷ [])) ∷
-    eval (calls builtin.Delay (Value (Binary operator.Subtract (Reference (var 0)) (Literal 9))
+    eval (calls (builtin.Ask kind.GetDevVarValue) (Text (text (codes "t")) ∷ Value (Reference (var 0)) ∷ [])) ∷
+    eval (calls (builtin.Ask kind.Delay) (Value (Binary operator.Subtract (Reference (var 0)) (Literal 9))
     ∷ Text (texts.Key (codes "k")) ∷ [])) ∷
-    eval (calls builtin.SendCommandTrans (Value (Literal 1) ∷ Value (Reference (var 0)) ∷ []))
+    eval (calls (builtin.Ask kind.SendCommandTrans) (Value (Literal 1) ∷ Value (Reference (var 0)) ∷ []))
     ∷ []))
     (pos 0 ∷ []) (Go (pos 0) ((changed 0 (pos 7)) ∷ []) ∷ ok ∷ ok ∷ [])
     ≡ record {
-      requests = asks.GetDevVarValue (says (codes "t")) (var_no 0)
-          ∷ asks.Delay (negsuc 1) (strings.Key (codes "k")) ∷ asks.SendCommandTrans (pos 1) (pos 7)
+      requests =
+          asked kind.GetDevVarValue
+          (TextArgument (says (codes "t")) ∷ VariableArgument (var_no 0) ∷ [])
+          ∷ asked kind.Delay
+          (NumberArgument (negsuc 1) ∷ TextArgument (strings.Key (codes "k")) ∷ [])
+          ∷ asked kind.SendCommandTrans
+          (NumberArgument (pos 1) ∷ NumberArgument (pos 7) ∷ [])
           ∷ [];
       changes = (changed 0 (pos 7)) ∷ [];
       values = pos 7 ∷ [];
@@ -398,16 +410,17 @@ assigns = refl
 -- `send_command(ivar_value(x)); save_values();` where x is -3
 saves : runs 1 int4 (body_from
     (do_ (send (calls builtin.IvarValue (Value (Reference (var 0)) ∷ [])))
-    ∷ eval (calls builtin.SaveValues []) ∷ [])) (negsuc 2 ∷ []) (ok ∷ ok ∷ [])
-    ≡ quiet (asks.SendCommand (negsuc 2) ∷ asks.SaveValues ∷ []) (negsuc 2 ∷ []) Ended
+    ∷ eval (calls (builtin.Ask kind.SaveValues) []) ∷ [])) (negsuc 2 ∷ []) (ok ∷ ok ∷ [])
+    ≡ quiet (sends_number (negsuc 2) ∷ asked kind.SaveValues [] ∷ []) (negsuc 2 ∷ []) Ended
 unfolding run_body execute evaluate call wrap slots_of
 saves = refl
 
 -- `send_command(SELECT_FROM_LIST("a", "b;c"));` sends the number that was chosen
 selects : runs 1 no_variables
-    (sends (calls builtin.SelectFromList (Text (text (codes "a")) ∷ Text (text (codes "b;c"))
+    (sends (calls (builtin.Ask kind.SelectFromList) (Text (text (codes "a")) ∷ Text (text (codes "b;c"))
     ∷ []))) [] (Go (pos 1) [] ∷ ok ∷ [])
-    ≡ quiet (asks.SelectFromList (says (codes "a")) (says (codes "b;c")) ∷ sent 1 ∷ []) [] Ended
+    ≡ quiet (asked kind.SelectFromList
+    (TextArgument (says (codes "a")) ∷ TextArgument (says (codes "b;c")) ∷ []) ∷ sent 1 ∷ []) [] Ended
 unfolding run_body execute evaluate call wrap words_of pieces unescape slots_of
 selects = refl
 
@@ -456,7 +469,7 @@ before_it = refl
 negative_operands : runs 1 no_variables
     (body_from (do_ (send (Binary operator.Remainder (minus 7) (Literal 3)))
     ∷ do_ (send (Binary operator.ShiftRight (minus 7) (Literal 1))) ∷ [])) [] (ok ∷ ok ∷ [])
-    ≡ quiet (asks.SendCommand (negsuc 0) ∷ asks.SendCommand (negsuc 3) ∷ []) [] Ended
+    ≡ quiet (sends_number (negsuc 0) ∷ sends_number (negsuc 3) ∷ []) [] Ended
 unfolding run_body execute evaluate call wrap operate apply slots_of
 negative_operands = refl
 

@@ -3,7 +3,8 @@ use Rattle.std.specs.Prelude.{◌≡◌, true, List}
 use Rattle.edd_syntax.specs.declared.operators.Builtin.{Builtin}
 use Rattle.edd_syntax.specs.Reference.{Target}
 use Rattle.edd_syntax.specs.Expression.{Arguments}
-use Rattle.edd_syntax.specs.SubsetRules.{parameters, all_fit}
+use Rattle.edd_syntax.specs.Builtins.{parameters}
+use Rattle.edd_syntax.specs.SubsetRules.{all_fit}
 use Rattle.edd_syntax.specs.Device.{Environment}
 use Rattle.edd_syntax.specs.MethodState.{State, Done}
 use Rattle.edd_syntax.specs.Evaluation.{Given, Fitting, effect_of, call_builtin, evaluate_all}

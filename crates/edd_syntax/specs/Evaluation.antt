@@ -1,5 +1,5 @@
 -- The values of expressions in methods.
-use Rattle.std.specs.Prelude.{true, false, not, ℤ, pos, List, [], ◌∷◌, Option, Some, None, option_map, ⊤}
+use Rattle.std.specs.Prelude.{true, false, not, ℤ, pos, List, [], ◌∷◌, ◌++◌, Option, Some, None, option_map, ⊤}
 use Rattle.edd_syntax.specs.declared.numbers.ItemNo.TheVariants as item_no
 use Rattle.edd_syntax.specs.declared.numbers.MethNo.{MethNo}
 use Rattle.edd_syntax.specs.declared.numbers.VarNo.{VarNo}
@@ -16,9 +16,8 @@ use Rattle.edd_syntax.specs.Expression.{Expr, Literal, Decimal, Reference, Index
 use Rattle.edd_syntax.specs.TwosComplement.{wrap, truth, is_zero, operate, compare, apply}
 use Rattle.edd_syntax.specs.Words.{Words, words_of}
 use Rattle.edd_syntax.specs.Device.{Environment}
-use Rattle.edd_syntax.specs.SubsetRules.{parameters}
-use Rattle.edd_syntax.specs.MethodState as asks
-use Rattle.edd_syntax.specs.MethodState.{Aborted, Action, pure, stop, ◌>>=◌, ◌>>◌, number, read, read_element, assign, add_abort_method, ask}
+use Rattle.edd_syntax.specs.Builtins.{parameters, request_parameters}
+use Rattle.edd_syntax.specs.MethodState.{RequestArgument, TextArgument, NumberArgument, VariableArgument, Aborted, Action, pure, stop, ◌>>=◌, ◌>>◌, number, read, read_element, assign, add_abort_method, ask}
 
 -- an argument of a function: a text, or a number with the target that a plain reference names
 pub data Given : Type 0 where
@@ -69,6 +68,18 @@ fitted (p ∷ parameters) (g ∷ given) = elim (fitted_one p g) [
   | None ↦ None
 ]
 
+-- a fitting argument as the host gets it; no request takes a METHOD
+abbrev pub asked_one : (p : Parameter) → FittingOne p → List RequestArgument
+asked_one parameter.Text text = TextArgument text ∷ []
+asked_one parameter.Number value = NumberArgument value ∷ []
+asked_one parameter.DeviceVariable given = VariableArgument given.variable ∷ []
+asked_one parameter.Method m = []
+
+-- all of them, in their order
+abbrev pub asked : (parameters : List Parameter) → Fitting parameters → List RequestArgument
+asked [] given = []
+asked (p ∷ parameters) given = asked_one p given.0 ++ asked parameters given.1
+
 module _ (env : Environment) where
   -- `++` and `--` store 1 more or 1 less; before the reference their value is what is read back,
   -- after it what was read before
@@ -95,14 +106,8 @@ module _ (env : Environment) where
   -- what a function does with its arguments: it asks the host, reads or stores a variable, aborts,
   -- or lists an abort method; the value of a store is 0
   abbrev pub effect_of : (f : Builtin) → Fitting (parameters f) → Action ℤ
-  effect_of builtin.PutMessage given = ask (asks.PutMessage given.0)
-  effect_of builtin.Acknowledge given = ask (asks.Acknowledge given.0)
-  effect_of builtin.Delay given = ask (asks.Delay given.0 given.1.0)
-  effect_of builtin.GetDevVarValue given = ask (asks.GetDevVarValue given.0 given.1.0.variable)
-  effect_of builtin.SelectFromList given = ask (asks.SelectFromList given.0 given.1.0)
-  effect_of builtin.SendCommand given = ask (asks.SendCommand given.0)
-  effect_of builtin.SendCommandTrans given = ask (asks.SendCommandTrans given.0 given.1.0)
-  effect_of builtin.SaveValues given = ask asks.SaveValues
+  effect_of (builtin.Ask kind) given =
+      ask (record { kind = kind; arguments = asked (request_parameters kind) given })
   effect_of builtin.IvarValue given = pure given.0.value
   effect_of builtin.LvarValue given = pure given.0.value
   effect_of builtin.Iassign given =

@@ -3,6 +3,7 @@ pub mod Accepted
 pub mod Answers
 pub mod AttributeValue
 pub mod Attributes
+pub mod Builtins
 pub mod Conditional
 pub mod Device
 pub mod DeviceValues

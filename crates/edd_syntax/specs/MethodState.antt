@@ -4,6 +4,7 @@ use Rattle.edd_syntax.specs.declared.numbers.VarNo.{VarNo}
 use Rattle.edd_syntax.specs.declared.numbers.MethNo.{MethNo}
 use Rattle.edd_syntax.specs.declared.numbers.ItemNo.{ItemNo}
 use Rattle.edd_syntax.specs.declared.numbers.ItemNo.TheVariants as item_no
+use Rattle.edd_syntax.specs.declared.operators.RequestKind.{RequestKind}
 use Rattle.edd_syntax.specs.declared.answer.Trap.{Trap}
 use Rattle.edd_syntax.specs.Reference.{Target, Local, Item, Function}
 use Rattle.edd_syntax.specs.TwosComplement.{wrap, store}
@@ -14,16 +15,16 @@ use Rattle.edd_syntax.specs.Elements.{indexed_value}
 use Rattle.edd_syntax.specs.AbortMethods.{listed}
 use Rattle.edd_syntax.specs.Device.{Environment, type_of_variable}
 
--- what a method asks of its host
-pub data Request : Type 0 where
-  PutMessage : (text : Words) → Request
-  Acknowledge : (text : Words) → Request
-  Delay : (seconds : ℤ) → (text : Words) → Request
-  GetDevVarValue : (text : Words) → (variable : VarNo) → Request
-  SelectFromList : (text choices : Words) → Request
-  SendCommand : (number : ℤ) → Request
-  SendCommandTrans : (number transaction : ℤ) → Request
-  SaveValues : Request
+-- an argument of a request
+pub data RequestArgument : Type 0 where
+  TextArgument : (text : Words) → RequestArgument
+  NumberArgument : (value : ℤ) → RequestArgument
+  VariableArgument : (variable : VarNo) → RequestArgument
+
+-- what a method asks of its host: the kind of the request, and its arguments in written order
+pub record Request : Type 0 where
+  pub kind : RequestKind
+  pub arguments : List RequestArgument
 
 -- the state of a method while it runs
 pub record State : Type 0 where

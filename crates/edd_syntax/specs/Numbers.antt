@@ -112,10 +112,14 @@ attr_number attr.Members = 20
 attr_number attr.Definition = 21
 attr_number attr.Elements = 22
 
--- the attribute of a number, which counts from 1
+-- the one of a list by its number, which counts from 1
+abbrev pub numbered : {A : Type 0} → List A → ℕ → Option A
+numbered all zero = None
+numbered all (suc n) = slice_get all n
+
+-- the attribute of a number
 abbrev pub attr_from_number : ℕ → Option Attr
-attr_from_number zero = None
-attr_from_number (suc n) = slice_get ATTRIBUTES n
+attr_from_number n = numbered ATTRIBUTES n
 
 -- the attributes are the same
 abbrev pub same_attr : Attr → Attr → Bool

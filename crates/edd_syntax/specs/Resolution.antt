@@ -10,8 +10,10 @@ use Rattle.edd_syntax.specs.declared.numbers.Kind.TheVariants as kind
 use Rattle.edd_syntax.specs.declared.numbers.ItemNo.{ItemNo}
 use Rattle.edd_syntax.specs.declared.operators.Builtin.{Builtin}
 use Rattle.edd_syntax.specs.declared.operators.Builtin.TheVariants as builtin
+use Rattle.edd_syntax.specs.declared.operators.TheConstants.{BUILTINS}
 use Rattle.edd_syntax.specs.Text.{Name}
 use Rattle.edd_syntax.specs.Reference.{Path, Target, Local, Item, Function}
+use Rattle.edd_syntax.specs.Builtins.{builtin_name}
 use Rattle.edd_syntax.specs.Numbers.{same_kind, item_number, kind_of}
 use Rattle.edd_syntax.specs.Item as item
 use Rattle.edd_syntax.specs.Item.{kind_of_item, ItemKind, CollectionItem, Attribute, Members, Member, Description}
@@ -132,41 +134,13 @@ array_meant unit scope path =
       | None ↦ item_meant unit array_kinds path
     ]
 
--- the name of a function that a method may call
-abbrev pub builtin_name : Builtin → Name
-builtin_name builtin.PutMessage = codes "PUT_MESSAGE"
-builtin_name builtin.Acknowledge = codes "ACKNOWLEDGE"
-builtin_name builtin.Delay = codes "DELAY"
-builtin_name builtin.GetDevVarValue = codes "GET_DEV_VAR_VALUE"
-builtin_name builtin.SelectFromList = codes "SELECT_FROM_LIST"
-builtin_name builtin.SendCommand = codes "send_command"
-builtin_name builtin.SendCommandTrans = codes "send_command_trans"
-builtin_name builtin.SaveValues = codes "save_values"
-builtin_name builtin.IvarValue = codes "ivar_value"
-builtin_name builtin.LvarValue = codes "lvar_value"
-builtin_name builtin.Iassign = codes "iassign"
-builtin_name builtin.Lassign = codes "lassign"
-builtin_name builtin.Abort = codes "abort"
-builtin_name builtin.ProcessAbort = codes "process_abort"
-builtin_name builtin.AddAbortMethod = codes "add_abort_method"
-
--- each function that a method may call
-abbrev pub all_builtins : List Builtin
-all_builtins =
-    builtin.PutMessage ∷ builtin.Acknowledge ∷ builtin.Delay ∷ builtin.GetDevVarValue
-    ∷ builtin.SelectFromList ∷
-    builtin.SendCommand ∷ builtin.SendCommandTrans ∷ builtin.SaveValues ∷ builtin.IvarValue
-    ∷ builtin.LvarValue ∷
-    builtin.Iassign ∷ builtin.Lassign ∷ builtin.Abort ∷ builtin.ProcessAbort
-    ∷ builtin.AddAbortMethod ∷ []
-
 -- functions by their names
 abbrev pub by_name : List Builtin → List (Name × Builtin)
 by_name functions = map (λ f. (builtin_name f, f)) functions
 
 -- the functions that a method may call, by their names
 abbrev pub builtins : List (Name × Builtin)
-builtins = by_name all_builtins
+builtins = by_name BUILTINS
 
 -- the function that a call means, by its name
 abbrev pub function_meant : Path → Option Target

@@ -12,6 +12,7 @@ use Rattle.edd_syntax.specs.declared.operators.Parameter.{Parameter}
 use Rattle.edd_syntax.specs.declared.operators.Parameter.TheVariants as parameter
 use Rattle.edd_syntax.specs.declared.types.VarType.{VarType}
 use Rattle.edd_syntax.specs.declared.types.VarType.TheVariants as var_type
+use Rattle.edd_syntax.specs.Builtins.{parameters}
 use Rattle.edd_syntax.specs.Text.{Name}
 use Rattle.edd_syntax.specs.Reference.{Target, Local, Item, Function}
 use Rattle.edd_syntax.specs.TwosComplement.{wrap}
@@ -140,24 +141,6 @@ abbrev pub attributes_of : {R : Type 0} → Description R → List (Attribute R)
 attributes_of unit = flat_map (λ i. i.attributes) unit.items
 
 -- ---- arguments that a function can't have, and an abort that isn't a statement of its own
-
--- what a function takes, place by place
-abbrev pub parameters : Builtin → List Parameter
-parameters builtin.PutMessage = parameter.Text ∷ []
-parameters builtin.Acknowledge = parameter.Text ∷ []
-parameters builtin.Delay = parameter.Number ∷ parameter.Text ∷ []
-parameters builtin.GetDevVarValue = parameter.Text ∷ parameter.DeviceVariable ∷ []
-parameters builtin.SelectFromList = parameter.Text ∷ parameter.Text ∷ []
-parameters builtin.SendCommand = parameter.Number ∷ []
-parameters builtin.SendCommandTrans = parameter.Number ∷ parameter.Number ∷ []
-parameters builtin.SaveValues = []
-parameters builtin.IvarValue = parameter.DeviceVariable ∷ []
-parameters builtin.LvarValue = parameter.DeviceVariable ∷ []
-parameters builtin.Iassign = parameter.DeviceVariable ∷ parameter.Number ∷ []
-parameters builtin.Lassign = parameter.DeviceVariable ∷ parameter.Number ∷ []
-parameters builtin.Abort = []
-parameters builtin.ProcessAbort = []
-parameters builtin.AddAbortMethod = parameter.Method ∷ []
 
 -- a plain reference to a VARIABLE
 abbrev pub is_device_variable : Argument Target → Bool

@@ -2,6 +2,7 @@
 #![tactic(auto)]
 
 pub mod answer;
+mod arguments;
 pub mod checked;
 pub mod cond;
 mod elements;

@@ -44,10 +44,10 @@ pub enum IncrementOperator {
     PostDecrement,
 }
 
-/// A function that methods may call.
+/// What a method asks of its host.
 #[derive(Clone, Copy, PartialEq, Eq, Debug)]
-pub enum Builtin {
-    PutMessage,
+pub enum RequestKind {
+    PutMessage = 1,
     Acknowledge,
     Delay,
     GetDevVarValue,
@@ -55,6 +55,25 @@ pub enum Builtin {
     SendCommand,
     SendCommandTrans,
     SaveValues,
+}
+
+/// The requests by their numbers.
+pub const REQUESTS: [RequestKind; 8] = [
+    RequestKind::PutMessage,
+    RequestKind::Acknowledge,
+    RequestKind::Delay,
+    RequestKind::GetDevVarValue,
+    RequestKind::SelectFromList,
+    RequestKind::SendCommand,
+    RequestKind::SendCommandTrans,
+    RequestKind::SaveValues,
+];
+
+/// A function that methods may call.
+#[derive(Clone, Copy, PartialEq, Eq, Debug)]
+pub enum Builtin {
+    /// It makes a request.
+    Ask(RequestKind),
     IvarValue,
     LvarValue,
     Iassign,
@@ -66,14 +85,14 @@ pub enum Builtin {
 
 /// All of them.
 pub const BUILTINS: [Builtin; 15] = [
-    Builtin::PutMessage,
-    Builtin::Acknowledge,
-    Builtin::Delay,
-    Builtin::GetDevVarValue,
-    Builtin::SelectFromList,
-    Builtin::SendCommand,
-    Builtin::SendCommandTrans,
-    Builtin::SaveValues,
+    Builtin::Ask(RequestKind::PutMessage),
+    Builtin::Ask(RequestKind::Acknowledge),
+    Builtin::Ask(RequestKind::Delay),
+    Builtin::Ask(RequestKind::GetDevVarValue),
+    Builtin::Ask(RequestKind::SelectFromList),
+    Builtin::Ask(RequestKind::SendCommand),
+    Builtin::Ask(RequestKind::SendCommandTrans),
+    Builtin::Ask(RequestKind::SaveValues),
     Builtin::IvarValue,
     Builtin::LvarValue,
     Builtin::Iassign,

@@ -2,11 +2,11 @@
 
 ghost use Rattle.std.specs.Prelude.{◌≡◌};
 ghost use Rattle.edd_syntax.specs.Numbers as numbers;
-ghost use Rattle.edd_syntax.specs.Resolution.{builtin_name, builtins, by_name, look_up};
-ghost use Rattle.edd_syntax.specs.SubsetRules.{parameters};
+ghost use Rattle.edd_syntax.specs.Builtins as tables;
+ghost use Rattle.edd_syntax.specs.Resolution.{builtins, by_name, look_up};
 
-use crate::numbers::{ArrNo, CmdNo, CollNo, ItemNo, Kind, MenuNo, MethNo, VarNo};
-use crate::operators::{BUILTINS, Builtin, Parameter};
+use crate::numbers::{ArrNo, CmdNo, CollNo, ItemNo, Kind, MenuNo, MethNo, VarNo, numbered};
+use crate::operators::{BUILTINS, Builtin, Parameter, REQUESTS, RequestKind};
 
 impl Kind {
     /// The number of the kind in an image, from 1 to 6 (this profile).
@@ -105,20 +105,83 @@ fn first_named(functions: &[Builtin], name: &str) -> Option<Builtin>
     None
 }
 
+impl RequestKind {
+    /// The number of the request in an image and in C, from 1 on (this profile).
+    pub fn number(self) -> u8
+        ensures { result ≡ tables.request_number self }
+    {
+        self as u8
+    }
+
+    /// The request of a number in an image, where there is one (this profile).
+    pub fn from_number(number: u8) -> Option<RequestKind>
+        ensures { result ≡ tables.request_from_number number }
+    {
+        numbered(&REQUESTS, number)
+    }
+
+    /// The name of the function that makes it, as EDDL has it (IEC 61804-3).
+    pub fn name(self) -> &'static str
+        ensures { result.now ≡ tables.request_name self }
+    {
+        match self {
+            RequestKind::PutMessage => "PUT_MESSAGE",
+            RequestKind::Acknowledge => "ACKNOWLEDGE",
+            RequestKind::Delay => "DELAY",
+            RequestKind::GetDevVarValue => "GET_DEV_VAR_VALUE",
+            RequestKind::SelectFromList => "SELECT_FROM_LIST",
+            RequestKind::SendCommand => "send_command",
+            RequestKind::SendCommandTrans => "send_command_trans",
+            RequestKind::SaveValues => "save_values",
+        }
+    }
+
+    /// What it takes, place by place (this profile of EDDL).
+    pub fn parameters(self) -> &'static [Parameter]
+        ensures { result.now ≡ tables.request_parameters self }
+    {
+        use Parameter::{DeviceVariable, Number, Text};
+        match self {
+            RequestKind::PutMessage | RequestKind::Acknowledge => &[Text],
+            RequestKind::Delay => &[Number, Text],
+            RequestKind::GetDevVarValue => &[Text, DeviceVariable],
+            RequestKind::SelectFromList => &[Text, Text],
+            RequestKind::SendCommand => &[Number],
+            RequestKind::SendCommandTrans => &[Number, Number],
+            RequestKind::SaveValues => &[],
+        }
+    }
+
+    /// How many numbers it takes, which are operands of its instruction (this profile).
+    pub fn numbers_taken(self) -> u8
+        ensures { result ≡ tables.numbers_taken self }
+    {
+        match self {
+            RequestKind::SendCommandTrans => 2,
+            RequestKind::Delay | RequestKind::SendCommand => 1,
+            _ => 0,
+        }
+    }
+
+    /// How many texts and variables it takes, which its instruction names (this profile).
+    pub fn names_taken(self) -> u8
+        ensures { result ≡ tables.names_taken self }
+    {
+        match self {
+            RequestKind::GetDevVarValue | RequestKind::SelectFromList => 2,
+            RequestKind::PutMessage | RequestKind::Acknowledge | RequestKind::Delay => 1,
+            _ => 0,
+        }
+    }
+}
+
 impl Builtin {
     /// The name of the function, as EDDL has it (IEC 61804-3).
     pub fn name(self) -> &'static str
-        ensures { result.now ≡ builtin_name self }
+        ensures { result.now ≡ tables.builtin_name self }
     {
         match self {
-            Builtin::PutMessage => "PUT_MESSAGE",
-            Builtin::Acknowledge => "ACKNOWLEDGE",
-            Builtin::Delay => "DELAY",
-            Builtin::GetDevVarValue => "GET_DEV_VAR_VALUE",
-            Builtin::SelectFromList => "SELECT_FROM_LIST",
-            Builtin::SendCommand => "send_command",
-            Builtin::SendCommandTrans => "send_command_trans",
-            Builtin::SaveValues => "save_values",
+            Builtin::Ask(kind) => kind.name(),
             Builtin::IvarValue => "ivar_value",
             Builtin::LvarValue => "lvar_value",
             Builtin::Iassign => "iassign",
@@ -138,19 +201,14 @@ impl Builtin {
 
     /// What the function takes, place by place (this profile of EDDL).
     pub fn parameters(self) -> &'static [Parameter]
-        ensures { result.now ≡ parameters self }
+        ensures { result.now ≡ tables.parameters self }
     {
-        use Parameter::{DeviceVariable, Method, Number, Text};
+        use Parameter::{DeviceVariable, Method, Number};
         match self {
-            Builtin::PutMessage | Builtin::Acknowledge => &[Text],
-            Builtin::Delay => &[Number, Text],
-            Builtin::GetDevVarValue => &[Text, DeviceVariable],
-            Builtin::SelectFromList => &[Text, Text],
-            Builtin::SendCommand => &[Number],
-            Builtin::SendCommandTrans => &[Number, Number],
-            Builtin::SaveValues | Builtin::Abort | Builtin::ProcessAbort => &[],
+            Builtin::Ask(kind) => kind.parameters(),
             Builtin::IvarValue | Builtin::LvarValue => &[DeviceVariable],
             Builtin::Iassign | Builtin::Lassign => &[DeviceVariable, Number],
+            Builtin::Abort | Builtin::ProcessAbort => &[],
             Builtin::AddAbortMethod => &[Method],
         }
     }

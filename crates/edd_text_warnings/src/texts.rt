@@ -3,7 +3,7 @@
 use edd_lexer::token::{Token, TokenKind};
 use edd_lints::tokens_left::{Mark, bytes_of, mark_of};
 use edd_syntax::numbers::TextAttribute;
-use edd_syntax::operators::Builtin;
+use edd_syntax::operators::RequestKind;
 use edd_syntax::symbols::{Keyword, Symbol};
 use std::alloc::{AllocError, Global};
 
@@ -144,7 +144,8 @@ impl<'a> Gathering<'a> {
         match token.kind {
             TokenKind::Keyword(word) if begins_section(word) => self.section = Some(word),
             TokenKind::Name => {
-                self.selects = bytes_of(text, token) == Builtin::SelectFromList.name().as_bytes();
+                self.selects = bytes_of(text, token)
+                    == RequestKind::SelectFromList.name().as_bytes();
                 self.lists = false;
             }
             TokenKind::Symbol(Symbol::Comma) => {

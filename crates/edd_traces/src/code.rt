@@ -1,8 +1,7 @@
 //! The effects of the instructions of a unit.
 
 use crate::effect::{Effect, of_operator};
-use edd_instructions::{Ask, Instruction, decode};
-use edd_syntax::operators::Builtin;
+use edd_instructions::{Instruction, decode};
 use std::alloc::{AllocError, Global};
 
 /// An effect, and the place of its instruction.
@@ -12,23 +11,10 @@ pub struct Placed {
     pub effect: Effect,
 }
 
-fn function_of(ask: Ask) -> Builtin {
-    match ask {
-        Ask::PutMessage(_) => Builtin::PutMessage,
-        Ask::Acknowledge(_) => Builtin::Acknowledge,
-        Ask::Delay(_) => Builtin::Delay,
-        Ask::GetDevVarValue(_, _) => Builtin::GetDevVarValue,
-        Ask::SelectFromList(_, _) => Builtin::SelectFromList,
-        Ask::SendCommand => Builtin::SendCommand,
-        Ask::SendCommandTrans => Builtin::SendCommandTrans,
-        Ask::SaveValues => Builtin::SaveValues,
-    }
-}
-
 fn effect_of(instruction: Instruction) -> Option<Effect> {
     match instruction {
         Instruction::Store(variable) => Some(Effect::Store(variable)),
-        Instruction::Ask(ask) => Some(Effect::Ask(function_of(ask))),
+        Instruction::Ask(ask) => Some(Effect::Ask(ask.kind)),
         Instruction::Operate(op) => of_operator(op),
         Instruction::ReadElement(array) => Some(Effect::Element(array)),
         Instruction::Abort => Some(Effect::Abort),

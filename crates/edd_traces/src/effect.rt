@@ -1,7 +1,7 @@
 //! What is told of an instruction.
 
 use edd_syntax::numbers::{ArrNo, ItemNo, VarNo};
-use edd_syntax::operators::{Builtin, Operator};
+use edd_syntax::operators::{Builtin, Operator, RequestKind};
 use edd_syntax::reference::Target;
 
 /// What an instruction does that is told of, or why it can trap.
@@ -9,8 +9,8 @@ use edd_syntax::reference::Target;
 pub enum Effect {
     /// It changes a variable.
     Store(VarNo),
-    /// It asks for what this function asks for.
-    Ask(Builtin),
+    /// It makes a request.
+    Ask(RequestKind),
     /// It divides or shifts.
     Operate(Operator),
     /// It reads an element.
@@ -55,13 +55,6 @@ pub fn of_call(function: Builtin, first: Option<Target>) -> Option<Effect> {
         Builtin::Iassign | Builtin::Lassign => of_store(first?),
         Builtin::Abort | Builtin::ProcessAbort => Some(Effect::Abort),
         Builtin::IvarValue | Builtin::LvarValue | Builtin::AddAbortMethod => None,
-        Builtin::PutMessage
-        | Builtin::Acknowledge
-        | Builtin::Delay
-        | Builtin::GetDevVarValue
-        | Builtin::SelectFromList
-        | Builtin::SendCommand
-        | Builtin::SendCommandTrans
-        | Builtin::SaveValues => Some(Effect::Ask(function)),
+        Builtin::Ask(kind) => Some(Effect::Ask(kind)),
     }
 }

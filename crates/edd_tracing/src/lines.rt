@@ -8,7 +8,6 @@ use edd_machine::{ReadFault, Values, attribute};
 use edd_panel::{bits_of, first_number, is_enumerator, of_variable};
 use edd_syntax::answer::Trap;
 use edd_syntax::numbers::{Attr, ItemNo, VarNo};
-use edd_syntax::operators::Builtin;
 use edd_syntax::types::VarType;
 use std::alloc::{AllocError, Global};
 use std::io::Write;
@@ -35,20 +34,6 @@ impl<'t, 's, 'b, W> Telling<'t, 's, 'b, W> {
             image,
             out,
         }
-    }
-}
-
-/// The function that makes a request.
-pub fn function_of(request: Request) -> Builtin {
-    match request {
-        Request::PutMessage(_) => Builtin::PutMessage,
-        Request::Acknowledge(_) => Builtin::Acknowledge,
-        Request::Delay(_, _) => Builtin::Delay,
-        Request::GetDevVarValue(_, _) => Builtin::GetDevVarValue,
-        Request::SelectFromList(_, _) => Builtin::SelectFromList,
-        Request::SendCommand(_) => Builtin::SendCommand,
-        Request::SendCommandTrans(_, _) => Builtin::SendCommandTrans,
-        Request::SaveValues => Builtin::SaveValues,
     }
 }
 
@@ -106,7 +91,7 @@ impl<W: Write> Telling<'_, '_, '_, W> {
         request: Request,
         number: usize,
     ) -> Result<(), ShowFault> {
-        let name = function_of(request).name();
+        let name = request.kind().name();
         let what = format!(in self.alloc; "request {number} {name}")?;
         self.line(place, &what)
     }

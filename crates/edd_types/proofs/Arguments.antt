@@ -1,4 +1,4 @@
--- Arguments that are too many or too few.
+-- Calls that break a rule, and those that don't.
 use Rattle.std.proofs.Common.{◌≡◌, refl, sym, ap, ◌∙◌, ◌<◌, ◌≤◌, Bool, true, false, not, ◌&&◌, ◌||◌, List, [], ◌∷◌, length, map, arith}
 use Rattle.edd_breaches.specs.Told.{told_at}
 use Rattle.edd_syntax.specs.declared.numbers.TokenNo.{TokenNo}
@@ -9,7 +9,8 @@ use Rattle.edd_syntax.specs.Expression.{Argument, Arguments, arguments_from}
 use Rattle.edd_syntax.specs.declared.operators.Builtin.{Builtin}
 use Rattle.edd_syntax.specs.declared.operators.Builtin.TheVariants as builtin
 use Rattle.edd_syntax.specs.declared.operators.Parameter.{Parameter}
-use Rattle.edd_syntax.specs.SubsetRules.{all_fit, is_abort, parameters, call_breaches}
+use Rattle.edd_syntax.specs.Builtins.{parameters}
+use Rattle.edd_syntax.specs.SubsetRules.{all_fit, is_abort, call_breaches}
 use Rattle.edd_syntax.specs.SubsetRules as rules
 use Rattle.edd_syntax.specs.Refusal.{Mismatch, refused_if}
 use Rattle.edd_types.specs.declared.sought.Sought.TheVariants as sought
@@ -17,55 +18,20 @@ use Rattle.edd_types.specs.declared.sought.Calls.{Calls}
 use Rattle.edd_types.specs.declared.sought.Calls.TheVariants as sought_calls
 use Rattle.edd_types.specs.Expressions.{all_fit_among, call_breaches_among, call_told, fits_among}
 
-and_false : (b : Bool) → b && false ≡ false
-and_false true = refl
-and_false false = refl
-
-and_and_false : (a b : Bool) → a && (b && false) ≡ false
-and_and_false true true = refl
-and_and_false true false = refl
-and_and_false false b = refl
+-- ---- too many arguments, and too few
 
 module _ {X : Type 0} (view : X → Argument Target) (which : Calls) where
-  pub none_is_not_one : (p : Parameter) (xs : List X) → length xs < 1
-      → false ≡ all_fit_among which (p ∷ []) (arguments_from (map view xs))
-  none_is_not_one p [] h = refl
-  none_is_not_one p (x ∷ xs) h = absurd (omega arith)
+  pub too_many : (ps : List Parameter) (xs : List X) → length ps < 1 → 1 ≤ length xs
+      → false ≡ all_fit_among which ps (arguments_from (map view xs))
+  too_many [] [] none some = absurd (omega arith)
+  too_many [] (x ∷ xs) none some = refl
+  too_many (p ∷ ps) xs none some = absurd (omega arith)
 
-  pub many_are_not_one : (p : Parameter) (xs : List X) → 2 ≤ length xs
-      → false ≡ all_fit_among which (p ∷ []) (arguments_from (map view xs))
-  many_are_not_one p [] h = absurd (omega arith)
-  many_are_not_one p (x ∷ []) h = absurd (omega arith)
-  many_are_not_one p (x ∷ y ∷ xs) h = sym (and_false (fits_among which p (view x)))
-
-  pub few_are_not_two : (p q : Parameter) (xs : List X) → length xs < 2
-      → false ≡ all_fit_among which (p ∷ q ∷ []) (arguments_from (map view xs))
-  few_are_not_two p q [] h = refl
-  few_are_not_two p q (x ∷ []) h = sym (and_false (fits_among which p (view x)))
-  few_are_not_two p q (x ∷ y ∷ xs) h = absurd (omega arith)
-
-  pub many_are_not_two : (p q : Parameter) (xs : List X) → 3 ≤ length xs
-      → false ≡ all_fit_among which (p ∷ q ∷ []) (arguments_from (map view xs))
-  many_are_not_two p q [] h = absurd (omega arith)
-  many_are_not_two p q (x ∷ []) h = absurd (omega arith)
-  many_are_not_two p q (x ∷ y ∷ []) h = absurd (omega arith)
-  many_are_not_two p q (x ∷ y ∷ z ∷ xs) h =
-      sym (and_and_false (fits_among which p (view x)) (fits_among which q (view y)))
-
-pub ruleset not_one = (none_is_not_one, many_are_not_one)
-
-pub ruleset not_two = (few_are_not_two, many_are_not_two)
-
-pub some_are_not_none : {X : Type 0} (view : X → Argument Target) (which : Calls) (xs : List X)
-    → 1 ≤ length xs → false ≡ all_fit_among which [] (arguments_from (map view xs))
-some_are_not_none view which [] h = absurd (omega arith)
-some_are_not_none view which (x ∷ xs) h = refl
-
--- ---- how many a function takes
-
-pub few_parameters : (f : Builtin) → length (parameters f) ≤ 2
-few_parameters builtin.PutMessage = omega arith
-few_parameters _ = omega arith
+  pub too_few : (ps : List Parameter) (xs : List X) → 1 ≤ length ps → length xs < 1
+      → false ≡ all_fit_among which ps (arguments_from (map view xs))
+  too_few [] xs some none = absurd (omega arith)
+  too_few (p ∷ ps) [] some none = refl
+  too_few (p ∷ ps) (x ∷ xs) some none = absurd (omega arith)
 
 -- ---- all that do not fit are the breaches of the rule
 

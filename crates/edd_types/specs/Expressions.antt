@@ -18,7 +18,8 @@ use Rattle.edd_syntax.specs.Expression as pure
 use Rattle.edd_syntax.specs.Expression.{Arguments, arguments_from}
 use Rattle.edd_syntax.specs.TreeView.{arguments_in}
 use Rattle.edd_syntax.specs.Refusal.{Refusal, FloatValue, Mismatch, refused_if}
-use Rattle.edd_syntax.specs.SubsetRules.{fits, parameters, is_abort}
+use Rattle.edd_syntax.specs.Builtins.{parameters}
+use Rattle.edd_syntax.specs.SubsetRules.{fits, is_abort}
 use Rattle.edd_types.specs.declared.sought.Calls.{Calls}
 use Rattle.edd_types.specs.declared.sought.Calls.TheVariants as calls
 use Rattle.edd_types.specs.declared.sought.Sought.{Sought}

@@ -1,10 +1,9 @@
 //! Calls of builtin functions.
 
-ghost use Rattle.std.specs.Prelude.{◌≡◌, ◌≤◌, [], ◌∷◌, map, length, not, OnOk};
+ghost use Rattle.std.specs.Prelude.{◌≡◌, map, not, OnOk};
 ghost use Rattle.edd_breaches.specs.Told.{Tells};
 ghost use Rattle.edd_syntax.specs.Expression.{arguments_from};
 ghost use Rattle.edd_syntax.specs.TreeView.{numbered_argument};
-ghost use Rattle.edd_syntax.specs.SubsetRules as rules;
 ghost use Rattle.edd_syntax.specs.Refusal.{Mismatch, refused_if};
 ghost use Rattle.edd_types.specs.declared.sought.Sought.TheVariants as sought;
 ghost use Rattle.edd_types.specs.Expressions.{all_fit_among, call_breaches_among, call_told, fits_among, is_nameless};
@@ -12,48 +11,10 @@ ghost use Rattle.edd_types.specs.Expressions.{all_fit_among, call_breaches_among
 use crate::sought::Calls;
 use edd_breaches::{Breach, Rule, tell};
 use edd_syntax::expr::{Argument, Expr};
-use edd_syntax::numbers::{ItemNo, TokenNo};
+use edd_syntax::numbers::TokenNo;
 use edd_syntax::operators::{Builtin, Parameter};
 use edd_syntax::reference::Target;
 use std::alloc::AllocError;
-
-fn is_text(argument: &Argument<Target>) -> bool
-    ensures { result ≡ rules.is_text (numbered_argument argument.now) }
-{
-    match argument {
-        Argument::Text(_) => true,
-        Argument::Value(_) => false,
-    }
-}
-
-fn is_device_variable(argument: &Argument<Target>) -> bool
-    ensures { result ≡ rules.is_device_variable (numbered_argument argument.now) }
-{
-    match argument {
-        Argument::Value(Expr::Reference(Target::Item(ItemNo::Variable(_)))) => true,
-        _ => false,
-    }
-}
-
-fn is_method(argument: &Argument<Target>) -> bool
-    ensures { result ≡ rules.is_method (numbered_argument argument.now) }
-{
-    match argument {
-        Argument::Value(Expr::Reference(Target::Item(ItemNo::Method(_)))) => true,
-        _ => false,
-    }
-}
-
-fn fits(parameter: Parameter, argument: &Argument<Target>) -> bool
-    ensures { result ≡ rules.fits parameter (numbered_argument argument.now) }
-{
-    match parameter {
-        Parameter::Text => is_text(argument),
-        Parameter::Number => !is_text(argument),
-        Parameter::DeviceVariable => is_device_variable(argument),
-        Parameter::Method => is_method(argument),
-    }
-}
 
 // The call of a function that does not exist.
 fn is_nameless(argument: &Argument<Target>) -> bool
@@ -69,64 +30,29 @@ fn fits_among(which: Calls, parameter: Parameter, argument: &Argument<Target>) -
     ensures { result ≡ fits_among which parameter (numbered_argument argument.now) }
 {
     match which {
-        Calls::All => fits(parameter, argument),
-        Calls::Named => is_nameless(argument) || fits(parameter, argument),
+        Calls::All => parameter.fits(argument),
+        Calls::Named => is_nameless(argument) || parameter.fits(argument),
     }
 }
 
-fn are_none(which: Calls, arguments: &[Argument<Target>]) -> bool
-    ensures { result ≡ all_fit_among which []
-        (arguments_from (map numbered_argument arguments.now)) }
-{
-    match arguments {
-        [] => true,
-        [_, ..] => false,
-    }
-}
-
-#[tactic(auto, using(crate::proofs::Arguments::not_one))]
-fn is_one(which: Calls, first: Parameter, arguments: &[Argument<Target>]) -> bool
-    ensures { result ≡ all_fit_among which (first ∷ [])
-        (arguments_from (map numbered_argument arguments.now)) }
-{
-    match arguments {
-        [only] => fits_among(which, first, only),
-        _ => false,
-    }
-}
-
-#[tactic(auto, using(crate::proofs::Arguments::not_two))]
-fn are_two(
-    which: Calls,
-    first: Parameter,
-    second: Parameter,
-    arguments: &[Argument<Target>],
-) -> bool
-    ensures { result ≡ all_fit_among which (first ∷ second ∷ [])
-        (arguments_from (map numbered_argument arguments.now)) }
-{
-    match arguments {
-        [one, other] => fits_among(which, first, one) && fits_among(which, second, other),
-        _ => false,
-    }
-}
-
-// The arguments are such as these parameters ask for, in number and kind. No function has more than
-// two.
+// The arguments are such as these parameters ask for, in number and kind.
 fn all_fit(which: Calls, parameters: &[Parameter], arguments: &[Argument<Target>]) -> bool
-    requires { length parameters.now ≤ 2 }
     ensures { result ≡ all_fit_among which parameters.now
         (arguments_from (map numbered_argument arguments.now)) }
 {
     match parameters {
-        [] => are_none(which, arguments),
-        [only] => is_one(which, *only, arguments),
-        [first, second, ..] => are_two(which, *first, *second, arguments),
+        [] => match arguments {
+            [] => true,
+            [_, ..] => false,
+        },
+        [first, more @ ..] => match arguments {
+            [] => false,
+            [one, rest @ ..] => fits_among(which, *first, one) && all_fit(which, more, rest),
+        },
     }
 }
 
 // An abort is a statement of its own.
-#[tactic(auto, using(crate::proofs::Arguments::few_parameters))]
 fn is_call(
     which: Calls,
     function: Target,

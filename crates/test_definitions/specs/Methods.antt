@@ -4,6 +4,7 @@ use Rattle.edd_syntax.specs.declared.numbers.ItemNo.TheVariants as item_no
 use Rattle.edd_syntax.specs.declared.operators.UnaryOperator.TheVariants.{Minus}
 use Rattle.edd_syntax.specs.declared.operators.Builtin.{Builtin}
 use Rattle.edd_syntax.specs.declared.operators.Builtin.TheVariants as builtin
+use Rattle.edd_syntax.specs.declared.operators.RequestKind.TheVariants as kind
 use Rattle.edd_syntax.specs.declared.types.VarType.TheVariants as var_type
 use Rattle.edd_syntax.specs.Text.{Quoted}
 use Rattle.edd_syntax.specs.declared.reference.Target.{Target}
@@ -54,7 +55,7 @@ calls b arguments = Call (Function b) (arguments_from arguments)
 
 -- `ACKNOWLEDGE("..")`
 abbrev pub acknowledge : List ℕ → Expr Target
-acknowledge text = calls builtin.Acknowledge (Text (Quoted text) ∷ [])
+acknowledge text = calls (builtin.Ask kind.Acknowledge) (Text (Quoted text) ∷ [])
 
 -- a statement in a body
 abbrev pub does : Stmt Target → Part Target
@@ -66,7 +67,7 @@ evaluates e = Statement (Evaluate e)
 
 -- `send_command(e);`
 abbrev pub send : Expr Target → Part Target
-send e = evaluates (calls builtin.SendCommand (Value e ∷ []))
+send e = evaluates (calls (builtin.Ask kind.SendCommand) (Value e ∷ []))
 
 -- `int i;` and `int i = e;` of a local
 abbrev pub declares : (slot : ℕ) → Part Target
@@ -102,11 +103,14 @@ ok = Go (pos 0) []
 
 -- the request that `send` and `acknowledge` make
 abbrev pub sent : ℤ → Request
-sent n = asks.SendCommand n
+sent n = record { kind = kind.SendCommand; arguments = asks.NumberArgument n ∷ [] }
 
 -- the request of `acknowledge`, with its text in English
 abbrev pub acknowledges : List ℕ → Request
-acknowledges text = asks.Acknowledge (Variants (record { code = english; text = text }) [])
+acknowledges text = record {
+  kind = kind.Acknowledge;
+  arguments = asks.TextArgument (Variants (record { code = english; text = text }) []) ∷ [];
+}
 
 -- what these statements do within three turns of each loop
 abbrev pub runs : List VariableType → List (Part Target) → (values : List ℤ) → List Answer

@@ -4,9 +4,9 @@ ghost use Rattle.std.specs.Prelude.{[], ◌∷◌, pos, negsuc, Some, None};
 ghost use Rattle.edd_syntax.specs.declared.numbers.ItemNo.TheVariants as items;
 ghost use Rattle.edd_syntax.specs.declared.operators.Operator.TheVariants as operator;
 ghost use Rattle.edd_syntax.specs.declared.operators.Comparison.TheVariants as comparison;
-ghost use Rattle.edd_instructions.specs.declared.instruction.Ask.TheVariants as ask;
+ghost use Rattle.edd_syntax.specs.declared.operators.RequestKind.TheVariants as kind;
 ghost use Rattle.edd_instructions.specs.declared.instruction.Instruction.TheVariants as instruction;
-ghost use Rattle.test_definitions.specs.Bytes.{IsWritten};
+ghost use Rattle.test_definitions.specs.Bytes.{IsWritten, asks};
 
 /// Constants, variables, slots and the stack.
 pub fn basic_bytes()
@@ -104,22 +104,20 @@ pub fn record_bytes()
 
 /// The requests.
 pub fn request_bytes()
-    ensures put_message { IsWritten (instruction.Ask (ask.PutMessage (record { 0 = 0x0102 })))
+    ensures put_message { IsWritten (asks kind.PutMessage 0x0102 0)
         (0x50 ∷ 0x01 ∷ 0x01 ∷ 0x02 ∷ 0x00 ∷ 0x00 ∷ []) }
-    ensures acknowledge { IsWritten (instruction.Ask (ask.Acknowledge (record { 0 = 0x0102 })))
+    ensures acknowledge { IsWritten (asks kind.Acknowledge 0x0102 0)
         (0x50 ∷ 0x02 ∷ 0x01 ∷ 0x02 ∷ 0x00 ∷ 0x00 ∷ []) }
-    ensures delay { IsWritten (instruction.Ask (ask.Delay (record { 0 = 0x0102 })))
+    ensures delay { IsWritten (asks kind.Delay 0x0102 0)
         (0x50 ∷ 0x03 ∷ 0x01 ∷ 0x02 ∷ 0x00 ∷ 0x00 ∷ []) }
-    ensures get_dev_var_value { IsWritten
-        (instruction.Ask (ask.GetDevVarValue (record { 0 = 0x0102 }) (record { 0 = 0x0304 })))
+    ensures get_dev_var_value { IsWritten (asks kind.GetDevVarValue 0x0102 0x0304)
         (0x50 ∷ 0x04 ∷ 0x01 ∷ 0x02 ∷ 0x03 ∷ 0x04 ∷ []) }
-    ensures select_from_list { IsWritten
-        (instruction.Ask (ask.SelectFromList (record { 0 = 0x0102 }) (record { 0 = 0x0304 })))
+    ensures select_from_list { IsWritten (asks kind.SelectFromList 0x0102 0x0304)
         (0x50 ∷ 0x05 ∷ 0x01 ∷ 0x02 ∷ 0x03 ∷ 0x04 ∷ []) }
-    ensures send_command { IsWritten (instruction.Ask ask.SendCommand)
+    ensures send_command { IsWritten (asks kind.SendCommand 0 0)
         (0x50 ∷ 0x06 ∷ 0x00 ∷ 0x00 ∷ 0x00 ∷ 0x00 ∷ []) }
-    ensures send_command_trans { IsWritten (instruction.Ask ask.SendCommandTrans)
+    ensures send_command_trans { IsWritten (asks kind.SendCommandTrans 0 0)
         (0x50 ∷ 0x07 ∷ 0x00 ∷ 0x00 ∷ 0x00 ∷ 0x00 ∷ []) }
-    ensures save_values { IsWritten (instruction.Ask ask.SaveValues)
+    ensures save_values { IsWritten (asks kind.SaveValues 0 0)
         (0x50 ∷ 0x08 ∷ 0x00 ∷ 0x00 ∷ 0x00 ∷ 0x00 ∷ []) }
 {}

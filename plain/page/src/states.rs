@@ -322,7 +322,7 @@ fn asked(panel: &Panel<'_, '_>, request: Request) -> Result<Asked, AllocError> {
             (asked.asks, asked.text) = ("choice", string_text(panel, text)?);
             asked.choices = choices_text(panel, choices)?;
         }
-        Request::SendCommand(_) | Request::SendCommandTrans(_, _) | Request::SaveValues => {
+        _ => {
             let mut text = String::new(Global);
             edd_panel_lines::push_request(&mut text, &page_of(panel), request)?;
             asked.text = Some(text);

@@ -1,4 +1,4 @@
-use Rattle.std.proofs.Common.{◌≡◌, ◌≤◌, length, ap, subst, sym, ◌∙◌, arith, true, [], ◌∷◌, ◌++◌, List, map, refl}
+use Rattle.std.proofs.Common.{rules, drop, take, ◌-◌, refl, false, ◌≡◌, ◌≤◌, length, ap, subst, sym, ◌∙◌, arith, true, [], ◌∷◌, ◌++◌, List, map}
 use Rattle.std.specs.Prelude.{option_map}
 use Rattle.std.specs.Borrow.{Bor}
 use Rattle.std.specs.List.{list_all}
@@ -19,16 +19,19 @@ use Rattle.edd_syntax.specs.TreeView.{numbered_argument, numbered_expr}
 use Rattle.edd_syntax.specs.WellFormed.{is_text}
 use Rattle.edd_syntax.specs.Words.{Words, words_of}
 use Rattle.edd_syntax.specs.WordsView.{text_of}
-use Rattle.edd_instructions.specs.declared.instruction.Ask.TheVariants as ask
 use Rattle.edd_instructions.specs.declared.instruction.Instruction.TheVariants as instruction
-use Rattle.edd_code.specs.Arguments.{alone_block}
+use Rattle.edd_syntax.specs.declared.operators.Parameter.{Parameter}
+use Rattle.edd_syntax.specs.SubsetRules.{all_fit}
+use Rattle.edd_code.specs.Arguments.{alone_block, asking, named_before, names_of}
 use Rattle.edd_code.specs.Blocks.{Either, Straight, Then, WhenNotZero, WhenZero}
 use Rattle.edd_code.specs.Expressions.{element_block, unary_block, instead, no_value, then_test, truth_block}
-use Rattle.edd_code.specs.MethodExpressions.{call_block, load_block, method_block, store_block}
+use Rattle.edd_code.specs.MethodExpressions.{argument_blocks, call_block, load_block, method_block, numbers_block, store_block}
 use Rattle.edd_code.specs.Tables.{Overflows}
-use Rattle.edd_code.specs.Written.{WritesPart}
+use Rattle.edd_code.specs.Written.{ByNumber, WritesPart}
 use Rattle.edd_code.proofs.BothTests.{both_of}
-use Rattle.edd_code.proofs.CallShapes.{only_value_is, target_and_value_are, two_values_are, value_and_text_are, no_assignment, no_delay, no_send, no_transaction, no_value_alone, abort_alone, process_abort_alone, save_alone, same_assignment, same_value}
+use Rattle.edd_code.proofs.CallShapes.{only_value_is, target_and_value_are, no_assignment, no_value_alone, abort_alone, process_abort_alone, same_assignment, same_value}
+use Rattle.edd_code.proofs.Asking.{asks_block, misfit_block}
+use Rattle.edd_code.proofs.AskedArguments.{all_are_by, all_by, arguments_named, arguments_part, empty_named, empty_part, rest_is, first_overflows, other_named, other_part, rest_overflows, text_named, text_part, value_part}
 use Rattle.edd_code.proofs.Carried.{carried}
 use Rattle.edd_code.proofs.Closing.{closed_length}
 use Rattle.edd_code.proofs.Numbered.{texts_overflow_first, texts_overflow_second}
@@ -126,67 +129,6 @@ write_compound-returns-clause-sound t c =
     (Straight (instruction.Operate c.args.op)) (store_block c.args.to)
     (one_more c.write_value.new.code c.put.new.code (instruction.Operate c.args.op)
     c.in_ok-put.ensures.code) c.in_ok-write_store.ensures))
-
-pub write_send-write_value-requires : goal.write_send-write_value-requires
-write_send-write_value-requires t c =
-    let is = only_value_is (arguments_from (map numbered_argument c.args.arguments.now))
-    (numbered_expr c.in-Some.n.now)
-    (sym (ap (option_map (λ (x : Bor (code.Expr Target)). numbered_expr x.now)) c.in-Some.is)
-    ∙ c.only_value.ensures) in
-    let h = ap argument_nodes is in
-    let m = c.decreases in
-    let kept = subst (λ (a : Arguments Target). list_all is_text (argument_texts a) ≡ true) is
-    c.requires in (
-      omega (arith, h, m),
-      (all_parts is_text (expr_texts (numbered_expr c.in-Some.n.now)) []
-          kept).0,
-    )
-
-pub write_send-returns-in_ok-put-in-Some-clause-sound :
-    goal.write_send-returns-in_ok-put-in-Some-clause-sound
-unfolding call_block
-write_send-returns-in_ok-put-in-Some-clause-sound t c =
-    let is = only_value_is (arguments_from (map numbered_argument c.args.arguments.now))
-    (numbered_expr c.in-Some.n.now)
-    (sym (ap (option_map (λ (x : Bor (code.Expr Target)). numbered_expr x.now)) c.in-Some.is)
-    ∙ c.only_value.ensures) in
-    subst (λ (a : Arguments Target). WritesPart c.args.table.now c.args.code.now (argument_texts a)
-    (λ number. call_block number builtin.SendCommand a) c.write_value.new.table c.put.new.code)
-    (sym is)
-    (last_part c.args.code.now c.put.new.code (expr_texts (numbered_expr c.in-Some.n.now))
-    (λ number. Then (method_block number (numbered_expr c.in-Some.n.now))
-    (Straight (instruction.Ask ask.SendCommand)))
-    (then_plain c.args.code.now c.write_value.new.code c.put.new.code
-    (expr_texts (numbered_expr c.in-Some.n.now))
-    (λ number. method_block number (numbered_expr c.in-Some.n.now))
-    (Straight (instruction.Ask ask.SendCommand)) c.in_ok-write_value-in-Some.ensures.sound
-    (one_more c.write_value.new.code c.put.new.code (instruction.Ask ask.SendCommand)
-    c.in_ok-put-in-Some.ensures.code)))
-
-pub write_send-returns-in_err-write_value-in-Some-clause-refused :
-    goal.write_send-returns-in_err-write_value-in-Some-clause-refused
-write_send-returns-in_err-write_value-in-Some-clause-refused t c h =
-    let is = only_value_is (arguments_from (map numbered_argument c.args.arguments.now))
-    (numbered_expr c.in-Some.n.now)
-    (sym (ap (option_map (λ (x : Bor (code.Expr Target)). numbered_expr x.now)) c.in-Some.is)
-    ∙ c.only_value.ensures) in
-    let inner : Overflows c.args.table.now
-    (strings_of_texts (expr_texts (numbered_expr c.in-Some.n.now))) =
-    grind (arith, common_steps) in
-    subst (λ (a : Arguments Target). Overflows c.args.table.now
-    (strings_of_texts (argument_texts a))) (sym is)
-    (last_overflows c.args.table.now (expr_texts (numbered_expr c.in-Some.n.now)) inner)
-
-pub write_send-returns-in-None-clause-sound : goal.write_send-returns-in-None-clause-sound
-write_send-returns-in-None-clause-sound t c =
-    carried c.write_misfit.result
-    (same_part c.args.code.now c.write_misfit.new.code
-    (argument_texts (arguments_from (map numbered_argument c.args.arguments.now)))
-    (λ number. no_value) (λ number. call_block number builtin.SendCommand
-    (arguments_from (map numbered_argument c.args.arguments.now))) (λ number.
-    sym (no_send number (arguments_from (map numbered_argument c.args.arguments.now))
-    (sym (ap (option_map (λ (x : Bor (code.Expr Target)). numbered_expr x.now)) c.in-None.is)
-    ∙ c.only_value.ensures)))) c.write_misfit.ensures.sound
 
 pub write_only-write_value-requires : goal.write_only-write_value-requires
 write_only-write_value-requires t c =
@@ -309,160 +251,148 @@ write_assigned-returns-in-None-clause-sound t c =
     (p.0, numbered_expr p.1.now))) c.in-None.is) ∙ c.target_and_value.ensures))))
     c.write_misfit.ensures.sound
 
-pub write_transaction-write_operands-requires : goal.write_transaction-write_operands-requires
-write_transaction-write_operands-requires t c =
-    let is = two_values_are (arguments_from (map numbered_argument c.args.arguments.now))
-    (numbered_expr c.in-Some.n.now) (numbered_expr c.in-Some.transaction.now)
-    (sym (ap (option_map (λ (p : Bor (code.Expr Target) × Bor (code.Expr Target)).
-    (numbered_expr p.0.now, numbered_expr p.1.now))) c.in-Some.is) ∙ c.two_values.ensures) in
-    let h = ap argument_nodes is in
-    let m = c.decreases in
-    let kept = all_parts is_text (expr_texts (numbered_expr c.in-Some.n.now))
-    (expr_texts (numbered_expr c.in-Some.transaction.now) ++ [])
-    (subst (λ (a : Arguments Target). list_all is_text (argument_texts a) ≡ true) is c.requires)
-    in (
-      omega (arith, h, m),
-      (
-        kept.0,
-        (all_parts is_text (expr_texts (numbered_expr c.in-Some.transaction.now)) [] kept.1).0,
-      ),
-    )
+pub write_argument-returns-in_ok-add_text-in-Text-clause-sound :
+    goal.write_argument-returns-in_ok-add_text-in-Text-clause-sound
+write_argument-returns-in_ok-add_text-in-Text-clause-sound t c =
+    text_part c.args.code.now c.args.parameter c.args.argument.now c.in-Text.text
+    c.in_ok-add_text-in-Text.field-0 c.in-Text.is c.in_ok-add_text-in-Text.ensures.table
+    c.in_ok-add_text-in-Text.ensures.number
 
-pub write_transaction-returns-in-Some-clause-sound :
-    goal.write_transaction-returns-in-Some-clause-sound
-unfolding call_block
-write_transaction-returns-in-Some-clause-sound t c =
-    let is = two_values_are (arguments_from (map numbered_argument c.args.arguments.now))
-    (numbered_expr c.in-Some.n.now) (numbered_expr c.in-Some.transaction.now)
-    (sym (ap (option_map (λ (p : Bor (code.Expr Target) × Bor (code.Expr Target)).
-    (numbered_expr p.0.now, numbered_expr p.1.now))) c.in-Some.is) ∙ c.two_values.ensures) in
-    carried c.write_operands.result
-    (λ w. subst (λ (a : Arguments Target). WritesPart c.args.table.now c.args.code.now
-    (argument_texts a) (λ number. call_block number builtin.SendCommandTrans a)
-    c.write_operands.new.table c.write_operands.new.code) (sym is)
-    (subst (λ (ts : List texts.Text). WritesPart c.args.table.now c.args.code.now
-    (expr_texts (numbered_expr c.in-Some.n.now) ++ ts)
-    (λ number. Then (method_block number (numbered_expr c.in-Some.n.now))
-    (Then (method_block number (numbered_expr c.in-Some.transaction.now))
-    (Straight (instruction.Ask ask.SendCommandTrans)))) c.write_operands.new.table
-    c.write_operands.new.code)
-    (sym (append-nil (expr_texts (numbered_expr c.in-Some.transaction.now)))) w))
-    c.write_operands.ensures.sound
+pub write_argument-returns-in_ok-add_text-in-Text-clause-named :
+    goal.write_argument-returns-in_ok-add_text-in-Text-clause-named
+write_argument-returns-in_ok-add_text-in-Text-clause-named t c =
+    text_named c.args.code.now c.args.parameter c.args.argument.now c.in-Text.text
+    c.in_ok-add_text-in-Text.field-0 c.in-Text.is c.in_ok-add_text-in-Text.ensures.table
+    c.in_ok-add_text-in-Text.ensures.number
 
-pub write_transaction-returns-in-Some-clause-refused :
-    goal.write_transaction-returns-in-Some-clause-refused
-write_transaction-returns-in-Some-clause-refused t c h =
-    let is = two_values_are (arguments_from (map numbered_argument c.args.arguments.now))
-    (numbered_expr c.in-Some.n.now) (numbered_expr c.in-Some.transaction.now)
-    (sym (ap (option_map (λ (p : Bor (code.Expr Target) × Bor (code.Expr Target)).
-    (numbered_expr p.0.now, numbered_expr p.1.now))) c.in-Some.is) ∙ c.two_values.ensures) in
-    subst (λ (a : Arguments Target). Overflows c.args.table.now
-    (strings_of_texts (argument_texts a))) (sym is)
-    (subst (λ (ts : List texts.Text). Overflows c.args.table.now
-    (strings_of_texts (expr_texts (numbered_expr c.in-Some.n.now) ++ ts)))
-    (sym (append-nil (expr_texts (numbered_expr c.in-Some.transaction.now))))
-    (c.write_operands.ensures.refused h))
+pub write_argument-returns-in_ok-write_value-in-Number-clause-sound :
+    goal.write_argument-returns-in_ok-write_value-in-Number-clause-sound
+write_argument-returns-in_ok-write_value-in-Number-clause-sound t c =
+    value_part c.args.code.now c.args.parameter c.write_value.new.code c.args.argument.now
+    c.in-Value.e c.in-Value.is c.in-Number.is c.in_ok-write_value-in-Number.ensures.sound
 
-pub write_transaction-returns-in-None-clause-sound :
-    goal.write_transaction-returns-in-None-clause-sound
-write_transaction-returns-in-None-clause-sound t c =
-    carried c.write_misfit.result
-    (same_part c.args.code.now c.write_misfit.new.code
-    (argument_texts (arguments_from (map numbered_argument c.args.arguments.now)))
-    (λ number. no_value) (λ number. call_block number builtin.SendCommandTrans
-    (arguments_from (map numbered_argument c.args.arguments.now))) (λ number.
-    sym (no_transaction number (arguments_from (map numbered_argument c.args.arguments.now))
-    (sym (ap (option_map (λ (p : Bor (code.Expr Target) × Bor (code.Expr Target)).
-    (numbered_expr p.0.now, numbered_expr p.1.now))) c.in-None.is) ∙ c.two_values.ensures))))
-    c.write_misfit.ensures.sound
-
-pub write_delay-write_value-requires : goal.write_delay-write_value-requires
-write_delay-write_value-requires t c =
-    let is = value_and_text_are (arguments_from (map numbered_argument c.args.arguments.now))
-    (numbered_expr c.in-Some.seconds.now) (text_of c.in-Some.text.now)
-    (sym (ap (option_map (λ (p : Bor (code.Expr Target) × Bor code_text.Text).
-    (numbered_expr p.0.now, text_of p.1.now))) c.in-Some.is) ∙ c.value_and_text.ensures) in
-    let h = ap argument_nodes is in
-    let m = c.decreases in
-    let kept = subst (λ (a : Arguments Target). list_all is_text (argument_texts a) ≡ true) is
-    c.requires in (
-      omega (arith, h, m),
-      (all_parts is_text (expr_texts (numbered_expr c.in-Some.seconds.now))
-          ((text_of c.in-Some.text.now) ∷ []) kept).0,
-    )
-
-pub write_delay-add_text-requires : goal.write_delay-add_text-requires
-write_delay-add_text-requires t c =
-    let is = value_and_text_are (arguments_from (map numbered_argument c.args.arguments.now))
-    (numbered_expr c.in-Some.seconds.now) (text_of c.in-Some.text.now)
-    (sym (ap (option_map (λ (p : Bor (code.Expr Target) × Bor code_text.Text).
-    (numbered_expr p.0.now, text_of p.1.now))) c.in-Some.is) ∙ c.value_and_text.ensures) in
-    let kept = all_parts is_text (expr_texts (numbered_expr c.in-Some.seconds.now))
-    ((text_of c.in-Some.text.now) ∷ [])
-    (subst (λ (a : Arguments Target). list_all is_text (argument_texts a) ≡ true) is c.requires)
-    in
-    (both_of (is_text (text_of c.in-Some.text.now)) true kept.1).0
-
-pub write_delay-returns-in_ok-put-in-Some-clause-sound :
-    goal.write_delay-returns-in_ok-put-in-Some-clause-sound
-unfolding call_block
-write_delay-returns-in_ok-put-in-Some-clause-sound t c =
-    let is = value_and_text_are (arguments_from (map numbered_argument c.args.arguments.now))
-    (numbered_expr c.in-Some.seconds.now) (text_of c.in-Some.text.now)
-    (sym (ap (option_map (λ (p : Bor (code.Expr Target) × Bor code_text.Text).
-    (numbered_expr p.0.now, text_of p.1.now))) c.in-Some.is) ∙ c.value_and_text.ensures) in
-    subst (λ (a : Arguments Target). WritesPart c.args.table.now c.args.code.now (argument_texts a)
-    (λ number. call_block number builtin.Delay a) c.add_text.new.table c.put.new.code) (sym is)
-    (then_part c.args.code.now c.write_value.new.code c.put.new.code
-    (expr_texts (numbered_expr c.in-Some.seconds.now)) ((text_of c.in-Some.text.now) ∷ [])
-    (λ number. method_block number (numbered_expr c.in-Some.seconds.now))
-    (λ number. Straight (instruction.Ask
-    (ask.Delay (number (words_of (text_of c.in-Some.text.now))))))
-    c.in_ok-write_value-in-Some.ensures.sound
-    (ask_part c.write_value.new.table c.add_text.new.table c.write_value.new.code c.put.new.code
-    (text_of c.in-Some.text.now) c.in_ok-number-in-Some.number ask.Delay
-    c.in_ok-number-in-Some.ensures.table c.in_ok-number-in-Some.ensures.number
-    c.in_ok-put-in-Some.ensures.code))
-
-pub write_delay-returns-in_err-write_value-in-Some-clause-refused :
-    goal.write_delay-returns-in_err-write_value-in-Some-clause-refused
-write_delay-returns-in_err-write_value-in-Some-clause-refused t c h =
-    let is = value_and_text_are (arguments_from (map numbered_argument c.args.arguments.now))
-    (numbered_expr c.in-Some.seconds.now) (text_of c.in-Some.text.now)
-    (sym (ap (option_map (λ (p : Bor (code.Expr Target) × Bor code_text.Text).
-    (numbered_expr p.0.now, text_of p.1.now))) c.in-Some.is) ∙ c.value_and_text.ensures) in
-    let inner : Overflows c.args.table.now
-    (strings_of_texts (expr_texts (numbered_expr c.in-Some.seconds.now))) =
+pub write_arguments-returns-in_err-name-in-len1-up-parameters-clause-refused :
+    goal.write_arguments-returns-in_err-name-in-len1-up-parameters-clause-refused
+write_arguments-returns-in_err-name-in-len1-up-parameters-clause-refused t c h =
+    let over : Overflows c.args.table.now (strings_of_texts
+    (argument_texts (pure.Cons (numbered_argument c.argument-item.result) pure.Nil))) =
     grind (arith, common_steps) in
-    subst (λ (a : Arguments Target). Overflows c.args.table.now
-    (strings_of_texts (argument_texts a))) (sym is)
-    (texts_overflow_first c.args.table.now (expr_texts (numbered_expr c.in-Some.seconds.now))
-    ((text_of c.in-Some.text.now) ∷ []) inner)
+    first_overflows numbered_argument c.args.arguments.now c.argument-item.result
+    c.in-len1-up.len_at_least c.argument-item.is c.args.table.now over
 
-pub write_delay-returns-in_err-number-in-Some-clause-refused :
-    goal.write_delay-returns-in_err-number-in-Some-clause-refused
-write_delay-returns-in_err-number-in-Some-clause-refused t c h =
-    let is = value_and_text_are (arguments_from (map numbered_argument c.args.arguments.now))
-    (numbered_expr c.in-Some.seconds.now) (text_of c.in-Some.text.now)
-    (sym (ap (option_map (λ (p : Bor (code.Expr Target) × Bor code_text.Text).
-    (numbered_expr p.0.now, text_of p.1.now))) c.in-Some.is) ∙ c.value_and_text.ensures) in
-    let inner : Overflows c.write_value.new.table
-    (strings_of_texts ((text_of c.in-Some.text.now) ∷ [])) = grind (arith, common_steps) in
-    subst (λ (a : Arguments Target). Overflows c.args.table.now
-    (strings_of_texts (argument_texts a))) (sym is)
-    (texts_overflow_second (expr_texts (numbered_expr c.in-Some.seconds.now))
-    ((text_of c.in-Some.text.now) ∷ []) c.in_ok-write_value-in-Some.ensures.sound inner)
+pub write_arguments-returns-in_err-ask-in-len1-up-parameters-clause-refused :
+    goal.write_arguments-returns-in_err-ask-in-len1-up-parameters-clause-refused
+write_arguments-returns-in_err-ask-in-len1-up-parameters-clause-refused t c h =
+    let over : Overflows c.write_argument.new.table (strings_of_texts
+    (argument_texts (arguments_from (map numbered_argument (drop 1 c.args.arguments.now))))) =
+    grind (arith, common_steps) in
+    rest_overflows numbered_argument c.args.arguments.now c.argument-item.result
+    c.in-len1-up.len_at_least c.argument-item.is _
+    c.in_ok-name-in-len1-up-parameters.ensures.sound over
 
-pub write_delay-returns-in-None-clause-sound : goal.write_delay-returns-in-None-clause-sound
-write_delay-returns-in-None-clause-sound t c =
+pub write_arguments-returns-in-empty-clause-sound :
+    goal.write_arguments-returns-in-empty-clause-sound
+write_arguments-returns-in-empty-clause-sound t c =
+    empty_part numbered_argument c.args.arguments.now c.in-empty.len_below c.args.parameters.now
+    c.args.table.now c.args.code.now
+
+pub write_arguments-returns-in-empty-clause-named :
+    goal.write_arguments-returns-in-empty-clause-named
+write_arguments-returns-in-empty-clause-named t c =
+    empty_named numbered_argument c.args.arguments.now c.in-empty.len_below c.args.parameters.now
+    c.args.table.now c.args.code.now c.args.kind
+
+pub write_arguments-returns-in_ok-ask-in-len1-up-parameters-clause-sound :
+    goal.write_arguments-returns-in_ok-ask-in-len1-up-parameters-clause-sound
+write_arguments-returns-in_ok-ask-in-len1-up-parameters-clause-sound t c =
+    let x = numbered_argument c.argument-item.result in
+    let xs = take (length c.args.arguments.now - 1) (drop 1 c.args.arguments.now) in
+    let ps' = take (length c.args.parameters.now - 1) (drop 1 c.args.parameters.now) in
+    let rest = arguments_from (map numbered_argument xs) in
+    subst (λ (a : Arguments Target). WritesPart c.args.table.now c.args.code.now (argument_texts a)
+    (λ number. numbers_block c.args.parameters.now (argument_blocks number a))
+    c.write_arguments.new.table c.write_arguments.new.code)
+    (all_are_by numbered_argument c.args.arguments.now c.argument-item.result
+    c.in-len1-up.len_at_least c.argument-item.is xs (rest_is c.args.arguments.now))
+    (subst (λ (ps : List Parameter). WritesPart c.args.table.now c.args.code.now
+    (argument_texts (pure.Cons x rest))
+    (λ number. numbers_block ps (argument_blocks number (pure.Cons x rest)))
+    c.write_arguments.new.table c.write_arguments.new.code)
+    (all_by c.args.parameters.now _ c.in-len1-up-parameters.len_at_least (search rules))
+    (arguments_part c.args.table.now c.write_argument.new.table c.write_arguments.new.table
+    c.args.code.now c.write_argument.new.code c.write_arguments.new.code _
+    ps' x rest c.in_ok-name-in-len1-up-parameters.ensures.sound
+    c.in_ok-ask-in-len1-up-parameters.ensures.sound))
+
+pub write_arguments-returns-in_ok-ask-in-len1-up-parameters-clause-named :
+    goal.write_arguments-returns-in_ok-ask-in-len1-up-parameters-clause-named
+write_arguments-returns-in_ok-ask-in-len1-up-parameters-clause-named t c =
+    let x = numbered_argument c.argument-item.result in
+    let xs = take (length c.args.arguments.now - 1) (drop 1 c.args.arguments.now) in
+    let ps' = take (length c.args.parameters.now - 1) (drop 1 c.args.parameters.now) in
+    let rest = arguments_from (map numbered_argument xs) in
+    λ d later. c.named_before.ensures
+    ∙ subst (λ (a : Arguments Target).
+    ByNumber c.args.table.now c.write_arguments.new.table
+    (λ number. asking c.args.kind (names_of number c.args.parameters.now a))
+    (named_before c.in_ok-name-in-len1-up-parameters.name c.in_ok-ask-in-len1-up-parameters.ask))
+    (all_are_by numbered_argument c.args.arguments.now c.argument-item.result
+    c.in-len1-up.len_at_least c.argument-item.is xs (rest_is c.args.arguments.now))
+    (subst (λ (ps : List Parameter).
+    ByNumber c.args.table.now c.write_arguments.new.table
+    (λ number. asking c.args.kind (names_of number ps (pure.Cons x rest)))
+    (named_before c.in_ok-name-in-len1-up-parameters.name c.in_ok-ask-in-len1-up-parameters.ask))
+    (all_by c.args.parameters.now _ c.in-len1-up-parameters.len_at_least (search rules))
+    (arguments_named c.args.table.now c.write_argument.new.table c.write_arguments.new.table
+    c.args.code.now c.write_argument.new.code c.write_arguments.new.code _
+    ps' x rest c.in_ok-name-in-len1-up-parameters.ensures.sound
+    c.in_ok-ask-in-len1-up-parameters.ensures.sound c.args.kind
+    c.in_ok-name-in-len1-up-parameters.name c.in_ok-ask-in-len1-up-parameters.ask
+    c.in_ok-name-in-len1-up-parameters.ensures.named
+    c.in_ok-ask-in-len1-up-parameters.ensures.named)) d later
+
+pub write_argument-returns-in_default : goal.write_argument-returns-in_default
+write_argument-returns-in_default t c = record {
+  sound = other_part c.args.table.now c.args.code.now c.args.parameter c.args.argument.now
+      c.in-Value.e c.in-Value.is c.in_default.not-Number c.requires.fits;
+  named = other_named c.args.table.now c.args.code.now c.args.parameter c.args.argument.now
+      c.in-Value.e c.variable_number.result c.in-Value.is c.in_default.not-Number
+      c.variable_number.ensures;
+  grows = ([], sym (append-nil c.args.table.now));
+  refused = λ h. absurd (cc h);
+  longer = omega arith;
+}
+
+pub write_ask-returns-clause-sound : goal.write_ask-returns-clause-sound
+write_ask-returns-clause-sound t c =
+    let a = arguments_from (map numbered_argument c.args.arguments.now) in
+    let fit : c.all_fit.result ≡ true = search rules in
+    let fits = ap (λ ps. all_fit ps a) (sym c.parameters.ensures) ∙ sym c.all_fit.ensures
+    ∙ fit in
+    same_part c.args.code.now c.put.new.code (argument_texts a)
+    (λ number. Then (numbers_block c.parameters-2.result.now (argument_blocks number a))
+    (Straight (instruction.Ask (asking c.args.kind
+    (names_of number c.parameters-2.result.now a)))))
+    (λ number. call_block number (builtin.Ask c.args.kind) a)
+    (λ number. ap (λ ps. Then (numbers_block ps (argument_blocks number a))
+    (Straight (instruction.Ask (asking c.args.kind (names_of number ps a)))))
+    c.parameters-2.ensures ∙ sym (asks_block number c.args.kind a fits))
+    (ask_part c.args.code.now c.write_arguments.new.code c.put.new.code (argument_texts a)
+    (λ number. numbers_block c.parameters-2.result.now (argument_blocks number a))
+    (λ number. asking c.args.kind (names_of number c.parameters-2.result.now a))
+    c.in_ok-ask.ask c.in_ok-ask.ensures.sound c.in_ok-ask.ensures.named
+    c.in_ok-put.ensures.code)
+
+pub write_ask-returns-then-not-all_fit-clause-sound :
+    goal.write_ask-returns-then-not-all_fit-clause-sound
+write_ask-returns-then-not-all_fit-clause-sound t c =
+    let a = arguments_from (map numbered_argument c.args.arguments.now) in
+    let fit : c.all_fit.result ≡ false = search rules in
     carried c.write_misfit.result
-    (same_part c.args.code.now c.write_misfit.new.code
-    (argument_texts (arguments_from (map numbered_argument c.args.arguments.now)))
-    (λ number. no_value) (λ number. call_block number builtin.Delay
-    (arguments_from (map numbered_argument c.args.arguments.now))) (λ number.
-    sym (no_delay number (arguments_from (map numbered_argument c.args.arguments.now))
-    (sym (ap (option_map (λ (p : Bor (code.Expr Target) × Bor code_text.Text).
-    (numbered_expr p.0.now, text_of p.1.now))) c.in-None.is) ∙ c.value_and_text.ensures))))
+    (same_part c.args.code.now c.write_misfit.new.code (argument_texts a)
+    (λ number. no_value) (λ number. call_block number (builtin.Ask c.args.kind) a)
+    (λ number. sym (misfit_block number c.args.kind a
+    (ap (λ ps. all_fit ps a) (sym c.parameters.ensures) ∙ sym c.all_fit.ensures ∙ fit))))
     c.write_misfit.ensures.sound
 
 pub write_operands-returns-in_err-write_value-2-clause-refused :
@@ -605,65 +535,12 @@ write_either-returns-clause-longer t c =
     behind in
     omega (arith, one, up, on, still)
 
-pub write_builtin-returns-in-PutMessage-clause-sound :
-    goal.write_builtin-returns-in-PutMessage-clause-sound
-write_builtin-returns-in-PutMessage-clause-sound t c =
-    let is : c.args.f ≡ builtin.PutMessage = cc in
-    carried c.write_message.result
-    (builtin_part c.args.f builtin.PutMessage
-    (arguments_from (map numbered_argument c.args.arguments.now)) is)
-    c.write_message.ensures.sound
-
-pub write_builtin-returns-in-Acknowledge-clause-sound :
-    goal.write_builtin-returns-in-Acknowledge-clause-sound
-write_builtin-returns-in-Acknowledge-clause-sound t c =
-    let is : c.args.f ≡ builtin.Acknowledge = cc in
-    carried c.write_acknowledge.result
-    (builtin_part c.args.f builtin.Acknowledge
-    (arguments_from (map numbered_argument c.args.arguments.now)) is)
-    c.write_acknowledge.ensures.sound
-
-pub write_builtin-returns-in-Delay-clause-sound : goal.write_builtin-returns-in-Delay-clause-sound
-write_builtin-returns-in-Delay-clause-sound t c =
-    let is : c.args.f ≡ builtin.Delay = cc in
-    carried c.write_delay.result
-    (builtin_part c.args.f builtin.Delay
-    (arguments_from (map numbered_argument c.args.arguments.now)) is)
-    c.write_delay.ensures.sound
-
-pub write_builtin-returns-in-GetDevVarValue-clause-sound :
-    goal.write_builtin-returns-in-GetDevVarValue-clause-sound
-write_builtin-returns-in-GetDevVarValue-clause-sound t c =
-    let is : c.args.f ≡ builtin.GetDevVarValue = cc in
-    carried c.write_get.result
-    (builtin_part c.args.f builtin.GetDevVarValue
-    (arguments_from (map numbered_argument c.args.arguments.now)) is) c.write_get.ensures.sound
-
-pub write_builtin-returns-in-SelectFromList-clause-sound :
-    goal.write_builtin-returns-in-SelectFromList-clause-sound
-write_builtin-returns-in-SelectFromList-clause-sound t c =
-    let is : c.args.f ≡ builtin.SelectFromList = cc in
-    carried c.write_select.result
-    (builtin_part c.args.f builtin.SelectFromList
-    (arguments_from (map numbered_argument c.args.arguments.now)) is)
-    c.write_select.ensures.sound
-
-pub write_builtin-returns-in-SendCommand-clause-sound :
-    goal.write_builtin-returns-in-SendCommand-clause-sound
-write_builtin-returns-in-SendCommand-clause-sound t c =
-    let is : c.args.f ≡ builtin.SendCommand = cc in
-    carried c.write_send.result
-    (builtin_part c.args.f builtin.SendCommand
-    (arguments_from (map numbered_argument c.args.arguments.now)) is) c.write_send.ensures.sound
-
-pub write_builtin-returns-in-SendCommandTrans-clause-sound :
-    goal.write_builtin-returns-in-SendCommandTrans-clause-sound
-write_builtin-returns-in-SendCommandTrans-clause-sound t c =
-    let is : c.args.f ≡ builtin.SendCommandTrans = cc in
-    carried c.write_transaction.result
-    (builtin_part c.args.f builtin.SendCommandTrans
-    (arguments_from (map numbered_argument c.args.arguments.now)) is)
-    c.write_transaction.ensures.sound
+pub write_builtin-returns-in-Ask-clause-sound : goal.write_builtin-returns-in-Ask-clause-sound
+write_builtin-returns-in-Ask-clause-sound t c =
+    let is : c.args.f ≡ builtin.Ask c.in-Ask.kind = cc in
+    carried c.write_ask.result
+    (builtin_part c.args.f (builtin.Ask c.in-Ask.kind)
+    (arguments_from (map numbered_argument c.args.arguments.now)) is) c.write_ask.ensures.sound
 
 pub write_builtin-returns-in-IvarValue-clause-sound :
     goal.write_builtin-returns-in-IvarValue-clause-sound
@@ -682,36 +559,20 @@ write_builtin-returns-in-Iassign-clause-sound t c =
     (arguments_from (map numbered_argument c.args.arguments.now)) is)
     c.write_assigned.ensures.sound
 
-pub write_builtin-returns-in-SaveValues-clause-sound :
-    goal.write_builtin-returns-in-SaveValues-clause-sound
-write_builtin-returns-in-SaveValues-clause-sound t c =
-    let is : c.args.f ≡ builtin.SaveValues = cc in
-    carried c.write_alone.result
-    (λ w. builtin_part c.args.f builtin.SaveValues
-    (arguments_from (map numbered_argument c.args.arguments.now)) is
-    (same_part c.args.code.now c.write_alone.new.code
-    (argument_texts (arguments_from (map numbered_argument c.args.arguments.now)))
-    (λ number. alone_block (instruction.Ask ask.SaveValues)
-    (arguments_from (map numbered_argument c.args.arguments.now)))
-    (λ number. call_block number builtin.SaveValues
-    (arguments_from (map numbered_argument c.args.arguments.now)))
-    (λ number. save_alone number (arguments_from (map numbered_argument c.args.arguments.now)))
-    w)) c.write_alone.ensures.sound
-
 pub write_builtin-returns-in-Abort-clause-sound : goal.write_builtin-returns-in-Abort-clause-sound
 write_builtin-returns-in-Abort-clause-sound t c =
     let is : c.args.f ≡ builtin.Abort = cc in
-    carried c.write_alone-in-Abort.result
+    carried c.write_alone.result
     (λ w. builtin_part c.args.f builtin.Abort
     (arguments_from (map numbered_argument c.args.arguments.now)) is
-    (same_part c.args.code.now c.write_alone-in-Abort.new.code
+    (same_part c.args.code.now c.write_alone.new.code
     (argument_texts (arguments_from (map numbered_argument c.args.arguments.now)))
     (λ number. alone_block instruction.Abort
     (arguments_from (map numbered_argument c.args.arguments.now)))
     (λ number. call_block number builtin.Abort
     (arguments_from (map numbered_argument c.args.arguments.now)))
     (λ number. abort_alone number (arguments_from (map numbered_argument c.args.arguments.now)))
-    w)) c.write_alone-in-Abort.ensures.sound
+    w)) c.write_alone.ensures.sound
 
 pub write_builtin-returns-in-ProcessAbort-clause-sound :
     goal.write_builtin-returns-in-ProcessAbort-clause-sound

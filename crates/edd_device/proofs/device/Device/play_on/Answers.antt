@@ -1,5 +1,5 @@
 use Rattle.std.proofs.Common.{◌≡◌, List, refl, sym, ap, subst, ◌∙◌}
-use Rattle.edd_instructions.specs.declared.records.Request.{Request}
+use Rattle.edd_instructions.specs.declared.requests.Request.{Request}
 use Rattle.edd_port.specs.declared.fault.PlayFault.{PlayFault}
 use Rattle.edd_port.specs.declared.playing.Ending.TheVariants as endings
 use Rattle.edd_port.specs.declared.turn.Turn.{Turn}

@@ -2,7 +2,7 @@ use Rattle.std.proofs.Common.{◌≡◌, ℕ, List, [], ◌∷◌, ◌++◌, map
 use Rattle.std.proofs.lemmas.List.{map-append}
 use Rattle.edd_syntax.specs.declared.answer.Answer as code
 use Rattle.edd_syntax.specs.Answers.{answer_of}
-use Rattle.edd_instructions.specs.declared.records.Request.{Request}
+use Rattle.edd_instructions.specs.declared.requests.Request.{Request}
 use Rattle.edd_port.specs.Books.{Pair, Book, with_pair}
 use Rattle.test_growths.proofs.host.CrowdedHost.reply.Goals as goal
 

@@ -1,0 +1,8 @@
+use Rattle.edd_syntax.specs.TreeView.{numbered_argument}
+use Rattle.edd_types.proofs.Arguments.{too_many}
+use Rattle.edd_types.proofs.calls.+all_fit.Goals as goal
+
+pub returns-in-len1-up-arguments : goal.returns-in-len1-up-arguments
+returns-in-len1-up-arguments t c =
+    too_many numbered_argument c.args.which c.args.parameters.now c.args.arguments.now
+    c.in-empty.len_below c.in-len1-up-arguments.len_at_least
