@@ -144,6 +144,7 @@ module _ (number : Words → StrNo) where
     argument_block (Text text) = Nothing
     argument_block (Value e) = method_block e
 
+    -- the values of all of them, in their order
     pub argument_blocks : Arguments Target → List Block
     argument_blocks Nil = []
     argument_blocks (Cons first rest) = argument_block first ∷ argument_blocks rest

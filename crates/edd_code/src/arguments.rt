@@ -64,7 +64,8 @@ fn as_method(argument: &Argument<Target>) -> Option<MethNo>
 
 /// Whether the arguments are such as these parameters ask for, in number and kind.
 pub(crate) fn all_fit(parameters: &[Parameter], arguments: &[Argument<Target>]) -> bool
-    ensures { result ≡ all_fit parameters.now (arguments_from (map numbered_argument arguments.now)) }
+    ensures { result ≡ all_fit parameters.now
+        (arguments_from (map numbered_argument arguments.now)) }
 {
     match parameters {
         [] => match arguments {

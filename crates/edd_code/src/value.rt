@@ -375,7 +375,8 @@ fn write_arguments(
     arguments: &[Argument<Target>],
 ) -> Result<Ask, LowerFault>
     requires few { length parameters.now ≤ 2 }
-    requires fits { IsTrue (all_fit parameters.now (arguments_from (map numbered_argument arguments.now))) }
+    requires fits { IsTrue (all_fit parameters.now
+        (arguments_from (map numbered_argument arguments.now))) }
     requires texts { IsTrue (list_all is_text
         (argument_texts (arguments_from (map numbered_argument arguments.now)))) }
     ensures sound { OnOk result
