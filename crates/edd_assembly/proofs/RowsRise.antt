@@ -48,9 +48,6 @@ not_body attr.Request h = refl
 not_body attr.Reply h = refl
 not_body a h = absurd (false≢true h)
 
-abbrev IsOf : Kind → Attr → AttributeFields → Type 0
-IsOf k a f = (f.kind ≡ kind_number k) × (f.attribute ≡ attr_number a)
-
 -- for a method's body `slots` says what is in the place of a position
 module _ (slots : AttrRef → ℕ) where
   abbrev pub with_slots : AttrRef → AttrRef

@@ -1,5 +1,5 @@
 -- The code of conditionals, put together from that of their parts.
-use Rattle.std.proofs.Common.{◌≡◌, refl, sym, ap, subst, ◌∙◌, ℕ, ◌+◌, List, ◌++◌, length, arith, ◌≤◌, length-append}
+use Rattle.std.proofs.Common.{◌≡◌, refl, sym, ap, subst, ◌∙◌, ℕ, ◌+◌, List, ◌++◌, length, arith}
 use Rattle.std.specs.Prelude.{Option, Some, None}
 use Rattle.std.proofs.lemmas.Grind.{flat_map-append}
 use Rattle.edd_syntax.specs.declared.numbers.StrNo.{StrNo}
@@ -189,18 +189,3 @@ pub not_here : {V : Type 0} (arm : Arm Target V) (rest : Arms Target V)
     → None ≡ default_of (ConsArm arm NoArms) → default_of (ConsArm arm rest) ≡ default_of rest
 not_here (Case label x) rest e = refl
 not_here (Default x) rest e = absurd cc
-
--- the open targets of a SELECT's arms lie inside the code
-pub holes_inside : {V : Type 0} (c0 c1 c2 c3 : List ℕ) (arms : List (Arm Target V)) (b : Block)
-    → c1 ≡ c0 ++ headers arms → c2 ≡ c1 ++ spelling instruction.Pop
-    → c3 ≡ c2 ++ bytes_at (length c2) b
-    → length c0 + length (headers arms) ≤ length c3
-holes_inside c0 c1 c2 c3 arms b opened popped more =
-    omega (
-      arith,
-      ap length opened ∙ length-append c0 (headers arms),
-      ap length popped
-          ∙ length-append c1 (spelling instruction.Pop),
-      ap length more
-          ∙ length-append c2 (bytes_at (length c2) b),
-    )

@@ -1,8 +1,8 @@
 -- What was lowered of a row of a checked description is the code of its attribute.
-use Rattle.std.proofs.Common.{◌≡◌, refl, sym, ap, subst, ◌∙◌, ℕ, ◌+◌, ◌*◌, ◌^◌, ◌<◌, ◌≤◌, ◌⊎◌, inl, inr, Bool, true, ℤ, List, [], ◌++◌, length, take, Option, Some, None, arith, length-append}
+use Rattle.std.proofs.Common.{◌≡◌, refl, sym, ap, subst, ◌∙◌, ℕ, ◌+◌, ◌*◌, ◌^◌, ◌<◌, ◌≤◌, ◌⊎◌, inl, inr, Bool, true, ℤ, List, [], ◌++◌, length, Option, Some, None, arith, length-append}
 use Rattle.std.specs.Prelude.{◌↔◌, ◌&&◌, Result, Ok, Err, IfOk, OnOk}
 use Rattle.std.specs.List.{Contains, list_all}
-use Rattle.std.proofs.lemmas.List.{append-nil, take_at}
+use Rattle.std.proofs.lemmas.List.{append-nil}
 use Rattle.std.proofs.lemmas.List.Elements.{Contains-append_left, Contains-append_cases}
 use Rattle.edd_syntax.specs.declared.answer.Trap.{Trap}
 use Rattle.edd_syntax.specs.declared.numbers.Kind.{Kind}
@@ -39,7 +39,7 @@ use Rattle.edd_attrs.specs.Trees as trees
 use Rattle.edd_attrs.specs.Trees.{Tree, tree_at}
 use Rattle.edd_attrs.specs.Records.{kept_enumerator, kept_data, kept_entry, kept_response, kept_member, kept_array_element}
 use Rattle.edd_attrs.specs.Sizes.{strings_at, tree_nodes, length_limit}
-use Rattle.edd_code.specs.Tables.{AreDifferent, Grows}
+use Rattle.edd_code.specs.Tables.{AreDifferent}
 use Rattle.edd_attrs.specs.Lowered.{LowersTree, OverflowsTree}
 use Rattle.edd_attrs.specs.Kept.{is_kept_tree, is_kept_row}
 use Rattle.edd_attrs.specs.TreeBlocks.{elements, IsBlockOf}
@@ -253,12 +253,6 @@ module _ (unit : Description Target) (checked : ∥ IsChecked unit ∥₁) (row 
         | inr held ↦ block_held unit new (tree_at unit row) b whole now w held
       ],
     )
-
--- the strings that were there are the first ones of the table that grew
-pub cut_back : (old grown cut : List Words) (n : ℕ) → Grows old grown → n ≡ length old
-    → cut ≡ take n grown → cut ≡ old
-cut_back old grown cut n grows same is =
-    is ∙ ap (take n) grows.1 ∙ take_at old grows.0 n (sym same)
 
 pub then_on_ok : {X E : Type 0} {P : X → Type 0} {Q : Type 0} (r : Result X E) → ((x : X) → P x → Q)
     → IfOk r P → OnOk r Q

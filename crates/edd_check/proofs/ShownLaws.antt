@@ -127,19 +127,6 @@ alone_begins words [] alone = absurd alone
 alone_begins words (d ∷ []) alone = alone
 alone_begins words (d ∷ e ∷ rest) alone = absurd alone
 
--- one refusal that is shown where nothing was
-pub shown_alone : (words : List ℕ) (before after : List Diagnostic) (d : Diagnostic) → before ≡ []
-    → after ≡ before ++ d ∷ [] → IsRefusal words d.finding → IsAlone words after
-shown_alone words before after d none is refusal = subst (IsAlone words)
-    (sym (is ∙ ap (λ xs. xs ++ d ∷ []) none)) refusal
-
--- what is shown is something
-pub shown_some : (before after : List Diagnostic) (d : Diagnostic) → after ≡ before ++ d ∷ []
-    → after ≡ [] → ⊥
-shown_some [] after d is none = let clash : d ∷ [] ≡ [] = sym is ∙ none in cc
-shown_some (x ∷ rest) after d is none =
-    let clash : x ∷ (rest ++ d ∷ []) ≡ [] = sym is ∙ none in cc
-
 -- the compiler's refusal is first, alone or with the first that is told
 pub begins_all : (u : UnitText) (words : List ℕ) (told : List Told)
     (start new : State) → Begins words start → (start.0 ≡ [] → SaysFirst u told words)

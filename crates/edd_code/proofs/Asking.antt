@@ -1,5 +1,5 @@
 -- What a request takes and names, and its block.
-use Rattle.std.proofs.Common.{◌≡◌, refl, ap, ◌∙◌, ℕ, zero, suc, ◌+◌, ◌≤◌, Bool, true, false, not, List, [], ◌∷◌, ◌++◌, length, Option, Some, None, arith}
+use Rattle.std.proofs.Common.{◌≡◌, refl, ℕ, zero, suc, ◌+◌, ◌≤◌, true, false, not, List, [], ◌∷◌, ◌++◌, length, Option, Some, None, arith}
 use Rattle.std.specs.Prelude.{ℤ, filter, option_map, slice_index_or}
 use Rattle.std.specs.Option.{option_to_list}
 use Rattle.std.proofs.lemmas.Bool.{and_parts}
@@ -19,7 +19,7 @@ use Rattle.edd_instructions.specs.declared.requests.RequestArgument.{RequestArgu
 use Rattle.edd_instructions.specs.declared.requests.RequestArgument.TheVariants as argument
 use Rattle.edd_instructions.specs.Decoding.{string, variable, unused_are_zero}
 use Rattle.edd_instructions.specs.Requests.{arguments_asked, kind_asked, request_with}
-use Rattle.edd_code.specs.Arguments.{as_variable, asking, named_before, named_one, names_of}
+use Rattle.edd_code.specs.Arguments.{as_variable, asking, named_before, names_of}
 use Rattle.edd_code.specs.Blocks.{Then}
 use Rattle.edd_code.specs.Expressions.{no_value}
 use Rattle.edd_code.specs.MethodExpressions.{argument_blocks, ask_block, call_block, numbers_block}
@@ -29,10 +29,6 @@ use Rattle.edd_code.specs.MethodExpressions.{argument_blocks, ask_block, call_bl
 pub few_names : (k : RequestKind) → names_taken k ≤ 2
 few_names kind.PutMessage = omega arith
 few_names _ = omega arith
-
-pub few_parameters : (k : RequestKind) → length (request_parameters k) ≤ 2
-few_parameters kind.PutMessage = omega arith
-few_parameters _ = omega arith
 
 -- the arguments by the parameters, with what the instruction names and with the numbers
 abbrev pub arranged : List Parameter → List ℕ → List ℤ → List RequestArgument

@@ -3,7 +3,6 @@ use Rattle.std.proofs.Common.{◌≡◌, refl, sym, ap, ◌∙◌}
 use Rattle.std.specs.Prelude.{Option, Some, None}
 use Rattle.edd_syntax.specs.declared.numbers.ItemNo.TheVariants as item_no
 use Rattle.edd_syntax.specs.declared.numbers.StrNo.{StrNo}
-use Rattle.edd_syntax.specs.declared.numbers.VarNo.{VarNo}
 use Rattle.edd_syntax.specs.declared.numbers.MethNo.{MethNo}
 use Rattle.edd_syntax.specs.declared.operators.Builtin.TheVariants as builtin
 use Rattle.edd_syntax.specs.declared.reference.Target.{Target}
@@ -11,7 +10,7 @@ use Rattle.edd_syntax.specs.declared.reference.Target.TheVariants.{Local, Item, 
 use Rattle.edd_syntax.specs.Expression.{Expr, Literal, Reference, Argument, Text, Value, Arguments, Nil, Cons}
 use Rattle.edd_syntax.specs.Words.{Words}
 use Rattle.edd_instructions.specs.declared.instruction.Instruction.TheVariants as instruction
-use Rattle.edd_code.specs.Arguments.{as_value, as_target, as_variable, as_method, only, pair, both, alone_block}
+use Rattle.edd_code.specs.Arguments.{as_value, as_target, as_method, only, pair, both, alone_block}
 use Rattle.edd_code.specs.Expressions.{no_value}
 use Rattle.edd_code.specs.MethodExpressions.{call_block}
 
@@ -25,20 +24,6 @@ target_is : (x : Argument Target) (to : Target) → as_target x ≡ Some to → 
 target_is (Text t) to h = absurd cc
 target_is (Value (Reference from)) to h = cc
 target_is (Value _) to h = absurd cc
-
-variable_is : (x : Argument Target) (v : VarNo) → as_variable x ≡ Some v
-    → x ≡ Value (Reference (Item (item_no.Variable v)))
-variable_is (Text t) v h = absurd cc
-variable_is (Value (Reference (Item (item_no.Variable w)))) v h = cc
-variable_is (Value (Reference (Item (item_no.Command n)))) v h = absurd cc
-variable_is (Value (Reference (Item (item_no.Menu n)))) v h = absurd cc
-variable_is (Value (Reference (Item (item_no.Collection n)))) v h = absurd cc
-variable_is (Value (Reference (Item (item_no.Method n)))) v h = absurd cc
-variable_is (Value (Reference (Item (item_no.Array n)))) v h = absurd cc
-variable_is (Value (Reference (Local slot))) v h = absurd cc
-variable_is (Value (Reference (Function f))) v h = absurd cc
-variable_is (Value (Literal value)) v h = absurd cc
-variable_is (Value _) v h = absurd cc
 
 method_is : (x : Argument Target) (m : MethNo) → as_method x ≡ Some m
     → x ≡ Value (Reference (Item (item_no.Method m)))

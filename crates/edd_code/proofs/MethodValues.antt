@@ -16,7 +16,7 @@ use Rattle.edd_syntax.specs.Text as texts
 use Rattle.edd_syntax.specs.Expression.{Expr, Literal, Decimal, Reference, Indexed, Parentheses, Unary, Binary, Compare, LogicalAnd, LogicalOr, Conditional, Assign, CompoundAssign, Increment, Call, Text, Value, Arguments, Nil, Cons}
 use Rattle.edd_syntax.specs.AbortMethods.{listed}
 use Rattle.edd_syntax.specs.MethodState as source
-use Rattle.edd_syntax.specs.MethodState.{State, Done, Stopped, Action, pure, stop, ◌>>=◌, ◌>>◌, read, read_element, assign, ask}
+use Rattle.edd_syntax.specs.MethodState.{State, Done, Stopped, Action, pure, ◌>>=◌, ◌>>◌, read, read_element, assign, ask}
 use Rattle.edd_syntax.specs.Evaluation as gives
 use Rattle.edd_syntax.specs.Evaluation.{Given, Number, Fitting, fitted_one, fitted, asked, referred, effect_of, call, evaluate, evaluate_all}
 use Rattle.edd_syntax.specs.Strings.{expr_texts, argument_texts}
@@ -41,18 +41,13 @@ use Rattle.edd_instructions.specs.Agreement.{machine_of}
 use Rattle.edd_code.specs.Arguments.{asking, named_one, names_of}
 use Rattle.edd_code.specs.Reports.{at, worded, words_told}
 use Rattle.edd_code.specs.MethodEffects.{Halted, pushed, stops, when_known, outcome_of, unless_jump}
-use Rattle.edd_code.specs.MethodExpressions.{load_block, store_block, ask_block, method_block, call_block, argument_block, argument_blocks, number_block, numbers_block}
+use Rattle.edd_code.specs.MethodExpressions.{load_block, store_block, ask_block, method_block, call_block, argument_block, argument_blocks, numbers_block}
 use Rattle.edd_code.specs.Numbered.{IsNumbered}
 use Rattle.edd_code.proofs.ExpressionActions.{Means, runs, one_means, two_mean, push_means, no_value_means, element_means, read_means, store_means, store_means_zero, unary_means, operate_means, compare_means, operate_then, increment_means, and_means, or_means, either_means}
 use Rattle.edd_code.proofs.Asking.{arranged, arranged_so, asks_block, few_names, kind_so, names_fit}
 use Rattle.edd_code.proofs.Fitting.{front_none, all_parts, fits, of_none, of_variable, of_variable_in, of_method, of_method_in, of_variable_number}
 
 -- ---- actions, one after another
-
-in_two : {A B C : Type 0} (o : source.Outcome A) (f : A → Action B) (g : B → Action C)
-    → source.and_then (source.and_then o f) g ≡ source.and_then o (λ x. f x >>= g)
-in_two (Done x s) f g = refl
-in_two (Stopped why s) f g = refl
 
 -- what a function does with two numbers
 of_two : (o : source.Outcome ℤ) (m : Action ℤ) (x y : Option Target) (f : List Given → Action ℤ)

@@ -1,5 +1,5 @@
 -- Parts of code that name strings by their numbers, one after the other and round each other.
-use Rattle.std.proofs.Common.{◌≡◌, sym, ap, subst, ◌∙◌, ℕ, zero, suc, ◌+◌, inl, inr, List, [], ◌∷◌, ◌++◌, length, arith, append_assoc, length-append}
+use Rattle.std.proofs.Common.{◌≡◌, sym, ap, subst, ◌∙◌, ℕ, zero, suc, ◌+◌, inl, inr, List, [], ◌∷◌, ◌++◌, length, arith, append_assoc}
 use Rattle.std.specs.List.{Contains}
 use Rattle.std.proofs.lemmas.List.{map-append}
 use Rattle.std.proofs.lemmas.List.Elements.{Contains-append_left, Contains-append_cases}
@@ -84,20 +84,6 @@ module _ {old mid new first second : List Words} {c0 c1 c2 c3 before after : Lis
           (v.written d (w.table.more ++ later))) (w.written (v.table.different d) later);
     }
 
--- a part and another after it
-pub both_written : {old mid new first second : List Words} {before between after : List ℕ}
-    {f g : Bytes} → WritesNumbered old before first f mid between
-    → WritesNumbered mid between second g new after
-    → WritesNumbered old before (first ++ second) (λ number place. f number place
-    ++ g number (place + length (f number place))) new after
-both_written {before = before} {between = between} {after = after} {f = f} {g = g} v w =
-    parts_written v w (λ number one two.
-    two ∙ ap (λ (code : List ℕ). code ++ g number (length code)) one
-    ∙ ap (λ (n : ℕ). (before ++ f number (length before)) ++ g number n)
-    (length-append before (f number (length before)))
-    ∙ append_assoc before (f number (length before))
-    (g number (length before + length (f number (length before)))))
-
 -- ---- the strings of texts
 
 -- the strings may be listed otherwise
@@ -106,23 +92,6 @@ pub strings_listed : {old new strings others : List Words} {before after : List 
     → WritesNumbered old before others f new after
 strings_listed {old} {new} {strings} {others} {before} {after} {f} same w =
     subst (λ (ws : List Words). WritesNumbered old before ws f new after) same w
-
--- so may they be in another order, or more than once
-pub strings_arranged : {old new strings others : List Words} {before after : List ℕ} {f : Bytes}
-    → ((w : Words) → Contains strings w → Contains others w)
-    → ((w : Words) → Contains others w → Contains strings w)
-    → WritesNumbered old before strings f new after → WritesNumbered old before others f new after
-strings_arranged there back w = record {
-  table = record {
-    more = w.table.more;
-    grown = w.table.grown;
-    only = λ x held. there x (w.table.only x held);
-    different = w.table.different;
-    few = w.table.few;
-  };
-  holds = λ x held. w.holds x (back x held);
-  written = w.written;
-}
 
 pub texts_listed : (ts us : List texts.Text) → strings_of_texts ts ++ strings_of_texts us
     ≡ strings_of_texts (ts ++ us)

@@ -1,28 +1,12 @@
 -- The sets of a reply, one entry after the other.
-use Rattle.std.proofs.Common.{◌≡◌, ℕ, ◌+◌, ◌<◌, ℤ, List, [], ◌∷◌, ◌++◌, length, drop, get_or, drop-cons, add-one, Option, Some, None, Result, Ok, Err, refl, sym, ap, subst, ◌∙◌, append_assoc}
+use Rattle.std.proofs.Common.{◌≡◌, ℕ, ℤ, List, [], ◌∷◌, Option, Some, None, Result, Ok, Err, refl, sym, ap, subst, ◌∙◌}
 use Rattle.edd_syntax.specs.Answers.{Change, SetFault, set_fault, sets_fault}
 use Rattle.edd_instructions.specs.declared.records.Record.{Record}
 use Rattle.edd_machine.specs.Types.{types_in}
 use Rattle.edd_device.specs.declared.fault.DeviceFault.{DeviceFault}
 use Rattle.edd_device.specs.declared.fault.DeviceFault.TheVariants.{OutOfRange}
-use Rattle.edd_device.specs.Copies.{Pair, number_at, tied, requested, replied, with_set, with_sets}
+use Rattle.edd_device.specs.Copies.{Pair, number_at, tied, requested, replied, with_set}
 use Rattle.std.specs.Prelude.{slice_set}
-
-pub with_none : (r : Result (List Change) DeviceFault) → r ≡ with_sets [] r
-with_none (Ok rest) = refl
-with_none (Err fault) = refl
-
-pub with_more : (sets : List Change) (set : Change) (r : Result (List Change) DeviceFault)
-    → with_sets sets (with_set set r) ≡ with_sets (sets ++ set ∷ []) r
-with_more sets set (Ok rest) = ap (λ (xs : List Change). Ok xs) (sym (append_assoc sets (set ∷ [])
-    rest))
-with_more sets set (Err fault) = refl
-
--- the entries from one on are that one and those after it
-pub one_entry : (entries : List Record) (n : ℕ) (d : Record) → n < length entries
-    → drop n entries ≡ get_or entries n d ∷ drop (n + 1) entries
-one_entry entries n d more = drop-cons entries n d more
-    ∙ ap (λ (k : ℕ). get_or entries n d ∷ drop k entries) (sym (add-one n))
 
 -- ---- one entry
 

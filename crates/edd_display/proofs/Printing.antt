@@ -57,14 +57,6 @@ appends_join (Some xs) (Some ys) None a b p q = q
 appends_join (Some xs) (Some ys) (Some zs) a b p q =
     q ∙ ap (λ t. t ++ b) p ∙ append_assoc xs a b
 
--- one more element of a list has been printed
-pub appends_items : {X : Type 0} (f : X → List ℕ) (xs : List X) (i : ℕ) (d : X)
-    (old mid new : Option (List ℕ)) → i < length xs → Appends old mid (flat_map f (take i xs))
-    → Appends mid new (f (get_or xs i d)) → Appends old new (flat_map f (take (i + 1) xs))
-appends_items f xs i d old mid new inside p q =
-    rw (items_more f xs i d inside)
-    (appends_join old mid new (flat_map f (take i xs)) (f (get_or xs i d)) p q)
-
 pub appends_numbers : (f : ℕ → List ℕ) (n : ℕ) (old mid new : Option (List ℕ))
     → Appends old mid (flat_map f (range_with_len 0 n)) → Appends mid new (f n)
     → Appends old new (flat_map f (range_with_len 0 (n + 1)))

@@ -71,13 +71,6 @@ pub item_in : {X : Type 0} (xs : List X) (i : ℕ) (x : X) → x ≡ get_or xs i
     → Contains xs x
 item_in xs i x is inside = subst (Contains xs) (sym is) (Contains-get_or xs i x inside)
 
--- what a function makes of the one at a place is among what it makes of all
-pub made_in : {X Y : Type 0} (f : X → Y) (xs : List X) (i : ℕ) (x : X) → x ≡ get_or xs i x
-    → i < length xs → Contains (map f xs) (f x)
-made_in f xs i x is inside = item_in (map f xs) i (f x)
-    (ap f is ∙ sym (get_or-map f xs i x (f x) inside))
-    (subst (λ n. i < n) (sym (length-map xs f)) inside)
-
 -- one more such
 pub all_pushed : {X : Type 0} (P : X → Type 0) (xs ys : List X) (x : X) → ys ≡ xs ++ x ∷ []
     → All P xs → P x → All P ys

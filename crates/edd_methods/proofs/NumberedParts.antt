@@ -160,11 +160,6 @@ pub no_memory : (why : LowerFault) (old : List Words) (texts : List Text) → wh
     → Refused why old texts old
 no_memory why old texts is = (no_growth old, λ e. absurd (cc (e, is)))
 
--- after a part that is written
-pub no_memory_behind : {old new : List Words} {ts : List Text} {P : Said} (why : LowerFault)
-    (texts : List Text) → why ≡ Memory → Numbered old ts P new → Refused why old texts new
-no_memory_behind {old} {new} {ts} {P} why texts is w = (growth w.table, λ e. absurd (cc (e, is)))
-
 -- what a function answers that passes the fault on
 pub refused_is : {A : Type 0} (old new : List Words) (texts : List Text) (P : Said)
     (r : Result A LowerFault) (why : LowerFault) → r ≡ Err why → Refused why old texts new

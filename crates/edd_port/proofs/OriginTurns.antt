@@ -372,12 +372,6 @@ traced xs place at rise s depth d t led = (
         let there = small_at xs at led.there depth d in
         omega (arith, there, led.rises depth d)
 
-pub nothing_there : (code : List ℕ) (place at rise count : ℕ)
-    → IsTraced (instructions code) place at rise → is_start (instructions code) at ≡ false
-    → (false ≡ true → StandsWith code place count) × (StandsWith code place count → false ≡ true)
-nothing_there code place at rise count t none =
-    ((λ e. absurd cc), λ stands. sym none ∙ t.same ∙ stands.at_start)
-
 -- nothing leads to the last of them
 pub enough_there : (xs : List Placed) (place at rise : ℕ) (depth : ℕ → ℕ) → AreDepths xs depth
     → IsTraced xs place at rise → IsOriginOf xs at Fresh → 128 ≤ rise

@@ -22,12 +22,6 @@ behind_word text word rest there before after some =
     ap (filter (λ part. nat_lt 0 (length part))) (parted text there)
     ∙ rw (sym before, sym after, lt-ltb 0 (length word) some) refl
 
-pub behind_space : (text rest : List ℕ) → position_or_len is_space text < length text
-    → before_first is_space text ≡ [] → rest ≡ after_first is_space text
-    → words text ≡ words rest
-behind_space text rest there before after =
-    ap (filter (λ part. nat_lt 0 (length part))) (parted text there) ∙ rw (before, sym after) refl
-
 pub last_word : (text : List ℕ) → position_or_len is_space text ≡ length text → 0 < length text
     → words text ≡ text ∷ []
 last_word text none some =
