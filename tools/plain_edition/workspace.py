@@ -31,17 +31,18 @@ unused_variables = "allow"
 PROFILES = """[profile.release]
 overflow-checks = true
 panic = "abort"
+codegen-units = 1
 lto = "thin"
 
 [profile.small]
 inherits = "release"
 opt-level = "s"
-codegen-units = 1
 lto = true
 
 [profile.checked]
 inherits = "release"
 panic = "unwind"
+codegen-units = 16
 lto = false
 opt-level = 1
 debug-assertions = true
