@@ -11,8 +11,8 @@ use Rattle.std.proofs.lemmas.Str.{is_utf8-from_IsUtf8}
 use Rattle.std.proofs.Math.Logic.{∥∥₁_elim}
 use Rattle.std.proofs.Math.Bool.{Bool-set}
 use Rattle.edd_syntax.specs.declared.words.Variant as code_variant
-use Rattle.edd_syntax.specs.declared.words.VariantText as code_text
-use Rattle.edd_syntax.specs.declared.words.VariantText.TheVariants as text_in_code
+use Rattle.edd_syntax.specs.declared.text.CompactString as code_text
+use Rattle.edd_syntax.specs.declared.text.CompactString.TheVariants as text_in_code
 use Rattle.edd_syntax.specs.declared.words.Words as code_words
 use Rattle.edd_syntax.specs.declared.words.Words.TheVariants as in_code
 use Rattle.edd_syntax.specs.Words.{Words, Variants, Key, Variant, is_code}
@@ -26,7 +26,7 @@ use Rattle.edd_assembly.proofs.Cutting.{strings_cut}
 
 -- ---- codes are codes, and texts UTF-8
 
-text_valid : (t : code_text.VariantText) → is_utf8 (text_bytes t) ≡ true
+text_valid : (t : code_text.CompactString) → is_utf8 (text_bytes t) ≡ true
 text_valid (text_in_code.Short short) = short.valid
 text_valid (text_in_code.Long text) = ∥∥₁_elim text.ok (Bool-set _ _)
     (is_utf8-from_IsUtf8 (bytes_of_text text))

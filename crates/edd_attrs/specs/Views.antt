@@ -1,8 +1,8 @@
 -- What the trees in the code stand for.
-use Rattle.std.specs.Prelude.{ℕ, List, Option, map, string_bytes}
+use Rattle.std.specs.Prelude.{ℕ, List, Option, map}
 use Rattle.std.specs.Borrow.{Bor}
 use Rattle.edd_syntax.specs.TreeView.{numbered_expr}
-use Rattle.edd_syntax.specs.WordsView.{text_of}
+use Rattle.edd_syntax.specs.WordsView.{text_bytes, text_of}
 use Rattle.edd_syntax.specs.ItemView.{response_code_of, numbered_cond, numbered_conds, numbered_data_item, numbered_entry, numbered_member, numbered_array_element, numbered_transaction_part, numbered_type_part}
 use Rattle.edd_attrs.specs.declared.trees.Tree.{Tree}
 use Rattle.edd_attrs.specs.declared.trees.Tree.TheVariants as tree
@@ -14,7 +14,7 @@ use Rattle.edd_attrs.specs.Rows.{trees_of_transaction}
 -- a tree of the code as the pure tree, with items by number
 abbrev pub tree_of : Tree → trees.Tree
 tree_of (tree.Texts c) = trees.Texts (numbered_cond text_of c.now)
-tree_of (tree.Class names) = trees.Class (map string_bytes names.now)
+tree_of (tree.Class names) = trees.Class (map text_bytes names.now)
 tree_of (tree.Handling c) = trees.Handling (numbered_cond (λ h. h) c.now)
 tree_of (tree.Validity c) = trees.Validity (numbered_cond (λ b. b) c.now)
 tree_of (tree.Expressions c) = trees.Expressions (numbered_cond numbered_expr c.now)

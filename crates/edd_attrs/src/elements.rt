@@ -1,6 +1,6 @@
 //! The elements of attributes, each of which gives one record.
 
-ghost use Rattle.std.specs.Prelude.{◌≡◌, ℕ, ◌<◌, [], Bool, IsErrOf, IsTrue, List, OnOk, Option, pos, string_bytes, true};
+ghost use Rattle.std.specs.Prelude.{◌≡◌, ℕ, ◌<◌, [], Bool, IsErrOf, IsTrue, List, OnOk, Option, pos, true};
 ghost use Rattle.edd_syntax.specs.declared.numbers.StrNo.{StrNo};
 ghost use Rattle.edd_syntax.specs.declared.reference.Target.{Target};
 ghost use Rattle.edd_syntax.specs.declared.types.Handling.{Handling};
@@ -13,7 +13,7 @@ ghost use Rattle.edd_syntax.specs.Text as texts;
 ghost use Rattle.edd_syntax.specs.TreeView.{numbered_expr};
 ghost use Rattle.edd_syntax.specs.WellFormed.{is_text};
 ghost use Rattle.edd_syntax.specs.Words.{Words};
-ghost use Rattle.edd_syntax.specs.WordsView.{text_of};
+ghost use Rattle.edd_syntax.specs.WordsView.{text_bytes, text_of};
 ghost use Rattle.edd_instructions.specs.Agreement as agreement;
 ghost use Rattle.edd_code.specs.Blocks.{Block};
 ghost use Rattle.edd_code.specs.Tables.{Grows, Overflows};
@@ -32,7 +32,7 @@ use edd_syntax::item::{
 };
 use edd_syntax::numbers::{ItemNo, StrNo, VarNo};
 use edd_syntax::reference::Target;
-use edd_syntax::text::Text;
+use edd_syntax::text::{CompactString, Text};
 use edd_syntax::types::{Handling, ResponseClass};
 use std::alloc::{AllocError, Global};
 
@@ -183,10 +183,10 @@ impl Element for Text {
 }
 
 // A class word.
-impl Element for String {
+impl Element for CompactString {
     ghost Meant = { texts.Name };
 
-    ghost view = { string_bytes };
+    ghost view = { text_bytes };
 
     ghost strings = { λ v. strings_of_record (class_record v) };
 
@@ -201,7 +201,7 @@ impl Element for String {
         code: &mut Emitter,
         table: &mut Table,
     ) -> Result<(), LowerFault> {
-        let number = add_name(alloc, table, self)?;
+        let number = add_name(alloc, table, self.as_str())?;
         put(code, Instruction::Text(number))?;
         Ok(())
     }
@@ -451,7 +451,7 @@ impl Element for Member<Target> {
         code: &mut Emitter,
         table: &mut Table,
     ) -> Result<(), LowerFault> {
-        let name = add_name(alloc, table, &self.name)?;
+        let name = add_name(alloc, table, self.name.as_str())?;
         let label = add_optional(alloc, table, &self.label)?;
         let help = add_optional(alloc, table, &self.help)?;
         put(

@@ -12,14 +12,14 @@ use edd_syntax::item::{
 };
 use edd_syntax::numbers::Attr;
 use edd_syntax::reference::Target;
-use edd_syntax::text::Text;
+use edd_syntax::text::{CompactString, Text};
 use edd_syntax::types::{Handling, Operation};
 
 /// What is written for an attribute.
 #[derive(Clone, Copy)]
 pub enum Tree<'a> {
     Texts(&'a Cond<Target, Text>),
-    Class(&'a [String]),
+    Class(&'a [CompactString]),
     Handling(&'a Cond<Target, Handling>),
     Validity(&'a Cond<Target, bool>),
     Expressions(&'a Cond<Target, Expr<Target>>),

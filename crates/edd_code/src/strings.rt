@@ -10,8 +10,8 @@ ghost use Rattle.edd_code.specs.Tables.{Grows, GrowsBy, Keeps, KeepsOptional, Ov
 use crate::fault::LowerFault;
 use edd_strings::{Table, key, split};
 use edd_syntax::numbers::StrNo;
-use edd_syntax::text::Text;
-use edd_syntax::words::{Variant, VariantText, Words, code_of};
+use edd_syntax::text::{CompactString, Text};
+use edd_syntax::words::{Variant, Words, code_of};
 use std::alloc::{AllocError, Global};
 
 // The string of a text.
@@ -22,8 +22,8 @@ fn words_of(alloc: Global, text: &Text) -> Result<Words, LowerFault>
     ensures memory { IfErr result (λ fault. fault ≡ LowerFault.Memory) }
 {
     match text {
-        Text::Quoted(raw) => Ok(split(alloc, raw)?),
-        Text::Key(name) => Ok(key(alloc, name)?),
+        Text::Quoted(raw) => Ok(split(alloc, raw.as_str())?),
+        Text::Key(name) => Ok(key(alloc, name.as_str())?),
     }
 }
 
@@ -33,7 +33,7 @@ fn name_words(alloc: Global, name: &str) -> Result<Words, AllocError>
 {
     let first = Variant {
         code: code_of("en"),
-        text: VariantText::new(alloc, name)?,
+        text: CompactString::new(alloc, name)?,
     };
     let rest = Vec::new(alloc);
     Ok(Words::Variants { first, rest })

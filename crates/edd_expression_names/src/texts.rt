@@ -3,7 +3,7 @@
 ghost use Rattle.std.specs.Prelude.{◌≡◌, IfOk, option_map};
 ghost use Rattle.edd_syntax.specs.WordsView.{text_of};
 
-use edd_syntax::text::Text;
+use edd_syntax::text::{CompactString, Text};
 use std::alloc::{AllocError, Global};
 
 /// A copy of a text.
@@ -11,8 +11,8 @@ pub fn copy_text(text: &Text, alloc: Global) -> Result<Text, AllocError>
     ensures sound { IfOk result (λ t. text_of t ≡ text_of text.now) }
 {
     match text {
-        Text::Quoted(raw) => Ok(Text::Quoted(String::from_str(alloc, raw)?)),
-        Text::Key(name) => Ok(Text::Key(String::from_str(alloc, name)?)),
+        Text::Quoted(raw) => Ok(Text::Quoted(CompactString::new(alloc, raw.as_str())?)),
+        Text::Key(name) => Ok(Text::Key(CompactString::new(alloc, name.as_str())?)),
     }
 }
 

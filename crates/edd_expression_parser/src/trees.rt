@@ -13,6 +13,7 @@ use edd_syntax::expr::{Argument, Expr};
 use edd_syntax::numbers::TokenNo;
 use edd_syntax::operators::UnaryOperator;
 use edd_syntax::reference::Path;
+use edd_syntax::text::CompactString;
 use edd_token_reader::operators::{Assignment, Infix};
 use std::alloc::{AllocError, Global};
 
@@ -141,7 +142,7 @@ pub fn plain(alloc: Global, at: TokenNo, name: &str) -> Result<Path, AllocError>
 {
     Ok(Path {
         at,
-        base: String::from_str(alloc, name)?,
+        base: CompactString::new(alloc, name)?,
         members: Vec::new(alloc),
     })
 }

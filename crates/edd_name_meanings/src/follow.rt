@@ -1,6 +1,6 @@
 //! What a path means.
 
-ghost use Rattle.std.specs.Prelude.{◌≡◌, [], ◌∷◌, List, Option, None, Some, IfErr, IfOk, MatchOption, map, string_bytes};
+ghost use Rattle.std.specs.Prelude.{◌≡◌, [], ◌∷◌, List, Option, None, Some, IfErr, IfOk, MatchOption, map};
 ghost use Rattle.edd_syntax.specs.declared.numbers.ItemNo.{ItemNo};
 ghost use Rattle.edd_syntax.specs.declared.numbers.Kind.{Kind};
 ghost use Rattle.edd_syntax.specs.declared.numbers.TokenNo as token;
@@ -9,6 +9,7 @@ ghost use Rattle.edd_syntax.specs.Numbers.{kind_of};
 ghost use Rattle.edd_syntax.specs.Refusal.{Refusal, first_of};
 ghost use Rattle.edd_syntax.specs.Resolution.{along};
 ghost use Rattle.edd_syntax.specs.Text.{Name};
+ghost use Rattle.edd_syntax.specs.WordsView.{text_bytes};
 ghost use Rattle.edd_name_meanings.specs.Directory.{description_of};
 ghost use Rattle.edd_name_meanings.specs.Meanings.{IsFirst, item_among};
 ghost use Rattle.edd_name_meanings.specs.Paths.{Reaches};
@@ -82,25 +83,25 @@ pub fn follow<'b>(
 ) -> Result<Target, Breach<'b>>
     ensures sound { IfOk result
         (λ t. (None ≡ first_of (faults_along (description_of names.now) allowed.now
-        (string_bytes path.now.base) (kind_of from) (Some from)
-        (map string_bytes path.now.members.items)))
+        (text_bytes path.now.base) (kind_of from) (Some from)
+        (map text_bytes path.now.members.items)))
         × (or_stand_in allowed.now (item_among allowed.now (along (description_of names.now) from
-        (map string_bytes path.now.members.items))) ≡ Some t)) }
+        (map text_bytes path.now.members.items))) ≡ Some t)) }
     ensures refused { IfErr result
         (λ b. IsFirst b (faults_along (description_of names.now) allowed.now
-        (string_bytes path.now.base)
-        (kind_of from) (Some from) (map string_bytes path.now.members.items))
+        (text_bytes path.now.base)
+        (kind_of from) (Some from) (map text_bytes path.now.members.items))
         (place_along (description_of names.now) path.now.at (kind_of from) (Some from)
-        (map string_bytes path.now.members.items))) }
+        (map text_bytes path.now.members.items))) }
 {
     let mut here = PathStep {
-        name: &path.base,
+        name: path.base.as_str(),
         at: path.at,
         kind: from.kind(),
         item: Some(from),
     };
     for member in &path.members {
-        match step(names, here, member)? {
+        match step(names, here, member.as_str())? {
             Some(next) => here = next,
             None => return Ok(stand_in(allowed)),
         }

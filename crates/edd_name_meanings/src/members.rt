@@ -45,7 +45,7 @@ fn add_members<'a>(
         (find (λ m. bytes_eq m.name q) (map (member_of path_of) members.now))) }
 {
     for member in members {
-        put_first(into, &member.name, member)?;
+        put_first(into, member.name.as_str(), member)?;
     }
     Ok(())
 }

@@ -99,7 +99,7 @@ pub fn step_to_member<'b>(
             name: member,
             at,
             kind: of,
-            item: item_of_kind(names.item(&found.item.base), of),
+            item: item_of_kind(names.item(found.item.base.as_str()), of),
         }),
         None => Err(unknown_name(member, at)),
     }

@@ -57,7 +57,7 @@ fn refer_local<'b>(local: Local, path: &'b Path) -> Result<Target, Breach<'b>>
     if path.members.is_empty() {
         Ok(Target::Local(local.slot))
     } else {
-        Err(wrong_kind(&path.base, path.at, Some(local.at)))
+        Err(wrong_kind(path.base.as_str(), path.at, Some(local.at)))
     }
 }
 
@@ -71,9 +71,9 @@ fn refer_item<'b>(names: &Names, kinds: &[Kind], path: &'b Path) -> Result<Targe
         (λ b. IsFirst b (faults_of_item (description_of names.now) kinds.now (path_of path.now))
         (place_of_item (description_of names.now) (path_of path.now) path.now.at)) }
 {
-    match names.item(&path.base) {
+    match names.item(path.base.as_str()) {
         Some(item) => follow(names, kinds, path, item),
-        None => Err(unknown_name(&path.base, path.at)),
+        None => Err(unknown_name(path.base.as_str(), path.at)),
     }
 }
 
@@ -96,7 +96,7 @@ fn find<'b>(
         (λ b. IsFaultOf b (description_of names.now)
         (OfItem (scope_of scope.now) kinds.now (path_of path.now)) path.now) }
 {
-    match find_local(scope, &path.base) {
+    match find_local(scope, path.base.as_str()) {
         Some(local) => refer_local(local, path),
         None => refer_item(names, kinds, path),
     }
@@ -115,8 +115,8 @@ fn find_array<'b>(names: &Names, scope: &[Local], path: &'b Path) -> Result<Targ
         (λ b. IsFaultOf b (description_of names.now)
         (OfArray (scope_of scope.now) (path_of path.now)) path.now) }
 {
-    match find_local(scope, &path.base) {
-        Some(local) => Err(wrong_kind(&path.base, path.at, Some(local.at))),
+    match find_local(scope, path.base.as_str()) {
+        Some(local) => Err(wrong_kind(path.base.as_str(), path.at, Some(local.at))),
         None => refer_item(names, &[Kind::Array], path),
     }
 }
@@ -126,7 +126,7 @@ fn find_array<'b>(names: &Names, scope: &[Local], path: &'b Path) -> Result<Targ
 pub fn argument_kinds(function: &Path) -> &'static [Kind]
     ensures { result.now ≡ resolution.argument_kinds (path_of function.now) }
 {
-    match Builtin::named(&function.base) {
+    match Builtin::named(function.base.as_str()) {
         Some(Builtin::AddAbortMethod) => &[Kind::Method],
         Some(_) => &[Kind::Variable],
         None => &KINDS,
@@ -142,9 +142,9 @@ fn find_function<'b>(path: &'b Path) -> Result<Target, Breach<'b>>
     ensures refused { IfErr result (λ b. (unit : Description pure.Path)
         → IsFaultOf b unit (OfFunction (path_of path.now)) path.now) }
 {
-    match Builtin::named(&path.base) {
+    match Builtin::named(path.base.as_str()) {
         Some(function) => Ok(Target::Function(function)),
-        None => Err(unknown_name(&path.base, path.at)),
+        None => Err(unknown_name(path.base.as_str(), path.at)),
     }
 }
 

@@ -1,5 +1,5 @@
 -- Names that are there twice, each at its token. `before` are the names so far.
-use Rattle.std.specs.Prelude.{List, [], ◌∷◌, ◌++◌, string_bytes}
+use Rattle.std.specs.Prelude.{List, [], ◌∷◌, ◌++◌}
 use Rattle.edd_breaches.specs.Told.{Told, told_if}
 use Rattle.edd_syntax.specs.declared.item.Item.{Item}
 use Rattle.edd_syntax.specs.declared.item.Attribute.{Attribute}
@@ -13,6 +13,7 @@ use Rattle.edd_syntax.specs.declared.stmt.Part.{Part}
 use Rattle.edd_syntax.specs.declared.stmt.Part.TheVariants.{Declare, Statement, CaseLabel, DefaultLabel}
 use Rattle.edd_syntax.specs.declared.stmt.Declarator.{Declarator}
 use Rattle.edd_syntax.specs.ItemView.{name_of, attributes_of}
+use Rattle.edd_syntax.specs.WordsView.{text_bytes}
 use Rattle.edd_syntax.specs.Refusal.{DuplicateName, is_name_in}
 use Rattle.edd_syntax.specs.Text.{Name}
 use Rattle.edd_breaches.specs.Along.{told_along, after_all}
@@ -24,11 +25,11 @@ name_told before name at = told_if (is_name_in before name) (DuplicateName name)
 
 -- a local of a block
 abbrev pub local_told : (before : List Name) → Declarator Path → List Told
-local_told before d = name_told before (string_bytes d.place.base) d.place.at
+local_told before d = name_told before (text_bytes d.place.base) d.place.at
 
 -- the names after it
 abbrev pub with_local : (before : List Name) → Declarator Path → List Name
-with_local before d = string_bytes d.place.base ∷ before
+with_local before d = text_bytes d.place.base ∷ before
 
 -- the names of a block after a part of it
 abbrev pub with_locals : (before : List Name) → Part Path → List Name
@@ -66,11 +67,11 @@ abbrev mutual
 
 -- a member of a collection
 abbrev pub member_told : (before : List Name) → Member Path → List Told
-member_told before m = name_told before (string_bytes m.name) m.at
+member_told before m = name_told before (text_bytes m.name) m.at
 
 -- the names after it
 abbrev pub with_member : (before : List Name) → Member Path → List Name
-with_member before m = string_bytes m.name ∷ before
+with_member before m = text_bytes m.name ∷ before
 
 -- the names of members after an attribute
 abbrev pub with_members : (before : List Name) → Attribute Path → List Name

@@ -24,7 +24,12 @@ fn tell_local<'a>(
     ensures known { OnOk result ((before : List Name) → HasSeen before block.old
         → HasSeen (with_local before declarator.now) block.new) }
 {
-    note_name(block, &declarator.place.base, declarator.place.at, told)
+    note_name(
+        block,
+        declarator.place.base.as_str(),
+        declarator.place.at,
+        told,
+    )
 }
 
 fn tell_locals<'a>(
@@ -118,7 +123,7 @@ fn tell_member<'a>(
     ensures known { OnOk result ((before : List Name) → HasSeen before seen.old
         → HasSeen (with_member before member.now) seen.new) }
 {
-    note_name(seen, &member.name, member.at, told)
+    note_name(seen, member.name.as_str(), member.at, told)
 }
 
 fn tell_members<'a>(

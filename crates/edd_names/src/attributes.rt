@@ -22,6 +22,7 @@ use edd_statement_names::statements::copy_body;
 use edd_syntax::item::{Attribute, Item, TypeWord};
 use edd_syntax::reference::{Path, Target};
 use edd_syntax::stmt::Part;
+use edd_syntax::text::CompactString;
 use std::alloc::{AllocError, Global};
 
 fn copy_type_word(word: &TypeWord, alloc: Global) -> Result<TypeWord, AllocError>
@@ -32,7 +33,7 @@ fn copy_type_word(word: &TypeWord, alloc: Global) -> Result<TypeWord, AllocError
             kind: *kind,
             size: *size,
         }),
-        TypeWord::Other(text) => Ok(TypeWord::Other(String::from_str(alloc, text)?)),
+        TypeWord::Other(text) => Ok(TypeWord::Other(CompactString::new(alloc, text.as_str())?)),
     }
 }
 

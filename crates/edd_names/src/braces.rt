@@ -28,6 +28,7 @@ use edd_name_meanings::directory::Names;
 use edd_name_meanings::references::refer;
 use edd_syntax::item::{ArrayElement, Item, ItemKind, Member, TransactionPart, TypePart};
 use edd_syntax::reference::{Path, Target};
+use edd_syntax::text::CompactString;
 use std::alloc::AllocError;
 
 /// A part of an attribute of an item, which is copied with the meaning of its names.
@@ -248,7 +249,7 @@ impl ResolvePart for Member<Path> {
         Ok(Member {
             at: self.at,
             item: refer_member(item, names, &self.item, told)?,
-            name: String::from_str(names.alloc, &self.name)?,
+            name: CompactString::new(names.alloc, self.name.as_str())?,
             label: copy_optional_text(&self.label, names.alloc)?,
             help: copy_optional_text(&self.help, names.alloc)?,
         })

@@ -1,19 +1,21 @@
 //! Copies of what has no references.
 
-ghost use Rattle.std.specs.Prelude.{◌≡◌, IfOk, map, string_bytes};
+ghost use Rattle.std.specs.Prelude.{◌≡◌, IfOk, map};
 ghost use Rattle.edd_syntax.specs.ItemView.{response_code_of};
+ghost use Rattle.edd_syntax.specs.WordsView.{text_bytes};
 
 use edd_expression_names::texts::copy_text;
 use edd_syntax::item::ResponseCode;
+use edd_syntax::text::CompactString;
 use std::alloc::{AllocError, Global};
 
 /// A copy of words.
-pub fn copy_words(words: &[String], alloc: Global) -> Result<Vec<String>, AllocError>
-    ensures sound { IfOk result (λ all. map string_bytes all.items ≡ map string_bytes words.now) }
+pub fn copy_words(words: &[CompactString], alloc: Global) -> Result<Vec<CompactString>, AllocError>
+    ensures sound { IfOk result (λ all. map text_bytes all.items ≡ map text_bytes words.now) }
 {
     let mut copies = Vec::with_capacity(alloc, words.len())?;
     for word in words {
-        copies.push(String::from_str(alloc, word)?)?;
+        copies.push(CompactString::new(alloc, word.as_str())?)?;
     }
     Ok(copies)
 }

@@ -1,12 +1,13 @@
 //! The items of a unit with the meaning of their names.
 
-ghost use Rattle.std.specs.Prelude.{◌≡◌, ◌∷◌, false, map, nat_lt, string_bytes};
+ghost use Rattle.std.specs.Prelude.{◌≡◌, ◌∷◌, false, map, nat_lt};
 ghost use Rattle.std.specs.List.{flat_map, list_any};
 ghost use Rattle.edd_syntax.specs.ItemView.{item_of, numbered_attribute, numbered_item};
 ghost use Rattle.edd_syntax.specs.NameRules.{local_limit, locals_of};
 ghost use Rattle.edd_syntax.specs.NameUses.{item_uses};
 ghost use Rattle.edd_syntax.specs.ResolvedTrees.{each, resolved_item};
 ghost use Rattle.edd_syntax.specs.TreeView.{path_of};
+ghost use Rattle.edd_syntax.specs.WordsView.{text_bytes};
 ghost use Rattle.edd_name_meanings.specs.Directory.{description_of, read_by};
 ghost use Rattle.edd_name_meanings.specs.Copies.{Copies, Keeps, Told};
 ghost use Rattle.edd_name_meanings.specs.TokensIn.{tokens_in_attribute, tokens_in_item, tokens_in_items};
@@ -17,12 +18,13 @@ use edd_breaches::Breach;
 use edd_name_meanings::directory::Names;
 use edd_syntax::item::{Attribute, Item};
 use edd_syntax::reference::{Path, Target};
+use edd_syntax::text::CompactString;
 use std::alloc::AllocError;
 
 // An item of the same kind with these attributes.
-fn like(item: &Item<Path>, name: String, attributes: Vec<Attribute<Target>>) -> Item<Target>
+fn like(item: &Item<Path>, name: CompactString, attributes: Vec<Attribute<Target>>) -> Item<Target>
     ensures sort { (numbered_item result).sort ≡ (item_of path_of item.now).sort }
-    ensures name { (numbered_item result).name ≡ string_bytes name }
+    ensures name { (numbered_item result).name ≡ text_bytes name }
     ensures attributes { (numbered_item result).attributes
         ≡ map numbered_attribute attributes.items }
     ensures kept { tokens_in_item result
@@ -50,7 +52,7 @@ fn copy_item<'a>(
     ensures kept { Keeps (tokens_in_item item.now) tokens_in_item result }
 {
     let attributes = copy_attributes(item.attributes(), item, names, told)?;
-    let name = String::from_str(names.alloc, item.name())?;
+    let name = CompactString::new(names.alloc, item.name())?;
     Ok(like(item, name, attributes))
 }
 

@@ -1,10 +1,10 @@
 //! Attributes of items.
 
 ghost use Rattle.std.specs.Prelude.{◌≡◌, ◌≤◌, ◌++◌, ◌∷◌, map};
-ghost use Rattle.std.specs.Prelude.{string_bytes};
 ghost use Rattle.edd_syntax.specs.Reference as references;
 ghost use Rattle.edd_syntax.specs.Item as item;
 ghost use Rattle.edd_syntax.specs.TreeView.{path_of};
+ghost use Rattle.edd_syntax.specs.WordsView.{text_bytes};
 ghost use Rattle.edd_syntax.specs.ItemView.{response_code_of, member_of, array_element_of, transaction_part_of};
 ghost use Rattle.edd_grammar.specs.WordReading as words;
 ghost use Rattle.edd_grammar.specs.AttributeReading as reading;
@@ -22,6 +22,7 @@ use edd_syntax::item::{ArrayElement, Attribute, Member, ResponseCode, Transactio
 use edd_syntax::numbers::Kind;
 use edd_syntax::reference::Path;
 use edd_syntax::symbols::{Keyword, Symbol};
+use edd_syntax::text::CompactString;
 use edd_syntax::types::ResponseClass;
 use edd_token_reader::cursor::Cursor;
 use edd_token_reader::fault::ParseFault;
@@ -127,7 +128,7 @@ fn member(cursor: &mut Cursor) -> Result<Member<Path>, ParseFault>
     let label = optional_text(cursor)?;
     let help = optional_text(cursor)?;
     cursor.expect(Symbol::Semicolon)?;
-    let name = String::from_str(cursor.alloc(), name)?;
+    let name = CompactString::new(cursor.alloc(), name)?;
     let item = plain(cursor.alloc(), item_at, base)?;
     Ok(Member {
         at,
@@ -251,13 +252,16 @@ fn transaction(cursor: &mut Cursor, height_left: u32) -> Result<Attribute<Path>,
 
 // The further names of a class, each after `&`, after those that were read.
 #[tactic(auto, using(crate::proofs::ClassNames::one_more_name))]
-fn more_names(cursor: &mut Cursor, before: Vec<String>) -> Result<Vec<String>, ParseFault>
-    ensures { Gives (λ v. map string_bytes v.items) result cursor.new
-        (class_read (map string_bytes before.items) cursor.old) }
+fn more_names(
+    cursor: &mut Cursor,
+    before: Vec<CompactString>,
+) -> Result<Vec<CompactString>, ParseFault>
+    ensures { Gives (λ v. map text_bytes v.items) result cursor.new
+        (class_read (map text_bytes before.items) cursor.old) }
 {
     let mut names = before;
     while let Some(name) = cursor.further_name() {
-        names.push(String::from_str(cursor.alloc(), name)?)?;
+        names.push(CompactString::new(cursor.alloc(), name)?)?;
     }
     Ok(names)
 }
@@ -272,7 +276,7 @@ fn class_words(cursor: &mut Cursor) -> Result<Attribute<Path>, ParseFault>
         return Err(cursor.syntax());
     };
     let mut names = Vec::new(cursor.alloc());
-    names.push(String::from_str(cursor.alloc(), first)?)?;
+    names.push(CompactString::new(cursor.alloc(), first)?)?;
     let names = more_names(cursor, names)?;
     cursor.expect(Symbol::Semicolon)?;
     Ok(Attribute::Class(at, names))

@@ -16,6 +16,7 @@ use edd_syntax::item::{Attribute, Identification, Item, ItemKind};
 use edd_syntax::numbers::Kind;
 use edd_syntax::reference::Path;
 use edd_syntax::symbols::{Keyword, Symbol};
+use edd_syntax::text::CompactString;
 use edd_token_reader::cursor::Cursor;
 use edd_token_reader::fault::ParseFault;
 use edd_token_reader::left_out::{misfit_array, misfit_item};
@@ -158,7 +159,7 @@ fn one_item(cursor: &mut Cursor, height_left: u32) -> Result<Item<Path>, ParseFa
         return Err(cursor.syntax());
     };
     let attributes = attributes(cursor, sort.kind(), height_left)?;
-    let name = String::from_str(cursor.alloc(), name)?;
+    let name = CompactString::new(cursor.alloc(), name)?;
     Ok(Item {
         sort,
         at,

@@ -16,6 +16,7 @@ use edd_expression_parser::cond::{element, one};
 use edd_syntax::item::{TypePart, TypeWord};
 use edd_syntax::reference::Path;
 use edd_syntax::symbols::Symbol;
+use edd_syntax::text::CompactString;
 use edd_syntax::types::VarType;
 use edd_token_reader::cursor::Cursor;
 use edd_token_reader::fault::ParseFault;
@@ -187,7 +188,7 @@ fn other_type(cursor: &mut Cursor, name: &str) -> Result<WrittenType, ParseFault
     ensures { Gives written_view result cursor.new (reading.other_type_at name.now cursor.old) }
 {
     other_end(cursor)?;
-    let name = String::from_str(cursor.alloc(), name)?;
+    let name = CompactString::new(cursor.alloc(), name)?;
     Ok(WrittenType {
         word: TypeWord::Other(name),
         parts: Vec::new(cursor.alloc()),

@@ -51,7 +51,7 @@ pub fn declare<'a>(scope: &mut Vec<Local<'a>>, place: &'a Path, slot: u8) -> Res
     scope.insert(
         0,
         Local {
-            name: &place.base,
+            name: place.base.as_str(),
             slot,
             at: place.at,
         },

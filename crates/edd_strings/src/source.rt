@@ -13,7 +13,8 @@ use crate::codes::first_part;
 use crate::escapes::{has_escapes, unescape};
 use crate::fault::StringFault;
 use crate::parts::{Opened, Part};
-use edd_syntax::words::{Key, Variant, VariantText, Words, code_of};
+use edd_syntax::text::CompactString;
+use edd_syntax::words::{Key, Variant, Words, code_of};
 use std::alloc::{AllocError, Global};
 
 /// The string of a text: the raw insides of adjacent strings, joined.
@@ -119,11 +120,11 @@ fn variant<'a>(
 }
 
 // The text of a part with its escapes replaced.
-fn text_of(alloc: Global, part: Part<'_>) -> Result<VariantText, AllocError>
+fn text_of(alloc: Global, part: Part<'_>) -> Result<CompactString, AllocError>
     ensures { IfOk result (λ text. text_bytes text ≡ unescape part.entry.text.now) }
 {
     if part.is_plain {
-        return VariantText::new(alloc, part.text);
+        return CompactString::new(alloc, part.text);
     }
-    Ok(VariantText::Long(unescape(alloc, part.text)?))
+    Ok(CompactString::Long(unescape(alloc, part.text)?))
 }

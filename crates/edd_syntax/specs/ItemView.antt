@@ -1,5 +1,5 @@
 -- What conditionals, items and their attributes in the code stand for.
-use Rattle.std.specs.Prelude.{List, [], ◌∷◌, map, option_map, string_bytes}
+use Rattle.std.specs.Prelude.{List, [], ◌∷◌, map, option_map}
 use Rattle.edd_syntax.specs.declared.cond.Cond.{Cond, Row_of-Cond, end_of-Cond, more_of-Cond, Row_of-Arm, end_of-Arm, more_of-Arm}
 use Rattle.edd_syntax.specs.declared.cond.Cond.TheVariants.{Value, If', Select'}
 use Rattle.edd_syntax.specs.declared.cond.Arm.{Arm}
@@ -31,7 +31,7 @@ use Rattle.edd_syntax.specs.Conditional as pure
 use Rattle.edd_syntax.specs.Item as items
 use Rattle.edd_syntax.specs.Statement as statement
 use Rattle.edd_syntax.specs.Text.{Name}
-use Rattle.edd_syntax.specs.WordsView.{text_of}
+use Rattle.edd_syntax.specs.WordsView.{text_of, text_bytes}
 use Rattle.edd_syntax.specs.TreeView.{path_of, expr_of, part_of}
 
 -- ---- conditionals: g says what a value stands for
@@ -95,7 +95,7 @@ response_code_of r = record { number = r.number; class = r.class; text = text_of
 -- a member of a collection
 abbrev pub member_of : {R S : Type 0} → (R → S) → Member R → items.Member S
 member_of f m = record {
-  name = string_bytes m.name;
+  name = text_bytes m.name;
   item = f m.item;
   label = option_map text_of
       m.label;
@@ -114,7 +114,7 @@ array_element_of f e = record {
 -- a type as it is written
 abbrev pub type_word_of : TypeWord → items.TypeWord
 type_word_of (word.Known type size) = items.Known type size
-type_word_of (word.Other text) = items.Other (string_bytes text)
+type_word_of (word.Other text) = items.Other (text_bytes text)
 
 -- what is in the braces of a type
 abbrev pub type_part_of : {R S : Type 0} → (R → S) → TypePart R → items.TypePart S
@@ -132,7 +132,7 @@ transaction_part_of f (transaction.Reply at all) = items.Reply (conds_of f (data
 -- an attribute
 abbrev pub attribute_of : {R S : Type 0} → (R → S) → Attribute R → items.Attribute S
 attribute_of f (attribute.OneText at which c) = items.OneText which (cond_of f text_of c)
-attribute_of f (attribute.Class at words) = items.Class (map string_bytes words.items)
+attribute_of f (attribute.Class at words) = items.Class (map text_bytes words.items)
 attribute_of f (attribute.Handling at c) = items.Handling (cond_of f (λ h. h) c)
 attribute_of f (attribute.Validity at c) = items.Validity (cond_of f (λ b. b) c)
 attribute_of f (attribute.TypeOf at word parts) =
@@ -167,7 +167,7 @@ sort_of i = item_kind_of i.sort
 
 -- the name of an item
 abbrev pub name_of : {R : Type 0} → Item R → Name
-name_of i = string_bytes i.name
+name_of i = text_bytes i.name
 
 -- the attributes of an item, still as the code has them
 abbrev pub attributes_of : {R : Type 0} → Item R → List (Attribute R)

@@ -1,6 +1,6 @@
 -- What expressions and statements in the code stand for: trees of the pure syntax, without places
 -- and pointers. `f` says what a reference stands for.
-use Rattle.std.specs.Prelude.{List, [], ◌∷◌, map, option_map, string_bytes}
+use Rattle.std.specs.Prelude.{List, [], ◌∷◌, map, option_map}
 use Rattle.edd_syntax.specs.declared.reference.Path.{Path}
 use Rattle.edd_syntax.specs.declared.reference.Target.{Target}
 use Rattle.edd_syntax.specs.declared.expr.Expr.{Expr, Row_of-Argument, end_of-Argument, more_of-Argument}
@@ -12,14 +12,14 @@ use Rattle.edd_syntax.specs.declared.stmt.Stmt.TheVariants.{Empty, Evaluate, Blo
 use Rattle.edd_syntax.specs.declared.stmt.Part.{Part}
 use Rattle.edd_syntax.specs.declared.stmt.Part.TheVariants.{Declare, Statement, CaseLabel, DefaultLabel}
 use Rattle.edd_syntax.specs.declared.stmt.Declarator.{Declarator}
-use Rattle.edd_syntax.specs.WordsView.{text_of}
+use Rattle.edd_syntax.specs.WordsView.{text_of, text_bytes}
 use Rattle.edd_syntax.specs.Reference as references
 use Rattle.edd_syntax.specs.Expression as pure
 use Rattle.edd_syntax.specs.Statement as statement
 
 -- a path of names
 abbrev pub path_of : Path → references.Path
-path_of p = record { base = string_bytes p.base; members = map string_bytes p.members.items }
+path_of p = record { base = text_bytes p.base; members = map text_bytes p.members.items }
 
 -- an expression
 abbrev mutual

@@ -9,7 +9,7 @@ use crate::cond::Cond;
 use crate::expr::Expr;
 use crate::numbers::{FormatOption, Kind, NumberOption, TextAttribute, TokenNo};
 use crate::stmt::Part;
-use crate::text::Text;
+use crate::text::{CompactString, Text};
 use crate::types::{Handling, Operation, ResponseClass, VarType};
 
 /// `{ value, text, help }`
@@ -73,7 +73,7 @@ pub struct ResponseCode {
 pub struct Member<R> {
     /// Where its name is.
     pub at: TokenNo,
-    pub name: String,
+    pub name: CompactString,
     pub item: R,
     pub label: Option<Text>,
     pub help: Option<Text>,
@@ -94,7 +94,7 @@ pub struct ArrayElement<R> {
 #[derive(Drop)]
 pub enum TypeWord {
     Known { kind: VarType, size: Option<u32> },
-    Other(String),
+    Other(CompactString),
 }
 
 /// What is in the braces of a type. An option is where its word is.
@@ -125,7 +125,7 @@ pub enum TransactionPart<R> {
 #[derive(Drop)]
 pub enum Attribute<R> {
     OneText(TokenNo, TextAttribute, Cond<R, Text>),
-    Class(TokenNo, Vec<String>),
+    Class(TokenNo, Vec<CompactString>),
     Handling(TokenNo, Cond<R, Handling>),
     Validity(TokenNo, Cond<R, bool>),
     TypeOf {
@@ -206,7 +206,7 @@ pub struct Item<R> {
     /// Where its name is.
     pub at: TokenNo,
     /// The name under which others refer to it.
-    pub name: String,
+    pub name: CompactString,
     /// As they are written.
     pub attributes: Vec<Attribute<R>>,
 }
@@ -223,7 +223,7 @@ impl<R> Item<R> {
     pub fn name(&self) -> &str
         ensures { result.now ≡ name_of self.now }
     {
-        &self.name
+        self.name.as_str()
     }
 
     /// Where its name is.

@@ -4,6 +4,7 @@
 pub mod answer;
 mod arguments;
 pub mod checked;
+mod compact_string;
 pub mod cond;
 mod elements;
 pub mod expr;
@@ -21,7 +22,6 @@ mod tables;
 pub mod text;
 pub mod types;
 pub mod unit;
-mod variant_text;
 mod version;
 pub mod words;
 pub mod wrap;

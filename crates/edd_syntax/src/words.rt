@@ -1,10 +1,10 @@
 //! Strings in several languages.
 
 ghost use Rattle.std.specs.Prelude.{◌≡◌, IsTrue, string_bytes};
-ghost use Rattle.std.specs.Str.{is_utf8};
 ghost use Rattle.edd_syntax.specs.Names.{is_name};
 ghost use Rattle.edd_syntax.specs.Words.{is_code};
 
+use crate::text::CompactString;
 use arrayvec::ArrayString;
 
 /// A text in one language. The code is two lower-case letters, two such pairs with a space between,
@@ -12,7 +12,7 @@ use arrayvec::ArrayString;
 #[derive(PartialEq, Eq, Hash, Drop)]
 pub struct Variant {
     pub code: ArrayString<5>,
-    pub text: VariantText,
+    pub text: CompactString,
     pub ghost coded: { IsTrue (is_code code.bytes) },
 }
 
@@ -25,21 +25,6 @@ pub fn code_of(code: &str) -> ArrayString<5>
     let mut copy = ArrayString::new();
     copy.push_str(code);
     copy
-}
-
-/// The text of a variant. A short one takes no memory of its own: most texts of a description are
-/// labels of a few words.
-#[derive(Drop)]
-pub enum VariantText {
-    Short(ShortText),
-    Long(String),
-}
-
-/// A text of at most 24 bytes, which lie in the value itself.
-#[derive(Drop)]
-pub struct ShortText {
-    pub text: ArrayString<24>,
-    pub ghost valid: { IsTrue (is_utf8 text.bytes) },
 }
 
 /// The name of a text of the dictionary.

@@ -1,8 +1,8 @@
 //! References and texts.
 
-ghost use Rattle.std.specs.Prelude.{◌≡◌, ℕ, List, Some, map, string_bytes};
+ghost use Rattle.std.specs.Prelude.{◌≡◌, ℕ, ◌++◌, List, Some, map};
 ghost use Rattle.edd_syntax.specs.TreeView.{path_of};
-ghost use Rattle.edd_syntax.specs.WordsView.{text_of};
+ghost use Rattle.edd_syntax.specs.WordsView.{text_of, text_bytes};
 ghost use Rattle.edd_grammar.specs.Reading.{members_at, path_behind, path_at, strings_at, key_at, is_text, text_at};
 ghost use Rattle.edd_token_reader.specs.Views.{Gives};
 
@@ -11,16 +11,16 @@ use crate::fault::ParseFault;
 use edd_syntax::numbers::TokenNo;
 use edd_syntax::reference::Path;
 use edd_syntax::symbols::Symbol;
-use edd_syntax::text::Text;
+use edd_syntax::text::{CompactString, Text};
 
 // The members after a path's first name.
-fn members(cursor: &mut Cursor) -> Result<Vec<String>, ParseFault>
-    ensures { Gives (λ v. map string_bytes v.items) result cursor.new
+fn members(cursor: &mut Cursor) -> Result<Vec<CompactString>, ParseFault>
+    ensures { Gives (λ v. map text_bytes v.items) result cursor.new
         (Some (members_at cursor.old)) }
 {
     let mut members = Vec::new(cursor.alloc());
     while let Some(name) = cursor.member() {
-        members.push(String::from_str(cursor.alloc(), name)?)?;
+        members.push(CompactString::new(cursor.alloc(), name)?)?;
     }
     Ok(members)
 }
@@ -31,7 +31,7 @@ pub fn path_from(cursor: &mut Cursor, at: TokenNo, base: &str) -> Result<Path, P
     ensures { Gives path_of result cursor.new (Some (path_behind base.now cursor.old)) }
 {
     let members = members(cursor)?;
-    let base = String::from_str(cursor.alloc(), base)?;
+    let base = CompactString::new(cursor.alloc(), base)?;
     Ok(Path { at, base, members })
 }
 
@@ -47,15 +47,20 @@ pub fn path(cursor: &mut Cursor) -> Result<Path, ParseFault>
     path_from(cursor, at, base)
 }
 
-// The strings that follow each other, joined.
-fn strings(cursor: &mut Cursor) -> Result<String, ParseFault>
-    ensures { Gives string_bytes result cursor.new (Some (strings_at cursor.old)) }
+// A string that was read, joined with those that follow it.
+fn strings(cursor: &mut Cursor, first: &str) -> Result<CompactString, ParseFault>
+    ensures { Gives text_bytes result cursor.new
+        (Some (first.now ++ (strings_at cursor.old).0, (strings_at cursor.old).1)) }
 {
-    let mut raw = String::new(cursor.alloc());
+    let Some(second) = cursor.string() else {
+        return Ok(CompactString::new(cursor.alloc(), first)?);
+    };
+    let mut raw = String::from_str(cursor.alloc(), first)?;
+    raw.push_str(second)?;
     while let Some(text) = cursor.string() {
         raw.push_str(text)?;
     }
-    Ok(raw)
+    Ok(CompactString::Long(raw))
 }
 
 #[tactic(auto, unfolding(edd_grammar::specs::Reading::key_at))]
@@ -66,7 +71,7 @@ fn key(cursor: &mut Cursor) -> Result<Text, ParseFault>
         return Err(cursor.syntax());
     };
     cursor.expect(Symbol::CloseBracket)?;
-    Ok(Text::Key(String::from_str(cursor.alloc(), name)?))
+    Ok(Text::Key(CompactString::new(cursor.alloc(), name)?))
 }
 
 /// Whether a text is next.
@@ -81,8 +86,8 @@ pub fn at_text(cursor: &Cursor) -> bool
 pub fn text(cursor: &mut Cursor) -> Result<Text, ParseFault>
     ensures { Gives text_of result cursor.new (text_at cursor.old) }
 {
-    if cursor.at_string() {
-        return Ok(Text::Quoted(strings(cursor)?));
+    if let Some(first) = cursor.string() {
+        return Ok(Text::Quoted(strings(cursor, first)?));
     }
     cursor.bump();
     key(cursor)

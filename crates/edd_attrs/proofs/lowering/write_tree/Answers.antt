@@ -1,4 +1,5 @@
-use Rattle.std.proofs.Common.{sym, subst, List, map, string_bytes}
+use Rattle.std.proofs.Common.{sym, subst, List, map}
+use Rattle.edd_syntax.specs.WordsView.{text_bytes}
 use Rattle.std.specs.Prelude.{OnOk, IsErrOf, pos}
 use Rattle.edd_syntax.specs.Attributes as source
 use Rattle.edd_syntax.specs.ItemView.{response_code_of, numbered_cond, numbered_conds, numbered_data_item, numbered_entry, numbered_array_element, numbered_member, numbered_type_part}
@@ -19,7 +20,7 @@ use Rattle.edd_attrs.proofs.TreeStrings.{always, of_texts, of_class, of_handling
 use Rattle.edd_attrs.proofs.lowering.write_tree.Goals as goal
 
 pub write_all-requires : goal.write_all-requires
-write_all-requires c = always (map string_bytes c.in-Class.names.now)
+write_all-requires c = always (map text_bytes c.in-Class.names.now)
 
 pub write_cond-requires-in-Handling : goal.write_cond-requires-in-Handling
 write_cond-requires-in-Handling c = always (values_in (numbered_cond (λ h. h) c.in-Handling.c.now))
@@ -61,16 +62,16 @@ returns-in-Class-clause-sound c =
     c.write_all.new.code)) (sym c.in-Class.is)
     (subst (λ (ws : List Words). OnOk c.write_all.result
     (WritesBlock c.args.table.now c.args.code.now ws
-    (λ numbered b. IsTreeBlock numbered (trees.Class (map string_bytes c.in-Class.names.now)) b)
+    (λ numbered b. IsTreeBlock numbered (trees.Class (map text_bytes c.in-Class.names.now)) b)
     c.write_all.new.table c.write_all.new.code))
-    (of_class (map string_bytes c.in-Class.names.now)) c.write_all.ensures.sound)
+    (of_class (map text_bytes c.in-Class.names.now)) c.write_all.ensures.sound)
 
 pub returns-in-Class-clause-refused : goal.returns-in-Class-clause-refused
 returns-in-Class-clause-refused c =
     subst (λ (t : Tree). IsErrOf c.write_all.result TooMany
     → Overflows c.args.table.now (tree_strings (tree_of t))) (sym c.in-Class.is)
     (subst (λ (ws : List Words). IsErrOf c.write_all.result TooMany → Overflows c.args.table.now ws)
-    (of_class (map string_bytes c.in-Class.names.now)) c.write_all.ensures.refused)
+    (of_class (map text_bytes c.in-Class.names.now)) c.write_all.ensures.refused)
 
 pub returns-in-Handling-clause-sound : goal.returns-in-Handling-clause-sound
 unfolding IsTreeBlock

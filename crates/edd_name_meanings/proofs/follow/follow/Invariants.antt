@@ -1,5 +1,5 @@
 use Rattle.std.proofs.Common.{map, drop, Some}
-use Rattle.std.specs.Prelude.{string_bytes}
+use Rattle.edd_syntax.specs.WordsView.{text_bytes}
 use Rattle.edd_syntax.specs.NameRules.{faults_along}
 use Rattle.edd_syntax.specs.Numbers.{kind_of}
 use Rattle.edd_syntax.specs.Resolution.{along}
@@ -12,9 +12,9 @@ use Rattle.edd_name_meanings.proofs.follow.follow.Given as goal
 abbrev pub invariant-loop-member : goal.invariant-loop-member
 invariant-loop-member l =
     Reaches (description_of l.names) l.allowed
-    (faults_along (description_of l.names) l.allowed (string_bytes l.path.base) (kind_of l.fn.from)
-    (Some l.fn.from) (map string_bytes l.path.members.items))
+    (faults_along (description_of l.names) l.allowed (text_bytes l.path.base) (kind_of l.fn.from)
+    (Some l.fn.from) (map text_bytes l.path.members.items))
     (place_along (description_of l.names) l.path.at (kind_of l.fn.from) (Some l.fn.from)
-    (map string_bytes l.path.members.items))
-    (along (description_of l.names) l.fn.from (map string_bytes l.path.members.items))
-    l.here (map string_bytes (drop l.member-index l.path.members.items))
+    (map text_bytes l.path.members.items))
+    (along (description_of l.names) l.fn.from (map text_bytes l.path.members.items))
+    l.here (map text_bytes (drop l.member-index l.path.members.items))

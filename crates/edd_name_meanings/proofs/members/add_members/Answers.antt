@@ -29,9 +29,9 @@ loop-member-preserved c = λ q.
     (ap (option_map (λ r. member_of path_of r.now)) (c.in_ok-put_first.ensures q)
     ∙ mapped_or (λ r. member_of path_of r.now) (at q c.loop-member.into) _
     ∙ ap (option_or (member_named q c.loop-member.into))
-    (mapped_if (λ r. member_of path_of r.now) (bytes_eq c.deref.result.now q) _
+    (mapped_if (λ r. member_of path_of r.now) (bytes_eq c.as_str.result.now q) _
     ∙ ap (λ n. find (λ y. bytes_eq n q) (member_of path_of c.member-item.result ∷ []))
-    c.deref.ensures))
+    c.as_str.ensures))
     (c.loop-member.invariant q)
 
 pub returns : goal.returns

@@ -14,5 +14,5 @@ returns-in-Some-clause-sound c = (
   refl,
   refl,
   c.item_of_kind.ensures ∙ ap (option_and_then (of_kind c.in-Some.of))
-      (c.item.ensures ∙ ap (item_named (description_of c.args.names.now)) c.deref.ensures),
+      (c.item.ensures ∙ ap (item_named (description_of c.args.names.now)) c.as_str.ensures),
 )

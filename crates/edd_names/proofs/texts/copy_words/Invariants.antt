@@ -1,8 +1,8 @@
 use Rattle.std.proofs.Common.{◌≡◌, map, take}
-use Rattle.std.specs.Prelude.{string_bytes}
+use Rattle.edd_syntax.specs.WordsView.{text_bytes}
 use Rattle.edd_names.proofs.texts.copy_words.Given as goal
 
 -- those so far are copied
 abbrev pub invariant-loop-word : goal.invariant-loop-word
-invariant-loop-word l = map string_bytes l.copies.items
-    ≡ map string_bytes (take l.word-index l.words)
+invariant-loop-word l = map text_bytes l.copies.items
+    ≡ map text_bytes (take l.word-index l.words)

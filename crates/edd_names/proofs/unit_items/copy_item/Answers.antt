@@ -23,7 +23,7 @@ returns-clause-sound c =
     (numbered_item c.like.result) (map (attribute_of path_of) c.attributes.result.now)
     (map numbered_attribute c.in_ok-attributes.attributes.items)
     (ap (map (attribute_of path_of)) c.attributes.ensures) c.in_ok-attributes.ensures.sound
-    c.like.ensures.sort (c.like.ensures.name ∙ c.in_ok-name.ensures.ok ∙ c.name.ensures)
+    c.like.ensures.sort (c.like.ensures.name ∙ c.in_ok-name.ensures ∙ c.name.ensures)
     c.like.ensures.attributes
 
 pub returns-clause-kept : goal.returns-clause-kept

@@ -1,11 +1,11 @@
 use Rattle.std.proofs.Common.{◌≡◌, ◌++◌, map, length}
-use Rattle.std.specs.Prelude.{string_bytes}
+use Rattle.edd_syntax.specs.WordsView.{text_bytes}
 use Rattle.edd_grammar.specs.Reading.{members_at}
 use Rattle.edd_token_reader.proofs.texts.members.Given as goal
 
 abbrev pub invariant-loop-name : goal.invariant-loop-name
 invariant-loop-name l =
-    (map string_bytes l.members.items ++ (members_at l.cursor).0 ≡ (members_at l.fn.cursor).0)
+    (map text_bytes l.members.items ++ (members_at l.cursor).0 ≡ (members_at l.fn.cursor).0)
     × ((members_at l.cursor).1 ≡ (members_at l.fn.cursor).1)
 
 abbrev pub decreases-loop-name : goal.decreases-loop-name

@@ -1,4 +1,5 @@
-use Rattle.std.proofs.Common.{ℕ, subst, arith, ap, ◌∙◌, List, [], ◌∷◌, ◌++◌, Option, string_bytes}
+use Rattle.std.proofs.Common.{ℕ, subst, arith, ap, ◌∙◌, List, [], ◌∷◌, ◌++◌, Option}
+use Rattle.edd_syntax.specs.WordsView.{text_bytes}
 use Rattle.std.specs.Prelude.{option_map}
 use Rattle.std.specs.Option.{option_to_list}
 use Rattle.std.proofs.lemmas.Grind.{common_steps}
@@ -19,19 +20,19 @@ words_or_none o = option_to_list (option_map words_of (option_map text_of o))
 
 pub returns-in_err-name-clause-refused : goal.returns-in_err-name-clause-refused
 returns-in_err-name-clause-refused c h =
-    let over : Overflows c.args.table.now (name_words (string_bytes c.args.self.now.name) ∷ []) =
+    let over : Overflows c.args.table.now (name_words (text_bytes c.args.self.now.name) ∷ []) =
     grind (arith, common_steps) in
-    overflows_head c.args.table.now (name_words (string_bytes c.args.self.now.name))
+    overflows_head c.args.table.now (name_words (text_bytes c.args.self.now.name))
     (words_or_none c.args.self.now.label ++ words_or_none c.args.self.now.help) over
 
 pub returns-in_err-label-clause-refused : goal.returns-in_err-label-clause-refused
 returns-in_err-label-clause-refused c h =
     let over : Overflows c.add_name.new.table (words_or_none c.args.self.now.label) =
     grind (arith, common_steps) in
-    let named : GrowsBy c.args.table.now (name_words (string_bytes c.args.self.now.name) ∷ [])
+    let named : GrowsBy c.args.table.now (name_words (text_bytes c.args.self.now.name) ∷ [])
     c.add_name.new.table = grind (arith, common_steps) in
     overflows_tail c.args.table.now c.add_name.new.table
-    (name_words (string_bytes c.args.self.now.name)) (words_or_none c.args.self.now.label
+    (name_words (text_bytes c.args.self.now.name)) (words_or_none c.args.self.now.label
     ++ words_or_none c.args.self.now.help) named
     (overflows_first c.add_name.new.table (words_or_none c.args.self.now.label)
     (words_or_none c.args.self.now.help) over)
@@ -40,10 +41,10 @@ pub returns-in_err-help-clause-refused : goal.returns-in_err-help-clause-refused
 returns-in_err-help-clause-refused c h =
     let over : Overflows c.add_optional.new.table (words_or_none c.args.self.now.help) =
     grind (arith, common_steps) in
-    let named : GrowsBy c.args.table.now (name_words (string_bytes c.args.self.now.name) ∷ [])
+    let named : GrowsBy c.args.table.now (name_words (text_bytes c.args.self.now.name) ∷ [])
     c.add_name.new.table = grind (arith, common_steps) in
     overflows_tail c.args.table.now c.add_name.new.table
-    (name_words (string_bytes c.args.self.now.name)) (words_or_none c.args.self.now.label
+    (name_words (text_bytes c.args.self.now.name)) (words_or_none c.args.self.now.label
     ++ words_or_none c.args.self.now.help) named
     (overflows_second c.add_name.new.table (words_or_none c.args.self.now.label)
     c.add_optional.new.table (words_or_none c.args.self.now.help) c.in_ok-label.ensures.table
@@ -51,14 +52,14 @@ returns-in_err-help-clause-refused c h =
 
 pub returns-clause-sound : goal.returns-clause-sound
 returns-clause-sound c =
-    let named : GrowsBy c.args.table.now (name_words (string_bytes c.args.self.now.name) ∷ [])
+    let named : GrowsBy c.args.table.now (name_words (text_bytes c.args.self.now.name) ∷ [])
     c.add_name.new.table = grind (arith, common_steps) in
-    let keeps : Keeps c.add_name.new.table (name_words (string_bytes c.args.self.now.name))
+    let keeps : Keeps c.add_name.new.table (name_words (text_bytes c.args.self.now.name))
     c.in_ok-name.name = subst (λ (bytes : List ℕ). Keeps c.add_name.new.table (name_words bytes)
-    c.in_ok-name.name) c.deref.ensures c.in_ok-name.ensures.number in
+    c.in_ok-name.name) c.as_str.ensures c.in_ok-name.ensures.number in
     member_written c.args.table.now c.add_name.new.table c.add_optional.new.table
     c.add_optional-2.new.table c.args.code.now c.put.new.code (item_of c.args.self.now.item)
-    (name_words (string_bytes c.args.self.now.name))
+    (name_words (text_bytes c.args.self.now.name))
     (option_map words_of (option_map text_of c.args.self.now.label))
     (option_map words_of (option_map text_of c.args.self.now.help)) c.in_ok-name.name
     c.in_ok-label.label c.in_ok-help.help

@@ -1,4 +1,4 @@
-//! The text of a variant: copies, and sameness by its bytes.
+//! Texts: copies, and sameness by their bytes.
 
 ghost use Rattle.std.specs.Prelude.{◌≡◌, IfOk, nat_eq};
 ghost use Rattle.std.specs.Cmp.{on_equiv, on_per, partial_equiv_from_equiv};
@@ -7,19 +7,19 @@ ghost use Rattle.std.specs.Hash as fed;
 ghost use Rattle.std.proofs.Common.{ap};
 ghost use Rattle.edd_syntax.specs.WordsView.{text_bytes};
 
-use crate::words::{ShortText, VariantText};
+use crate::text::{CompactString, ShortText};
 use arrayvec::ArrayString;
 use std::alloc::{AllocError, Global};
 use std::hash::{Hash, Hasher};
 
-impl VariantText {
+impl CompactString {
     /// A copy of a text.
-    pub fn new(alloc: Global, text: &str) -> Result<VariantText, AllocError>
+    pub fn new(alloc: Global, text: &str) -> Result<CompactString, AllocError>
         ensures { IfOk result (λ copy. text_bytes copy ≡ text.now) }
     {
         match ArrayString::from(text) {
-            Ok(text) => Ok(VariantText::Short(ShortText { text })),
-            Err(_) => Ok(VariantText::Long(String::from_str(alloc, text)?)),
+            Ok(text) => Ok(CompactString::Short(ShortText { text })),
+            Err(_) => Ok(CompactString::Long(String::from_str(alloc, text)?)),
         }
     }
 
@@ -28,13 +28,13 @@ impl VariantText {
         ensures { result.now ≡ text_bytes self.now }
     {
         match self {
-            VariantText::Short(short) => short.text.as_str(),
-            VariantText::Long(text) => text.as_str(),
+            CompactString::Short(short) => short.text.as_str(),
+            CompactString::Long(text) => text.as_str(),
         }
     }
 }
 
-impl PartialEq for VariantText {
+impl PartialEq for CompactString {
     ghost eq = { λ s t. pointwise nat_eq (text_bytes s) (text_bytes t) };
 
     ghost laws = { on_per text_bytes (partial_equiv_from_equiv nat_list_eq_equiv) };
@@ -44,11 +44,11 @@ impl PartialEq for VariantText {
     }
 }
 
-impl Eq for VariantText {
+impl Eq for CompactString {
     ghost laws = { on_equiv text_bytes nat_list_eq_equiv };
 }
 
-impl Hash for VariantText {
+impl Hash for CompactString {
     ghost hash_input = { λ s. fed.str (text_bytes s) };
 
     ghost respects_eq = { λ s t same. ap fed.str ((bytes_decides (text_bytes s) (text_bytes t)).0 same) };
