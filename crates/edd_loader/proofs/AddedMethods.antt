@@ -18,7 +18,7 @@ use Rattle.edd_instructions.specs.Reading.{body_of}
 use Rattle.edd_instructions.specs.Units.{Placed, UnitKeeps, end_of, instructions, is_allowed}
 use Rattle.edd_instructions.specs.Validity.{EachUnitKeeps, PlacedUnit, adds_with_body, all_add_with_body, has_body, is_body, placed_unit, sort_of}
 use Rattle.edd_loader.specs.AbortMethods.{is_body_or_adds, row_adds_with_body, unit_adds_with_body}
-use Rattle.edd_loader.proofs.Listing.{from_place}
+use Rattle.edd_unit_rules.proofs.Listing.{from_place}
 use Rattle.edd_loader.proofs.Spaces.{all_mapped}
 
 -- ---- bodies

@@ -1,5 +1,5 @@
 -- The rules on the units of attribute rows.
-use Rattle.std.specs.Prelude.{ℕ, ◌<◌, List, Option, Some, None, option_map, nat_le, if◌then◌else◌}
+use Rattle.std.specs.Prelude.{ℕ, ◌<◌, List, Option, Some, None, nat_le, if◌then◌else◌}
 use Rattle.std.specs.List.{AllByRecursion}
 use Rattle.edd_image.specs.declared.parts.Counts.{Counts}
 use Rattle.edd_image.specs.declared.versions.Version.{Version}
@@ -34,10 +34,6 @@ RowsKeepBelow version counts code rows n =
 abbrev pub fault_bound : Option UnitRule → ℕ
 fault_bound None = 112
 fault_bound (Some which) = fault_number (rule.Unit which)
-
--- the rule that is broken, without where it is
-abbrev pub rule_in : {A : Type 0} → Option (UnitRule × A) → Option UnitRule
-rule_in broken = option_map (λ b. b.0) broken
 
 -- of two rules that may be broken the one that is tried first
 abbrev pub first_of : (one other : Option UnitRule) → Option UnitRule

@@ -7,18 +7,19 @@ ghost use Rattle.edd_image.specs.Contents.{rows_from, attribute_fields, contents
 ghost use Rattle.edd_image.specs.Fields.{header_length, version_number};
 ghost use Rattle.edd_instructions.specs.Validity.{are_rows, fault_number, EachUnitKeeps, UnitsKeep};
 ghost use Rattle.edd_loader.specs.Sections.{AreSectionsOf, lies_within};
-ghost use Rattle.edd_loader.specs.UnitRows.{RowKeeps, RowsKeepBelow, context_of, fault_bound, first_of, rule_in};
+ghost use Rattle.edd_loader.specs.UnitRows.{RowKeeps, RowsKeepBelow, context_of, fault_bound, first_of};
+ghost use Rattle.edd_unit_rules.specs.BrokenRule.{rule_in};
 
 use crate::abort_methods::first_bodiless;
 use crate::attributes::DEFINITION;
 use crate::spans::{part, place_in};
 use crate::spot::Site;
-use crate::whole_unit::broken_in_unit;
 use edd_image::{
     ATTRIBUTE_ROW, Counts, Version, attribute_count, attribute_length, attribute_number,
     attribute_rows_start, attribute_start, attribute_sub, code_length, code_start, counts, version,
 };
 use edd_instructions::{Context, Sort, UnitRule};
+use edd_unit_rules::broken_in_unit;
 use std::alloc::{AllocError, Global};
 
 // The context of the unit of an attribute row.

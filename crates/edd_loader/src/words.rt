@@ -2,7 +2,6 @@
 
 ghost use Rattle.std.specs.Prelude.{◌≡◌, ◌<◌, ◌≤◌, ◌∷◌, IfSome, length, option_map, false};
 ghost use Rattle.std.specs.Int.{w32};
-ghost use Rattle.std.specs.Option.{option_map_or};
 ghost use Rattle.std.specs.Str.{is_utf8};
 ghost use Rattle.edd_image.specs.Front.{byte_from, number_from};
 ghost use Rattle.edd_image.specs.Strings.{front_of, is_string, is_variant, variant_from};

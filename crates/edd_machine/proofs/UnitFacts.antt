@@ -15,7 +15,7 @@ use Rattle.edd_instructions.specs.References.{names_exist}
 use Rattle.edd_instructions.specs.Units.{Placed, instructions, takes, leaves, onward, jump, ways, is_start, is_forward, is_allowed, IsValidUnit}
 use Rattle.edd_instructions.specs.Steps.{State, Environment, StandsWith, Stands, IsState}
 use Rattle.edd_instructions.proofs.KnownInstructions.{each_two, each, pick, Known, all_known, of_two, if_some_at}
-use Rattle.edd_loader.proofs.Listing.{within}
+use Rattle.edd_unit_rules.proofs.Listing.{within}
 
 ways_small : (depth : ℕ → ℕ) (xs : List Placed) (ws : List Way)
     → AllByRecursion (λ x. depth x.place ≤ 128) xs

@@ -10,12 +10,12 @@ use Rattle.edd_instructions.specs.declared.unit.Way.{Way}
 use Rattle.edd_instructions.specs.Decoding.{instruction_at}
 use Rattle.edd_instructions.specs.Steps.{StandsWith}
 use Rattle.edd_instructions.specs.Units.{Placed, AreDepths, IsFresh, IsValidUnit, instructions, is_start, jump, leaves, onward, takes, ways}
-use Rattle.edd_loader.specs.Standing.{jumps_to}
-use Rattle.edd_loader.specs.Walks.{from_place}
-use Rattle.edd_loader.proofs.DepthLaws.{Rising, each, each_two}
-use Rattle.edd_loader.proofs.JumpLaws.{jump_is_to}
-use Rattle.edd_loader.proofs.Listing.{placed, rising, walk_goes, walk_stops}
-use Rattle.edd_loader.proofs.UnitDepths.{at_each, at_start}
+use Rattle.edd_unit_rules.specs.Standing.{jumps_to}
+use Rattle.edd_unit_rules.specs.Walks.{from_place}
+use Rattle.edd_unit_rules.proofs.DepthLaws.{Rising, each, each_two}
+use Rattle.edd_unit_rules.proofs.JumpLaws.{jump_is_to}
+use Rattle.edd_unit_rules.proofs.Listing.{placed, rising, walk_goes, walk_stops}
+use Rattle.edd_unit_rules.proofs.UnitDepths.{at_each, at_start}
 use Rattle.edd_port.specs.declared.depths.Segment.{Segment}
 use Rattle.edd_port.specs.Origins.{IsLed, IsOriginOf, Rises, after_way}
 use Rattle.edd_port.specs.declared.depths.Origin.TheVariants.{Fresh}

@@ -4,7 +4,7 @@ ghost use Rattle.std.specs.Prelude.{◌≡◌, ◌≤◌, ◌↔◌, ℕ, IsTrue
 ghost use Rattle.edd_instructions.specs.declared.unit.Context.{Context};
 ghost use Rattle.edd_instructions.specs.Steps.{StandsWith};
 ghost use Rattle.edd_instructions.specs.Units.{IsValidUnit, instructions};
-ghost use Rattle.edd_loader.specs.Standing.{jumps_to};
+ghost use Rattle.edd_unit_rules.specs.Standing.{jumps_to};
 ghost use Rattle.edd_port.specs.Origins.{IsOriginOf, after_way};
 
 use edd_instructions::{Instruction, Way, decode};

@@ -6,8 +6,8 @@ use crate::candidates::{
 use crate::edits::Edit;
 use crate::grammar::{Grammar, TextFault};
 use edd_lexer::token::{Token, TokenKind};
+use edd_method_slips::{At, is_in_body};
 use edd_reports::words::{Span, is_sign, item_kind, word_of};
-use edd_slips::{At, is_in_body};
 use edd_syntax::operators::{Comparison, Operator};
 use edd_syntax::symbols::{Keyword, Symbol};
 use std::alloc::{AllocError, Global};

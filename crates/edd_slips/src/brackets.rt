@@ -1,7 +1,7 @@
 //! Slips at parentheses, brackets and braces: those that are missing, or that do not belong there.
 
-use crate::around::{Around, Slip, is_symbol, on, open_brace};
 use edd_lexer::token::TokenKind;
+use edd_method_slips::{Around, Slip, is_symbol, on, open_brace};
 use edd_reports::words::item_kind;
 use edd_syntax::operators::Operator;
 use edd_syntax::symbols::{Keyword, Symbol};

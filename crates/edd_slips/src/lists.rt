@@ -1,7 +1,7 @@
 //! Slips in the lists of attributes.
 
-use crate::around::{Around, Slip, is_symbol, on, open_brace};
 use edd_lexer::token::{Token, TokenKind};
+use edd_method_slips::{Around, Slip, is_symbol, on, open_brace};
 use edd_reports::words::item_kind;
 use edd_syntax::operators::Operator;
 use edd_syntax::symbols::{Keyword, Symbol};

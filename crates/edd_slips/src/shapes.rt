@@ -1,7 +1,7 @@
 //! Slips in the shape of items, attributes and types.
 
-use crate::around::{Around, Slip, behind, is_joined, is_symbol, on};
 use edd_lexer::token::TokenKind;
+use edd_method_slips::{Around, Slip, behind, is_joined, is_symbol, on};
 use edd_reports::words::item_kind;
 use edd_syntax::numbers::{Attr, Kind, ValueKind};
 use edd_syntax::operators::Operator;

@@ -52,23 +52,18 @@ fn is_left_out(word: &str) -> bool {
         || is_numbered(word, "MAX_VALUE")
 }
 
-// The spelling of a reserved word that no rule has.
-fn left_out_keyword(word: Keyword) -> Option<&'static str> {
-    match word {
-        Keyword::Char => Some("char"),
-        Keyword::Short => Some("short"),
-        Keyword::Unsigned => Some("unsigned"),
-        Keyword::Float => Some("float"),
-        Keyword::Double => Some("double"),
-        Keyword::Goto => Some("goto"),
-        _ => None,
-    }
-}
-
 /// The reserved word that is next, if no rule has it.
 pub fn left_out_reserved(cursor: &Cursor) -> Option<&'static str> {
-    match cursor.peek() {
-        Some(TokenKind::Keyword(word)) => left_out_keyword(word),
+    let Some(TokenKind::Keyword(word)) = cursor.peek() else {
+        return None;
+    };
+    match word {
+        Keyword::Char
+        | Keyword::Short
+        | Keyword::Unsigned
+        | Keyword::Float
+        | Keyword::Double
+        | Keyword::Goto => Some(word.spelling()),
         _ => None,
     }
 }

@@ -65,40 +65,21 @@ pub fn infix_of(sign: Symbol) -> Option<Infix>
     }
 }
 
-fn operator_precedence(op: Operator) -> u32
-    ensures { result ≡ grammar.precedence_of op }
-{
-    match op {
-        Operator::Or => 5,
-        Operator::Xor => 6,
-        Operator::And => 7,
-        Operator::ShiftLeft | Operator::ShiftRight => 10,
-        Operator::Add | Operator::Subtract => 11,
-        Operator::Multiply | Operator::Divide | Operator::Remainder => 12,
-    }
-}
-
-fn comparison_precedence(by: Comparison) -> u32
-    ensures { result ≡ grammar.comparison_precedence by }
-{
-    match by {
-        Comparison::Equal | Comparison::NotEqual => 8,
-        Comparison::Less
-        | Comparison::LessOrEqual
-        | Comparison::Greater
-        | Comparison::GreaterOrEqual => 9,
-    }
-}
-
 /// The precedence of an operator, 3 to 12: the tighter it binds, the greater.
 pub fn precedence_of(op: Infix) -> u32
     ensures { result ≡ signs.infix_precedence (infix_view op) }
 {
     match op {
-        Infix::Plain(op) => operator_precedence(op),
-        Infix::Comparing(by) => comparison_precedence(by),
-        Infix::Both => 4,
         Infix::Either => 3,
+        Infix::Both => 4,
+        Infix::Plain(Operator::Or) => 5,
+        Infix::Plain(Operator::Xor) => 6,
+        Infix::Plain(Operator::And) => 7,
+        Infix::Comparing(Comparison::Equal | Comparison::NotEqual) => 8,
+        Infix::Comparing(_) => 9,
+        Infix::Plain(Operator::ShiftLeft | Operator::ShiftRight) => 10,
+        Infix::Plain(Operator::Add | Operator::Subtract) => 11,
+        Infix::Plain(_) => 12,
     }
 }
 

@@ -4,8 +4,9 @@ ghost use Rattle.std.specs.Prelude.{◌≡◌};
 
 use edd_check::{Choices, Format, LINTS, Lint, Look, print_document};
 use edd_command_line::{Checking, Form, Lints};
-use edd_files::{FileFault, Files, Source, Stop, read_marked, read_sources};
-use std::alloc::{AllocError, Global};
+use edd_files::{Files, Source, Stop, read_sources};
+use edd_stops::add_originals;
+use std::alloc::Global;
 use std::io::Write;
 
 fn lint_of<'a>(name: &'a str) -> Result<Lint, Stop<'a>> {
@@ -52,37 +53,6 @@ fn choices_of<'a>(alloc: Global, lints: &Lints<'a>) -> Result<Choices, Stop<'a>>
         deny(&mut choices, *name)?;
     }
     Ok(choices)
-}
-
-/// Adds the names of all lints to a line.
-pub fn push_lints(line: &mut String) -> Result<(), AllocError> {
-    let mut between = " ";
-    for lint in LINTS {
-        line.push_str(between)?;
-        line.push_str(lint.name())?;
-        between = ", ";
-    }
-    Ok(())
-}
-
-/// Adds the files that the marks of a preprocessor name for what is shown, as far as they can be
-/// read.
-pub fn add_originals<'t, 'a, F: Files>(
-    alloc: Global,
-    look: &mut Look<'t>,
-    files: &mut F,
-) -> Result<(), Stop<'a>>
-    ensures kept { F.account files.new ≡ F.account files.old }
-{
-    let names = look.marked_files(alloc)?;
-    for name in names {
-        match read_marked(alloc, files, name) {
-            Ok(text) => look.add_original(name, text)?,
-            Err(FileFault::Memory) => return Err(Stop::Memory),
-            Err(_) => {}
-        }
-    }
-    Ok(())
 }
 
 // Looks at all sources.

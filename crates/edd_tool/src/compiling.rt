@@ -1,12 +1,12 @@
 //! What the program does to write an image.
 
-ghost use Rattle.std.specs.Prelude.{◌≡◌, map, string_bytes};
+ghost use Rattle.std.specs.Prelude.{map, string_bytes};
 ghost use Rattle.edd_files.specs.Saves.{IsNamedImage, SavesOne};
 
-use crate::explained::explain_refusal;
 use edd_command_line::Writing;
 use edd_display::print;
 use edd_files::{Compiled, Files, Stop, compile_named};
+use edd_stops::explain_refusal;
 use std::alloc::Global;
 use std::io::Write;
 

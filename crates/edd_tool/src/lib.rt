@@ -9,12 +9,10 @@ mod checking;
 mod compiling;
 mod devices;
 mod differing;
-mod explained;
 mod explaining;
 mod formatting;
 mod opening;
 mod playing;
-mod reasons;
 mod requests;
 mod running;
 mod serving;
@@ -26,20 +24,10 @@ pub use edd_compiler::{Fault, compile};
 use edd_display::ShowFault;
 use edd_files::Stop;
 pub use edd_files::{FileFault, Files};
+use edd_stops::{DONE, FILE, MEMORY, report, status};
 use std::alloc::Global;
 use std::io::{BufWriter, Write};
 pub use system::run_on_system;
-
-/// The exit statuses.
-const DONE: u8 = 0;
-
-const REFUSED: u8 = 1;
-
-const COMMAND_LINE: u8 = 2;
-
-const FILE: u8 = 3;
-
-const MEMORY: u8 = 4;
 
 /// How many bytes of lines are held back. What most commands print is one write then, so that a
 /// reader that closes early, as `head`, doesn't change how the program ends.
@@ -90,8 +78,8 @@ fn print_lines<'a, F: Files, W: Write>(
 fn stopped<W: Write>(alloc: Global, stop: &Stop<'_>, out: &mut W) -> u8
     ensures { result ≤ 4 }
 {
-    match requests::report(alloc, stop, out) {
-        Ok(()) => requests::status(stop),
+    match report(alloc, stop, out) {
+        Ok(()) => status(stop),
         Err(ShowFault::Memory) => no_memory(out),
         Err(_) => FILE,
     }

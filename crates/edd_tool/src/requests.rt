@@ -1,29 +1,26 @@
 //! What the program does on each command.
 
-ghost use Rattle.std.specs.Prelude.{◌≡◌, ◌≤◌, map, string_bytes};
+ghost use Rattle.std.specs.Prelude.{◌≡◌, map, string_bytes};
 ghost use Rattle.edd_files.specs.Saves.{MaySave};
 
-use crate::checking::{check_sources, push_lints};
+use crate::checking::check_sources;
 use crate::compiling::write_image;
 use crate::differing::diff_files;
-use crate::explained::{Instead, image_of_source, with_command_named, with_script_shown};
 use crate::explaining::print_asked;
 use crate::formatting::format_named;
 use crate::opening::open_named;
-use crate::reasons::{reason_of, told};
 use crate::running::{play_file, try_source};
 use crate::serving::serve;
 use crate::taking::take;
 use crate::testing::test_named;
-use crate::{COMMAND_LINE, DONE, FILE, MEMORY, REFUSED};
 use edd_command_line::{Request, Showing};
-use edd_display::{ShowFault, print, print_text, show};
+use edd_display::show;
 use edd_dump::dump;
-use edd_files::{FileFault, Files, Stop, read};
+use edd_files::{Files, Stop, read};
 use edd_loader::{Image, load};
 use edd_machine::Values;
+use edd_stops::{Instead, image_of_source, told, with_command_named, with_script_shown};
 use std::alloc::Global;
-use std::fmt::Display;
 use std::io::Write;
 
 fn show_under<'a, W: Write>(
@@ -154,101 +151,5 @@ pub fn answer<'a, F: Files, W: Write>(
         Request::Dump { image } => dump_file(alloc, image, files, out),
         Request::Explain { what, is_of_lints } => print_asked(alloc, what, is_of_lints, out),
         Request::Serve => serve(alloc, files, out),
-    }
-}
-
-// Prints that something is refused.
-fn refused<W: Write, T: Display>(alloc: Global, fault: &T, out: &mut W) -> Result<(), ShowFault> {
-    print(alloc, out, format_args!("refused {fault}"))
-}
-
-// Prints that a source or an image is refused, one of several.
-fn refused_of<W: Write, T: Display>(
-    alloc: Global,
-    name: &str,
-    fault: &T,
-    out: &mut W,
-) -> Result<(), ShowFault> {
-    print(alloc, out, format_args!("refused {fault} of {name}"))
-}
-
-// Prints that a file could not be read or written.
-fn no_file<W: Write>(alloc: Global, name: &str, out: &mut W) -> Result<(), ShowFault> {
-    print(alloc, out, format_args!("file {name}"))
-}
-
-// The same with the reason.
-fn no_file_and_why<W: Write>(
-    alloc: Global,
-    name: &str,
-    fault: FileFault,
-    out: &mut W,
-) -> Result<(), ShowFault> {
-    no_file(alloc, name, out)?;
-    print(alloc, out, reason_of(fault))
-}
-
-// Prints that no refusal has a number or a name.
-fn no_refusal<W: Write>(alloc: Global, what: &str, out: &mut W) -> Result<(), ShowFault> {
-    let kind = match what.parse::<u32>() {
-        Ok(_) => "number",
-        Err(_) => "name",
-    };
-    print(
-        alloc,
-        out,
-        format_args!("error: nothing is refused with the {kind} {what}"),
-    )
-}
-
-// Prints that no lint has a name.
-fn no_lint<W: Write>(alloc: Global, name: &str, out: &mut W) -> Result<(), ShowFault> {
-    let mut line = format!(in alloc; "error: no lint has the name {name}: the lints are")?;
-    push_lints(&mut line)?;
-    print(alloc, out, line.as_str())
-}
-
-/// Prints why the program stops.
-pub fn report<W: Write>(alloc: Global, stop: &Stop<'_>, out: &mut W) -> Result<(), ShowFault> {
-    match stop {
-        Stop::Help(text) | Stop::CommandLine(text) => print_text(out, text),
-        Stop::Shown => Ok(()),
-        Stop::File(name, _) => no_file(alloc, *name, out),
-        Stop::FileAndWhy(name, fault) => no_file_and_why(alloc, *name, *fault, out),
-        Stop::Named(name) => no_file(alloc, name, out),
-        Stop::NotCompiled(fault) | Stop::Device(fault) => refused(alloc, fault, out),
-        Stop::NotLoaded(fault) => refused(alloc, fault, out),
-        Stop::Script(fault) => refused(alloc, fault, out),
-        Stop::Values(fault) => refused(alloc, fault, out),
-        Stop::Play(fault) => refused(alloc, fault, out),
-        Stop::NoMethod(name) => { print(alloc, out, format_args!("refused 301 NO_METHOD {name}")) }
-        Stop::NoSource(name, fault) => refused_of(alloc, *name, fault, out),
-        Stop::NoImage(name, fault) => refused_of(alloc, *name, fault, out),
-        Stop::NoRefusal(what) => no_refusal(alloc, *what, out),
-        Stop::NoLint(name) => no_lint(alloc, *name, out),
-        Stop::Output => Err(ShowFault::Output),
-        Stop::Memory => Err(ShowFault::Memory),
-    }
-}
-
-/// The exit status of the program that stops so, where that could be printed.
-pub fn status(stop: &Stop<'_>) -> u8
-    ensures { result ≤ 4 }
-{
-    match stop {
-        Stop::Help(_) => DONE,
-        Stop::CommandLine(_) | Stop::NoRefusal(_) | Stop::NoLint(_) => COMMAND_LINE,
-        Stop::Shown
-        | Stop::NotCompiled(_)
-        | Stop::NotLoaded(_)
-        | Stop::Script(_)
-        | Stop::Values(_)
-        | Stop::NoMethod(_)
-        | Stop::Play(_)
-        | Stop::NoSource(_, _)
-        | Stop::NoImage(_, _)
-        | Stop::Device(_) => REFUSED,
-        Stop::File(_, _) | Stop::FileAndWhy(_, _) | Stop::Named(_) | Stop::Output => FILE,
-        Stop::Memory => MEMORY,
     }
 }

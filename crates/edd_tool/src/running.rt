@@ -3,9 +3,6 @@
 ghost use Rattle.std.specs.Prelude.{◌≡◌};
 
 use crate::devices::{compiled, play_with_device};
-use crate::explained::{
-    Instead, image_of_source, with_command_named, with_device_shown, with_script_shown,
-};
 use crate::playing::{method_named, play_bytes};
 use crate::taking::{Taken, take};
 use edd_command_line::Run;
@@ -13,6 +10,9 @@ use edd_device::Device;
 use edd_files::{Files, Stop};
 use edd_loader::{Image, load};
 use edd_script::parse;
+use edd_stops::{
+    Instead, image_of_source, with_command_named, with_device_shown, with_script_shown,
+};
 use edd_tracing::{Followed, trace};
 use std::alloc::Global;
 use std::io::Write;

@@ -6,7 +6,7 @@ ghost use Rattle.edd_files.specs.Names.{update_word};
 ghost use Rattle.edd_files.specs.Saves.{Account, IsNamedUpdate, IsRead, IsUpdate, IsUpdateOf, SavesEach};
 
 use crate::opening::{Manner, open_bytes};
-use crate::requests::{report, show_bytes};
+use crate::requests::show_bytes;
 use crate::running::run_method;
 use crate::taking::Taken;
 use edd_cases::{
@@ -19,6 +19,7 @@ use edd_files::{
     FileFault, Files, INPUT, Source, Stop, are_words, compile_text, is_word, of_file, read_bytes,
     read_sources,
 };
+use edd_stops::report;
 use std::alloc::Global;
 use std::io::Write;
 

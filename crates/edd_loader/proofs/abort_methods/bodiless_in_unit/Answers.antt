@@ -3,7 +3,7 @@ use Rattle.edd_image.specs.Contents.{contents_in}
 use Rattle.edd_instructions.specs.Units.{Placed}
 use Rattle.edd_instructions.specs.Validity.{adds_with_body}
 use Rattle.edd_loader.proofs.AddedMethods.{adds_from_start}
-use Rattle.edd_loader.proofs.Walks.{all_goes, all_fails, all_done}
+use Rattle.edd_unit_rules.proofs.Walks.{all_goes, all_fails, all_done}
 use Rattle.edd_loader.proofs.abort_methods.bodiless_in_unit.Goals as goal
 
 pub loop-instruction-init : goal.loop-instruction-init

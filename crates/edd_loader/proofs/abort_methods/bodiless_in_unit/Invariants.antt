@@ -3,7 +3,7 @@ use Rattle.std.specs.List.{list_all}
 use Rattle.edd_image.specs.Contents.{contents_in}
 use Rattle.edd_instructions.specs.Validity.{adds_with_body}
 use Rattle.edd_loader.specs.AbortMethods.{unit_adds_with_body}
-use Rattle.edd_loader.proofs.Listing.{from_place}
+use Rattle.edd_unit_rules.proofs.Listing.{from_place}
 use Rattle.edd_loader.proofs.abort_methods.bodiless_in_unit.Given as goal
 
 abbrev pub invariant-loop-instruction : goal.invariant-loop-instruction

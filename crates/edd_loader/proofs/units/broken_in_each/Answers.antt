@@ -1,7 +1,7 @@
 use Rattle.std.proofs.Common.{arith, ◌∙◌}
 use Rattle.std.proofs.lemmas.Result.{MatchResult-weaker}
 use Rattle.edd_instructions.specs.Units.{UnitKeeps}
-use Rattle.edd_loader.specs.UnitRows.{rule_in}
+use Rattle.edd_unit_rules.specs.BrokenRule.{rule_in}
 use Rattle.edd_loader.proofs.BrokenUnits.{broken_of_more}
 use Rattle.edd_loader.proofs.Spaces.{rooms, units_lie}
 use Rattle.edd_loader.proofs.UnitTurns.{are_units_of, to_units, from_units}

@@ -4,7 +4,8 @@ use Rattle.edd_instructions.specs.declared.rules.UnitRule.{UnitRule}
 use Rattle.edd_image.specs.Contents.{attribute_fields, rows_from, AttributeFields}
 use Rattle.edd_instructions.specs.Units.{UnitKeeps}
 use Rattle.edd_loader.specs.Sections.{lies_within}
-use Rattle.edd_loader.specs.UnitRows.{RowKeeps, rule_in}
+use Rattle.edd_loader.specs.UnitRows.{RowKeeps}
+use Rattle.edd_unit_rules.specs.BrokenRule.{rule_in}
 use Rattle.edd_loader.proofs.BrokenUnits.{keeps_before, breaks_all, before_both, one_of}
 use Rattle.edd_loader.proofs.RowTurns.{row_at, no_row, first_passes, rest_passes, span_inside}
 use Rattle.edd_loader.proofs.UnitTurns.{first_holds, rest_holds, both_hold, none_hold, holds_here, kept_here}

@@ -6,7 +6,8 @@ use Rattle.edd_instructions.specs.declared.rules.Rule.TheVariants as rule
 use Rattle.edd_image.specs.Contents.{rows_from, attribute_fields}
 use Rattle.edd_instructions.specs.Validity.{fault_number}
 use Rattle.edd_loader.specs.Sections.{lies_within}
-use Rattle.edd_loader.specs.UnitRows.{RowKeeps, fault_bound, rule_in}
+use Rattle.edd_loader.specs.UnitRows.{RowKeeps, fault_bound}
+use Rattle.edd_unit_rules.specs.BrokenRule.{rule_in}
 use Rattle.edd_loader.proofs.RowTurns.{rows_on}
 use Rattle.edd_loader.proofs.units.broken_in_rows.Given as goal
 

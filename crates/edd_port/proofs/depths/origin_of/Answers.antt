@@ -1,8 +1,8 @@
 use Rattle.std.proofs.Common.{◌≡◌, ℕ, ◌-◌, true, false, arith, sym, ap, subst, ◌∙◌}
 use Rattle.edd_instructions.specs.declared.instruction.Instruction.{Instruction}
 use Rattle.edd_instructions.specs.Units.{instructions, takes}
-use Rattle.edd_loader.specs.Standing.{jumps_to}
-use Rattle.edd_loader.proofs.Listing.{placed}
+use Rattle.edd_unit_rules.specs.Standing.{jumps_to}
+use Rattle.edd_unit_rules.proofs.Listing.{placed}
 use Rattle.edd_port.specs.declared.depths.Segment.{Segment}
 use Rattle.edd_port.specs.Origins.{IsLed, after_way}
 use Rattle.edd_port.proofs.OriginTurns.{IsTurn, begins, goes_there, is_fresh, is_here, jumps_there, passes, rise_fits, stops, turns}

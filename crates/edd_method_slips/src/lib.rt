@@ -1,0 +1,14 @@
+//! Slips in the bodies of methods that are known by the tokens around the one that does not fit, and
+//! these tokens. Proved is that they are looked for safely and that it ends.
+#![tactic(auto)]
+
+mod around;
+mod bodies;
+mod branches;
+mod values;
+
+pub use around::{
+    Around, At, Slip, behind, is_in_body, is_joined, is_symbol, on, open_brace, open_bracket,
+    open_parenthesis,
+};
+pub use bodies::{early_end, statement_slip};

@@ -1,0 +1,232 @@
+//! What is added to a refusal where it is to be explained.
+
+ghost use Rattle.std.specs.Prelude.{◌≡◌, IfOk};
+ghost use Rattle.edd_compiler.specs.Images.{IsImageOf};
+
+use crate::reports::report;
+use edd_check::{Choices, Diagnostic, Finding, Format, Look, Reports, Span};
+use edd_compiler::{Fault, compile};
+use edd_display::print;
+use edd_files::{FileFault, Files, Stop, read_marked};
+use edd_loader::{LoadFault, load};
+use edd_machine::ValuesFault;
+use edd_port::PlayFault;
+use edd_script_slips::{Wrong, slip_in};
+use std::alloc::Global;
+use std::io::Write;
+
+/// What `show` says of a text, and `play`.
+#[derive(Clone, Copy)]
+pub enum Instead {
+    View,
+    Try,
+}
+
+/// Adds the files that the marks of a preprocessor name for what is shown, as far as they can be
+/// read.
+pub fn add_originals<'t, 'a, F: Files>(
+    alloc: Global,
+    look: &mut Look<'t>,
+    files: &mut F,
+) -> Result<(), Stop<'a>>
+    ensures kept { F.account files.new ≡ F.account files.old }
+{
+    let names = look.marked_files(alloc)?;
+    for name in names {
+        match read_marked(alloc, files, name) {
+            Ok(text) => look.add_original(name, text)?,
+            Err(FileFault::Memory) => return Err(Stop::Memory),
+            Err(_) => {}
+        }
+    }
+    Ok(())
+}
+
+// Prints what `check` prints of a source that is refused.
+fn explain_source<'a, F: Files, W: Write>(
+    alloc: Global,
+    source: &'a str,
+    text: &[u8],
+    files: &mut F,
+    out: &mut W,
+) -> Result<(), Stop<'a>>
+    ensures kept { F.account files.new ≡ F.account files.old }
+{
+    let choices = Choices::new(alloc);
+    let mut look = Look::at(alloc, &*source, &*text, &choices)?;
+    add_originals(alloc, &mut look, files)?;
+    look.print(alloc, Format::Text, out)?;
+    Ok(())
+}
+
+/// Prints why a source is refused, and the places.
+pub fn explain_refusal<'a, F: Files, W: Write>(
+    alloc: Global,
+    source: &'a str,
+    text: &[u8],
+    fault: &Fault,
+    files: &mut F,
+    out: &mut W,
+) -> Result<(), Stop<'a>>
+    ensures kept { F.account files.new ≡ F.account files.old }
+{
+    let refusal = fault.refusal(alloc, text)?;
+    print(alloc, out, format_args!("refused {refusal}"))?;
+    explain_source(alloc, source, text, files, out)?;
+    Err(Stop::Shown)
+}
+
+/// The image of a source. Where it is refused and that is to be explained, the refusal and its
+/// places are printed.
+pub fn image_of_source<'a, F: Files, W: Write>(
+    alloc: Global,
+    source: &'a str,
+    text: &[u8],
+    is_explained: bool,
+    files: &mut F,
+    out: &mut W,
+) -> Result<Vec<u8>, Stop<'a>>
+    ensures sound { IfOk result (λ bytes. IsImageOf text.now bytes.items) }
+    ensures kept { F.account files.new ≡ F.account files.old }
+{
+    let fault = match compile(alloc, text) {
+        Ok(bytes) => return Ok(bytes),
+        Err(Fault::Memory) => return Err(Stop::Memory),
+        Err(fault) => fault,
+    };
+    if !is_explained {
+        return Err(Stop::NotCompiled(fault.refusal(alloc, text)?));
+    }
+    explain_refusal(alloc, source, text, &fault, files, out)?;
+    Err(Stop::Shown)
+}
+
+/// What was done with a device. Where its source is refused and that is to be explained, the places
+/// are printed.
+pub fn with_device_shown<'a, F: Files, W: Write>(
+    alloc: Global,
+    answer: Result<(), Stop<'a>>,
+    device: Option<(&'a str, &[u8])>,
+    is_explained: bool,
+    files: &mut F,
+    out: &mut W,
+) -> Result<(), Stop<'a>>
+    ensures kept { F.account files.new ≡ F.account files.old }
+{
+    let is_refused = matches!(answer, Err(Stop::NoSource(_, _)));
+    let (true, Some((name, text))) = (is_explained && is_refused, device) else {
+        return answer;
+    };
+    if let Err(stop) = &answer {
+        report(alloc, stop, out)?;
+    }
+    explain_source(alloc, name, text, files, out)?;
+    Err(Stop::Shown)
+}
+
+// What is wrong with a script for an end of the program that it has brought about.
+fn wrong_of(stop: &Stop<'_>) -> Option<Wrong> {
+    match stop {
+        Stop::Script(_) => Some(Wrong::Line),
+        Stop::Values(ValuesFault::Range) => Some(Wrong::Range),
+        Stop::Play(PlayFault::OutOfRange) => Some(Wrong::Answer),
+        _ => None,
+    }
+}
+
+// Shows the word of the script that is wrong, and why.
+fn explain_script<'a, W: Write>(
+    alloc: Global,
+    bytes: &[u8],
+    name: &str,
+    script: &[u8],
+    wrong: Wrong,
+    refusal: String,
+    out: &mut W,
+) -> Result<(), Stop<'a>> {
+    let image = load(alloc, bytes)?;
+    let Some(slip) = slip_in(alloc, &image, script, wrong)? else {
+        return Ok(());
+    };
+    let mut found = Diagnostic::new(alloc, Finding::Refused(refusal));
+    found.place = Some(Span {
+        start: slip.start,
+        end: slip.end,
+    });
+    found.help(slip.reason)?;
+    let mut reports = Reports::new(alloc);
+    reports.show(found)?;
+    let look = Look::of(alloc, &*name, &*script, reports)?;
+    look.print(alloc, Format::Text, out)?;
+    Ok(())
+}
+
+// The refusal that an end of the program is, without its first word.
+fn refusal_of<'a>(alloc: Global, stop: &Stop<'_>) -> Result<String, Stop<'a>> {
+    match stop {
+        Stop::Script(fault) => Ok(format!(in alloc; "{fault}")?),
+        Stop::Values(fault) => Ok(format!(in alloc; "{fault}")?),
+        Stop::Play(fault) => Ok(format!(in alloc; "{fault}")?),
+        _ => Ok(String::new(alloc)),
+    }
+}
+
+/// What was done with an image under a script. Where the script is refused and that is to be
+/// explained, its word is shown.
+pub fn with_script_shown<'a, W: Write>(
+    alloc: Global,
+    answer: Result<(), Stop<'a>>,
+    bytes: &[u8],
+    script: (Option<&'a str>, &[u8]),
+    is_explained: bool,
+    out: &mut W,
+) -> Result<(), Stop<'a>> {
+    let stop = match answer {
+        Err(stop) if is_explained => stop,
+        other => return other,
+    };
+    let (Some(name), Some(wrong)) = (script.0, wrong_of(&stop)) else {
+        return Err(stop);
+    };
+    report(alloc, &stop, out)?;
+    let refusal = refusal_of(alloc, &stop)?;
+    explain_script(alloc, bytes, name, script.1, wrong, refusal, out)?;
+    Err(Stop::Shown)
+}
+
+// Whether the bytes are a text, as no image is.
+fn is_text(bytes: &[u8]) -> bool {
+    let Ok(text) = str::from_utf8(bytes) else {
+        return false;
+    };
+    text.chars().all(|sign| !sign.is_ascii_control() || sign.is_ascii_whitespace())
+}
+
+/// What was done with an image. Where it is none but a text, the command for a source is named.
+pub fn with_command_named<'a, W: Write>(
+    alloc: Global,
+    answer: Result<(), Stop<'a>>,
+    name: &str,
+    bytes: &[u8],
+    instead: Instead,
+    out: &mut W,
+) -> Result<(), Stop<'a>> {
+    if !matches!(answer, Err(Stop::NotLoaded(LoadFault::Magic))) || !is_text(bytes) {
+        return answer;
+    }
+    let fault = LoadFault::Magic;
+    print(alloc, out, format_args!("refused {fault}"))?;
+    match instead {
+        Instead::View => print(
+            alloc,
+            out,
+            format_args!("help: this is a text and no image: `edd view {name}` shows a source"),
+        )?,
+        Instead::Try => print(
+            alloc,
+            out,
+            format_args!("help: this is a text and no image: `edd try {name}` runs a source"),
+        )?,
+    }
+    Err(Stop::Shown)
+}

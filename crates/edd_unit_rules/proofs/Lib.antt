@@ -1,0 +1,11 @@
+pub mod Arrivals
+pub mod DepthLaws
+pub mod JumpLaws
+pub mod Listing
+pub mod MarkLaws
+pub mod SurveyEnds
+pub mod UnitDepths
+pub mod WalkEnds
+pub mod WalkGoes
+pub mod WalkStarts
+pub mod Walks
