@@ -29,8 +29,25 @@ use edd_syntax::reference::Target;
 use edd_syntax::types::Operation;
 use std::alloc::{AllocError, Global};
 
-/// How many bytes most units take at most.
+/// How many bytes most units take at most, those of a list without its elements.
 const USUAL_LENGTH: usize = 32;
+
+/// How many bytes most elements take at most.
+const ELEMENT_LENGTH: usize = 12;
+
+// For how many bytes there is to be room at first. More elements, or longer ones, take more.
+fn usual_length(tree: Option<Tree>) -> usize {
+    let elements = match tree {
+        Some(Tree::Enumerators(parts)) => parts.len(),
+        Some(Tree::Data(all)) => all.len(),
+        Some(Tree::ResponseCodes(codes)) => codes.len(),
+        Some(Tree::Items(entries)) => entries.len(),
+        Some(Tree::Members(members)) => members.len(),
+        Some(Tree::Elements(elements)) => elements.len(),
+        _ => 0,
+    };
+    elements.saturating_mul(ELEMENT_LENGTH).saturating_add(USUAL_LENGTH)
+}
 
 fn operation_number(operation: Operation) -> u32
     ensures { result ≡ source.operation_number operation }
@@ -148,7 +165,7 @@ pub fn lower_tree(
     ensures refused { IsErrOf result LowerFault.TooMany
         → OverflowsTree table.old (option_map views.tree_of tree.entry) }
 {
-    let mut code = Emitter::with_capacity(alloc, USUAL_LENGTH)?;
+    let mut code = Emitter::with_capacity(alloc, usual_length(tree))?;
     if let Some(tree) = tree {
         write_tree(alloc, &mut code, table, tree)?;
     }

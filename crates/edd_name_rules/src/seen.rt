@@ -1,6 +1,7 @@
 //! Names that must differ.
 
 ghost use Rattle.std.specs.Prelude.{◌≡◌, [], ◌∷◌, List, OnOk, IfOk, is_some, map};
+ghost use Rattle.std.specs.Str.{bytes_eq};
 ghost use Rattle.edd_breaches.specs.Told.{Tells, told_if, refusal_of};
 ghost use Rattle.edd_syntax.specs.Refusal.{is_name_in};
 ghost use Rattle.edd_syntax.specs.Text.{Name};
@@ -55,12 +56,19 @@ impl<'a> Seen<'a> {
     }
 }
 
+// Whether two names are one. Most of a scope differ in their lengths or in their last bytes.
+fn are_one(one: &str, other: &str) -> bool
+    ensures { result ≡ bytes_eq one.now other.now }
+{
+    one.len() == other.len() && one.as_bytes().last() == other.as_bytes().last() && one == other
+}
+
 // The token of a name in a list.
 fn among(marks: &[Mark], name: &str) -> Option<u32>
     ensures { is_some result ≡ is_name_in (map (λ m. m.name.now) marks.now) name.now }
 {
     for mark in marks {
-        if mark.name == name {
+        if are_one(mark.name, name) {
             return Some(mark.token);
         }
     }

@@ -1,6 +1,7 @@
 //! Where elements are, by their hashes: a table with twice as many slots as elements at least, in
-//! which one looks on from the slot of the hash to the first free one. A few elements have no table:
-//! to compare with each of them is cheaper.
+//! which one looks on from the slot of the hash to the first free one. A slot has the hash beside the
+//! place, so that other elements are mostly passed by without a look at them, and none is hashed
+//! again where the table grows. A few elements have no table: to compare with each of them is cheaper.
 use core::hash::{Hash, Hasher};
 use std::alloc::{AllocError, Global};
 use std::vec::Vec;
@@ -19,13 +20,17 @@ impl Fixed {
     }
 }
 
-// The last bytes, fewer than eight of them, and how many they are.
+// The last bytes, fewer than eight of them, and how many they are: the first and the last ones of
+// them, which may be the same.
 fn last_word(bytes: &[u8]) -> u64 {
-    let mut word = bytes.len() as u64;
-    for byte in bytes {
-        word = (word << 8) | u64::from(*byte);
-    }
-    word
+    let word = if let (Some(first), Some(last)) = (bytes.first_chunk(), bytes.last_chunk()) {
+        u64::from(u32::from_le_bytes(*first)) << 32 | u64::from(u32::from_le_bytes(*last))
+    } else if let (Some(first), Some(last)) = (bytes.first_chunk(), bytes.last_chunk()) {
+        u64::from(u16::from_le_bytes(*first)) << 16 | u64::from(u16::from_le_bytes(*last))
+    } else {
+        bytes.first().map_or(0, |byte| u64::from(*byte))
+    };
+    word ^ (bytes.len() as u64) << 59
 }
 
 impl Hasher for Fixed {
@@ -60,14 +65,23 @@ impl Hasher for Fixed {
     }
 }
 
-fn hash_of<Q: Hash + ?Sized>(key: &Q) -> usize {
+fn hash_of<Q: Hash + ?Sized>(key: &Q) -> u32 {
     let mut hash = Fixed(0xcbf2_9ce4_8422_2325);
     key.hash(&mut hash);
-    hash.finish() as usize
+    hash.finish() as u32
 }
 
+/// An element's place and its hash, or nothing.
+#[derive(Clone, Copy)]
+struct Slot {
+    place: u32,
+    hash: u32,
+}
+
+const NOTHING: Slot = Slot { place: FREE, hash: 0 };
+
 /// The places of elements, a power of two of them, or none where there are few elements.
-pub struct Slots(Vec<u32>);
+pub struct Slots(Vec<Slot>);
 
 impl Slots {
     pub const fn new(alloc: Global) -> Slots {
@@ -75,7 +89,7 @@ impl Slots {
     }
 
     /// The hash of a key, where there is a table.
-    pub fn hash<Q: Hash + ?Sized>(&self, key: &Q) -> Option<usize> {
+    pub fn hash<Q: Hash + ?Sized>(&self, key: &Q) -> Option<u32> {
         (!self.0.is_empty()).then(|| hash_of(key))
     }
 
@@ -83,25 +97,28 @@ impl Slots {
     /// is at a place.
     pub fn find(
         &self,
-        hash: Option<usize>,
+        hash: Option<u32>,
         count: usize,
         is: impl Fn(usize) -> bool,
     ) -> Option<usize> {
         let Some(hash) = hash else {
             return (0..count).find(|place| is(*place));
         };
-        let found = self.0[self.slot(hash, is)];
+        let found = self.0[self.slot(hash, is)].place;
         (found != FREE).then_some(found as usize)
     }
 
     // The slot of the element, or the free one at which it belongs. Half of all slots are free.
-    fn slot(&self, hash: usize, is: impl Fn(usize) -> bool) -> usize {
+    fn slot(&self, hash: u32, is: impl Fn(usize) -> bool) -> usize {
         let mask = self.0.len() - 1;
-        let mut at = hash & mask;
-        while self.0[at] != FREE && !is(self.0[at] as usize) {
+        let mut at = hash as usize & mask;
+        loop {
+            let slot = self.0[at];
+            if slot.place == FREE || slot.hash == hash && is(slot.place as usize) {
+                return at;
+            }
             at = (at + 1) & mask;
         }
-        at
     }
 
     /// Makes room for one element more than these, which are laid out anew where the table is full.
@@ -124,26 +141,40 @@ impl Slots {
         if size >= FREE as usize {
             return Err(AllocError);
         }
-        self.0 = Vec::from_elem(Global, FREE, size)?;
-        self.lay_out(keys);
+        let before = core::mem::replace(&mut self.0, Vec::from_elem(Global, NOTHING, size)?);
+        if before.is_empty() {
+            self.note_all(keys);
+        }
+        for slot in before.iter().filter(|slot| slot.place != FREE) {
+            self.put(*slot);
+        }
         Ok(())
     }
 
     /// Notes these elements, at the places from 0 on, and no others.
     pub fn lay_out<K: Hash>(&mut self, keys: impl Iterator<Item = K>) {
-        self.0.as_mut_slice().fill(FREE);
+        self.0.as_mut_slice().fill(NOTHING);
+        self.note_all(keys);
+    }
+
+    fn note_all<K: Hash>(&mut self, keys: impl Iterator<Item = K>) {
         for (place, key) in keys.enumerate() {
             self.note(None, &key, place);
         }
     }
 
     /// Notes an element that is not there yet, after room was made for it.
-    pub fn note<Q: Hash + ?Sized>(&mut self, hash: Option<usize>, key: &Q, place: usize) {
+    pub fn note<Q: Hash + ?Sized>(&mut self, hash: Option<u32>, key: &Q, place: usize) {
         if self.0.is_empty() {
             return;
         }
         let hash = hash.unwrap_or_else(|| hash_of(key));
-        let slot = self.slot(hash, |_| false);
-        self.0[slot] = place as u32;
+        let place = place as u32;
+        self.put(Slot { place, hash });
+    }
+
+    fn put(&mut self, slot: Slot) {
+        let at = self.slot(slot.hash, |_| false);
+        self.0[at] = slot;
     }
 }
