@@ -1,6 +1,6 @@
 -- Spending the nodes of conditionals, case by case.
-use Rattle.std.proofs.Common.{◌≡◌, sym, ap, ◌∙◌, ℕ, zero, suc, ℤ, ◌+◌, ◌*◌, ◌<◌, ◌≤◌, List, [], ◌∷◌, length, get_or, map, arith}
-use Rattle.std.specs.Prelude.{Option, Some, None, Vec}
+use Rattle.std.proofs.Common.{◌≡◌, sym, ap, ◌∙◌, ℕ, zero, suc, ℤ, ◌+◌, ◌-◌, ◌*◌, ◌<◌, ◌≤◌, List, [], ◌∷◌, length, get_or, map, arith}
+use Rattle.std.specs.Prelude.{Vec}
 use Rattle.std.specs.declared.alloc.Global.{Global}
 use Rattle.edd_syntax.specs.declared.numbers.TokenNo.{TokenNo}
 use Rattle.edd_syntax.specs.declared.cond.Arm as code_arm
@@ -12,9 +12,8 @@ use Rattle.edd_syntax.specs.Conditional.{Cond, Arm, Case, Default, conds_from, a
 use Rattle.edd_syntax.specs.ItemView.{cond_of, arm_of}
 use Rattle.edd_syntax.specs.Size.{nodes, cond_nodes, conds_nodes, arms_nodes, leaf}
 use Rattle.edd_syntax.specs.TreeView.{expr_of}
-use Rattle.edd_name_rules.specs.Spending.{spent}
 use Rattle.edd_syntax.proofs.CondRows.{of_value, of_if, of_select, of_case, of_default}
-use Rattle.edd_name_rules.proofs.Spends.{spent_then, spent_then_none}
+use Rattle.edd_name_rules.proofs.Spends.{spent_then}
 
 pub conds_nodes_split : {R V : Type 0} (of : V → ℕ) (x : Cond R V) (xs : List (Cond R V))
     → conds_nodes of (conds_from (x ∷ xs)) ≡ conds_nodes of (conds_from (x ∷ []))
@@ -37,14 +36,14 @@ and_none n = omega arith
 -- ---- a conditional whose first node is paid for
 
 module _ {R S V W : Type 0} (f : R → S) (g : V → W) (of : W → ℕ) (budget left : ℕ)
-    (first : Some left ≡ spent budget 1) where
-  at_value : (x : code.Cond R V) (v : V) → x ≡ c.Value v → spent left (of (g v))
-      ≡ spent budget (cond_nodes of (cond_of f g x))
-  at_value x v is = spent_then budget left 1 _ first ∙ ap (λ y. spent budget (cond_nodes of y))
+    (first : left ≡ budget - 1) where
+  at_value : (x : code.Cond R V) (v : V) → x ≡ c.Value v → left - of (g v)
+      ≡ budget - cond_nodes of (cond_of f g x)
+  at_value x v is = spent_then budget left 1 _ first ∙ ap (λ y. budget - cond_nodes of y)
       (sym (ap (cond_of f g) is ∙ of_value f g v))
 
-  pub spent_value : (x : code.Cond R V) (v : V) (r : Option ℕ) → x ≡ c.Value v
-      → r ≡ spent left (of (g v)) → r ≡ spent budget (cond_nodes of (cond_of f g x))
+  pub spent_value : (x : code.Cond R V) (v : V) (r : ℕ) → x ≡ c.Value v
+      → r ≡ left - of (g v) → r ≡ budget - cond_nodes of (cond_of f g x)
   spent_value x v r is last = last ∙ at_value x v is
 
   -- the nodes of the conditionals of a list
@@ -55,73 +54,54 @@ module _ {R S V W : Type 0} (f : R → S) (g : V → W) (of : W → ℕ) (budget
   armed xs = arms_nodes of (arms_from (map (arm_of f g) xs))
 
   at_if : (x : code.Cond R V) (test : Expr R) (v w : Vec (code.Cond R V) Global) → x ≡ c.If test v w
-      → spent left (nodes (expr_of f test) + (listed v.items + listed w.items))
-      ≡ spent budget (cond_nodes of (cond_of f g x))
-  at_if x test v w is = spent_then budget left 1 _ first ∙ ap (λ y. spent budget (cond_nodes of y))
+      → left - (nodes (expr_of f test) + (listed v.items + listed w.items))
+      ≡ budget - cond_nodes of (cond_of f g x)
+  at_if x test v w is = spent_then budget left 1 _ first ∙ ap (λ y. budget - cond_nodes of y)
       (sym (ap (cond_of f g) is ∙ of_if f g test v w))
 
-  pub if_stops : (x : code.Cond R V) (test : Expr R) (v w : Vec (code.Cond R V) Global)
-      → x ≡ c.If test v w → None ≡ spent left (nodes (expr_of f test))
-      → None ≡ spent budget (cond_nodes of (cond_of f g x))
-  if_stops x test v w is none = spent_then_none left _ _ none ∙ at_if x test v w is
-
-  pub if_stops_later : (x : code.Cond R V) (test : Expr R) (v w : Vec (code.Cond R V) Global)
-      (xs : List (code.Cond R V)) (rest : ℕ) → x ≡ c.If test v w → xs ≡ v.items
-      → Some rest ≡ spent left (nodes (expr_of f test)) → None ≡ spent rest (listed xs)
-      → None ≡ spent budget (cond_nodes of (cond_of f g x))
-  if_stops_later x test v w xs rest is same second none =
-      spent_then_none rest _ _ none ∙ spent_then left rest _ _ second
-      ∙ ap (λ ys. spent left (nodes (expr_of f test) + (listed ys + listed w.items))) same
-      ∙ at_if x test v w is
-
   pub spent_if : (x : code.Cond R V) (test : Expr R) (v w : Vec (code.Cond R V) Global)
-      (xs ys : List (code.Cond R V)) (rest last : ℕ) (r : Option ℕ) → x ≡ c.If test v w
-      → xs ≡ v.items → ys ≡ w.items → Some rest ≡ spent left (nodes (expr_of f test))
-      → Some last ≡ spent rest (listed xs) → r ≡ spent last (listed ys)
-      → r ≡ spent budget (cond_nodes of (cond_of f g x))
+      (xs ys : List (code.Cond R V)) (rest last : ℕ) (r : ℕ) → x ≡ c.If test v w
+      → xs ≡ v.items → ys ≡ w.items → rest ≡ left - nodes (expr_of f test)
+      → last ≡ rest - listed xs → r ≡ last - listed ys
+      → r ≡ budget - cond_nodes of (cond_of f g x)
   spent_if x test v w xs ys rest last r is same same' second third fourth =
       fourth ∙ spent_then rest last _ _ third ∙ spent_then left rest _ _ second
-      ∙ ap (λ zs. spent left (nodes (expr_of f test) + (listed zs + listed ys))) same
-      ∙ ap (λ zs. spent left (nodes (expr_of f test) + (listed v.items + listed zs))) same'
+      ∙ ap (λ zs. left - (nodes (expr_of f test) + (listed zs + listed ys))) same
+      ∙ ap (λ zs. left - (nodes (expr_of f test) + (listed v.items + listed zs))) same'
       ∙ at_if x test v w is
 
   at_select : (x : code.Cond R V) (on : Expr R) (v : Vec (code_arm.Arm R V) Global)
-      → x ≡ c.Select on v → spent left (nodes (expr_of f on) + armed v.items)
-      ≡ spent budget (cond_nodes of (cond_of f g x))
-  at_select x on v is = spent_then budget left 1 _ first ∙ ap (λ y. spent budget (cond_nodes of y))
+      → x ≡ c.Select on v → left - (nodes (expr_of f on) + armed v.items)
+      ≡ budget - cond_nodes of (cond_of f g x)
+  at_select x on v is = spent_then budget left 1 _ first ∙ ap (λ y. budget - cond_nodes of y)
       (sym (ap (cond_of f g) is ∙ of_select f g on v))
 
-  pub select_stops : (x : code.Cond R V) (on : Expr R) (v : Vec (code_arm.Arm R V) Global)
-      → x ≡ c.Select on v → None ≡ spent left (nodes (expr_of f on))
-      → None ≡ spent budget (cond_nodes of (cond_of f g x))
-  select_stops x on v is none = spent_then_none left _ _ none ∙ at_select x on v is
-
   pub spent_select : (x : code.Cond R V) (on : Expr R) (v : Vec (code_arm.Arm R V) Global)
-      (xs : List (code_arm.Arm R V)) (rest : ℕ) (r : Option ℕ) → x ≡ c.Select on v → xs ≡ v.items
-      → Some rest ≡ spent left (nodes (expr_of f on)) → r ≡ spent rest (armed xs)
-      → r ≡ spent budget (cond_nodes of (cond_of f g x))
+      (xs : List (code_arm.Arm R V)) (rest : ℕ) (r : ℕ) → x ≡ c.Select on v → xs ≡ v.items
+      → rest ≡ left - nodes (expr_of f on) → r ≡ rest - armed xs
+      → r ≡ budget - cond_nodes of (cond_of f g x)
   spent_select x on v xs rest r is same second third =
       third ∙ spent_then left rest _ _ second
-      ∙ ap (λ zs. spent left (nodes (expr_of f on) + armed zs)) same ∙ at_select x on v is
+      ∙ ap (λ zs. left - (nodes (expr_of f on) + armed zs)) same ∙ at_select x on v is
 
   pub spent_case : (x : code_arm.Arm R V) (label : ℤ) (v : Vec (code.Cond R V) Global)
-      (xs : List (code.Cond R V)) (r : Option ℕ) → x ≡ a.Case label v → xs ≡ v.items
-      → r ≡ spent left (listed xs)
-      → r ≡ spent budget (arms_nodes of (arms_from (arm_of f g x ∷ [])))
+      (xs : List (code.Cond R V)) (r : ℕ) → x ≡ a.Case label v → xs ≡ v.items
+      → r ≡ left - listed xs
+      → r ≡ budget - arms_nodes of (arms_from (arm_of f g x ∷ []))
   spent_case x label v xs r is same last =
-      last ∙ ap (λ zs. spent left (listed zs)) same ∙ spent_then budget left 1 _ first
-      ∙ ap (spent budget) (and_none (listed v.items))
-      ∙ ap (λ y. spent budget (arms_nodes of (arms_from (y ∷ []))))
+      last ∙ ap (λ zs. left - listed zs) same ∙ spent_then budget left 1 _ first
+      ∙ ap (λ n. budget - n) (and_none (listed v.items))
+      ∙ ap (λ y. budget - arms_nodes of (arms_from (y ∷ [])))
       (sym (ap (arm_of f g) is ∙ of_case f g label v))
 
   pub spent_default : (x : code_arm.Arm R V) (token : TokenNo) (v : Vec (code.Cond R V) Global)
-      (xs : List (code.Cond R V)) (r : Option ℕ) → x ≡ a.Default token v → xs ≡ v.items
-      → r ≡ spent left (listed xs)
-      → r ≡ spent budget (arms_nodes of (arms_from (arm_of f g x ∷ [])))
+      (xs : List (code.Cond R V)) (r : ℕ) → x ≡ a.Default token v → xs ≡ v.items
+      → r ≡ left - listed xs
+      → r ≡ budget - arms_nodes of (arms_from (arm_of f g x ∷ []))
   spent_default x token v xs r is same last =
-      last ∙ ap (λ zs. spent left (listed zs)) same ∙ spent_then budget left 1 _ first
-      ∙ ap (spent budget) (and_none (listed v.items))
-      ∙ ap (λ y. spent budget (arms_nodes of (arms_from (y ∷ []))))
+      last ∙ ap (λ zs. left - listed zs) same ∙ spent_then budget left 1 _ first
+      ∙ ap (λ n. budget - n) (and_none (listed v.items))
+      ∙ ap (λ y. budget - arms_nodes of (arms_from (y ∷ [])))
       (sym (ap (arm_of f g) is ∙ of_default f g token v))
 
 -- ---- the parts of a conditional have fewer nodes than it

@@ -1,11 +1,7 @@
--- How many nodes, transactions or locals are left to spend.
-use Rattle.std.specs.Prelude.{ℕ, ◌-◌, nat_le, if◌then◌else◌, List, [], Option, Some, None}
+-- How many transactions and locals there are among attributes.
+use Rattle.std.specs.Prelude.{ℕ, List, []}
 use Rattle.edd_syntax.specs.Item.{CommandItem, MethodItem, Attribute}
 use Rattle.edd_syntax.specs.NameRules.{transaction_count, locals_of}
-
--- what is left after n of them, if they are enough
-abbrev pub spent : ℕ → ℕ → Option ℕ
-spent left n = if nat_le n left then Some (left - n) else None
 
 -- the transactions among some attributes: those of a command that has them, whatever its name
 abbrev pub transactions_in : {R : Type 0} → List (Attribute R) → ℕ

@@ -1,56 +1,56 @@
 //! How many items of a kind, and how many transactions, may still come.
 
-ghost use Rattle.std.specs.Prelude.{◌≡◌, [], ◌∷◌, map, nat_lt};
+ghost use Rattle.std.specs.Prelude.{◌≡◌, ◌-◌, [], ◌∷◌, map, nat_lt};
 ghost use Rattle.std.specs.List.{list_any};
 ghost use Rattle.edd_syntax.specs.ItemView.{item_of, attribute_of};
 ghost use Rattle.edd_syntax.specs.NameRules.{item_limit};
 ghost use Rattle.edd_syntax.specs.Resolution.{count_of, kinds};
 ghost use Rattle.edd_syntax.specs.TreeView.{path_of};
-ghost use Rattle.edd_name_rules.specs.Spending.{spent, transactions_in};
+ghost use Rattle.edd_name_rules.specs.Spending.{transactions_in};
 
 use edd_syntax::item::{Attribute, Item};
 use edd_syntax::numbers::{Kind, TokenNo};
 use edd_syntax::reference::Path;
 
-/// What is left of a number of items of a kind after these, if they are enough.
-pub fn spend_items(items: &[Item<Path>], kind: Kind, budget: u32) -> Option<u32>
-    ensures { result ≡ spent budget (count_of kind (map (item_of path_of) items.now)) }
+/// What is left of a number of items of a kind after these: 0 where they are more.
+pub fn spend_items(items: &[Item<Path>], kind: Kind, budget: u32) -> u32
+    ensures { result ≡ budget - count_of kind (map (item_of path_of) items.now) }
 {
     let mut left = budget;
     for item in items {
-        left = spend_item(item, kind, left)?;
+        left = spend_item(item, kind, left);
     }
-    Some(left)
+    left
 }
 
 #[tactic(auto, using(crate::proofs::Counting::one_item))]
-fn spend_item(item: &Item<Path>, kind: Kind, budget: u32) -> Option<u32>
-    ensures { result ≡ spent budget (count_of kind (item_of path_of item.now ∷ [])) }
+fn spend_item(item: &Item<Path>, kind: Kind, budget: u32) -> u32
+    ensures { result ≡ budget - count_of kind (item_of path_of item.now ∷ []) }
 {
     if item.kind() == kind {
-        budget.checked_sub(1)
+        budget.saturating_sub(1)
     } else {
-        Some(budget)
+        budget
     }
 }
 
-/// What is left of a number of transactions after these attributes, if they are enough.
-pub fn spend_transactions(attributes: &[Attribute<Path>], budget: u32) -> Option<u32>
-    ensures { result ≡ spent budget (transactions_in (map (attribute_of path_of) attributes.now)) }
+/// What is left of a number of transactions after these attributes: 0 where they are more.
+pub fn spend_transactions(attributes: &[Attribute<Path>], budget: u32) -> u32
+    ensures { result ≡ budget - transactions_in (map (attribute_of path_of) attributes.now) }
 {
     let mut left = budget;
     for attribute in attributes {
-        left = spend_transaction(attribute, left)?;
+        left = spend_transaction(attribute, left);
     }
-    Some(left)
+    left
 }
 
-fn spend_transaction(attribute: &Attribute<Path>, budget: u32) -> Option<u32>
-    ensures { result ≡ spent budget (transactions_in (attribute_of path_of attribute.now ∷ [])) }
+fn spend_transaction(attribute: &Attribute<Path>, budget: u32) -> u32
+    ensures { result ≡ budget - transactions_in (attribute_of path_of attribute.now ∷ []) }
 {
     match attribute {
-        Attribute::Transaction { .. } => budget.checked_sub(1),
-        _ => Some(budget),
+        Attribute::Transaction { .. } => budget.saturating_sub(1),
+        _ => budget,
     }
 }
 
@@ -71,7 +71,7 @@ pub fn has_too_many_items(items: &[Item<Path>]) -> bool
 fn is_over(items: &[Item<Path>], kind: Kind) -> bool
     ensures { result ≡ nat_lt item_limit (count_of kind (map (item_of path_of) items.now)) }
 {
-    spend_items(items, kind, 4096).is_none()
+    spend_items(items, kind, 4097) == 0
 }
 
 /// The name of the first item before which there are 4,096 of its kind, where there are too many.

@@ -7,7 +7,7 @@ use Rattle.edd_name_rules.proofs.Spends.{spent_from}
 use Rattle.edd_name_rules.proofs.CondSpends.{conds_nodes_split, arms_nodes_split, cond_depth, conds_depth, arm_depth, arms_depth}
 use Rattle.edd_name_rules.proofs.conditionals.+conds.Given as goal
 
--- what is left is enough for those to come exactly if the budget was enough for all
+-- what is left after those to come is what is left of the budget after all
 abbrev pub invariant-spend_conds-loop-c : goal.invariant-spend_conds-loop-c
 invariant-spend_conds-loop-c g l =
     spent_from (λ xs. conds_nodes g.V.CountValue.below (conds_from xs)) (cond_of path_of (λ v. v))

@@ -6,7 +6,7 @@ use Rattle.edd_name_rules.proofs.Spends.{spent_from}
 use Rattle.edd_name_rules.proofs.Counting.{transactions_split}
 use Rattle.edd_name_rules.proofs.counts.spend_transactions.Given as goal
 
--- what is left is enough for those to come exactly if the budget was enough for all
+-- what is left after those to come is what is left of the budget after all
 abbrev pub invariant-loop-attribute : goal.invariant-loop-attribute
 invariant-loop-attribute l =
     spent_from transactions_in (attribute_of path_of) transactions_split l.left l.attribute-index

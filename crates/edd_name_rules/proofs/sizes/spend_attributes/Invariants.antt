@@ -7,7 +7,7 @@ use Rattle.edd_name_rules.proofs.SlotLaws.{sum_split}
 use Rattle.edd_name_rules.proofs.Spends.{spent_from}
 use Rattle.edd_name_rules.proofs.sizes.spend_attributes.Given as goal
 
--- what is left is enough for those to come exactly if the budget was enough for all
+-- what is left after those to come is what is left of the budget after all
 abbrev pub invariant-loop-attribute : goal.invariant-loop-attribute
 invariant-loop-attribute l = spent_from (λ xs. sum (map attribute_nodes xs)) (attribute_of path_of)
     (sum_split attribute_nodes) l.left l.attribute-index l.attributes

@@ -5,7 +5,7 @@ use Rattle.edd_name_rules.proofs.Spends.{spent_from}
 use Rattle.edd_name_rules.proofs.SlotLaws.{slots_split}
 use Rattle.edd_name_rules.proofs.slots.+slots.Given as goal
 
--- what is left is enough for those to come exactly if the budget was enough for all
+-- what is left after those to come is what is left of the budget after all
 abbrev pub invariant-spend_slots_in-loop-part : goal.invariant-spend_slots_in-loop-part
 invariant-spend_slots_in-loop-part l =
     spent_from (λ xs. slots_in (body_from xs)) (part_of path_of) slots_split l.left l.part-index

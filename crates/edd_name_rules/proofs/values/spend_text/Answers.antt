@@ -1,11 +1,10 @@
-use Rattle.std.proofs.Common.{◌∙◌, ap}
+use Rattle.std.proofs.Common.{◌-◌, ◌∙◌, ap}
 use Rattle.edd_syntax.specs.Size.{leaf}
 use Rattle.edd_syntax.specs.TreeView.{path_of}
 use Rattle.edd_syntax.specs.WordsView.{text_of}
-use Rattle.edd_name_rules.specs.Spending.{spent}
 use Rattle.edd_name_rules.proofs.ValueNodes.{nodes_of_cond}
 use Rattle.edd_name_rules.proofs.values.spend_text.Goals as goal
 
 pub returns : goal.returns
 returns c = c.spend_cond.ensures
-    ∙ ap (spent c.args.budget) (nodes_of_cond path_of text_of leaf c.args.c.now)
+    ∙ ap (λ n. c.args.budget - n) (nodes_of_cond path_of text_of leaf c.args.c.now)
