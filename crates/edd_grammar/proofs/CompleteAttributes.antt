@@ -16,7 +16,7 @@ use Rattle.edd_grammar.specs.Reading.{at}
 use Rattle.edd_grammar.specs.ConditionalReading.{list_at, text_value}
 use Rattle.edd_grammar.specs.WordReading.{integer_at, at_close, more_names_at, names_at, closed, row_inside}
 use Rattle.edd_grammar.specs.ValueReading.{handling_value, truth_value, menu_entry_value}
-use Rattle.edd_grammar.specs.AttributeReading.{response_code_at, member_at, array_element_at, transaction_at, class_words_at, command_number_at, command_operation_at, other_attribute_at, attribute_at, begins_own, own_attribute_at}
+use Rattle.edd_grammar.specs.AttributeReading.{response_code_at, member_at, array_element_at, transaction_at, class_words_at, command_number_at, command_operation_at, list_attribute_at, command_attribute_at, other_attribute_at, attribute_at, begins_own, own_attribute_at}
 use Rattle.edd_grammar.proofs.Steps.{guard_some, at_is, expect_again}
 use Rattle.edd_grammar.proofs.Branches.{SoundOf}
 use Rattle.edd_grammar.proofs.SingleValues.{one_again, one_shorter}
@@ -58,7 +58,7 @@ names_shorter (n ∷ more) here rest h =
 pub attribute_again : (height_left : ℕ) (a : Attribute Path) (here rest : List Token)
     → AttributeHere a here rest → attribute_height a ≤ height_left → attribute_at height_left here
     ≡ Some (a, rest)
-unfolding attribute_at other_attribute_at class_words_at names_at command_number_at
+unfolding attribute_at list_attribute_at command_attribute_at other_attribute_at class_words_at names_at command_number_at
     command_operation_at transaction_at
 attribute_again height_left (item.OneText which c) here rest h low =
     rw (h.1.2, h.1.1, one_again leaf TextHere text_value text_values height_left c h.0 rest h.2 low)

@@ -13,7 +13,7 @@ use Rattle.edd_syntax.specs.Grammar.{InMethod}
 use Rattle.edd_syntax.specs.StatementGrammar.{CaseHere, ValueHere, DeclaratorsHere, MoreDeclaratorsHere, LocalTypeHere, OptionalExprHere, StmtHere, BodyHere}
 use Rattle.edd_syntax.specs.Size.{optional_height, declarator_height, statement_height, body_height}
 use Rattle.edd_grammar.specs.Reading.{Read, at, at_word}
-use Rattle.edd_grammar.specs.StatementReading.{at_local_type, declaration_at, case_label_at, part_at, parts_at, body_at, method_else_at, method_if_at, while_at, do_at, optional_at, for_at, switch_at, evaluate_at, statement_layer, statement_at, definition_at}
+use Rattle.edd_grammar.specs.StatementReading.{at_local_type, declaration_at, case_label_at, part_at, parts_at, body_at, method_else_at, method_if_at, while_at, do_at, optional_at, for_at, switch_at, evaluate_at, simple_at, statement_layer, statement_at, definition_at}
 use Rattle.edd_grammar.specs.Following.{SignStops}
 use Rattle.edd_grammar.proofs.Steps.{expect_again, expect_word_again}
 use Rattle.edd_grammar.proofs.Shorter.{Begins, begins, expr_shorter, begins_no_semicolon, begins_no_brace, begins_no_close_brace, begins_no_close}
@@ -301,7 +301,7 @@ module _ (height_left : ℕ) (inner : List Token → Read (Stmt Path))
       ) refl
 
   layer_again : CompleteAt (suc height_left) (statement_layer height_left inner)
-  unfolding statement_layer method_if_at method_else_at while_at do_at for_at switch_at evaluate_at
+  unfolding simple_at statement_layer method_if_at method_else_at while_at do_at for_at switch_at evaluate_at
   layer_again Empty here rest h low = rw h refl
   layer_again (Evaluate e) here rest h low =
       let b = begins InMethod 1 e here _ h in

@@ -6,7 +6,7 @@ use Rattle.edd_syntax.specs.Token.{Token, Sign}
 use Rattle.edd_syntax.specs.Reference.{Path}
 use Rattle.edd_syntax.specs.Expression.{Expr}
 use Rattle.edd_syntax.specs.Statement.{Declarator}
-use Rattle.edd_syntax.specs.Grammar.{InMethod, NextSign}
+use Rattle.edd_syntax.specs.Grammar.{InMethod}
 use Rattle.edd_syntax.specs.StatementGrammar.{ValueHere, DeclaratorHere, DeclaratorsHere, MoreDeclaratorsHere}
 use Rattle.edd_syntax.specs.Size.{optional_height, declarator_height}
 use Rattle.edd_grammar.specs.Reading.{at, name_at}

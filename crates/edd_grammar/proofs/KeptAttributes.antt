@@ -9,7 +9,7 @@ use Rattle.edd_syntax.specs.Token.{Token, Reserved, Identifier, Integer, Sign}
 use Rattle.edd_syntax.specs.Reference.{Path}
 use Rattle.edd_syntax.specs.Conditional.{Cond}
 use Rattle.edd_syntax.specs.Item as item
-use Rattle.edd_syntax.specs.Item.{TypeWord, TypePart, TransactionPart, Attribute}
+use Rattle.edd_syntax.specs.Item.{TypeWord, TypePart}
 use Rattle.edd_syntax.specs.WellFormed.{is_text, is_path, is_plain, is_pure_expr, is_cond, is_single, is_enumerator, is_entry, is_data_item, is_response_code, is_member, is_array_element, is_type_part, is_type, is_transaction_part, is_attribute}
 use Rattle.edd_syntax.specs.Grammar.{TextHere}
 use Rattle.edd_syntax.specs.StatementGrammar.{OneHere}

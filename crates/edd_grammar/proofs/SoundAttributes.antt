@@ -20,7 +20,7 @@ use Rattle.edd_grammar.specs.StatementReading.{definition_at}
 use Rattle.edd_grammar.specs.WordReading.{integer_at, number_at, more_names_at, names_at, closed, braced, row_inside}
 use Rattle.edd_grammar.specs.ValueReading.{operation_at, handling_value, truth_value, menu_entry_value}
 use Rattle.edd_grammar.specs.TypeReading.{type_at}
-use Rattle.edd_grammar.specs.AttributeReading.{response_code_at, member_at, array_element_at, transaction_part_at, transaction_at, class_words_at, command_number_at, command_operation_at, text_here, other_attribute_at, attribute_at}
+use Rattle.edd_grammar.specs.AttributeReading.{response_code_at, member_at, array_element_at, transaction_part_at, transaction_at, class_words_at, command_number_at, command_operation_at, text_here, list_attribute_at, command_attribute_at, other_attribute_at, attribute_at}
 use Rattle.edd_grammar.proofs.Steps.{bind_some, as_read, at_word_is, expect_is, name_is, word_is}
 use Rattle.edd_grammar.proofs.SameSigns.{same_word_self}
 use Rattle.edd_grammar.proofs.Alternatives.{branch, expected, worded}
@@ -165,7 +165,7 @@ module _ (height_left : ℕ) where
       )
 
   other_sound : SoundOf AttributeHere attribute_height height_left (other_attribute_at height_left)
-  unfolding other_attribute_at
+  unfolding list_attribute_at command_attribute_at other_attribute_at
   other_sound here a rest x =
       branch (at_word word.Class here) _ _ _ x (λ t y. class_sound here a rest t y) (λ _ x1.
       branch (at_word word.Handling here) _ _ _ x1

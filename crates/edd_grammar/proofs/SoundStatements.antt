@@ -16,7 +16,7 @@ use Rattle.edd_grammar.specs.Reading.{◌>>=◌, Read, at, expect, at_word, expe
 use Rattle.edd_grammar.specs.ExpressionReading.{expr_at}
 use Rattle.edd_grammar.specs.ConditionalReading.{label_at, condition_at}
 use Rattle.edd_grammar.specs.DeclarationReading.{declarators_at}
-use Rattle.edd_grammar.specs.StatementReading.{at_local_type, declaration_at, case_label_at, part_at, parts_at, body_at, method_else_at, method_if_at, while_at, do_at, optional_at, for_at, switch_at, evaluate_at, statement_layer, statement_at, definition_at}
+use Rattle.edd_grammar.specs.StatementReading.{at_local_type, declaration_at, case_label_at, part_at, parts_at, body_at, method_else_at, method_if_at, while_at, do_at, optional_at, for_at, switch_at, evaluate_at, simple_at, statement_layer, statement_at, definition_at}
 use Rattle.edd_grammar.proofs.Steps.{bind_some, chosen, both_true, as_read, at_is, at_word_is, expect_is, expect_word_is}
 use Rattle.edd_grammar.proofs.SoundExpressions.{expr_sound}
 use Rattle.edd_grammar.proofs.Alternatives.{branch}
@@ -363,7 +363,7 @@ module _ (height_left : ℕ) (inner : List Token → Read (Stmt Path))
 
   layer_sound : SoundOf StmtHere statement_height (suc height_left)
       (statement_layer height_left inner)
-  unfolding statement_layer
+  unfolding simple_at statement_layer
   layer_sound here s rest x =
       branch (at sign.Semicolon here) _ _ _ x (λ t y. as_read (Stands here) Empty s (drop 1 here)
       rest y (at_is sign.Semicolon here t, omega arith)) (λ _ x1.

@@ -19,7 +19,7 @@ use Rattle.edd_syntax.specs.Text.{Name, Quoted, Key}
 use Rattle.edd_syntax.specs.Token.{Token, Reserved, Identifier, Integer, String, Sign}
 use Rattle.edd_syntax.specs.Reference.{Path}
 use Rattle.edd_syntax.specs.Expression as tree
-use Rattle.edd_syntax.specs.Expression.{Expr, Literal, Reference, Parentheses, Binary, Compare, Assign, CompoundAssign, Increment, Call, arguments_from}
+use Rattle.edd_syntax.specs.Expression.{Expr, Literal, Reference, Binary, Compare, Assign, CompoundAssign, Increment, Call, arguments_from}
 use Rattle.edd_syntax.specs.Conditional as cond
 use Rattle.edd_syntax.specs.Conditional.{Cond, Conds, Value, Select, Case, Default, conds_from, arms_from}
 use Rattle.edd_syntax.specs.Statement.{Stmt, Empty, Evaluate, Block, IfElse, While, Do, For, Switch, Break, Continue, Return, Declare, Statement, CaseLabel, DefaultLabel, body_from}
@@ -30,11 +30,11 @@ use Rattle.edd_grammar.specs.Reading.{expect, expect_word, path_at, path_behind,
 use Rattle.edd_grammar.specs.ExpressionReading.{postfix, step_before, argument_at, some_arguments, arguments_at, index_behind, named_at, unary_behind, parentheses_behind, signed_at, operand_at, joined_at, chain, choice_at, assign_at, layer, expr_at}
 use Rattle.edd_grammar.specs.ConditionalReading.{condition_at, braces_at, else_at, case_at, default_at, arms_at, if_at, select_at, cond_layer, ended, only, one_at, text_value, expr_value, elements_at, listed, element_at, list_at}
 use Rattle.edd_grammar.specs.DeclarationReading.{value_at, declarator_at, some_declarators, declarators_at}
-use Rattle.edd_grammar.specs.StatementReading.{declaration_at, case_label_at, part_at, parts_at, body_at, method_else_at, method_if_at, while_at, do_at, optional_at, for_at, switch_at, evaluate_at, statement_layer, statement_at, definition_at}
+use Rattle.edd_grammar.specs.StatementReading.{declaration_at, case_label_at, part_at, parts_at, body_at, method_else_at, method_if_at, while_at, do_at, optional_at, for_at, switch_at, evaluate_at, simple_at, statement_layer, statement_at, definition_at}
 use Rattle.edd_grammar.specs.WordReading.{expect_name, number_at, names_at, row_at, closed, braced, row_inside}
 use Rattle.edd_grammar.specs.ValueReading.{handling_behind, handling_at, truth_at, operation_at, some_text_at, optional_text_at, enumerator_at, allowed_at, some_qualifiers, qualifiers_at, mask_at, data_variable_at, data_item_at, menu_reference_at, menu_entry_at, handling_value, truth_value, enumerator_value, data_item_value, menu_entry_value}
 use Rattle.edd_grammar.specs.TypeReading.{size_at, format_or_element_at, type_part_at, type_parts_at, behind_other, known_type_at, other_type_at, type_at}
-use Rattle.edd_grammar.specs.AttributeReading.{class_at, response_code_at, member_at, array_element_at, transaction_part_at, transaction_at, class_words_at, command_number_at, command_operation_at, other_attribute_at, attribute_at, own_attribute_at}
+use Rattle.edd_grammar.specs.AttributeReading.{class_at, response_code_at, member_at, array_element_at, transaction_part_at, transaction_at, class_words_at, command_number_at, command_operation_at, list_attribute_at, command_attribute_at, other_attribute_at, attribute_at, own_attribute_at}
 use Rattle.edd_grammar.specs.UnitReading.{kind_at, item_kind_at, sort_behind, attributes_at, item_at, numbered_at, identification_at, items_at, unit_at}
 use Rattle.edd_grammar.proofs.Units.{unit_sound}
 
@@ -392,22 +392,20 @@ the_unit = record {
 unfoldable pub worked : List Token → Option (Description Path)
 unfolding expect expect_word path_at path_behind key_at text_at postfix step_before argument_at
     some_arguments arguments_at index_behind named_at unary_behind parentheses_behind signed_at
-    operand_at
-    joined_at chain choice_at assign_at layer expr_at condition_at braces_at else_at case_at
-    default_at arms_at if_at select_at cond_layer ended only one_at text_value expr_value
+    operand_at joined_at chain choice_at assign_at layer expr_at condition_at braces_at else_at
+    case_at default_at arms_at if_at select_at cond_layer ended only one_at text_value expr_value
     elements_at listed element_at list_at value_at declarator_at some_declarators declarators_at
     declaration_at case_label_at part_at parts_at body_at method_else_at method_if_at while_at do_at
-    optional_at for_at switch_at evaluate_at statement_layer statement_at definition_at expect_name
-    number_at names_at row_at closed braced row_inside handling_behind handling_at truth_at
-    operation_at some_text_at optional_text_at enumerator_at allowed_at some_qualifiers
+    optional_at for_at switch_at evaluate_at simple_at statement_layer statement_at definition_at
+    expect_name number_at names_at row_at closed braced row_inside handling_behind handling_at
+    truth_at operation_at some_text_at optional_text_at enumerator_at allowed_at some_qualifiers
     qualifiers_at mask_at data_variable_at data_item_at menu_reference_at menu_entry_at
     handling_value truth_value enumerator_value data_item_value menu_entry_value size_at
-    format_or_element_at type_part_at type_parts_at behind_other known_type_at other_type_at type_at class_at
-    response_code_at member_at array_element_at transaction_part_at transaction_at class_words_at
-    command_number_at
-    command_operation_at other_attribute_at attribute_at own_attribute_at kind_at item_kind_at
-    sort_behind
-    attributes_at item_at numbered_at identification_at items_at unit_at
+    format_or_element_at type_part_at type_parts_at behind_other known_type_at other_type_at type_at
+    class_at response_code_at member_at array_element_at transaction_part_at transaction_at
+    class_words_at command_number_at command_operation_at list_attribute_at command_attribute_at
+    other_attribute_at attribute_at own_attribute_at kind_at item_kind_at sort_behind attributes_at
+    item_at numbered_at identification_at items_at unit_at
 worked tokens = unit_at tokens
 
 pub worked_is : (tokens : List Token) → worked tokens ≡ unit_at tokens

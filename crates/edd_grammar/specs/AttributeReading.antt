@@ -139,6 +139,31 @@ command_operation_at here = do
 abbrev pub text_here : List Token → Option TextAttribute
 text_here = word_by text_of_word
 
+-- the attributes that hold what an item is made of
+unfoldable pub list_attribute_at : ℕ → List Token → Read (Attribute Path)
+list_attribute_at height_left here =
+    if at_word word.Items here then (braced (list_at menu_entry_value height_left) (drop 1 here)
+    >>= λ all. Some (item.Items all.0, all.1))
+    else if at_word word.Members here then (braced (row_inside member_at) (drop 1 here)
+    >>= λ all. Some (item.Members all.0, all.1))
+    else if at_word word.Definition here
+    then (expect sign.OpenBrace (drop 1 here) >>= λ inside. definition_at height_left inside
+    >>= λ b. Some (item.Definition b.0, b.1))
+    else if at_word word.Elements here then (braced (row_inside array_element_at) (drop 1 here)
+    >>= λ all. Some (item.Elements all.0, all.1))
+    else None
+
+-- the attributes of commands, and those above
+unfoldable pub command_attribute_at : ℕ → List Token → Read (Attribute Path)
+command_attribute_at height_left here =
+    if at_word word.Number here then command_number_at (drop 1 here)
+    else if at_word word.Operation here then command_operation_at (drop 1 here)
+    else if at_word word.Transaction here then transaction_at height_left (drop 1 here)
+    else if at_word word.ResponseCodes here
+    then (braced (row_inside response_code_at) (drop 1 here)
+    >>= λ all. Some (item.ResponseCodes all.0, all.1))
+    else list_attribute_at height_left here
+
 -- an attribute of at most this height that isn't one text
 unfoldable pub other_attribute_at : ℕ → List Token → Read (Attribute Path)
 other_attribute_at height_left here =
@@ -149,23 +174,7 @@ other_attribute_at height_left here =
     >>= λ c. Some (item.Validity c.0, c.1))
     else if at_word word.Type here then (type_at height_left (drop 1 here)
     >>= λ t. Some (item.TypeOf t.0.0 t.0.1, t.1))
-    else if at_word word.Number here then command_number_at (drop 1 here)
-    else if at_word word.Operation here then command_operation_at (drop 1 here)
-    else if at_word word.Transaction here then transaction_at height_left (drop 1 here)
-    else if at_word word.ResponseCodes here
-    then (braced (row_inside response_code_at) (drop 1 here)
-    >>= λ all. Some (item.ResponseCodes all.0, all.1))
-    else if at_word word.Items here then
-    (braced (list_at menu_entry_value height_left) (drop 1 here)
-    >>= λ all. Some (item.Items all.0, all.1))
-    else if at_word word.Members here then (braced (row_inside member_at) (drop 1 here)
-    >>= λ all. Some (item.Members all.0, all.1))
-    else if at_word word.Definition here
-    then (expect sign.OpenBrace (drop 1 here) >>= λ inside. definition_at height_left inside
-    >>= λ b. Some (item.Definition b.0, b.1))
-    else if at_word word.Elements here then (braced (row_inside array_element_at) (drop 1 here)
-    >>= λ all. Some (item.Elements all.0, all.1))
-    else None
+    else command_attribute_at height_left here
 
 -- an attribute of at most this height
 unfoldable pub attribute_at : ℕ → List Token → Read (Attribute Path)

@@ -128,6 +128,17 @@ module _ (height_left : ℕ) (inner : List Token → Read (Stmt Path)) where
     rest ← expect sign.Semicolon behind
     Some (Evaluate e, rest)
 
+  -- a statement of a word alone, or an expression
+  unfoldable pub simple_at : List Token → Read (Stmt Path)
+  simple_at here =
+      if at_word word.Break here then (expect sign.Semicolon (drop 1 here)
+      >>= λ rest. Some (Break, rest))
+      else if at_word word.Continue here then (expect sign.Semicolon (drop 1 here)
+      >>= λ rest. Some (Continue, rest))
+      else if at_word word.Return here then (expect sign.Semicolon (drop 1 here)
+      >>= λ rest. Some (Return, rest))
+      else evaluate_at here
+
   -- a statement, where `inner` reads the statements inside it
   unfoldable pub statement_layer : List Token → Read (Stmt Path)
   statement_layer here =
@@ -139,13 +150,7 @@ module _ (height_left : ℕ) (inner : List Token → Read (Stmt Path)) where
       else if at_word word.Do here then do_at (drop 1 here)
       else if at_word word.For here then for_at (drop 1 here)
       else if at_word word.Switch here then switch_at (drop 1 here)
-      else if at_word word.Break here then (expect sign.Semicolon (drop 1 here)
-      >>= λ rest. Some (Break, rest))
-      else if at_word word.Continue here then (expect sign.Semicolon (drop 1 here)
-      >>= λ rest. Some (Continue, rest))
-      else if at_word word.Return here then (expect sign.Semicolon (drop 1 here)
-      >>= λ rest. Some (Return, rest))
-      else evaluate_at here
+      else simple_at here
 
 -- a statement of at most this height
 unfoldable pub statement_at : ℕ → List Token → Read (Stmt Path)

@@ -1,6 +1,6 @@
 //! Laws of the readers, for the crates above.
 
-ghost use Rattle.std.specs.Prelude.{◌≡◌, ℕ, ◌≤◌, Bool, true, false, IsTrue, List, ◌∷◌, suc, Some};
+ghost use Rattle.std.specs.Prelude.{◌≡◌, ℕ, ◌≤◌, true, false, IsTrue, List, ◌∷◌, suc, Some};
 ghost use Rattle.edd_syntax.specs.declared.symbols.Symbol.TheVariants as sign;
 ghost use Rattle.edd_syntax.specs.Text.{Text};
 ghost use Rattle.edd_syntax.specs.Token.{Token, Sign};

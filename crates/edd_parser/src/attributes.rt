@@ -1,6 +1,6 @@
 //! Attributes of items.
 
-ghost use Rattle.std.specs.Prelude.{◌≡◌, ◌≤◌, ◌++◌, ◌∷◌, map};
+ghost use Rattle.std.specs.Prelude.{◌≡◌, ◌≤◌, map};
 ghost use Rattle.edd_syntax.specs.Reference as references;
 ghost use Rattle.edd_syntax.specs.Item as item;
 ghost use Rattle.edd_syntax.specs.TreeView.{path_of};
@@ -10,7 +10,6 @@ ghost use Rattle.edd_grammar.specs.WordReading as words;
 ghost use Rattle.edd_grammar.specs.AttributeReading as reading;
 ghost use Rattle.edd_expression_parser.proofs.RowsShorten as lengths;
 ghost use Rattle.edd_token_reader.specs.Views.{Gives};
-ghost use Rattle.edd_parser.specs.Items as views;
 ghost use Rattle.edd_parser.specs.Items.{attribute_view, class_read};
 
 use crate::rows::{RowElement, braced_row};
@@ -319,7 +318,7 @@ fn attribute(cursor: &mut Cursor, height_left: u32) -> Result<Attribute<Path>, P
 }
 
 // Attributes of variables and others that aren't one text.
-#[tactic(auto, unfolding(edd_grammar::specs::AttributeReading::other_attribute_at, crate::specs::Items::command_attribute_at, crate::specs::Items::list_attribute_at))]
+#[tactic(auto, unfolding(edd_grammar::specs::AttributeReading::other_attribute_at))]
 fn other_attribute(cursor: &mut Cursor, height_left: u32) -> Result<Attribute<Path>, ParseFault>
     requires { height_left ≤ 100 }
     ensures { Gives attribute_view result cursor.new
@@ -347,11 +346,11 @@ fn other_attribute(cursor: &mut Cursor, height_left: u32) -> Result<Attribute<Pa
 }
 
 // Attributes of commands, and others.
-#[tactic(auto, unfolding(crate::specs::Items::command_attribute_at))]
+#[tactic(auto, unfolding(edd_grammar::specs::AttributeReading::command_attribute_at))]
 fn command_attribute(cursor: &mut Cursor, height_left: u32) -> Result<Attribute<Path>, ParseFault>
     requires { height_left ≤ 100 }
     ensures { Gives attribute_view result cursor.new
-        (views.command_attribute_at height_left cursor.old) }
+        (reading.command_attribute_at height_left cursor.old) }
 {
     let at = cursor.place();
     if cursor.eat_word(Keyword::Number) {
@@ -370,11 +369,11 @@ fn command_attribute(cursor: &mut Cursor, height_left: u32) -> Result<Attribute<
 }
 
 // The attributes that hold what an item is made of.
-#[tactic(auto, unfolding(crate::specs::Items::list_attribute_at))]
+#[tactic(auto, unfolding(edd_grammar::specs::AttributeReading::list_attribute_at))]
 fn list_attribute(cursor: &mut Cursor, height_left: u32) -> Result<Attribute<Path>, ParseFault>
     requires { height_left ≤ 100 }
     ensures { Gives attribute_view result cursor.new
-        (views.list_attribute_at height_left cursor.old) }
+        (reading.list_attribute_at height_left cursor.old) }
 {
     let at = cursor.place();
     if cursor.eat_word(Keyword::Items) {

@@ -1,6 +1,6 @@
 //! The unit that tokens spell.
 
-ghost use Rattle.std.specs.Prelude.{◌≡◌, IfOk, IfErr, MatchResult, All, map};
+ghost use Rattle.std.specs.Prelude.{◌≡◌, IfOk, IfErr, MatchResult, map};
 ghost use Rattle.edd_syntax.specs.Reference.{Path};
 ghost use Rattle.edd_syntax.specs.Item.{Description};
 ghost use Rattle.edd_syntax.specs.ItemGrammar.{Spells};

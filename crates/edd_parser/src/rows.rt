@@ -1,6 +1,6 @@
 //! Rows: elements one after the other in braces.
 
-ghost use Rattle.std.specs.Prelude.{◌≡◌, ◌≤◌, ℕ, List, map};
+ghost use Rattle.std.specs.Prelude.{◌≤◌, ℕ, List, map};
 ghost use Rattle.edd_syntax.specs.Token.{Token};
 ghost use Rattle.edd_grammar.specs.Reading.{Read};
 ghost use Rattle.edd_grammar.specs.WordReading.{braced, row_inside};

@@ -1,11 +1,11 @@
 //! Types of variables.
 
-ghost use Rattle.std.specs.Prelude.{◌≡◌, ◌≤◌, ◌<◌, map, List};
+ghost use Rattle.std.specs.Prelude.{◌≡◌, ◌≤◌, ◌<◌, map};
 ghost use Rattle.edd_syntax.specs.Reference as references;
 ghost use Rattle.edd_syntax.specs.Item as item;
 ghost use Rattle.edd_syntax.specs.ItemGrammar.{behind_braces};
 ghost use Rattle.edd_syntax.specs.TreeView.{path_of};
-ghost use Rattle.edd_syntax.specs.ItemView.{type_part_of, type_word_of};
+ghost use Rattle.edd_syntax.specs.ItemView.{type_part_of};
 ghost use Rattle.edd_grammar.specs.TypeReading as reading;
 ghost use Rattle.edd_expression_parser.proofs.RowsShorten as lengths;
 ghost use Rattle.edd_token_reader.specs.Views.{Gives, Leaves};

@@ -1,5 +1,5 @@
 -- What the code's statements stand for.
-use Rattle.std.specs.Prelude.{ℕ, List, drop, map, Option, Some, option_map, if◌then◌else◌}
+use Rattle.std.specs.Prelude.{ℕ, List, map, Option, Some, option_map}
 use Rattle.edd_syntax.specs.declared.symbols.Keyword.TheVariants as word
 use Rattle.edd_syntax.specs.declared.symbols.Symbol.TheVariants as sign
 use Rattle.edd_syntax.specs.declared.expr.Expr as code_expr
@@ -10,12 +10,12 @@ use Rattle.edd_syntax.specs.declared.reference.Path as path
 use Rattle.edd_syntax.specs.Token.{Token}
 use Rattle.edd_syntax.specs.Reference.{Path}
 use Rattle.edd_syntax.specs.Expression.{Expr}
-use Rattle.edd_syntax.specs.Statement.{Declarator, Stmt, Break, Continue, Return, Part, Body, body_from}
+use Rattle.edd_syntax.specs.Statement.{Declarator, Stmt, Part, Body, body_from}
 use Rattle.edd_syntax.specs.TreeView.{path_of, declarator_of, stmt_of, part_of}
-use Rattle.edd_grammar.specs.Reading.{◌>>=◌, Read, at_word, expect, expect_word}
+use Rattle.edd_grammar.specs.Reading.{◌>>=◌, Read, expect, expect_word}
 use Rattle.edd_grammar.specs.ConditionalReading.{condition_at}
 use Rattle.edd_syntax.specs.Grammar.{InMethod}
-use Rattle.edd_grammar.specs.StatementReading.{statement_at, optional_at, evaluate_at}
+use Rattle.edd_grammar.specs.StatementReading.{statement_at, optional_at}
 use Rattle.edd_statement_parser.specs.declared.statement_trees.ForHead.{ForHead}
 use Rattle.edd_expression_parser.specs.Expressions.{expr_view}
 
@@ -86,14 +86,3 @@ switch_head_at height_left here = do
   (on, brace) ← condition_at InMethod height_left here
   inside ← expect sign.OpenBrace brace
   Some (on, inside)
-
--- a statement of a word alone, or an expression
-unfoldable pub simple_at : ℕ → List Token → Read (Stmt Path)
-simple_at height_left here =
-    if at_word word.Break here then (expect sign.Semicolon (drop 1 here)
-    >>= λ rest. Some (Break, rest))
-    else if at_word word.Continue here then (expect sign.Semicolon (drop 1 here)
-    >>= λ rest. Some (Continue, rest))
-    else if at_word word.Return here then (expect sign.Semicolon (drop 1 here)
-    >>= λ rest. Some (Return, rest))
-    else evaluate_at height_left (statement_at height_left) here

@@ -1,11 +1,11 @@
 //! Statements and what is between braces.
 
-ghost use Rattle.std.specs.Prelude.{◌≡◌, ◌≤◌, ◌<◌, ◌+◌, length, Some, true, false, option_map};
+ghost use Rattle.std.specs.Prelude.{◌≤◌, ◌<◌, ◌+◌, length, Some, true, false, option_map};
 ghost use Rattle.edd_grammar.specs.StatementReading as reading;
 ghost use Rattle.edd_grammar.specs.StatementReading.{statement_at};
 ghost use Rattle.edd_token_reader.specs.Views.{Gives};
 ghost use Rattle.edd_expression_parser.specs.Expressions.{expr_view};
-ghost use Rattle.edd_statement_parser.specs.Bodies.{stmt_view, part_view, body_view, for_head_at, head_view, for_end_at, end_view, do_end_at, switch_head_at, simple_at};
+ghost use Rattle.edd_statement_parser.specs.Bodies.{stmt_view, part_view, body_view, for_head_at, head_view, for_end_at, end_view, do_end_at, switch_head_at};
 
 use crate::declarators::{declaration, is_at_local_type};
 use crate::statement_trees::{
@@ -133,10 +133,11 @@ fn evaluate(cursor: &mut Cursor, height_left: u32) -> Result<Stmt<Path>, ParseFa
 }
 
 // A statement of a word alone, or an expression.
-#[tactic(auto, unfolding(crate::specs::Bodies::simple_at))]
+#[tactic(auto, unfolding(edd_grammar::specs::StatementReading::simple_at))]
 fn simple_statement(cursor: &mut Cursor, height_left: u32) -> Result<Stmt<Path>, ParseFault>
     requires { height_left ≤ 100 }
-    ensures { Gives stmt_view result cursor.new (simple_at height_left cursor.old) }
+    ensures { Gives stmt_view result cursor.new
+        (reading.simple_at height_left (statement_at height_left) cursor.old) }
 {
     let at = cursor.place();
     if cursor.eat_word(Keyword::Break) {
@@ -180,7 +181,7 @@ fn child(cursor: &mut Cursor, height_left: u32) -> Result<Box<Stmt<Path>>, Parse
 
 // A statement whose children are of at most this height.
 #[cycle(statement)]
-#[tactic(auto, unfolding(edd_grammar::specs::StatementReading::statement_layer, crate::specs::Bodies::simple_at))]
+#[tactic(auto, unfolding(edd_grammar::specs::StatementReading::statement_layer))]
 fn layer(cursor: &mut Cursor, height_left: u32) -> Result<Stmt<Path>, ParseFault>
     requires { height_left < 100 }
     ensures { Gives stmt_view result cursor.new
