@@ -18,7 +18,7 @@ use Rattle.edd_syntax.specs.Numbers.{attr_number, same_attr, text_attr, number_a
 use Rattle.edd_syntax.specs.Rows.{part_attr, stands_for, is_written, transaction_positions, positions, attributes_in_order}
 use Rattle.edd_syntax.specs.Size.{type_part_nodes, transaction_part_nodes, attribute_nodes, item_nodes}
 use Rattle.edd_attrs.specs.Trees as trees
-use Rattle.edd_attrs.specs.Trees.{Tree, Named, trees_of_part, trees_of_parts, trees_of_attribute, trees_of, tree_of_transaction_part, transaction_trees, first_tree, tree_in}
+use Rattle.edd_attrs.specs.Trees.{Tree, Named, trees_of_parts, trees_of_attribute, trees_of, tree_of_transaction_part, transaction_trees, first_tree, tree_in}
 use Rattle.edd_attrs.specs.Sizes.{element_nodes, tree_nodes, length_limit}
 use Rattle.edd_syntax.proofs.KnownByNumber.{same_attrs}
 use Rattle.edd_assembly.proofs.Totals.{total, sum_is_total, total-append, total_le, total_plus}

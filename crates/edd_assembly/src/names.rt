@@ -1,9 +1,8 @@
 //! The names of an image and their rows.
 
-ghost use Rattle.std.specs.Prelude.{◌≡◌, ◌++◌, ◌∷◌, [], map, OnOk, IfOk, length, string_bytes};
+ghost use Rattle.std.specs.Prelude.{◌≡◌, ◌++◌, ◌∷◌, [], map, OnOk, IfOk, length};
 ghost use Rattle.std.specs.List.{flat_map};
 ghost use Rattle.edd_syntax.specs.ItemView.{numbered_item};
-ghost use Rattle.edd_syntax.specs.Numbers as numbers;
 ghost use Rattle.edd_assembly.specs.Assembly.{name_row_at, name_rows, names_of_kind, names_of_kinds, names_of};
 
 use crate::lengths::narrow_length;

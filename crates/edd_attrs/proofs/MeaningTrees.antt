@@ -14,7 +14,7 @@ use Rattle.edd_syntax.specs.Words.{Words}
 use Rattle.edd_syntax.specs.Device as device
 use Rattle.edd_syntax.specs.AttributeValue.{Trapping, ◌>>=◌, value, chosen, all_chosen}
 use Rattle.edd_syntax.specs.Attributes as source
-use Rattle.edd_syntax.specs.Attributes.{each, all_values, operation_number, enumerator, data_item, response, entry, member, element}
+use Rattle.edd_syntax.specs.Attributes.{each, operation_number, enumerator, data_item, response, entry, member, element}
 use Rattle.edd_syntax.specs.Size.{leaf, height, cond_height, conds_height}
 use Rattle.edd_syntax.specs.SubsetRules.{values_in, values_of, cond_defaults, conds_defaults}
 use Rattle.edd_syntax.specs.Strings.{strings_of_texts, enumerator_texts, entry_texts}

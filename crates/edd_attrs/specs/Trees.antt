@@ -10,7 +10,7 @@ use Rattle.edd_syntax.specs.declared.reference.Target.{Target}
 use Rattle.edd_syntax.specs.Expression.{Expr}
 use Rattle.edd_syntax.specs.Conditional.{Cond, Conds}
 use Rattle.edd_syntax.specs.Item as item
-use Rattle.edd_syntax.specs.Item.{DataItem, MenuEntry, TypePart, TransactionPart, Attribute, Item, Description}
+use Rattle.edd_syntax.specs.Item.{DataItem, MenuEntry, TypePart, TransactionPart, Attribute, Description}
 use Rattle.edd_syntax.specs.Numbers.{same_attr, text_attr, number_attr, format_attr}
 use Rattle.edd_syntax.specs.Device.{item_at}
 use Rattle.edd_syntax.specs.Attributes.{is_of_transaction}

@@ -3,7 +3,7 @@
 
 ghost use Rattle.std.specs.Prelude.{◌≡◌, ℕ, ◌+◌, ◌≤◌, ◌++◌, IfOk, IsErrOf, IsTrue, OnOk, length, map, option_map};
 ghost use Rattle.std.specs.List.{list_all};
-ghost use Rattle.edd_syntax.specs.Conditional.{If, Select, NoArms, ConsArm, conds_from, arms_from};
+ghost use Rattle.edd_syntax.specs.Conditional.{If, Select, NoArms, ConsArm, arms_from};
 ghost use Rattle.edd_syntax.specs.ItemView.{numbered_arm, numbered_cond, numbered_conds};
 ghost use Rattle.edd_syntax.specs.SubsetRules.{values_in, values_of, values_under};
 ghost use Rattle.edd_syntax.specs.TreeView.{numbered_expr};

@@ -1,6 +1,6 @@
 //! The elements of attributes, each of which gives one record.
 
-ghost use Rattle.std.specs.Prelude.{◌≡◌, ℕ, ◌<◌, [], Bool, IsErrOf, IsTrue, List, OnOk, Option, pos, true};
+ghost use Rattle.std.specs.Prelude.{◌≡◌, ◌<◌, [], Bool, IsErrOf, IsTrue, List, OnOk, Option, pos, true};
 ghost use Rattle.edd_syntax.specs.declared.numbers.StrNo.{StrNo};
 ghost use Rattle.edd_syntax.specs.declared.reference.Target.{Target};
 ghost use Rattle.edd_syntax.specs.declared.types.Handling.{Handling};

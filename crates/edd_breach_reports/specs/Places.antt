@@ -76,13 +76,10 @@ abbrev pub IsAround : List (Item Path) → (at index : ℕ) → Item Path → Ty
 IsAround items at index item = (slice_get items index ≡ Some item) × ((name_at item).0 < at)
     × IfSome (slice_get items (index + 1)) (λ next. at ≤ (name_at next).0)
 
--- a collection
-abbrev pub IsCollection : Item Path → Type 0
-IsCollection item = kind_of_item (sort_of item) ≡ item_kind.Collection
-
 -- this collection has a member that names what stands at a token: that is behind a comma
 abbrev pub IsNamedIn : UnitText → (at index : ℕ) → Item Path → Type 0
-IsNamedIn u at index item = IsAround u.items at index item × IsCollection item
+IsNamedIn u at index item = IsAround u.items at index item
+    × (kind_of_item (sort_of item) ≡ item_kind.Collection)
     × IfSome (slice_get u.tokens (at - 1)) (λ before. is_comma before.kind ≡ true)
 
 -- members of one collection name what stands at both tokens

@@ -15,7 +15,7 @@ use Rattle.edd_syntax.specs.declared.reference.Target.{Target}
 use Rattle.edd_syntax.specs.declared.reference.Target.TheVariants.{Local, Item, Function}
 use Rattle.edd_syntax.specs.Device as device
 use Rattle.edd_syntax.specs.MethodState as source
-use Rattle.edd_syntax.specs.MethodState.{State, Done, Stopped, Action, pure, ◌>>=◌, ◌>>◌, read, read_element, assign, ask}
+use Rattle.edd_syntax.specs.MethodState.{State, Done, Stopped, Action, pure, ◌>>=◌, ◌>>◌, read, read_element, assign}
 use Rattle.edd_syntax.specs.declared.answer.Trap.{Trap}
 use Rattle.edd_syntax.specs.declared.numbers.ArrNo.{ArrNo}
 use Rattle.edd_syntax.specs.Elements.{element_value, item_element}

@@ -16,15 +16,15 @@ use Rattle.edd_syntax.specs.Builtins.{is_number, numbers_taken, parameters, requ
 use Rattle.edd_syntax.proofs.KnownByNumber.{few_numbers}
 use Rattle.edd_syntax.specs.SubsetRules as rules
 use Rattle.edd_syntax.specs.SubsetRules.{all_fit, is_abort, call_breaches, call_mismatches, argument_mismatches}
-use Rattle.edd_syntax.specs.Words.{Words, words_of}
+use Rattle.edd_syntax.specs.Words.{Words}
 use Rattle.edd_instructions.specs.declared.instruction.Instruction.TheVariants as instruction
 use Rattle.edd_code.specs.Arguments.{asking, names_of}
 use Rattle.edd_code.specs.Blocks.{Nothing, Straight, Then, WhenNotZero, WhenZero, Either}
 use Rattle.edd_code.specs.Expressions.{no_value, element_block, unary_block, truth_block, then_test, instead}
-use Rattle.edd_code.specs.MethodExpressions.{load_block, store_block, ask_block, method_block, call_block, argument_block, argument_blocks, number_block, numbers_block}
+use Rattle.edd_code.specs.MethodExpressions.{load_block, store_block, ask_block, method_block, call_block, argument_block, argument_blocks, numbers_block}
 use Rattle.edd_code.proofs.Asking.{asks_block}
-use Rattle.edd_code.proofs.BlockFlow.{Runs, nothing_runs, straight_runs, then_runs, either_runs, push_runs, change_runs, join_runs, pop_runs, no_value_runs, element_runs, read_runs, store_runs, unary_runs, operate_runs, two_run, increment_runs, and_runs, or_runs}
-use Rattle.edd_code.proofs.Fitting.{front_none, fits, of_none, of_variable, of_method, of_variable_number}
+use Rattle.edd_code.proofs.BlockFlow.{Runs, nothing_runs, straight_runs, then_runs, either_runs, push_runs, join_runs, pop_runs, no_value_runs, element_runs, read_runs, store_runs, unary_runs, operate_runs, two_run, increment_runs, and_runs, or_runs}
+use Rattle.edd_code.proofs.Fitting.{front_none, fits, of_variable, of_method, of_variable_number}
 
 high : (e : Expr Target) → 1 ≤ height e
 high (Literal value) = omega arith

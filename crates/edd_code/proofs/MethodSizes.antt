@@ -1,5 +1,5 @@
 -- The block of an expression of a method is short.
-use Rattle.std.proofs.Common.{◌≡◌, ◌+◌, ◌*◌, ◌≤◌, Bool, true, false, [], ◌++◌, arith, List, ◌∷◌, length}
+use Rattle.std.proofs.Common.{◌≡◌, ◌+◌, ◌*◌, ◌≤◌, Bool, true, false, [], ◌++◌, arith, List, ◌∷◌}
 use Rattle.edd_syntax.specs.declared.numbers.ItemNo.{ItemNo}
 use Rattle.edd_syntax.specs.declared.numbers.ItemNo.TheVariants as item_no
 use Rattle.edd_syntax.specs.declared.numbers.StrNo.{StrNo}
@@ -21,7 +21,7 @@ use Rattle.edd_syntax.specs.Words.{Words}
 use Rattle.edd_code.specs.Blocks.{size}
 use Rattle.edd_code.specs.Expressions.{item_block, unary_block}
 use Rattle.edd_code.proofs.ExpressionSizes.{element_size}
-use Rattle.edd_code.specs.MethodExpressions.{load_block, store_item_block, store_block, increment_block, method_block, call_block, argument_block, argument_blocks, number_block, numbers_block}
+use Rattle.edd_code.specs.MethodExpressions.{load_block, store_item_block, store_block, increment_block, method_block, call_block, argument_block, argument_blocks, numbers_block}
 use Rattle.edd_code.proofs.Asking.{asks_block}
 use Rattle.edd_code.proofs.Fitting.{front_none, fits, of_none, of_variable, of_method, of_variable_number}
 

@@ -46,7 +46,7 @@ use Rattle.edd_code.specs.Blocks.{Block, Nothing, Straight, Then, WhenNotZero, W
 use Rattle.edd_code.specs.Expressions.{no_value, item_block, item_element_block, element_block, no_element, unary_block, truth_block, then_test, instead}
 use Rattle.edd_code.specs.Flow.{AreSpelled, all_straight, may_stand}
 use Rattle.edd_code.specs.Reads.{item_is_there}
-use Rattle.edd_code.specs.MethodExpressions.{load_block, store_item_block, store_block, store_next_block, store_behind_block, increment_block, method_block, call_block, argument_block, argument_blocks, number_block, numbers_block}
+use Rattle.edd_code.specs.MethodExpressions.{load_block, store_item_block, store_block, store_next_block, store_behind_block, increment_block, method_block, call_block, argument_block, argument_blocks, numbers_block}
 use Rattle.edd_code.specs.MethodReads.{uses_existing}
 use Rattle.edd_code.proofs.Versions.{in_methods, abort_methods_allowed}
 use Rattle.edd_code.proofs.Asking.{asks_block, few_names, names_fit, unused}

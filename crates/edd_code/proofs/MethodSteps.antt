@@ -7,7 +7,7 @@ use Rattle.edd_syntax.specs.declared.answer.Trap.{Trap}
 use Rattle.edd_syntax.specs.Words.{Words}
 use Rattle.edd_syntax.specs.Answers.{Change, Answer, Go, Abort, values_set}
 use Rattle.edd_syntax.specs.MethodState as source
-use Rattle.edd_syntax.specs.MethodState.{apply_sets, ask, answered}
+use Rattle.edd_syntax.specs.MethodState.{apply_sets, answered}
 use Rattle.edd_instructions.specs.declared.requests.Request.{Request}
 use Rattle.edd_instructions.specs.declared.records.Emitted.{Emitted}
 use Rattle.edd_instructions.specs.declared.records.Emitted.TheVariants as emitted

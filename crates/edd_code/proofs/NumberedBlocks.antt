@@ -1,6 +1,5 @@
 -- Parts of code that are blocks, with the strings of texts by number.
-use Rattle.std.proofs.Common.{◌≡◌, refl, sym, ap, subst, ◌∙◌, ℕ, zero, suc, ◌+◌, List, [], ◌∷◌, ◌++◌, length, arith, ◌<◌, ◌≤◌, map, append_assoc, length-append}
-use Rattle.std.specs.List.{Contains}
+use Rattle.std.proofs.Common.{◌≡◌, refl, sym, ap, subst, ◌∙◌, ℕ, ◌+◌, List, [], ◌∷◌, ◌++◌, length, arith, ◌<◌, ◌≤◌, map, append_assoc, length-append}
 use Rattle.std.proofs.lemmas.List.{append-nil}
 use Rattle.edd_syntax.specs.declared.numbers.StrNo.{StrNo}
 use Rattle.edd_syntax.specs.declared.reference.Target.{Target}
@@ -8,7 +7,7 @@ use Rattle.edd_syntax.specs.declared.operators.Builtin.{Builtin}
 use Rattle.edd_syntax.specs.Expression.{Expr, Call, Argument, Arguments, arguments_from}
 use Rattle.edd_syntax.specs.Strings.{argument_texts, expr_texts, strings_of_texts}
 use Rattle.edd_syntax.specs.Text as texts
-use Rattle.edd_syntax.specs.Words.{Words, words_of}
+use Rattle.edd_syntax.specs.Words.{Words}
 use Rattle.edd_instructions.specs.declared.instruction.Ask.{Ask}
 use Rattle.edd_instructions.specs.declared.instruction.Instruction.{Instruction}
 use Rattle.edd_instructions.specs.declared.instruction.Instruction.TheVariants as instruction
@@ -21,9 +20,9 @@ use Rattle.edd_code.specs.MethodExpressions.{call_block, method_block}
 use Rattle.edd_code.specs.Tables.{GrowsBy, Keeps, Overflows, number_in}
 use Rattle.edd_code.specs.Written.{ByNumber, HoldsTexts, WritesPart}
 use Rattle.edd_code.proofs.Closing.{when_not_zero_closed, when_zero_closed, either_closed}
-use Rattle.edd_code.proofs.Growing.{no_growth, both_added, growth, keeps_on}
-use Rattle.edd_code.proofs.Numbered.{parts_written, part_written, plain_written, string_written, strings_listed, texts_listed, texts_overflow_first, texts_overflow_second}
-use Rattle.edd_code.proofs.Numbers.{kept_held, number_is}
+use Rattle.edd_code.proofs.Growing.{no_growth}
+use Rattle.edd_code.proofs.Numbered.{parts_written, part_written, plain_written, strings_listed, texts_listed, texts_overflow_first, texts_overflow_second}
+use Rattle.edd_code.proofs.Numbers.{number_is}
 use Rattle.edd_code.proofs.Writing.{goes_on, one_more}
 
 -- a block by the numbers of strings

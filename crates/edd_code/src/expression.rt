@@ -2,8 +2,8 @@
 
 ghost use Rattle.std.specs.Prelude.{◌≡◌, ◌++◌, length, OnOk};
 ghost use Rattle.edd_syntax.specs.TreeView.{numbered_expr};
-ghost use Rattle.edd_code.specs.Blocks.{WhenNotZero, WhenZero, Either, Straight, Then, bytes_at};
-ghost use Rattle.edd_code.specs.Expressions.{item_block, read_block, no_element, item_element_block, element_block, unary_block, truth_block, then_test, instead, no_value, expression_block};
+ghost use Rattle.edd_code.specs.Blocks.{WhenNotZero, WhenZero, Either, Then, bytes_at};
+ghost use Rattle.edd_code.specs.Expressions.{item_block, read_block, no_element, item_element_block, element_block, unary_block, truth_block, then_test, instead, expression_block};
 
 use crate::emit::{close, open, put};
 use edd_instructions::{Emitter, Instruction, Jump};

@@ -1,12 +1,11 @@
 //! The compiler as one call.
 
-ghost use Rattle.std.specs.Prelude.{◌≡◌, ◌≤◌, ◌∷◌, [], ℕ, List, IfErr, IfOk, OnOk, length, map};
+ghost use Rattle.std.specs.Prelude.{◌≡◌, ◌∷◌, [], ℕ, List, IfErr, IfOk, OnOk, map};
 ghost use Rattle.edd_syntax.specs.declared.limits.Limit.TheVariants as limit;
 ghost use Rattle.edd_syntax.specs.Reference.{Path};
 ghost use Rattle.edd_syntax.specs.Item.{Description};
 ghost use Rattle.edd_syntax.specs.Accepted.{IsAccepted};
 ghost use Rattle.edd_syntax.specs.Refusal.{TooMany};
-ghost use Rattle.edd_syntax.specs.WordsView.{string_of};
 ghost use Rattle.edd_syntax.specs.Strings.{too_many_strings};
 ghost use Rattle.edd_image.specs.Contents.{contents_in};
 ghost use Rattle.edd_instructions.specs.MethodAgreement.{Agrees};

@@ -1,7 +1,6 @@
 //! The lines of a method's run: its requests, how it ends, and the values that it leaves.
 
 ghost use Rattle.std.specs.Prelude.{◌≡◌, ◌++◌, ◌∷◌, [], OnOk, string_bytes};
-ghost use Rattle.std.specs.Fmt.{signed_decimal};
 ghost use Rattle.std.specs.Io.KnownBytes.{Appends};
 ghost use Rattle.std.specs.List.{flat_map, range_with_len};
 ghost use Rattle.edd_syntax.specs.declared.numbers.ItemNo.TheVariants as items;

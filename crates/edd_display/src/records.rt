@@ -1,11 +1,9 @@
 //! The records of an attribute.
 
 ghost use Rattle.std.specs.Prelude.{◌≡◌, ◌++◌, ◌∷◌, [], OnOk, string_bytes};
-ghost use Rattle.std.specs.Fmt.{decimal, signed_decimal};
-ghost use Rattle.edd_syntax.specs.declared.numbers.ItemNo.TheVariants as items;
 ghost use Rattle.edd_image.specs.Contents.{contents_in};
 ghost use Rattle.edd_instructions.specs.declared.records.Record.TheVariants as records;
-ghost use Rattle.edd_display.specs.Words.{class_word, data_qualifiers, member_shown, menu_qualifiers, name_of, optional_shown, qualifiers_shown, string_shown};
+ghost use Rattle.edd_display.specs.Words.{class_word, name_of, optional_shown};
 ghost use Rattle.edd_display.specs.Records.{mask_shown, record_shown, records_shown};
 
 use crate::page::Page;

@@ -1,6 +1,5 @@
 //! The lines of a unit.
 
-ghost use Rattle.std.specs.Prelude.{◌≤◌, length};
 
 use crate::instructions::Page;
 use edd_display::{ShowFault, print};

@@ -1,7 +1,6 @@
 //! A method that is played under the answers of a program in C.
 
 ghost use Rattle.std.specs.Prelude.{◌≡◌, IfErr, IfOk, IsTrue, OnErr, length};
-ghost use Rattle.edd_syntax.specs.Answers.{answer_of};
 ghost use Rattle.edd_embed.specs.Playing.{IsPlayRefusal, Shows, answers_of, ending_number, trap_number, trap_of};
 
 use crate::answers::{Given, Setting, answers_of};

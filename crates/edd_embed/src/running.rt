@@ -1,6 +1,6 @@
 //! Sessions that a program in C starts, advances, answers and looks at.
 
-ghost use Rattle.std.specs.Prelude.{◌≡◌, ◌+◌, ◌<◌, ◌≤◌, ℕ, ℤ, List, Some, IfErr, IfNone, IfOk, IfSome, OnErr, OnOk, length, map, option_map};
+ghost use Rattle.std.specs.Prelude.{◌≡◌, ◌+◌, ◌<◌, ◌≤◌, ℕ, ℤ, List, Some, IfErr, IfNone, IfSome, OnErr, OnOk, length, map, option_map};
 ghost use Rattle.std.specs.List.{AllByRecursion};
 ghost use Rattle.edd_syntax.specs.Answers.{sets_fault, values_set};
 ghost use Rattle.edd_image.specs.Contents.{AttributeFields, contents_in};

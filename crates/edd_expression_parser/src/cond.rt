@@ -1,8 +1,7 @@
 //! Conditionals of values of any kind.
 
-ghost use Rattle.std.specs.Prelude.{◌≡◌, ◌≤◌, ◌<◌, ◌+◌, ℕ, List, [], ◌∷◌, length, Some, None, IfOk};
+ghost use Rattle.std.specs.Prelude.{◌≡◌, ◌≤◌, ◌<◌, ◌+◌, ℕ, List, [], ◌∷◌, length, Some, IfOk};
 ghost use Rattle.edd_syntax.specs.Token.{Token};
-ghost use Rattle.edd_syntax.specs.Grammar.{InAttribute};
 ghost use Rattle.edd_grammar.specs.Reading.{Read};
 ghost use Rattle.edd_grammar.specs.WordReading.{braced};
 ghost use Rattle.edd_grammar.specs.ConditionalReading as reading;

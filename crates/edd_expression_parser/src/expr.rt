@@ -1,15 +1,14 @@
 //! Expressions, by the precedence of their operators.
 
-ghost use Rattle.std.specs.Prelude.{◌≡◌, ◌≤◌, ◌<◌, ◌+◌, List, [], ◌∷◌, ◌++◌, length, drop, Some, None, IfOk, nat_le, if◌then◌else◌};
+ghost use Rattle.std.specs.Prelude.{◌≡◌, ◌≤◌, ◌<◌, ◌+◌, length, drop, Some, None, IfOk, nat_le, if◌then◌else◌};
 ghost use Rattle.edd_syntax.specs.TreeView.{path_of};
-ghost use Rattle.edd_syntax.specs.Expression as tree;
-ghost use Rattle.edd_syntax.specs.Size.{height, argument_height};
+ghost use Rattle.edd_syntax.specs.Size.{height};
 ghost use Rattle.edd_syntax.specs.declared.symbols.Symbol.TheVariants as sign;
 ghost use Rattle.edd_grammar.specs.Reading.{expect, on_option};
 ghost use Rattle.edd_grammar.specs.ExpressionReading as reading;
 ghost use Rattle.edd_grammar.specs.ExpressionReading.{expr_at, operator_at};
-ghost use Rattle.edd_token_reader.specs.Views.{site_view, infix_view, assignment_view, Gives};
-ghost use Rattle.edd_expression_parser.specs.Expressions.{expr_view, pure_argument, argument_levels, listed, up_to_at};
+ghost use Rattle.edd_token_reader.specs.Views.{site_view, infix_view, Gives};
+ghost use Rattle.edd_expression_parser.specs.Expressions.{expr_view, pure_argument, listed, up_to_at};
 
 use crate::trees::{
     Child, Measured, MeasuredArgument, MeasuredArguments, assigned, binary, boxed, call,

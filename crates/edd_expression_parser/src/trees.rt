@@ -1,13 +1,13 @@
 //! Expressions with their heights.
 
-ghost use Rattle.std.specs.Prelude.{◌≡◌, ◌≤◌, ◌+◌, List, [], ◌∷◌, ◌++◌, None, IfOk, MatchResult, max};
+ghost use Rattle.std.specs.Prelude.{◌≡◌, ◌≤◌, ◌+◌, [], ◌∷◌, ◌++◌, None, IfOk, MatchResult, max};
 ghost use Rattle.edd_syntax.specs.TreeView.{path_of};
 ghost use Rattle.edd_syntax.specs.Expression as tree;
 ghost use Rattle.edd_syntax.specs.Size.{height, argument_height};
 ghost use Rattle.edd_grammar.specs.Signs.{infix_tree, assignment_tree};
 ghost use Rattle.edd_grammar.specs.ExpressionReading.{as_path};
 ghost use Rattle.edd_token_reader.specs.Views.{infix_view, assignment_view};
-ghost use Rattle.edd_expression_parser.specs.Expressions.{expr_view, pure_argument, argument_levels, listed};
+ghost use Rattle.edd_expression_parser.specs.Expressions.{expr_view, argument_levels, listed};
 
 use edd_syntax::expr::{Argument, Expr};
 use edd_syntax::numbers::TokenNo;

@@ -1,6 +1,6 @@
 //! What may be a value of a conditional.
 
-ghost use Rattle.std.specs.Prelude.{◌≡◌, Bool, Some};
+ghost use Rattle.std.specs.Prelude.{Bool, Some};
 ghost use Rattle.edd_syntax.specs.declared.types.Handling as handling_words;
 ghost use Rattle.edd_syntax.specs.Text as texts;
 ghost use Rattle.edd_syntax.specs.Reference as references;

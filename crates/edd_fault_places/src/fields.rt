@@ -1,6 +1,6 @@
 //! The fields of the header, and where the sections start.
 
-ghost use Rattle.std.specs.Prelude.{◌≡◌, ◌≤◌, length};
+ghost use Rattle.std.specs.Prelude.{length};
 
 use edd_image::{
     HEADER_LENGTH, attribute_rows_start, code_start, element_rows_start, name_bytes_start,

@@ -2,7 +2,7 @@
 
 ghost use Rattle.std.specs.Prelude.{◌≡◌, ◌≤◌, length};
 ghost use Rattle.edd_image.specs.Contents.{version_of};
-ghost use Rattle.edd_image.specs.Fields.{has_magic, version_number, is_extended, header_padding, extension_padding, array_count, element_count, total_length, counts_in, attribute_count, names_length, code_length, strings_length, header_length, name_rows_start, attribute_rows_start, code_start, string_rows_start, name_bytes_start, string_bytes_start, sections_end};
+ghost use Rattle.edd_image.specs.Fields.{has_magic, version_number, is_extended, header_padding, extension_padding, array_count, element_count, total_length, counts_in, attribute_count, names_length, code_length, strings_length, header_length};
 
 use crate::fields::{u8_at, u16_at, u32_at};
 use crate::parts::Counts;

@@ -22,7 +22,7 @@ use Rattle.edd_syntax.specs.MethodState as source
 use Rattle.edd_syntax.specs.MethodState.{State, apply_sets, pure, ◌>>=◌, ◌>>◌, and_then}
 use Rattle.edd_syntax.specs.Evaluation.{evaluate, call}
 use Rattle.edd_syntax.specs.Execution as run
-use Rattle.edd_syntax.specs.Execution.{Transcript, Completion, Normal, execute, execute_all, run_body, turns, next, next_turn}
+use Rattle.edd_syntax.specs.Execution.{Transcript, Completion, Normal, execute, execute_all, turns, next, next_turn}
 use Rattle.edd_syntax.specs.declared.operators.RequestKind.TheVariants as kind
 use Rattle.edd_instructions.specs.declared.requests.Request.{Request}
 use Rattle.edd_instructions.specs.declared.requests.Request.TheVariants as requests
@@ -31,9 +31,9 @@ use Rattle.edd_instructions.specs.declared.unit.Sort.TheVariants as sort
 use Rattle.edd_image.specs.Front.{byte_from, number_from}
 use Rattle.edd_instructions.specs.Decoding.{operator_of, comparison_of, instruction_at, instruction_from, basic_from, unary_of, jump_from, ask_of, ask_from}
 use Rattle.edd_instructions.specs.Steps as steps
-use Rattle.edd_instructions.specs.Steps.{Environment, opening, act, step}
+use Rattle.edd_instructions.specs.Steps.{Environment, act, step}
 use Rattle.edd_instructions.specs.Execution as image
-use Rattle.edd_instructions.specs.Execution.{Ending, Outcome, preceded, stepped}
+use Rattle.edd_instructions.specs.Execution.{Outcome, preceded, stepped}
 use Rattle.edd_instructions.specs.Reading as reading
 use Rattle.edd_image.specs.Contents.{AttributeFields, Contents, contents_in, rows_from}
 use Rattle.edd_image.specs.Fields.{number_at, variable_rows_start, name_rows_start, attribute_rows_start, element_rows_start, code_start, string_rows_start, name_bytes_start, string_bytes_start, sections_end}

@@ -13,7 +13,7 @@ use Rattle.edd_syntax.specs.MethodState as source
 use Rattle.edd_syntax.specs.MethodState.{State, Stopped}
 use Rattle.edd_syntax.specs.Evaluation.{evaluate}
 use Rattle.edd_syntax.specs.Execution as run
-use Rattle.edd_syntax.specs.Execution.{Transcript, execute, run_body, turns}
+use Rattle.edd_syntax.specs.Execution.{Transcript, execute, turns}
 use Rattle.edd_instructions.specs.declared.unit.Sort.TheVariants as sort
 use Rattle.edd_image.specs.Contents.{AttributeFields, contents_in, rows_from}
 use Rattle.edd_image.specs.Front.{number_from}
@@ -22,7 +22,7 @@ use Rattle.edd_image.specs.Fields.{number_at, variable_rows_start, name_rows_sta
 use Rattle.edd_instructions.specs.Steps as steps
 use Rattle.edd_instructions.specs.Steps.{Environment, opening, act, step}
 use Rattle.edd_instructions.specs.Execution as image
-use Rattle.edd_instructions.specs.Execution.{Ending, Ended, OutOfSteps, Outcome, preceded, stepped}
+use Rattle.edd_instructions.specs.Execution.{Ended, OutOfSteps, Outcome, preceded, stepped}
 use Rattle.edd_instructions.specs.Reading as reading
 use Rattle.edd_instructions.specs.AbortMethods.{Start, next, start_in, execute_in}
 use Rattle.edd_instructions.specs.Agreement.{string_numbered}

@@ -1,7 +1,6 @@
 //! Reading an instruction from the bytes of a unit.
 
 ghost use Rattle.std.specs.Prelude.{◌≡◌, ◌-◌, ◌<◌, ◌≤◌, ◌∷◌, drop, length, ◌==◌, IfSome, option_map, nat_lt, if◌then◌else◌, None, Some};
-ghost use Rattle.edd_instructions.specs.declared.instruction.Instruction.TheVariants as instructions;
 ghost use Rattle.std.specs.Int.{w16, w32, w64};
 ghost use Rattle.edd_image.specs.Front.{byte_from, number_from};
 ghost use Rattle.edd_instructions.specs.Decoding.{signed_from, basic_from, jump_from, item_from, optional_string, entry_from, data_from, enumerator_from, response_from, member_from, element_from, record_from, unused_are_zero, ask_of, ask_from, abort_method_from, instruction_from, instruction_at};

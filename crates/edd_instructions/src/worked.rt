@@ -1,9 +1,7 @@
 //! Small images by hand, as laws: the layouts of their parts, valid, with each edit the rule that
 //! it breaks, and what their methods do.
 
-ghost use Rattle.std.specs.Prelude.{◌≡◌, [], ◌∷◌, pos, Some, take, slice_set};
-ghost use Rattle.edd_syntax.specs.declared.numbers.Attr.TheVariants as attr;
-ghost use Rattle.edd_syntax.specs.declared.numbers.ItemNo.TheVariants as items;
+ghost use Rattle.std.specs.Prelude.{◌≡◌, [], ◌∷◌, pos, take, slice_set};
 ghost use Rattle.edd_instructions.specs.declared.records.Record.TheVariants as records;
 ghost use Rattle.edd_instructions.specs.declared.rules.Rule.TheVariants as rule;
 ghost use Rattle.edd_instructions.specs.declared.rules.UnitRule.TheVariants as unit_rule;

@@ -5,7 +5,7 @@ use Rattle.edd_syntax.specs.Words.{has_escapes}
 use Rattle.edd_lexer.specs.Bytes.{begins}
 use Rattle.edd_lexer.specs.Numbers.{begins_number}
 use Rattle.edd_lexer.specs.Strings.{Closed}
-use Rattle.edd_lexer.specs.Tokens.{Lexeme, Stands, TokensFrom, nothing}
+use Rattle.edd_lexer.specs.Tokens.{Lexeme, TokensFrom, nothing}
 use Rattle.edd_lexer.specs.Tokens as tokens
 use Rattle.edd_lexer.specs.Faults.{Fault, BadCharacter, OpenComment, OpenString, BadEscape, BadNumber, Directive, FaultHere, open_comment, open_string, bad_escape, bad_number, directive, bad_character, begins_comment, begins_string, begins_directive, NothingBegins, FaultFrom, at_once}
 use Rattle.edd_lexer.specs.Faults as faults

@@ -15,7 +15,7 @@ use Rattle.edd_lexer.specs.Signs.{operator_bytes, comparison_bytes, symbol_bytes
 use Rattle.edd_lexer.specs.Gaps.{Gap, blank, line_comment, block_comment, mark, behind_close}
 use Rattle.edd_lexer.specs.Tokens.{Lexeme, Stands, word, integer, decimal, string, sign, TokensFrom, nothing}
 use Rattle.edd_lexer.specs.Tokens as tokens
-use Rattle.edd_lexer.specs.Faults.{Fault, open_comment, open_string, bad_escape, bad_number, directive, bad_character, begins_comment, begins_string, begins_directive, NothingBegins, FaultFrom, at_once}
+use Rattle.edd_lexer.specs.Faults.{Fault, NothingBegins, FaultFrom, at_once}
 use Rattle.edd_lexer.specs.Faults as faults
 use Rattle.edd_lexer.specs.Reading.{Step, token, gap, wrong, step_at, with_first, after_step, tokens_at}
 use Rattle.edd_lexer.proofs.Runs.{front_length}

@@ -4,7 +4,7 @@ ghost use Rattle.std.specs.Prelude.{◌≡◌, ◌<◌, ◌≤◌, MatchOption, 
 ghost use Rattle.std.specs.Char.{is_ascii_digit, is_ascii_hexdigit};
 ghost use Rattle.std.specs.List.{list_all};
 ghost use Rattle.edd_lexer.specs.Bytes as bytes;
-ghost use Rattle.edd_lexer.specs.Bytes.{begins, front, behind};
+ghost use Rattle.edd_lexer.specs.Bytes.{begins};
 ghost use Rattle.edd_lexer.specs.Numbers as spelled;
 ghost use Rattle.edd_lexer.specs.Reading as reading;
 ghost use Rattle.edd_lexer.specs.Parts.{rest_of, step_of_number};

@@ -12,7 +12,7 @@ use Rattle.edd_syntax.specs.TwosComplement.{wrap, operate, compare, apply, is_ze
 use Rattle.edd_syntax.specs.AttributeValue as attribute
 use Rattle.edd_syntax.specs.AttributeValue.{Trapping, value}
 use Rattle.edd_syntax.specs.MethodState as method
-use Rattle.edd_syntax.specs.MethodState.{State, Outcome, Done, Stopped, Action, and_then, number, assign}
+use Rattle.edd_syntax.specs.MethodState.{State, Outcome, Done, Stopped, Action, and_then}
 use Rattle.edd_syntax.specs.Evaluation.{evaluate, evaluate_all}
 use Rattle.edd_lints.specs.Constants.{Fails, Stops, HasValue, HasNone, IsKnown}
 use Rattle.edd_instructions.specs.Steps.{width_of}

@@ -10,7 +10,7 @@ ghost use Rattle.edd_instructions.specs.declared.unit.Sort.TheVariants.{Method};
 ghost use Rattle.edd_instructions.specs.AbortMethods.{aborting, next, start_in, start_listed};
 ghost use Rattle.edd_image.specs.Contents.{contents_in};
 ghost use Rattle.edd_image.specs.Fields.{counts_in};
-ghost use Rattle.edd_instructions.specs.Steps.{Environment, Fits, act, act_ask, ask_for, opening};
+ghost use Rattle.edd_instructions.specs.Steps.{Fits, act, act_ask, ask_for, opening};
 ghost use Rattle.edd_instructions.specs.Units.{numbers_asked};
 ghost use Rattle.edd_instructions.specs.Validity.{IsValid};
 ghost use Rattle.edd_machine.specs.Outcomes.{comes_to};

@@ -6,7 +6,7 @@ use Rattle.edd_instructions.specs.declared.instruction.Instruction.{Instruction}
 use Rattle.edd_instructions.specs.declared.instruction.Instruction.TheVariants as instruction
 use Rattle.edd_instructions.specs.Units.{Placed}
 use Rattle.edd_code.specs.Blocks as blocks
-use Rattle.edd_code.specs.Blocks.{Block, target, bytes_of}
+use Rattle.edd_code.specs.Blocks.{Block, target}
 use Rattle.edd_code.proofs.Lines.{placed}
 use Rattle.edd_code.proofs.BlockPlaces.{stand, AllIn}
 use Rattle.edd_methods.specs.Statements.{Part, Missing, Step, Test, Code, Plain, Then, Guard, Branch, Loop, Switch, Break, Continue, Finish, Arms, Nil, Statement, Case, Default, part_size, tests_size, size, arms_size, part_emitted, tests_emitted, default_place, emitted, arms_emitted}

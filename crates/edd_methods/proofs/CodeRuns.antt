@@ -6,7 +6,7 @@ use Rattle.edd_syntax.specs.declared.numbers.StrNo.{StrNo}
 use Rattle.edd_syntax.specs.TwosComplement.{is_zero}
 use Rattle.edd_syntax.specs.Words.{Words}
 use Rattle.edd_syntax.specs.MethodState as source
-use Rattle.edd_syntax.specs.MethodState.{State, Done, Stopped, Action, pure}
+use Rattle.edd_syntax.specs.MethodState.{State, Done, Action, pure}
 use Rattle.edd_syntax.specs.Execution.{Completion, Normal, Breaks, Continues, Returns, next, left}
 use Rattle.edd_instructions.specs.declared.instruction.Instruction.TheVariants as instruction
 use Rattle.edd_instructions.specs.Steps.{Environment, act, go}

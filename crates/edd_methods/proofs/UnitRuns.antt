@@ -7,7 +7,7 @@ use Rattle.edd_syntax.specs.Answers.{Answer, Go, Abort, IsValidAnswer}
 use Rattle.edd_syntax.specs.MethodState as source
 use Rattle.edd_syntax.specs.MethodState.{State, Done, Stopped, Action}
 use Rattle.edd_syntax.specs.Execution as run
-use Rattle.edd_syntax.specs.Execution.{Completion, Normal, Breaks, Continues, Returns, Transcript, transcript, ended, OutOfTurns}
+use Rattle.edd_syntax.specs.Execution.{Completion, Normal, Breaks, Continues, Returns, transcript, ended}
 use Rattle.edd_instructions.specs.declared.instruction.Instruction.TheVariants as instruction
 use Rattle.edd_instructions.specs.Spelling.{spelling}
 use Rattle.edd_instructions.specs.Steps.{Environment, act}

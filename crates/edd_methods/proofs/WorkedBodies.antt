@@ -5,7 +5,7 @@ use Rattle.edd_syntax.specs.declared.operators.Builtin.TheVariants as builtin
 use Rattle.edd_syntax.specs.declared.reference.Target.{Target}
 use Rattle.edd_syntax.specs.declared.reference.Target.TheVariants.{Local, Function}
 use Rattle.edd_syntax.specs.Expression as expr
-use Rattle.edd_syntax.specs.Expression.{Expr, Literal, Reference, Call}
+use Rattle.edd_syntax.specs.Expression.{Literal, Reference, Call}
 use Rattle.edd_syntax.specs.Statement.{Stmt, Empty, Evaluate, If, While, For, Break, Return, Body, Nil, Cons, Declare, Statement}
 use Rattle.edd_syntax.specs.Words.{Words}
 use Rattle.edd_code.specs.Blocks as blocks

@@ -12,7 +12,7 @@ use Rattle.edd_syntax.specs.Statement as tree
 use Rattle.edd_syntax.specs.Statement.{Stmt, Body}
 use Rattle.edd_syntax.specs.Strings.{expr_texts}
 use Rattle.edd_syntax.specs.SubsetRules as rules
-use Rattle.edd_syntax.specs.SubsetRules.{stmt_expressions, optional_part, body_expressions}
+use Rattle.edd_syntax.specs.SubsetRules.{stmt_expressions, optional_part}
 use Rattle.edd_syntax.specs.Text.{Text}
 use Rattle.edd_syntax.specs.Words.{Words}
 use Rattle.edd_instructions.specs.declared.instruction.Instruction.TheVariants as instruction

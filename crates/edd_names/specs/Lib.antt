@@ -1,3 +1,2 @@
-pub mod MemberUses
 pub mod Told
 pub mod Units

@@ -13,11 +13,10 @@ ghost use Rattle.edd_syntax.specs.ItemView.{item_of, type_part_of, transaction_p
 ghost use Rattle.edd_syntax.specs.NameUses.{Use, OfItem, type_part_uses, transaction_part_uses};
 ghost use Rattle.edd_syntax.specs.Reference as reference;
 ghost use Rattle.edd_syntax.specs.ReferenceOrder.{element_references, member_references, transaction_part_references, type_part_references};
-ghost use Rattle.edd_syntax.specs.Resolution.{member_kinds};
+ghost use Rattle.edd_syntax.specs.Resolution.{member_kinds, variable_kinds};
 ghost use Rattle.edd_syntax.specs.ResolvedTrees.{Reading, each, resolved_type_part, resolved_transaction_part, resolved_member, resolved_element};
 ghost use Rattle.edd_syntax.specs.TreeView.{path_of};
 ghost use Rattle.edd_name_meanings.specs.Directory.{description_of, read_by};
-ghost use Rattle.edd_names.specs.MemberUses.{element_uses, member_uses};
 ghost use Rattle.edd_name_meanings.specs.Copies.{Copies, Keeps, Told};
 
 use edd_breaches::Breach;
@@ -235,7 +234,7 @@ impl ResolvePart for Member<Path> {
 
     ghost copied_tokens = { token_of_member };
 
-    ghost uses = { λ sort. member_uses (member_kinds sort) };
+    ghost uses = { λ sort m. OfItem [] (member_kinds sort) m.item ∷ [] };
 
     ghost meant = { λ names sort. resolved_member names (member_kinds sort) };
 
@@ -277,7 +276,7 @@ impl ResolvePart for ArrayElement<Path> {
 
     ghost copied_tokens = { token_of_element };
 
-    ghost uses = { λ sort. element_uses };
+    ghost uses = { λ sort e. OfItem [] variable_kinds e.variable ∷ [] };
 
     ghost meant = { λ names sort. resolved_element names };
 

@@ -1,5 +1,5 @@
 -- What a command does to a panel.
-use Rattle.std.specs.Prelude.{◌≡◌, ℕ, ℤ, Bool, not, ◌==◌, ◌⊎◌, List, [], ◌∷◌, ◌++◌, Option, Some, None, IfSome, bit_and, slice_set}
+use Rattle.std.specs.Prelude.{◌≡◌, ℕ, ℤ, Bool, not, ◌==◌, ◌⊎◌, [], ◌∷◌, ◌++◌, Option, Some, None, IfSome, bit_and, slice_set}
 use Rattle.edd_syntax.specs.declared.numbers.MethNo.{MethNo}
 use Rattle.edd_port.specs.Runs.{Run, OpensIn}
 use Rattle.edd_panel.specs.declared.command.Command.{Command}

@@ -2,7 +2,7 @@
 use Rattle.std.specs.Prelude.{◌≡◌, ◌≢◌, ℕ, ℤ, List, Option, Some, None, option_map}
 use Rattle.edd_syntax.specs.declared.numbers.MethNo.{MethNo}
 use Rattle.edd_syntax.specs.Answers as answers
-use Rattle.edd_syntax.specs.Answers.{Answer, SetFault}
+use Rattle.edd_syntax.specs.Answers.{Answer}
 use Rattle.edd_syntax.specs.DeviceValues.{AreDeviceValues}
 use Rattle.edd_instructions.specs.AbortMethods.{execute_in}
 use Rattle.edd_image.specs.Contents.{contents_in}

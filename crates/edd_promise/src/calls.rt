@@ -1,7 +1,7 @@
 //! The calls, with what the laws ask of them: each function makes one call, and its contract is the
 //! premise of a law, so that the laws hold of what the calls do.
 
-ghost use Rattle.std.specs.Prelude.{◌≡◌, IfOk, OnOk, map};
+ghost use Rattle.std.specs.Prelude.{IfOk, OnOk, map};
 ghost use Rattle.edd_instructions.specs.declared.requests.Request.{Request};
 ghost use Rattle.edd_port.specs.Drives.{AreMet, Takes, accepted, added, driven};
 ghost use Rattle.edd_promise.specs.Plays.{PlayShows};

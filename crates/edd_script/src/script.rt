@@ -1,6 +1,6 @@
 //! The script of a run: the values of variables, and the answers to the requests of a method.
 
-ghost use Rattle.std.specs.Prelude.{◌≡◌, ◌++◌, ◌∷◌, [], IfErr, IfOk, IfSome, None, Ok, Err, OnOk, map, option_map, pos, replicate, slice_get};
+ghost use Rattle.std.specs.Prelude.{◌≡◌, ◌++◌, ◌∷◌, [], IfErr, IfOk, IfSome, None, Ok, Err, OnOk, map, pos, replicate, slice_get};
 ghost use Rattle.edd_syntax.specs.Answers.{answer_of, values_set};
 ghost use Rattle.edd_image.specs.Contents.{contents_in};
 ghost use Rattle.edd_script.specs.Lines.{lines};

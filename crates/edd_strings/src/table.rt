@@ -1,6 +1,6 @@
 //! The table of a description's strings: each different string once, by its number.
 
-ghost use Rattle.std.specs.Prelude.{◌≡◌, ◌≢◌, ◌↔◌, ◌<◌, ◌≤◌, ◌⊎◌, [], IfErr, IfOk, IsErrOf, IsTrue, OnErr, length, map, take};
+ghost use Rattle.std.specs.Prelude.{◌≡◌, ◌≢◌, ◌↔◌, ◌<◌, ◌≤◌, ◌⊎◌, [], IfOk, IsErrOf, IsTrue, OnErr, length, map, take};
 ghost use Rattle.std.specs.List.{All, AllPairs, Contains};
 ghost use Rattle.edd_syntax.specs.Words.{are_words};
 ghost use Rattle.edd_syntax.specs.WordsView.{string_of};

@@ -12,7 +12,7 @@ use Rattle.edd_syntax.specs.Expression.{Literal, Reference, Assign, Call, Value,
 use Rattle.edd_syntax.specs.Conditional as cond
 use Rattle.edd_syntax.specs.Statement.{Evaluate, Block, Return, Part, body_from, Declare, Statement, slots_of}
 use Rattle.edd_syntax.specs.Item as item
-use Rattle.edd_syntax.specs.Item.{Description, Attribute, TypeOf, Known, Members, Definition}
+use Rattle.edd_syntax.specs.Item.{Description, TypeOf, Known, Members, Definition}
 use Rattle.edd_syntax.specs.TwosComplement.{wrap, store}
 use Rattle.edd_syntax.specs.Evaluation.{evaluate}
 use Rattle.edd_syntax.specs.Execution.{execute, run, Ended}

@@ -13,9 +13,9 @@ use Rattle.edd_syntax.specs.Reference.{Path}
 use Rattle.edd_syntax.specs.Expression as expr
 use Rattle.edd_syntax.specs.Expression.{Expr, Literal, Decimal, Reference, Parentheses, Call, Argument, arguments_from}
 use Rattle.edd_syntax.specs.Conditional as cond
-use Rattle.edd_syntax.specs.Conditional.{Value, If, Select, NoArms, ConsArm, Case, Default}
+use Rattle.edd_syntax.specs.Conditional.{Value, If, Select, NoArms, ConsArm, Case}
 use Rattle.edd_syntax.specs.Statement as s
-use Rattle.edd_syntax.specs.Statement.{Part, body_from, Declare, Statement, CaseLabel, DefaultLabel, slots_of}
+use Rattle.edd_syntax.specs.Statement.{Part, body_from, Declare, Statement, CaseLabel, slots_of}
 use Rattle.edd_syntax.specs.Item as item
 use Rattle.edd_syntax.specs.Item.{Description, Attribute, TypeOf, Known, Other, OneText, Validity, Members, Definition}
 use Rattle.edd_syntax.specs.TwosComplement.{wrap}

@@ -20,7 +20,7 @@ use Rattle.edd_syntax.specs.Expression.{Expr, Literal, Reference, Unary, Binary,
 use Rattle.edd_syntax.specs.Statement.{Stmt, Empty, Evaluate, Block, If, While, Do, For, Switch, Break, Continue, Return, Part, Body, body_from, Declare, Statement, CaseLabel, DefaultLabel, slots_of, slots_in}
 use Rattle.edd_syntax.specs.TwosComplement.{wrap, store, operate, compare, apply}
 use Rattle.edd_syntax.specs.Words as strings
-use Rattle.edd_syntax.specs.Words.{Words, Variants, words_of, text_for, pieces, unescape, english}
+use Rattle.edd_syntax.specs.Words.{Words, Variants, words_of, pieces, unescape, english}
 use Rattle.edd_syntax.specs.DeviceValues.{VariableType}
 use Rattle.edd_syntax.specs.Device.{Environment}
 use Rattle.edd_syntax.specs.MethodState.{Request, RequestArgument, TextArgument, NumberArgument, VariableArgument}

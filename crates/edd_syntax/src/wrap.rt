@@ -1,6 +1,6 @@
 // Numbers in two's complement.
 
-ghost use Rattle.std.specs.Prelude.{◌≡◌, ◌≤◌, ◌<◌, ◌^◌, pos};
+ghost use Rattle.std.specs.Prelude.{◌≡◌, ◌≤◌, ◌<◌, ◌^◌};
 ghost use Rattle.edd_syntax.specs.TwosComplement.{wrap, as_signed, residue};
 
 /// The number of `width` bits in two's complement that equals z modulo 2 ^ width.

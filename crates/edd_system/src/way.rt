@@ -1,7 +1,6 @@
 //! Which way bytes are written, by what is at their place.
 
 ghost use Rattle.std.specs.Prelude.{◌↔◌, IsTrue};
-ghost use Rattle.std.specs.List.{Contains};
 ghost use Rattle.edd_system.specs.Ways.{IsOpened, IsWay};
 
 /// Which file this is, whatever the name by which it was found.

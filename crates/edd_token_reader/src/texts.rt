@@ -1,6 +1,6 @@
 //! References and texts.
 
-ghost use Rattle.std.specs.Prelude.{◌≡◌, ℕ, ◌++◌, List, Some, map};
+ghost use Rattle.std.specs.Prelude.{◌≡◌, ◌++◌, Some, map};
 ghost use Rattle.edd_syntax.specs.TreeView.{path_of};
 ghost use Rattle.edd_syntax.specs.WordsView.{text_of, text_bytes};
 ghost use Rattle.edd_grammar.specs.Reading.{members_at, path_behind, path_at, strings_at, key_at, is_text, text_at};

@@ -1,13 +1,12 @@
 //! Names that mean something in their places.
 
-ghost use Rattle.std.specs.Prelude.{◌≡◌, List, map};
+ghost use Rattle.std.specs.Prelude.{◌≡◌};
 ghost use Rattle.edd_syntax.specs.declared.types.Handling.{Handling};
-ghost use Rattle.edd_syntax.specs.Refusal.{is_name_in};
 ghost use Rattle.edd_syntax.specs.WordsView.{text_of};
 ghost use Rattle.edd_grammar.specs.ValueReading as reading;
 ghost use Rattle.edd_grammar.specs.WordReading as words;
 ghost use Rattle.edd_grammar.specs.ConditionalReading as conditionals;
-ghost use Rattle.edd_token_reader.specs.Views.{Gives, Leaves};
+ghost use Rattle.edd_token_reader.specs.Views.{Gives};
 ghost use Rattle.std.specs.Prelude.{option_map};
 
 use crate::cursor::Cursor;

@@ -1,13 +1,11 @@
 -- Calls that break a rule, and those that don't.
-use Rattle.std.proofs.Common.{◌≡◌, refl, sym, ap, ◌∙◌, ◌<◌, ◌≤◌, Bool, true, false, not, ◌&&◌, ◌||◌, List, [], ◌∷◌, length, map, arith}
+use Rattle.std.proofs.Common.{◌≡◌, refl, ap, ◌∙◌, ◌<◌, ◌≤◌, Bool, true, false, not, ◌&&◌, ◌||◌, List, [], ◌∷◌, length, map, arith}
 use Rattle.edd_breaches.specs.Told.{told_at}
 use Rattle.edd_syntax.specs.declared.numbers.TokenNo.{TokenNo}
 use Rattle.edd_syntax.specs.declared.reference.Target.{Target}
 use Rattle.edd_syntax.specs.declared.reference.Target.TheVariants.{Function}
 use Rattle.edd_syntax.specs.Expression as expr
 use Rattle.edd_syntax.specs.Expression.{Argument, Arguments, arguments_from}
-use Rattle.edd_syntax.specs.declared.operators.Builtin.{Builtin}
-use Rattle.edd_syntax.specs.declared.operators.Builtin.TheVariants as builtin
 use Rattle.edd_syntax.specs.declared.operators.Parameter.{Parameter}
 use Rattle.edd_syntax.specs.Builtins.{parameters}
 use Rattle.edd_syntax.specs.SubsetRules.{all_fit, is_abort, call_breaches}
@@ -16,7 +14,7 @@ use Rattle.edd_syntax.specs.Refusal.{Mismatch, refused_if}
 use Rattle.edd_types.specs.declared.sought.Sought.TheVariants as sought
 use Rattle.edd_types.specs.declared.sought.Calls.{Calls}
 use Rattle.edd_types.specs.declared.sought.Calls.TheVariants as sought_calls
-use Rattle.edd_types.specs.Expressions.{all_fit_among, call_breaches_among, call_told, fits_among}
+use Rattle.edd_types.specs.Expressions.{all_fit_among, call_breaches_among, call_told}
 
 -- ---- too many arguments, and too few
 

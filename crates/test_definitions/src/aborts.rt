@@ -1,6 +1,6 @@
 //! Abort methods.
 
-ghost use Rattle.std.specs.Prelude.{◌≡◌, pos, negsuc, true, false, [], ◌∷◌, Some, None};
+ghost use Rattle.std.specs.Prelude.{◌≡◌, pos, true, false, [], ◌∷◌, Some, None};
 ghost use Rattle.edd_syntax.specs.declared.answer.Trap.TheVariants.{DivZero};
 ghost use Rattle.edd_syntax.specs.declared.operators.Operator.TheVariants.{Divide};
 ghost use Rattle.edd_syntax.specs.AbortMethods.{listed};

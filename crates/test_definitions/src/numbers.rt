@@ -1,8 +1,6 @@
 //! The numbers of types, kinds, attributes and what records hold, as docs/IMAGE.md has them.
 
 ghost use Rattle.std.specs.Prelude.{◌≡◌, true, false, Some, None};
-ghost use Rattle.edd_syntax.specs.declared.item.DataQualifiers.{DataQualifiers};
-ghost use Rattle.edd_syntax.specs.declared.item.MenuQualifiers.{MenuQualifiers};
 ghost use Rattle.edd_syntax.specs.declared.numbers.Attr.TheVariants as attr;
 ghost use Rattle.edd_syntax.specs.declared.numbers.Kind.TheVariants as kind;
 ghost use Rattle.edd_syntax.specs.declared.types.Handling.TheVariants as handling;

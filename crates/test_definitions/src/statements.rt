@@ -1,6 +1,6 @@
 //! `switch` and locals.
 
-ghost use Rattle.std.specs.Prelude.{◌≡◌, pos, negsuc, [], ◌∷◌, Some, None};
+ghost use Rattle.std.specs.Prelude.{◌≡◌, pos, [], ◌∷◌};
 ghost use Rattle.edd_syntax.specs.declared.operators.Comparison.TheVariants.{Less};
 ghost use Rattle.edd_syntax.specs.declared.operators.IncrementOperator.TheVariants.{PostIncrement};
 ghost use Rattle.edd_syntax.specs.Expression.{Compare, Increment, Literal};

@@ -5,7 +5,7 @@ use Rattle.std.proofs.lemmas.List.{length-map}
 use Rattle.edd_syntax.specs.declared.cond.Cond.{Cond}
 use Rattle.edd_syntax.specs.declared.reference.Target.{Target}
 use Rattle.edd_syntax.specs.Conditional as pure
-use Rattle.edd_syntax.specs.Conditional.{NoArms, ConsArm, arms_from}
+use Rattle.edd_syntax.specs.Conditional.{arms_from}
 use Rattle.edd_syntax.specs.ItemView.{numbered_arm, numbered_conds}
 use Rattle.edd_attrs.specs.Writing.{default_of}
 use Rattle.edd_attrs.proofs.Conditionals.{found_here, not_here}

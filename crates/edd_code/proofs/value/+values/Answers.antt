@@ -1,4 +1,4 @@
-use Rattle.std.proofs.Common.{rules, drop, take, ◌-◌, refl, false, ◌≡◌, ◌≤◌, length, ap, subst, sym, ◌∙◌, arith, true, [], ◌∷◌, ◌++◌, List, map}
+use Rattle.std.proofs.Common.{rules, drop, take, ◌-◌, refl, false, ◌≡◌, ◌≤◌, length, ap, subst, sym, ◌∙◌, arith, true, [], ◌++◌, List, map}
 use Rattle.std.specs.Prelude.{option_map}
 use Rattle.std.specs.Borrow.{Bor}
 use Rattle.std.specs.List.{list_all}
@@ -8,7 +8,6 @@ use Rattle.edd_syntax.specs.declared.expr.Expr as code
 use Rattle.edd_syntax.specs.declared.numbers.StrNo.{StrNo}
 use Rattle.edd_syntax.specs.declared.operators.Builtin.TheVariants as builtin
 use Rattle.edd_syntax.specs.declared.reference.Target.{Target}
-use Rattle.edd_syntax.specs.declared.text.Text as code_text
 use Rattle.edd_syntax.specs.declared.reference.Target.TheVariants.{Function, Local, Item}
 use Rattle.edd_syntax.specs.Expression as pure
 use Rattle.edd_syntax.specs.Expression.{Expr, Call, Arguments, arguments_from}
@@ -17,8 +16,7 @@ use Rattle.edd_syntax.specs.Strings.{argument_texts, expr_texts, strings_of_text
 use Rattle.edd_syntax.specs.Text as texts
 use Rattle.edd_syntax.specs.TreeView.{numbered_argument, numbered_expr}
 use Rattle.edd_syntax.specs.WellFormed.{is_text}
-use Rattle.edd_syntax.specs.Words.{Words, words_of}
-use Rattle.edd_syntax.specs.WordsView.{text_of}
+use Rattle.edd_syntax.specs.Words.{Words}
 use Rattle.edd_instructions.specs.declared.instruction.Instruction.TheVariants as instruction
 use Rattle.edd_syntax.specs.declared.operators.Parameter.{Parameter}
 use Rattle.edd_syntax.specs.SubsetRules.{all_fit}
@@ -28,13 +26,12 @@ use Rattle.edd_code.specs.Expressions.{element_block, unary_block, instead, no_v
 use Rattle.edd_code.specs.MethodExpressions.{argument_blocks, call_block, load_block, method_block, numbers_block, store_block}
 use Rattle.edd_code.specs.Tables.{Overflows}
 use Rattle.edd_code.specs.Written.{ByNumber, WritesPart}
-use Rattle.edd_code.proofs.BothTests.{both_of}
 use Rattle.edd_code.proofs.CallShapes.{only_value_is, target_and_value_are, no_assignment, no_value_alone, abort_alone, process_abort_alone, same_assignment, same_value}
 use Rattle.edd_code.proofs.Asking.{asks_block, misfit_block}
 use Rattle.edd_code.proofs.AskedArguments.{all_are_by, all_by, arguments_named, arguments_part, empty_named, empty_part, rest_is, first_overflows, other_named, other_part, rest_overflows, text_named, text_part, value_part}
 use Rattle.edd_code.proofs.Carried.{carried}
 use Rattle.edd_code.proofs.Closing.{closed_length}
-use Rattle.edd_code.proofs.Numbered.{texts_overflow_first, texts_overflow_second}
+use Rattle.edd_code.proofs.Numbered.{texts_overflow_second}
 use Rattle.edd_code.proofs.NumberedBlocks.{builtin_part, call_part, expression_part, longer_by, opened_inside, ask_part, either_part, last_overflows, last_part, plain_part, plain_then, same_part, then_part, then_plain, when_not_zero_part, when_zero_part}
 use Rattle.edd_code.proofs.TextsHeld.{all_parts, call_nodes, call_of, call_texts}
 use Rattle.edd_code.proofs.Writing.{goes_on, one_more}

@@ -1,5 +1,4 @@
 use Rattle.std.proofs.Common.{◌≡◌, ℕ, List, length, nat_eq, sym, ap, ◌∙◌}
-use Rattle.std.specs.Prelude.{◌==◌}
 use Rattle.std.proofs.lemmas.Bool.{and_parts, eqb-true}
 use Rattle.edd_instructions.specs.Validity.{IsValid}
 use Rattle.edd_instructions.specs.declared.rules.Rule.TheVariants as rule

@@ -15,7 +15,7 @@ use Rattle.edd_methods.specs.LoweredMethods.{LowersBody, found_body}
 use Rattle.edd_methods.specs.Writing.{body_texts}
 use Rattle.edd_methods.proofs.LoweredMethods.{body_is_found, fault_again, few_slots, lowered_is_code, lowered_is_short, lowered_strings, overflowing, texts_when_checked}
 use Rattle.edd_methods.proofs.method.lower_found.Goals as goal
-use Rattle.edd_methods.proofs.method.lower_found.Goals.{In-Ok, After-cut}
+use Rattle.edd_methods.proofs.method.lower_found.Goals.{In-Ok}
 
 -- the body that was found is the method's
 abbrev same : (c : goal.In-Ok) → body_from (map numbered_part c.body_found-body.result.now)
