@@ -11,7 +11,6 @@ use edd_lints::warning::Findings;
 use edd_syntax::expr::{Argument, Expr};
 use edd_syntax::operators::{Builtin, RequestKind};
 use edd_syntax::reference::Target;
-use std::alloc::AllocError;
 
 /// Whether a call of the function is a request.
 pub fn asks(function: Builtin) -> bool {
@@ -44,7 +43,7 @@ pub fn check_call(
     at: Mark<'_>,
     walk: &mut Walk<'_>,
     findings: &mut Findings,
-) -> Result<(), AllocError> {
+) {
     match function {
         Builtin::Iassign | Builtin::Lassign => check_iassign(arguments, at, walk, findings),
         Builtin::Ask(RequestKind::SendCommand | RequestKind::SendCommandTrans) => {
@@ -53,14 +52,12 @@ pub fn check_call(
         Builtin::Ask(RequestKind::GetDevVarValue) => check_entered(arguments, at, walk, findings),
         Builtin::Abort | Builtin::ProcessAbort => {
             walk.acts = true;
-            Ok(())
         }
         Builtin::AddAbortMethod => {
             walk.acts = true;
             walk.has_abort_method = true;
-            Ok(())
         }
-        _ => Ok(()),
+        _ => {}
     }
 }
 
@@ -70,13 +67,13 @@ fn check_iassign(
     at: Mark<'_>,
     walk: &mut Walk<'_>,
     findings: &mut Findings,
-) -> Result<(), AllocError> {
+) {
     let Some(to) = target_of_argument(arguments, 0) else {
-        return Ok(());
+        return;
     };
     if let Some(Argument::Value(value)) = arguments.get(1) {
-        check_assigned(to, value, at, findings)?;
-        check_stored(to, value, at, walk, findings)?;
+        check_assigned(to, value, at, findings);
+        check_stored(to, value, at, walk, findings);
     }
     walk.write(to)
 }
@@ -99,21 +96,21 @@ fn check_command(
     at: Mark<'_>,
     walk: &Walk<'_>,
     findings: &mut Findings,
-) -> Result<(), AllocError> {
+) {
     let Some(command) = number_of_argument(arguments, 0) else {
-        return Ok(());
+        return;
     };
     let alloc = findings.alloc;
     if walk.instrument.lacks_command(command) {
-        let message = format!(in alloc; "no command has the number {command}")?;
+        let message = format!(in alloc; "no command has the number {command}");
         return findings.add(lint_of_command(command), at, message);
     }
     match number_of_argument(arguments, 1) {
         Some(number) if walk.instrument.lacks_transaction(command, number) => {
-            let message = format!(in alloc; "the command {command} has no transaction {number}")?;
+            let message = format!(in alloc; "the command {command} has no transaction {number}");
             findings.add(Lint::MissingTransaction, at, message)
         }
-        _ => Ok(()),
+        _ => {}
     }
 }
 
@@ -123,17 +120,17 @@ fn check_entered(
     at: Mark<'_>,
     walk: &Walk<'_>,
     findings: &mut Findings,
-) -> Result<(), AllocError> {
+) {
     let Some(variable) = target_of_argument(arguments, 1).and_then(variable_of) else {
-        return Ok(());
+        return;
     };
     match walk.instrument.variable(variable) {
         Some(facts) if facts.is_read_only => {
             let name = facts.name;
             let alloc = findings.alloc;
-            let message = format!(in alloc; "{name} can't be entered: its HANDLING is READ")?;
+            let message = format!(in alloc; "{name} can't be entered: its HANDLING is READ");
             findings.add(Lint::UnwritableVariable, at, message)
         }
-        _ => Ok(()),
+        _ => {}
     }
 }

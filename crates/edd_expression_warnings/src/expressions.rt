@@ -20,7 +20,6 @@ use edd_syntax::numbers::ItemNo;
 use edd_syntax::operators::{Comparison, IncrementOperator, Operator, UnaryOperator};
 use edd_syntax::reference::Target;
 use edd_syntax::symbols::Symbol;
-use std::alloc::AllocError;
 
 // Whether an operator may trap whatever its first operand is.
 fn may_trap(operator: Operator) -> bool {
@@ -35,15 +34,11 @@ fn check_late_trap(
     at: Mark<'_>,
     walk: &Walk<'_>,
     findings: &mut Findings,
-) -> Result<(), AllocError> {
+) {
     if !walk.has_abort_method {
-        return Ok(());
+        return;
     }
-    let message = String::from_str(
-        findings.alloc,
-        "this can trap, and a trap runs no abort methods",
-    )?;
-    findings.add(Lint::TrapAfterAbortMethod, at, message)
+    findings.say(Lint::TrapAfterAbortMethod, at, "this can trap, and a trap runs no abort methods")
 }
 
 // What an operator with this second operand does, which traps where it does not take it.
@@ -53,9 +48,9 @@ fn check_trap(
     at: Mark<'_>,
     walk: &Walk<'_>,
     findings: &mut Findings,
-) -> Result<(), AllocError> {
+) {
     if !may_trap(operator) {
-        return Ok(());
+        return;
     }
     let Known::Number(number) = evaluate(second, walk.sort) else {
         return check_late_trap(at, walk, findings);
@@ -63,14 +58,13 @@ fn check_trap(
     let alloc = findings.alloc;
     match trap_of(walk.sort, operator, number) {
         Some(Trap::DivZero) => {
-            let message = String::from_str(alloc, "this always traps: it divides by 0")?;
-            findings.add(Lint::TrappingExpression, at, message)
+            findings.say(Lint::TrappingExpression, at, "this always traps: it divides by 0")
         }
         Some(_) => {
-            let message = format!(in alloc; "this always traps: it shifts by {number}")?;
+            let message = format!(in alloc; "this always traps: it shifts by {number}");
             findings.add(Lint::TrappingExpression, at, message)
         }
-        None => Ok(()),
+        None => {}
     }
 }
 
@@ -79,13 +73,12 @@ fn check_arguments(
     arguments: &[Argument<Target>],
     walk: &mut Walk<'_>,
     findings: &mut Findings,
-) -> Result<(), AllocError> {
+) {
     for argument in arguments {
         if let Argument::Value(e) = argument {
-            check_expression(e, false, walk, findings)?;
+            check_expression(e, false, walk, findings);
         }
     }
-    Ok(())
 }
 
 // A constant number of an element that the array does not have.
@@ -95,20 +88,20 @@ fn check_index(
     at: Mark<'_>,
     walk: &Walk<'_>,
     findings: &mut Findings,
-) -> Result<(), AllocError> {
+) {
     let Target::Item(ItemNo::Array(array)) = array else {
-        return Ok(());
+        return;
     };
     match evaluate(index, walk.sort) {
         Known::Number(number) if !walk.instrument.has_element(array.0, number) => {
             let alloc = findings.alloc;
             let message = format!(in alloc;
                 "this always traps: the array has no element {number}"
-            )?;
+            );
             findings.add(Lint::MissingElement, at, message)
         }
         Known::Nothing => check_late_trap(at, walk, findings),
-        _ => Ok(()),
+        _ => {}
     }
 }
 
@@ -137,23 +130,19 @@ fn check_comparison(
     is_statement: bool,
     walk: &Walk<'_>,
     findings: &mut Findings,
-) -> Result<(), AllocError> {
+) {
     let Expr::Compare(comparison, first, second) = compared else {
-        return Ok(());
+        return;
     };
     if is_statement {
-        let message = String::from_str(
-            findings.alloc,
-            "what this comparison gives is not used: = assigns",
-        )?;
-        findings.add(Lint::DroppedComparison, at, message)?;
+        findings.say(Lint::DroppedComparison, at, "what this comparison gives is not used: = assigns");
     }
-    let is_misread = check_compared(first, second, at, findings)?;
+    let is_misread = check_compared(first, second, at, findings);
     if !is_misread && !is_statement {
-        check_settled(compared, at, walk, findings)?;
+        check_settled(compared, at, walk, findings);
     }
     match comparison {
-        Comparison::Equal | Comparison::NotEqual => Ok(()),
+        Comparison::Equal | Comparison::NotEqual => {}
         _ => check_wrapped(second, walk, findings),
     }
 }
@@ -165,12 +154,12 @@ fn check_assignment(
     at: Mark<'_>,
     walk: &Walk<'_>,
     findings: &mut Findings,
-) -> Result<(), AllocError> {
-    check_assigned(to, value, at, findings)?;
-    check_stored(to, value, at, walk, findings)?;
+) {
+    check_assigned(to, value, at, findings);
+    check_stored(to, value, at, walk, findings);
     match to {
         Target::Local(_) => check_wrapped(value, walk, findings),
-        _ => Ok(()),
+        _ => {}
     }
 }
 
@@ -181,9 +170,9 @@ pub fn check_expression(
     is_statement: bool,
     walk: &mut Walk<'_>,
     findings: &mut Findings,
-) -> Result<(), AllocError> {
+) {
     match e {
-        Expr::Literal(_) | Expr::Decimal { .. } => Ok(()),
+        Expr::Literal(_) | Expr::Decimal { .. } => {}
         Expr::Reference(to) => walk.read(*to),
         Expr::Increment(operator, to) => {
             let sign = match operator {
@@ -198,8 +187,8 @@ pub fn check_expression(
         Expr::Indexed(array, index) => {
             let sign = TokenKind::Symbol(Symbol::OpenBracket);
             let at = walk.tokens_left.to(sign);
-            check_index(*array, index, at, walk, findings)?;
-            walk.read(*array)?;
+            check_index(*array, index, at, walk, findings);
+            walk.read(*array);
             check_expression(index, false, walk, findings)
         }
         Expr::Parentheses(inner) => check_expression(inner, is_statement, walk, findings),
@@ -209,61 +198,60 @@ pub fn check_expression(
             check_expression(inner, false, walk, findings)
         }
         Expr::Binary(operator, first, second) => {
-            check_expression(first, false, walk, findings)?;
+            check_expression(first, false, walk, findings);
             let sign = Symbol::Operator(*operator);
             let at = walk.tokens_left.to(TokenKind::Symbol(sign));
-            check_bits(*operator, first, second, at, findings)?;
-            check_operands(*operator, first, second, at, findings)?;
-            check_trap(*operator, second, at, walk, findings)?;
+            check_bits(*operator, first, second, at, findings);
+            check_operands(*operator, first, second, at, findings);
+            check_trap(*operator, second, at, walk, findings);
             check_expression(second, false, walk, findings)
         }
         Expr::Compare(comparison, first, second) => {
             if is_statement {
                 walk.expect(first);
             }
-            check_expression(first, false, walk, findings)?;
+            check_expression(first, false, walk, findings);
             let sign = Symbol::Comparison(*comparison);
             let at = walk.tokens_left.to(TokenKind::Symbol(sign));
-            check_comparison(e, at, is_statement, walk, findings)?;
+            check_comparison(e, at, is_statement, walk, findings);
             check_expression(second, false, walk, findings)
         }
         Expr::LogicalAnd(first, second) | Expr::LogicalOr(first, second) => {
             let sign = logical_sign(e);
             let before = walk.ranged;
             walk.ranged = ranged_place(first, second, sign).or(before);
-            check_expression(first, false, walk, findings)?;
+            check_expression(first, false, walk, findings);
             let at = walk.tokens_left.to(TokenKind::Symbol(sign));
-            check_logical(first, second, sign, at, walk.sort, findings)?;
-            check_expression(second, false, walk, findings)?;
+            check_logical(first, second, sign, at, walk.sort, findings);
+            check_expression(second, false, walk, findings);
             walk.ranged = before;
-            Ok(())
         }
         Expr::Conditional(test, first, second) => {
-            check_expression(test, false, walk, findings)?;
+            check_expression(test, false, walk, findings);
             let at = walk.tokens_left.to(TokenKind::Symbol(Symbol::Question));
-            check_chosen(first, second, at, findings)?;
-            check_expression(first, false, walk, findings)?;
+            check_chosen(first, second, at, findings);
+            check_expression(first, false, walk, findings);
             walk.tokens_left.to(TokenKind::Symbol(Symbol::Colon));
             check_expression(second, false, walk, findings)
         }
         Expr::Assign(to, value) => {
             let at = walk.tokens_left.to(TokenKind::Symbol(Symbol::Equals));
-            check_assignment(*to, value, at, walk, findings)?;
+            check_assignment(*to, value, at, walk, findings);
             let before = walk.assigned;
             walk.assigned = Some(*to);
-            check_expression(value, false, walk, findings)?;
+            check_expression(value, false, walk, findings);
             walk.assigned = before;
-            walk.write(*to)?;
+            walk.write(*to);
             if is_statement {
-                return Ok(());
+                return;
             }
             walk.read(*to)
         }
         Expr::CompoundAssign(operator, to, value) => {
             let sign = Symbol::CompoundAssign(*operator);
             let at = walk.tokens_left.to(TokenKind::Symbol(sign));
-            check_trap(*operator, value, at, walk, findings)?;
-            check_expression(value, false, walk, findings)?;
+            check_trap(*operator, value, at, walk, findings);
+            check_expression(value, false, walk, findings);
             walk.change(*to)
         }
         Expr::Call {
@@ -275,7 +263,7 @@ pub fn check_expression(
                 return check_arguments(arguments, walk, findings);
             };
             let at = walk.tokens_left.to_text(function.name());
-            check_arguments(arguments, walk, findings)?;
+            check_arguments(arguments, walk, findings);
             walk.asks = walk.asks || asks(function);
             walk.acts = walk.acts || asks(function);
             check_call(function, arguments, at, walk, findings)
@@ -296,16 +284,15 @@ fn check_assigned_condition(
     message: &str,
     walk: &Walk<'_>,
     findings: &mut Findings,
-) -> Result<(), AllocError> {
+) {
     match e {
         Expr::Assign(to, value) if !is_itself(*to, value) => {
             // No tokens are passed yet: the next sign is that of this assignment.
             let mut ahead = walk.tokens_left;
             let at = ahead.to(TokenKind::Symbol(Symbol::Equals));
-            let message = String::from_str(findings.alloc, message)?;
-            findings.add(Lint::AssignedCondition, at, message)
+            findings.say(Lint::AssignedCondition, at, message)
         }
-        _ => Ok(()),
+        _ => {}
     }
 }
 
@@ -317,15 +304,15 @@ pub fn check_condition(
     assigns: &str,
     walk: &mut Walk<'_>,
     findings: &mut Findings,
-) -> Result<(), AllocError> {
+) {
     if let Known::Number(number) = evaluate(e, walk.sort) {
-        let message = format!(in findings.alloc; "this condition is always {number}")?;
+        let message = format!(in findings.alloc; "this condition is always {number}");
         let lint = if is_literal(e) {
             Lint::LiteralCondition
         } else {
             Lint::ConstantCondition
         };
-        findings.add(lint, at, message)?;
+        findings.add(lint, at, message);
     }
     check_tested(e, assigns, walk, findings)
 }
@@ -336,7 +323,7 @@ pub fn check_tested(
     assigns: &str,
     walk: &mut Walk<'_>,
     findings: &mut Findings,
-) -> Result<(), AllocError> {
-    check_assigned_condition(e, assigns, walk, findings)?;
+) {
+    check_assigned_condition(e, assigns, walk, findings);
     check_expression(e, false, walk, findings)
 }

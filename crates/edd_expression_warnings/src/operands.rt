@@ -14,7 +14,6 @@ use edd_syntax::expr::Expr;
 use edd_syntax::operators::{Comparison, Operator, UnaryOperator};
 use edd_syntax::reference::Target;
 use edd_syntax::symbols::Symbol;
-use std::alloc::AllocError;
 
 // Whether an expression is a comparison that stands in no parentheses.
 fn is_bare_comparison(e: &Expr<Target>) -> bool {
@@ -26,9 +25,8 @@ fn add_text(
     at: Mark<'_>,
     message: &str,
     findings: &mut Findings,
-) -> Result<(), AllocError> {
-    let message = String::from_str(findings.alloc, message)?;
-    findings.add(lint, at, message)
+) {
+    findings.say(lint, at, message)
 }
 
 /// Bits of a comparison, as in `a & 2 == 2`, which is `a & (2 == 2)`. Two comparisons, as in
@@ -39,10 +37,10 @@ pub fn check_bits(
     second: &Expr<Target>,
     at: Mark<'_>,
     findings: &mut Findings,
-) -> Result<(), AllocError> {
+) {
     let is_of_bits = matches!(operator, Operator::And | Operator::Or | Operator::Xor);
     if !is_of_bits || is_bare_comparison(first) == is_bare_comparison(second) {
-        return Ok(());
+        return;
     }
     let message = "comparisons are evaluated before this sign: parentheses say what is meant";
     add_text(Lint::MisreadOperators, at, message, findings)
@@ -55,17 +53,17 @@ pub fn check_compared(
     second: &Expr<Target>,
     at: Mark<'_>,
     findings: &mut Findings,
-) -> Result<bool, AllocError> {
+) -> bool {
     let is_negated = |e: &Expr<Target>| matches!(e, Expr::Unary(UnaryOperator::Not, _));
     let message = if is_bare_comparison(first) {
         "this compares 0 or 1, which the comparison before it gives"
     } else if is_negated(first) && !is_negated(second) {
         "! is evaluated before this sign: parentheses say what is meant"
     } else {
-        return Ok(false);
+        return false;
     };
-    add_text(Lint::MisreadOperators, at, message, findings)?;
-    Ok(true)
+    add_text(Lint::MisreadOperators, at, message, findings);
+    true
 }
 
 /// What a plain reference refers to.
@@ -103,7 +101,7 @@ pub fn check_operands(
     second: &Expr<Target>,
     at: Mark<'_>,
     findings: &mut Findings,
-) -> Result<(), AllocError> {
+) {
     let is_settled = matches!(
         operator,
         Operator::Subtract
@@ -114,7 +112,7 @@ pub fn check_operands(
             | Operator::Xor
     );
     if !is_settled || !are_same(first, second) {
-        return Ok(());
+        return;
     }
     add_text(
         Lint::EqualOperands,
@@ -132,7 +130,7 @@ pub fn check_logical(
     at: Mark<'_>,
     sort: Sort,
     findings: &mut Findings,
-) -> Result<(), AllocError> {
+) {
     let last = last_of(first, sign);
     if are_same(last, second) {
         return add_text(
@@ -143,10 +141,10 @@ pub fn check_logical(
         );
     }
     let (Some(one), Some(other)) = (compared_with(last, sort), compared_with(second, sort)) else {
-        return Ok(());
+        return;
     };
     if one.0 != other.0 {
-        return Ok(());
+        return;
     }
     let (one, other) = ((one.1, one.2), (other.1, other.2));
     if sign == Symbol::LogicalAnd && never_both(one, other) {
@@ -157,7 +155,6 @@ pub fn check_logical(
         let message = "one of the comparisons on both sides of this sign always holds";
         return add_text(Lint::SettledComparison, at, message, findings);
     }
-    Ok(())
 }
 
 /// A comparison with a number.
@@ -214,9 +211,9 @@ pub fn check_chosen(
     second: &Expr<Target>,
     at: Mark<'_>,
     findings: &mut Findings,
-) -> Result<(), AllocError> {
+) {
     if !are_same_values(first, second) {
-        return Ok(());
+        return;
     }
     add_text(
         Lint::EqualBranches,
@@ -304,7 +301,7 @@ pub fn check_settled(
     at: Mark<'_>,
     walk: &Walk<'_>,
     findings: &mut Findings,
-) -> Result<(), AllocError> {
+) {
     if let Expr::Compare(_, first, second) = compared {
         if are_same(first, second) {
             let message = "both sides of this sign are the same";
@@ -312,21 +309,21 @@ pub fn check_settled(
         }
     }
     let Some((target, comparison, number)) = compared_with(compared, walk.sort) else {
-        return Ok(());
+        return;
     };
     let Some(variable) = variable_of(target) else {
-        return Ok(());
+        return;
     };
     let Some(range) = walk.instrument.range(variable) else {
-        return Ok(());
+        return;
     };
     let range = read_range(range, walk.sort);
     let is_equality = matches!(comparison, Comparison::Equal | Comparison::NotEqual);
     match settled(comparison, range, number) {
-        Some(_) if !is_equality && walk.ranged == Some(target) => Ok(()),
+        Some(_) if !is_equality && walk.ranged == Some(target) => {}
         Some(gives) => add_settled(range, gives, at, findings),
         None if is_equality => check_listed(variable, number, "", at, walk, findings),
-        None => Ok(()),
+        None => {}
     }
 }
 
@@ -335,11 +332,11 @@ fn add_settled(
     gives: bool,
     at: Mark<'_>,
     findings: &mut Findings,
-) -> Result<(), AllocError> {
+) {
     let Range { low, high } = range;
     let gives = if gives { "true" } else { "false" };
     let alloc = findings.alloc;
-    let message = format!(in alloc; "this is always {gives}: the variable holds {low} to {high}")?;
+    let message = format!(in alloc; "this is always {gives}: the variable holds {low} to {high}");
     findings.add(Lint::SettledComparison, at, message)
 }
 
@@ -350,9 +347,9 @@ pub fn check_label(
     at: Mark<'_>,
     walk: &Walk<'_>,
     findings: &mut Findings,
-) -> Result<(), AllocError> {
+) {
     let Some(range) = walk.instrument.range(variable) else {
-        return Ok(());
+        return;
     };
     let range = read_range(range, walk.sort);
     let label = wrapped(walk.sort, label);
@@ -363,7 +360,7 @@ pub fn check_label(
     let alloc = findings.alloc;
     let message = format!(in alloc;
         "the case {label} is never taken: the variable holds {low} to {high}"
-    )?;
+    );
     findings.add(Lint::SettledComparison, at, message)
 }
 

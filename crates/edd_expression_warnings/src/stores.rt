@@ -12,7 +12,6 @@ use edd_lints::warning::Findings;
 use edd_syntax::expr::Expr;
 use edd_syntax::operators::UnaryOperator;
 use edd_syntax::reference::Target;
-use std::alloc::AllocError;
 
 /// The greatest number that a method computes with.
 const GREATEST: u32 = 2_147_483_647;
@@ -55,28 +54,28 @@ pub fn check_stored(
     at: Mark<'_>,
     walk: &Walk<'_>,
     findings: &mut Findings,
-) -> Result<(), AllocError> {
+) {
     let Some(variable) = variable_of(to) else {
-        return Ok(());
+        return;
     };
     if let Expr::Unary(UnaryOperator::Complement, _) = value {
-        return Ok(());
+        return;
     }
     let (Some(range), Some(number)) = (walk.instrument.range(variable), stored_number(value, walk))
     else {
-        return Ok(());
+        return;
     };
     if range.holds(number) {
         return check_listed(variable, number, "", at, walk, findings);
     }
     if keeps_bits(range, value, walk) {
-        return Ok(());
+        return;
     }
     let Range { low, high } = range;
     let alloc = findings.alloc;
     let message = format!(in alloc;
         "{number} is outside of the variable's {low} to {high}, so another number is kept"
-    )?;
+    );
     findings.add(Lint::StoreOutOfRange, at, message)
 }
 
@@ -88,13 +87,13 @@ pub fn check_listed(
     at: Mark<'_>,
     walk: &Walk<'_>,
     findings: &mut Findings,
-) -> Result<(), AllocError> {
+) {
     if !walk.instrument.is_unlisted(variable, number) {
-        return Ok(());
+        return;
     }
     let name = walk.instrument.name_of(variable);
     let alloc = findings.alloc;
-    let message = format!(in alloc; "{what}{number} is no enumerator of {name}")?;
+    let message = format!(in alloc; "{what}{number} is no enumerator of {name}");
     findings.add(Lint::UnlistedValue, at, message)
 }
 
@@ -112,12 +111,11 @@ pub fn check_assigned(
     value: &Expr<Target>,
     at: Mark<'_>,
     findings: &mut Findings,
-) -> Result<(), AllocError> {
+) {
     if !is_itself(to, value) {
-        return Ok(());
+        return;
     }
-    let message = String::from_str(findings.alloc, "this assigns a value to itself")?;
-    findings.add(Lint::AssignedToItself, at, message)
+    findings.say(Lint::AssignedToItself, at, "this assigns a value to itself")
 }
 
 /// A plain decimal number of a method that is another one in 32 bits. What is written with `0x`
@@ -126,23 +124,23 @@ pub fn check_wrapped(
     value: &Expr<Target>,
     walk: &Walk<'_>,
     findings: &mut Findings,
-) -> Result<(), AllocError> {
+) {
     let Expr::Literal(number) = value else {
-        return Ok(());
+        return;
     };
     if walk.sort == Sort::Attribute || *number <= GREATEST {
-        return Ok(());
+        return;
     }
     // No tokens are passed: this number is the next one of its kind.
     let mut ahead = walk.tokens_left;
     let at = ahead.to(TokenKind::Integer(*number));
     if at.word().starts_with('0') {
-        return Ok(());
+        return;
     }
     let Known::Number(kept) = evaluate(value, walk.sort) else {
-        return Ok(());
+        return;
     };
     let alloc = findings.alloc;
-    let message = format!(in alloc; "{number} is {kept} here: methods compute with 32 bits")?;
+    let message = format!(in alloc; "{number} is {kept} here: methods compute with 32 bits");
     findings.add(Lint::WrappedNumber, at, message)
 }

@@ -6,7 +6,7 @@ use edd_lints::instrument::Instrument;
 use edd_lints::tokens_left::TokensLeft;
 use edd_syntax::expr::Expr;
 use edd_syntax::reference::Target;
-use std::alloc::{AllocError, Global};
+use std::alloc::Global;
 
 /// What an expression does with a place.
 #[derive(Clone, Copy)]
@@ -42,6 +42,8 @@ pub struct Walk<'a> {
     pub assigned: Option<Target>,
     /// The variables that the open switches are over.
     pub selected: Vec<Option<u16>>,
+    /// Whether memory for one of these lists was refused.
+    pub is_refused: bool,
     pub instrument: &'a Instrument<'a>,
 }
 
@@ -66,20 +68,27 @@ impl<'a> Walk<'a> {
             ranged: None,
             assigned: None,
             selected: Vec::new(alloc),
+            is_refused: false,
             instrument,
         }
     }
 
     // Notes a use, which only matters in a loop.
-    fn add_use(&mut self, one: Use) -> Result<(), AllocError> {
-        if 0 < self.loops {
-            self.uses.push(one)?;
+    fn add_use(&mut self, one: Use) {
+        if 0 < self.loops && self.uses.push(one).is_err() {
+            self.is_refused = true;
         }
-        Ok(())
+    }
+
+    /// Notes that a switch over a variable is open.
+    pub fn select(&mut self, variable: Option<u16>) {
+        if self.selected.push(variable).is_err() {
+            self.is_refused = true;
+        }
     }
 
     /// Notes that a place is read.
-    pub fn read(&mut self, target: Target) -> Result<(), AllocError> {
+    pub fn read(&mut self, target: Target) {
         if let Target::Local(slot) = target {
             self.reads.insert(slot);
             let is_known = self.writes.contains(slot) || self.assigned == Some(target);
@@ -87,16 +96,16 @@ impl<'a> Walk<'a> {
                 self.early.insert(slot);
             }
         }
-        self.add_use(Use::Read(target))
+        self.add_use(Use::Read(target));
     }
 
     /// Notes that a place is set.
-    pub fn write(&mut self, target: Target) -> Result<(), AllocError> {
+    pub fn write(&mut self, target: Target) {
         if let Target::Local(slot) = target {
             self.writes.insert(slot);
         }
         self.acts = true;
-        self.add_use(Use::Write(target))
+        self.add_use(Use::Write(target));
     }
 
     /// Takes a local as set where a comparison is in the place of an assignment to it.
@@ -107,11 +116,11 @@ impl<'a> Walk<'a> {
     }
 
     /// Notes that a place is changed from what it was.
-    pub fn change(&mut self, target: Target) -> Result<(), AllocError> {
+    pub fn change(&mut self, target: Target) {
         let before = self.assigned;
         self.assigned = Some(target);
-        self.read(target)?;
+        self.read(target);
         self.assigned = before;
-        self.write(target)
+        self.write(target);
     }
 }

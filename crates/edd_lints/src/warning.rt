@@ -34,13 +34,15 @@ fn spot_of(mark: Mark<'_>) -> Spot {
     }
 }
 
-/// The warnings so far, of a text with these tokens.
+/// The warnings so far, of a text with these tokens. Where memory for one is refused it is left out,
+/// and so are all in the end.
 #[derive(Drop)]
 pub struct Findings<'t> {
     pub alloc: Global,
     text: &'t [u8],
     tokens: &'t [Token],
     warnings: Vec<Warning>,
+    is_refused: bool,
 }
 
 impl<'t> Findings<'t> {
@@ -50,6 +52,7 @@ impl<'t> Findings<'t> {
             text,
             tokens,
             warnings: Vec::new(alloc),
+            is_refused: false,
         }
     }
 
@@ -61,17 +64,33 @@ impl<'t> Findings<'t> {
         }
     }
 
-    /// Adds a warning.
-    pub fn add(&mut self, lint: Lint, at: Mark<'_>, message: String) -> Result<(), AllocError> {
-        let at = spot_of(at);
-        let other = None;
-        self.warnings.push(Warning {
-            lint,
-            at,
-            message,
-            other,
-        })?;
-        Ok(())
+    /// Notes that memory for what warnings need was refused.
+    pub fn refuse(&mut self) {
+        self.is_refused = true;
+    }
+
+    fn push(&mut self, warning: Warning) {
+        if self.warnings.push(warning).is_err() {
+            self.refuse();
+        }
+    }
+
+    /// Adds a warning, whose message was made if there was memory for it.
+    pub fn add(&mut self, lint: Lint, at: Mark<'_>, message: Result<String, AllocError>) {
+        match message {
+            Ok(message) => self.push(Warning {
+                lint,
+                at: spot_of(at),
+                message,
+                other: None,
+            }),
+            Err(_) => self.refuse(),
+        }
+    }
+
+    /// Adds a warning in these words.
+    pub fn say(&mut self, lint: Lint, at: Mark<'_>, words: &str) {
+        self.add(lint, at, String::from_str(self.alloc, words));
     }
 
     /// Adds a warning that speaks of two places.
@@ -79,23 +98,30 @@ impl<'t> Findings<'t> {
         &mut self,
         lint: Lint,
         at: Mark<'_>,
-        message: String,
+        message: Result<String, AllocError>,
         other: Mark<'_>,
-    ) -> Result<(), AllocError> {
-        let at = spot_of(at);
-        let other = Some(spot_of(other));
-        self.warnings.push(Warning {
-            lint,
-            at,
-            message,
-            other,
-        })?;
-        Ok(())
+    ) {
+        match message {
+            Ok(message) => self.push(Warning {
+                lint,
+                at: spot_of(at),
+                message,
+                other: Some(spot_of(other)),
+            }),
+            Err(_) => self.refuse(),
+        }
     }
 
     /// The warnings by their lines, and on one line in the order of the lints.
     pub fn sorted(self) -> Result<Vec<Warning>, AllocError> {
-        let Findings { warnings, .. } = self;
+        let Findings {
+            warnings,
+            is_refused,
+            ..
+        } = self;
+        if is_refused {
+            return Err(AllocError);
+        }
         let mut warnings = warnings;
         warnings.sort_by_key(|warning| (warning.at.line, warning.lint as u8))?;
         Ok(warnings)

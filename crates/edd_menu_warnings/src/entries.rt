@@ -185,8 +185,8 @@ impl<'i, 'a> Shown<'i, 'a> {
                 let at = tokens_left.to_text(name);
                 match seen.get(&(*list, place)).copied() {
                     Some((others, earlier)) if others == qualifiers => {
-                        let message = format!(in findings.alloc; "{name} is in this list already")?;
-                        findings.add_beside(Lint::RepeatedEntry, at, message, earlier)?;
+                        let message = format!(in findings.alloc; "{name} is in this list already");
+                        findings.add_beside(Lint::RepeatedEntry, at, message, earlier);
                     }
                     _ => {}
                 }
@@ -203,30 +203,30 @@ impl<'i, 'a> Shown<'i, 'a> {
         item: &Item<Target>,
         place: usize,
         findings: &mut Findings,
-    ) -> Result<(), AllocError> {
+    ) {
         let Some(said) = self.said.get(place) else {
-            return Ok(());
+            return;
         };
         let attributes = item.attributes();
         let at = findings.mark(item.at());
         match (item.sort, said.by) {
-            (ItemKind::Command, _) => Ok(()),
+            (ItemKind::Command, _) => {}
             (ItemKind::Menu, _) => {
                 if has_entries(attributes) || (said.menu == 0 && !has_label(attributes)) {
-                    return Ok(());
+                    return;
                 }
                 let name = item.name();
-                let message = format!(in findings.alloc; "the menu {name} has no entries")?;
+                let message = format!(in findings.alloc; "the menu {name} has no entries");
                 findings.add(Lint::EmptyMenu, at, message)
             }
             (_, Some(menu)) if !said.is_labelled && !has_label(attributes) => {
                 let name = item.name();
                 let message = format!(in findings.alloc;
                     "{name} has no LABEL, and a menu shows it"
-                )?;
+                );
                 findings.add_beside(Lint::MissingLabel, at, message, menu)
             }
-            _ => Ok(()),
+            _ => {}
         }
     }
 }
@@ -271,7 +271,7 @@ pub fn check_entries<'a>(
     let shown = all_shown(text, items, item_tokens, findings)?;
     let mut next = shown.places;
     for item in items {
-        shown.check(item, next.take(item.kind()), findings)?;
+        shown.check(item, next.take(item.kind()), findings);
     }
     Ok(())
 }

@@ -94,9 +94,9 @@ fn enter(
         State::Open => {
             menu.state = State::Said;
             let name = menu.name.word();
-            let message = format!(in findings.alloc; "the menu {name} contains itself")?;
+            let message = format!(in findings.alloc; "the menu {name} contains itself");
             let at = menu.name;
-            findings.add_beside(Lint::CyclicMenu, at, message, by)?;
+            findings.add_beside(Lint::CyclicMenu, at, message, by);
         }
         State::Said | State::Done => {}
     }

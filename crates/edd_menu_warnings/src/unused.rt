@@ -91,9 +91,9 @@ fn add_unused(
     item: &Item<Target>,
     lint: (Lint, &'static str),
     findings: &mut Findings,
-) -> Result<(), AllocError> {
+) {
     let (lint, what) = lint;
-    let message = format!(in findings.alloc; "{what} {}", item.name())?;
+    let message = format!(in findings.alloc; "{what} {}", item.name());
     let at = findings.mark(item.at());
     findings.add(lint, at, message)
 }
@@ -116,7 +116,7 @@ pub fn check_uses(
             continue;
         }
         if let Some(lint) = lint_of(item.kind(), number, around) {
-            add_unused(item, lint, findings)?;
+            add_unused(item, lint, findings);
         }
     }
     Ok(())

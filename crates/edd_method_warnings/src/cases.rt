@@ -10,7 +10,6 @@ use edd_lints::warning::Findings;
 use edd_syntax::reference::Target;
 use edd_syntax::stmt::{Part, Stmt};
 use edd_syntax::symbols::{Keyword, Symbol};
-use std::alloc::AllocError;
 
 /// Whether bytes between two tokens have a comment.
 pub fn has_comment(gap: &[u8]) -> bool {
@@ -25,14 +24,14 @@ pub fn check_fall(
     next: Option<&Part<Target>>,
     walk: &Walk<'_>,
     findings: &mut Findings,
-) -> Result<(), AllocError> {
+) {
     let is_short = matches!(
         next,
         Some(Part::Statement(Stmt::Break { .. })) | Some(Part::Statement(Stmt::Return))
     );
     let is_remarked = flow.is_remarked || has_comment(walk.tokens_left.gap());
     if flow.ends.is_some() || is_short || is_remarked {
-        return Ok(());
+        return;
     }
     let message = "the case before this one goes on here: a break is missing, or a comment";
     say(
@@ -48,23 +47,23 @@ pub fn check_block_after(
     head: Option<Mark<'_>>,
     s: &Stmt<Target>,
     findings: &mut Findings,
-) -> Result<(), AllocError> {
+) {
     match (head, s) {
         (Some(at), Stmt::Block(_)) => {
             let message = "a ; stands between this and the block after it";
             say(Lint::EmptyBranch, at, message, findings)
         }
-        _ => Ok(()),
+        _ => {}
     }
 }
 
 // The label of a case.
-fn check_case(label: i64, walk: &mut Walk<'_>, findings: &mut Findings) -> Result<(), AllocError> {
+fn check_case(label: i64, walk: &mut Walk<'_>, findings: &mut Findings) {
     let at = walk.tokens_left.to_word(Keyword::MethodCase);
     pass(walk, Symbol::Colon);
     match walk.selected.last().copied().flatten() {
         Some(variable) => check_label(variable, label, at, walk, findings),
-        None => Ok(()),
+        None => {}
     }
 }
 
@@ -73,14 +72,13 @@ pub fn check_label_part(
     part: &Part<Target>,
     walk: &mut Walk<'_>,
     findings: &mut Findings,
-) -> Result<(), AllocError> {
+) {
     match part {
         Part::CaseLabel { label, .. } => check_case(*label, walk, findings),
         Part::DefaultLabel { .. } => {
             walk.tokens_left.to_word(Keyword::MethodDefault);
             pass(walk, Symbol::Colon);
-            Ok(())
         }
-        Part::Declare(_) | Part::Statement(_) => Ok(()),
+        Part::Declare(_) | Part::Statement(_) => {}
     }
 }

@@ -80,15 +80,14 @@ fn sets(uses: &[Use], places: &BTreeSet<u32>) -> bool {
 }
 
 // Whether nothing that the condition reads is set in the loop.
-fn is_unchanging(
-    alloc: Global,
-    looped: &Loop<'_, '_>,
-    walk: &Walk<'_>,
-) -> Result<bool, AllocError> {
+fn is_unchanging(looped: &Loop<'_, '_>, walk: &Walk<'_>, findings: &mut Findings) -> bool {
     let test = walk.uses.get(looped.test..looped.tested).unwrap_or(&[]);
     let turns = walk.uses.get(looped.from..).unwrap_or(&[]);
-    let places = places_read(alloc, test)?;
-    Ok(!places.is_empty() && !sets(turns, &places))
+    let Ok(places) = places_read(findings.alloc, test) else {
+        findings.refuse();
+        return false;
+    };
+    !places.is_empty() && !sets(turns, &places)
 }
 
 /// What is known of the condition of a loop. A missing one always holds.
@@ -104,13 +103,13 @@ fn say_constant(
     looped: &Loop<'_, '_>,
     number: i64,
     findings: &mut Findings,
-) -> Result<(), AllocError> {
+) {
     match looped.condition {
         Some(e) if !is_literal(e) => {
-            let message = format!(in findings.alloc; "this condition is always {number}")?;
+            let message = format!(in findings.alloc; "this condition is always {number}");
             findings.add(Lint::ConstantCondition, looped.test_at, message)
         }
-        _ => Ok(()),
+        _ => {}
     }
 }
 
@@ -120,37 +119,37 @@ pub fn check_loop<'a>(
     body: Flow<'a>,
     walk: &Walk<'_>,
     findings: &mut Findings,
-) -> Result<Flow<'a>, AllocError> {
+) -> Flow<'a> {
     let leaves = body.leaves || looped.asks;
     let stays = !body.breaks && !leaves;
     let mut ends = None;
     match known_of(looped.condition) {
         Known::Number(0) if !looped.is_do => {
-            say(Lint::DeadLoop, looped.at, "this loop never runs", findings)?;
+            say(Lint::DeadLoop, looped.at, "this loop never runs", findings);
         }
-        Known::Number(0) => say_constant(looped, 0, findings)?,
+        Known::Number(0) => say_constant(looped, 0, findings),
         Known::Number(number) => {
             if !body.breaks {
                 ends = Some(looped.at);
             }
             if stays {
                 let message = "nothing ends this loop: it has no break, no return and no request";
-                say(Lint::EndlessLoop, looped.at, message, findings)?;
+                say(Lint::EndlessLoop, looped.at, message, findings);
             } else {
-                say_constant(looped, number, findings)?;
+                say_constant(looped, number, findings);
             }
         }
-        Known::Nothing if stays && is_unchanging(findings.alloc, looped, walk)? => {
+        Known::Nothing if stays && is_unchanging(looped, walk, findings) => {
             let message = "nothing in this loop changes what its condition reads";
-            say(Lint::EndlessLoop, looped.at, message, findings)?;
+            say(Lint::EndlessLoop, looped.at, message, findings);
         }
         Known::Traps(_) | Known::Nothing => {}
     }
-    Ok(Flow {
+    Flow {
         ends,
         leaves,
         ..GOES_ON
-    })
+    }
 }
 
 // The place that the first part of a `for` sets to a constant.
@@ -264,10 +263,10 @@ pub fn check_head(
     is_empty: bool,
     walk: &Walk<'_>,
     findings: &mut Findings,
-) -> Result<(), AllocError> {
+) {
     let (initial, condition, update) = head;
     let Some((place, comparison, limit)) = limit_of(condition) else {
-        return Ok(());
+        return;
     };
     if let (Some((started, start)), Known::Number(end)) = (
         start_of(initial),
@@ -275,14 +274,14 @@ pub fn check_head(
     ) {
         if started == place && !holds(comparison, start, end) {
             let alloc = findings.alloc;
-            let message = format!(in alloc; "this loop never runs: it begins at {start}")?;
+            let message = format!(in alloc; "this loop never runs: it begins at {start}");
             return findings.add(Lint::DeadLoop, at, message);
         }
     }
     match step_of(update) {
         Some((counted, step)) if counted == place && leads_away(comparison, step) => {
             if is_set(walk.uses.get(body..).unwrap_or(&[]), place) {
-                return Ok(());
+                return;
             }
             let message = "this loop counts away from its limit";
             say(Lint::BackwardLoop, at, message, findings)
@@ -291,6 +290,6 @@ pub fn check_head(
             let message = "this loop only counts: a ; stands right after its head";
             say(Lint::EmptyBranch, at, message, findings)
         }
-        _ => Ok(()),
+        _ => {}
     }
 }

@@ -55,24 +55,23 @@ fn check_local(
     at: Mark<'_>,
     walk: &Walk<'_>,
     findings: &mut Findings,
-) -> Result<(), AllocError> {
+) {
     let name = at.word();
     let alloc = findings.alloc;
     if !walk.reads.contains(slot) {
-        let message = format!(in alloc; "the local {name} is never read")?;
-        findings.add(Lint::UnreadLocal, at, message)?;
+        let message = format!(in alloc; "the local {name} is never read");
+        findings.add(Lint::UnreadLocal, at, message);
     } else if !walk.writes.contains(slot) {
-        let message = format!(in alloc; "nothing ever sets the local {name}: it is 0")?;
-        findings.add(Lint::UnsetLocal, at, message)?;
+        let message = format!(in alloc; "nothing ever sets the local {name}: it is 0");
+        findings.add(Lint::UnsetLocal, at, message);
     } else if walk.early.contains(slot) {
-        let message = format!(in alloc; "the local {name} is read before anything sets it")?;
-        findings.add(Lint::UnsetLocal, at, message)?;
+        let message = format!(in alloc; "the local {name} is read before anything sets it");
+        findings.add(Lint::UnsetLocal, at, message);
     }
     if walk.instrument.has_name(name.as_bytes()) {
-        let message = format!(in alloc; "this local hides the item {name}")?;
-        findings.add(Lint::HidingLocal, at, message)?;
+        let message = format!(in alloc; "this local hides the item {name}");
+        findings.add(Lint::HidingLocal, at, message);
     }
-    Ok(())
 }
 
 // All locals, in the order of their slots.
@@ -80,12 +79,11 @@ fn check_locals(
     locals: &[Mark<'_>],
     walk: &Walk<'_>,
     findings: &mut Findings,
-) -> Result<(), AllocError> {
+) {
     for (slot, at) in locals.iter().enumerate() {
         let slot = u8::try_from(slot).unwrap_or(u8::MAX);
-        check_local(slot, *at, walk, findings)?;
+        check_local(slot, *at, walk, findings);
     }
-    Ok(())
 }
 
 // The place of a call that adds an abort method, which is the whole statement.
@@ -103,20 +101,17 @@ fn added_at(part: &Part<Target>) -> Option<TokenNo> {
 const MOST: usize = 8;
 
 // A warning on each statement of a body that adds an abort method when there are eight.
-fn check_added(parts: &[Part<Target>], findings: &mut Findings) -> Result<(), AllocError> {
+fn check_added(parts: &[Part<Target>], findings: &mut Findings) {
     let mut added = 0usize;
     for part in parts {
         if let Some(at) = added_at(part) {
             added = added.saturating_add(1);
             if MOST < added {
-                let alloc = findings.alloc;
-                let message = String::from_str(alloc, "this lists nothing: eight are listed")?;
                 let at = findings.mark(at);
-                findings.add(Lint::AbortMethodLimit, at, message)?;
+                findings.say(Lint::AbortMethodLimit, at, "this lists nothing: eight are listed");
             }
         }
     }
-    Ok(())
 }
 
 /// The definition of a method.
@@ -126,17 +121,23 @@ pub fn check_method(
     tokens: &[Token],
     instrument: &Instrument,
     findings: &mut Findings,
-) -> Result<(), AllocError> {
-    let locals = locals_of(findings.alloc, text, tokens)?;
+) {
+    let Ok(locals) = locals_of(findings.alloc, text, tokens) else {
+        findings.refuse();
+        return;
+    };
     let tokens_left = TokensLeft::new(text, tokens);
     let mut walk = Walk::new(findings.alloc, tokens_left, Sort::Method, instrument);
     for attribute in attributes {
         if let Attribute::Definition(_, parts) = attribute {
             walk.tokens_left.to_word(Keyword::Definition);
             walk.tokens_left.to(TokenKind::Symbol(Symbol::OpenBrace));
-            check_parts(parts, &mut walk, findings)?;
-            check_added(parts, findings)?;
+            check_parts(parts, &mut walk, findings);
+            check_added(parts, findings);
         }
+    }
+    if walk.is_refused {
+        findings.refuse();
     }
     check_locals(&locals, &walk, findings)
 }

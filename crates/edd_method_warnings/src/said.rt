@@ -6,7 +6,6 @@ use edd_lints::lint::Lint;
 use edd_lints::tokens_left::Mark;
 use edd_lints::warning::Findings;
 use edd_syntax::symbols::Symbol;
-use std::alloc::AllocError;
 
 /// Passes the next sign of this kind.
 pub fn pass(walk: &mut Walk<'_>, symbol: Symbol) {
@@ -19,7 +18,6 @@ pub fn say(
     at: Mark<'_>,
     message: &str,
     findings: &mut Findings,
-) -> Result<(), AllocError> {
-    let message = String::from_str(findings.alloc, message)?;
-    findings.add(lint, at, message)
+) {
+    findings.say(lint, at, message)
 }

@@ -18,7 +18,6 @@ use edd_syntax::expr::Expr;
 use edd_syntax::reference::Target;
 use edd_syntax::stmt::{Declarator, Part, Stmt};
 use edd_syntax::symbols::{Keyword, Symbol};
-use std::alloc::AllocError;
 
 // An expression of a statement. Says whether the host is asked in it.
 fn check_value(
@@ -26,13 +25,13 @@ fn check_value(
     is_statement: bool,
     walk: &mut Walk<'_>,
     findings: &mut Findings,
-) -> Result<bool, AllocError> {
+) -> bool {
     let before = walk.asks;
     walk.asks = false;
-    check_expression(e, is_statement, walk, findings)?;
+    check_expression(e, is_statement, walk, findings);
     let asks = walk.asks;
     walk.asks = asks || before;
-    Ok(asks)
+    asks
 }
 
 // The condition of an `if` or what a `switch` is over, in parentheses, which are passed. Says
@@ -43,15 +42,15 @@ fn check_test(
     assigns: &str,
     walk: &mut Walk<'_>,
     findings: &mut Findings,
-) -> Result<bool, AllocError> {
+) -> bool {
     let behind = walk.tokens_left.behind_parentheses();
     let before = walk.asks;
     walk.asks = false;
-    check_condition(e, at, assigns, walk, findings)?;
+    check_condition(e, at, assigns, walk, findings);
     let asks = walk.asks;
     walk.asks = asks || before;
     walk.tokens_left = behind;
-    Ok(asks)
+    asks
 }
 
 // The condition of a loop.
@@ -59,23 +58,23 @@ fn check_loop_test(
     e: &Expr<Target>,
     walk: &mut Walk<'_>,
     findings: &mut Findings,
-) -> Result<bool, AllocError> {
+) -> bool {
     let before = walk.asks;
     walk.asks = false;
-    check_tested(e, COMPARED, walk, findings)?;
+    check_tested(e, COMPARED, walk, findings);
     let asks = walk.asks;
     walk.asks = asks || before;
-    Ok(asks)
+    asks
 }
 
 fn check_optional(
     e: &Option<Expr<Target>>,
     walk: &mut Walk<'_>,
     findings: &mut Findings,
-) -> Result<bool, AllocError> {
+) -> bool {
     match e {
         Some(e) => check_value(e, true, walk, findings),
-        None => Ok(false),
+        None => false,
     }
 }
 
@@ -83,24 +82,24 @@ fn check_declarators(
     declarators: &[Declarator<Target>],
     walk: &mut Walk<'_>,
     findings: &mut Findings,
-) -> Result<bool, AllocError> {
+) -> bool {
     let mut asks = false;
     for declarator in declarators {
         if let Some(e) = &declarator.value {
             walk.tokens_left.to(TokenKind::Symbol(Symbol::Equals));
-            check_wrapped(e, walk, findings)?;
-            let here = check_value(e, false, walk, findings)?;
+            check_wrapped(e, walk, findings);
+            let here = check_value(e, false, walk, findings);
             asks = asks || here;
-            walk.write(declarator.place)?;
+            walk.write(declarator.place);
         }
     }
     pass(walk, Symbol::Semicolon);
-    Ok(asks)
+    asks
 }
 
-fn warn_unreached(end: Mark<'_>, findings: &mut Findings) -> Result<(), AllocError> {
+fn warn_unreached(end: Mark<'_>, findings: &mut Findings) {
     let word = end.word();
-    let message = format!(in findings.alloc; "what stands behind this {word} is never reached")?;
+    let message = format!(in findings.alloc; "what stands behind this {word} is never reached");
     findings.add(Lint::UnreachableStatement, end, message)
 }
 
@@ -111,15 +110,15 @@ fn check_next<'a>(
     so_far: Flow<'a>,
     walk: &mut Walk<'a>,
     findings: &mut Findings,
-) -> Result<Flow<'a>, AllocError> {
+) -> Flow<'a> {
     if let Some(end) = so_far.ends {
         if counts(s) {
-            warn_unreached(end, findings)?;
+            warn_unreached(end, findings);
         }
     }
-    let flow = check_statement(s, walk, findings)?;
+    let flow = check_statement(s, walk, findings);
     let is_said = so_far.ends.is_some() && counts(s);
-    Ok(Flow {
+    Flow {
         ends: if is_said {
             flow.ends
         } else {
@@ -128,7 +127,7 @@ fn check_next<'a>(
         breaks: so_far.breaks || flow.breaks,
         leaves: so_far.leaves || flow.leaves,
         is_remarked: flow.is_remarked,
-    })
+    }
 }
 
 /// What is between braces.
@@ -137,7 +136,7 @@ pub fn check_parts<'a>(
     parts: &[Part<Target>],
     walk: &mut Walk<'a>,
     findings: &mut Findings,
-) -> Result<Flow<'a>, AllocError> {
+) -> Flow<'a> {
     let mut flow = GOES_ON;
     let mut has_statement = false;
     let mut is_dead = false;
@@ -147,22 +146,22 @@ pub fn check_parts<'a>(
         behind = behind.saturating_add(1);
         match part {
             Part::Declare(declarators) => {
-                let asks = check_declarators(declarators, walk, findings)?;
+                let asks = check_declarators(declarators, walk, findings);
                 flow.leaves = flow.leaves || asks;
                 head = None;
             }
             Part::Statement(s) => {
-                check_block_after(head, s, findings)?;
+                check_block_after(head, s, findings);
                 head = has_no_body(s).then_some(walk.tokens_left.next());
                 is_dead = is_dead || flow.ends.is_some();
-                flow = check_next(s, flow, walk, findings)?;
+                flow = check_next(s, flow, walk, findings);
                 has_statement = true;
             }
             Part::CaseLabel { .. } | Part::DefaultLabel { .. } => {
                 if has_statement && !is_dead {
-                    check_fall(flow, parts.get(behind), walk, findings)?;
+                    check_fall(flow, parts.get(behind), walk, findings);
                 }
-                check_label_part(part, walk, findings)?;
+                check_label_part(part, walk, findings);
                 flow.ends = None;
                 has_statement = false;
                 is_dead = false;
@@ -170,7 +169,7 @@ pub fn check_parts<'a>(
         }
     }
     flow.is_remarked = has_comment(walk.tokens_left.gap());
-    Ok(flow)
+    flow
 }
 
 // Whether nothing is done with what an expression gives. A plain number may be what is left of a
@@ -187,23 +186,23 @@ fn check_evaluated<'a>(
     e: &Expr<Target>,
     walk: &mut Walk<'a>,
     findings: &mut Findings,
-) -> Result<Flow<'a>, AllocError> {
+) -> Flow<'a> {
     let at = walk.tokens_left.next();
     let before = walk.acts;
     walk.acts = false;
-    let asks = check_value(e, true, walk, findings)?;
+    let asks = check_value(e, true, walk, findings);
     if !walk.acts && is_dropped(e) {
         let message = "this statement does nothing: its value is not used";
-        say(Lint::DroppedValue, at, message, findings)?;
+        say(Lint::DroppedValue, at, message, findings);
     }
     walk.acts = walk.acts || before;
     pass(walk, Symbol::Semicolon);
     let aborts = is_abort(e);
-    Ok(Flow {
+    Flow {
         ends: aborts.then_some(at),
         leaves: asks || aborts,
         ..GOES_ON
-    })
+    }
 }
 
 #[cycle(statements)]
@@ -212,19 +211,19 @@ fn check_if<'a>(
     condition: &Expr<Target>,
     walk: &mut Walk<'a>,
     findings: &mut Findings,
-) -> Result<Flow<'a>, AllocError> {
+) -> Flow<'a> {
     let at = walk.tokens_left.to_word(Keyword::MethodIf);
-    let asks = check_test(condition, at, COMPARED, walk, findings)?;
+    let asks = check_test(condition, at, COMPARED, walk, findings);
     if let Stmt::Empty = first {
         let message = "nothing is done where this condition holds: a ; stands right after it";
-        say(Lint::EmptyBranch, at, message, findings)?;
+        say(Lint::EmptyBranch, at, message, findings);
     }
-    let flow = check_statement(first, walk, findings)?;
+    let flow = check_statement(first, walk, findings);
     if is_empty_block(first) && !asks && !flow.is_remarked {
         let message = "nothing is done where this condition holds";
-        say(Lint::EmptyBranch, at, message, findings)?;
+        say(Lint::EmptyBranch, at, message, findings);
     }
-    Ok(joined(at, asks, flow, GOES_ON))
+    joined(at, asks, flow, GOES_ON)
 }
 
 #[cycle(statements)]
@@ -233,15 +232,15 @@ fn check_while<'a>(
     condition: &Expr<Target>,
     walk: &mut Walk<'a>,
     findings: &mut Findings,
-) -> Result<Flow<'a>, AllocError> {
+) -> Flow<'a> {
     let at = walk.tokens_left.to_word(Keyword::While);
     let from = walk.uses.len();
     let behind = walk.tokens_left.behind_parentheses();
     walk.loops = walk.loops.saturating_add(1);
-    let asks = check_loop_test(condition, walk, findings)?;
+    let asks = check_loop_test(condition, walk, findings);
     walk.tokens_left = behind;
     let tested = walk.uses.len();
-    let flow = check_statement(body, walk, findings)?;
+    let flow = check_statement(body, walk, findings);
     walk.loops = walk.loops.saturating_sub(1);
     let looped = Loop {
         at,
@@ -262,15 +261,15 @@ fn check_do<'a>(
     condition: &Expr<Target>,
     walk: &mut Walk<'a>,
     findings: &mut Findings,
-) -> Result<Flow<'a>, AllocError> {
+) -> Flow<'a> {
     let at = walk.tokens_left.to_word(Keyword::Do);
     let from = walk.uses.len();
     walk.loops = walk.loops.saturating_add(1);
-    let flow = check_statement(body, walk, findings)?;
+    let flow = check_statement(body, walk, findings);
     let test_at = walk.tokens_left.to_word(Keyword::While);
     let behind = walk.tokens_left.behind_parentheses();
     let test = walk.uses.len();
-    let asks = check_loop_test(condition, walk, findings)?;
+    let asks = check_loop_test(condition, walk, findings);
     walk.loops = walk.loops.saturating_sub(1);
     walk.tokens_left = behind;
     pass(walk, Symbol::Semicolon);
@@ -295,26 +294,26 @@ fn check_for<'a>(
     body: &Stmt<Target>,
     walk: &mut Walk<'a>,
     findings: &mut Findings,
-) -> Result<Flow<'a>, AllocError> {
+) -> Flow<'a> {
     let at = walk.tokens_left.to_word(Keyword::For);
     let behind = walk.tokens_left.behind_parentheses();
-    check_optional(initial, walk, findings)?;
+    check_optional(initial, walk, findings);
     pass(walk, Symbol::Semicolon);
     walk.loops = walk.loops.saturating_add(1);
     let from = walk.uses.len();
     let tests = match condition {
-        Some(e) => check_loop_test(e, walk, findings)?,
+        Some(e) => check_loop_test(e, walk, findings),
         None => false,
     };
     let tested = walk.uses.len();
     pass(walk, Symbol::Semicolon);
-    let updates = check_optional(update, walk, findings)?;
+    let updates = check_optional(update, walk, findings);
     walk.tokens_left = behind;
     let begin = walk.uses.len();
-    let flow = check_statement(body, walk, findings)?;
+    let flow = check_statement(body, walk, findings);
     walk.loops = walk.loops.saturating_sub(1);
     let head = (initial, condition, update);
-    check_head(at, head, begin, matches!(body, Stmt::Empty), walk, findings)?;
+    check_head(at, head, begin, matches!(body, Stmt::Empty), walk, findings);
     let looped = Loop {
         at,
         test_at: at,
@@ -334,23 +333,23 @@ fn check_switch<'a>(
     on: &Expr<Target>,
     walk: &mut Walk<'a>,
     findings: &mut Findings,
-) -> Result<Flow<'a>, AllocError> {
+) -> Flow<'a> {
     let at = walk.tokens_left.to_word(Keyword::Switch);
-    let asks = check_test(on, at, SELECTED, walk, findings)?;
+    let asks = check_test(on, at, SELECTED, walk, findings);
     pass(walk, Symbol::OpenBrace);
-    walk.selected.push(selected_variable(on))?;
-    let flow = check_parts(parts, walk, findings)?;
+    walk.select(selected_variable(on));
+    let flow = check_parts(parts, walk, findings);
     walk.selected.pop();
     pass(walk, Symbol::CloseBrace);
     let has_default = parts
         .iter()
         .any(|part| matches!(part, Part::DefaultLabel { .. }));
     let ends = has_default && !flow.breaks && flow.ends.is_some();
-    Ok(Flow {
+    Flow {
         ends: if ends { Some(at) } else { None },
         leaves: asks || flow.leaves,
         ..GOES_ON
-    })
+    }
 }
 
 #[cycle(statements)]
@@ -358,11 +357,11 @@ fn check_block<'a>(
     parts: &[Part<Target>],
     walk: &mut Walk<'a>,
     findings: &mut Findings,
-) -> Result<Flow<'a>, AllocError> {
+) -> Flow<'a> {
     pass(walk, Symbol::OpenBrace);
-    let flow = check_parts(parts, walk, findings)?;
+    let flow = check_parts(parts, walk, findings);
     pass(walk, Symbol::CloseBrace);
-    Ok(flow)
+    flow
 }
 
 #[cycle(statements)]
@@ -370,22 +369,22 @@ fn check_statement<'a>(
     s: &Stmt<Target>,
     walk: &mut Walk<'a>,
     findings: &mut Findings,
-) -> Result<Flow<'a>, AllocError> {
+) -> Flow<'a> {
     match s {
         Stmt::Empty => {
             pass(walk, Symbol::Semicolon);
-            Ok(GOES_ON)
+            GOES_ON
         }
         Stmt::Evaluate(e) => check_evaluated(e, walk, findings),
         Stmt::Block(parts) => check_block(parts, walk, findings),
         Stmt::If(condition, first) => check_if(first, condition, walk, findings),
         Stmt::IfElse(condition, first, otherwise) => {
             let at = walk.tokens_left.to_word(Keyword::MethodIf);
-            let asks = check_test(condition, at, COMPARED, walk, findings)?;
-            let first = check_statement(first, walk, findings)?;
+            let asks = check_test(condition, at, COMPARED, walk, findings);
+            let first = check_statement(first, walk, findings);
             walk.tokens_left.to_word(Keyword::MethodElse);
-            let second = check_statement(otherwise, walk, findings)?;
-            Ok(joined(at, asks, first, second))
+            let second = check_statement(otherwise, walk, findings);
+            joined(at, asks, first, second)
         }
         Stmt::While(condition, body) => check_while(body, condition, walk, findings),
         Stmt::Do(body, condition) => check_do(body, condition, walk, findings),
@@ -399,21 +398,21 @@ fn check_statement<'a>(
         Stmt::Break { .. } => {
             let at = walk.tokens_left.to_word(Keyword::Break);
             pass(walk, Symbol::Semicolon);
-            Ok(leaving(at, true))
+            leaving(at, true)
         }
         Stmt::Continue { .. } => {
             let at = walk.tokens_left.to_word(Keyword::Continue);
             pass(walk, Symbol::Semicolon);
-            Ok(leaving(at, false))
+            leaving(at, false)
         }
         Stmt::Return => {
             let at = walk.tokens_left.to_word(Keyword::Return);
             pass(walk, Symbol::Semicolon);
-            Ok(Flow {
+            Flow {
                 ends: Some(at),
                 leaves: true,
                 ..GOES_ON
-            })
+            }
         }
     }
 }

@@ -42,11 +42,13 @@ without_beside files = record files { beside = None }
 abbrev pub HasNoneBeside : Option PlainFiles → Type 0
 HasNoneBeside files = option_map without_beside files ≡ files
 
+-- the same file, whose bytes last
+abbrev pub lasting : NewFile → NewFile
+lasting new = record new { is_lasting = true }
+
 -- the new file has been made to last
 abbrev pub synced : PlainFiles → PlainFiles
-synced files = record files {
-  beside = option_map (λ new. record new { is_lasting = true }) files.beside;
-}
+synced files = record files { beside = option_map lasting files.beside }
 
 -- what is known of the bytes of a new file whatever happens: nothing where they need not last
 abbrev pub lasting_bytes : Option NewFile → Option (List ℕ)

@@ -29,13 +29,15 @@ fn nearest(alloc: Global, word: &str) -> Result<Option<&'static str>, AllocError
     Ok(found)
 }
 
-fn check_class(word: &str, at: Mark<'_>, findings: &mut Findings) -> Result<(), AllocError> {
+fn check_class(word: &str, at: Mark<'_>, findings: &mut Findings) {
     if CLASSES.contains(&word) {
-        return Ok(());
+        return;
     }
-    let message = match nearest(findings.alloc, word)? {
-        Some(near) => format!(in findings.alloc; "{word} is no class: {near} may be meant")?,
-        None => format!(in findings.alloc; "{word} is no class")?,
+    let alloc = findings.alloc;
+    let message = match nearest(alloc, word) {
+        Ok(Some(near)) => format!(in alloc; "{word} is no class: {near} may be meant"),
+        Ok(None) => format!(in alloc; "{word} is no class"),
+        Err(refused) => Err(refused),
     };
     findings.add(Lint::UnknownClass, at, message)
 }
@@ -45,7 +47,7 @@ pub fn check_classes(
     text: &[u8],
     tokens: &[Token],
     findings: &mut Findings,
-) -> Result<(), AllocError> {
+) {
     let mut is_inside = false;
     for token in tokens {
         match token.kind {
@@ -53,10 +55,9 @@ pub fn check_classes(
             TokenKind::Symbol(Symbol::Semicolon) => is_inside = false,
             TokenKind::Name if is_inside => {
                 let at = mark_of(text, token);
-                check_class(at.word(), at, findings)?;
+                check_class(at.word(), at, findings);
             }
             _ => {}
         }
     }
-    Ok(())
 }

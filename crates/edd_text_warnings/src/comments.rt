@@ -5,7 +5,6 @@ use edd_lexer::token::Token;
 use edd_lints::lint::Lint;
 use edd_lints::tokens_left::Mark;
 use edd_lints::warning::Findings;
-use std::alloc::AllocError;
 
 /// The first byte of each character that turns the direction, which are of three bytes.
 pub const LEAD: u8 = 0xE2;
@@ -23,11 +22,11 @@ fn turn_of(text: &[u8]) -> Option<(&[u8], u16)> {
     Some((text.get(..3)?, number))
 }
 
-fn add_turn(at: Mark<'_>, number: u16, findings: &mut Findings) -> Result<(), AllocError> {
+fn add_turn(at: Mark<'_>, number: u16, findings: &mut Findings) {
     let alloc = findings.alloc;
     let message = format!(in alloc;
         "this comment has a character that turns its direction and is not seen, U+{number:X}"
-    )?;
+    );
     findings.add(Lint::BidirectionalComment, at, message)
 }
 
@@ -41,7 +40,7 @@ struct Gap {
 }
 
 // The first of these characters on each line of a gap.
-fn check_gap(text: &[u8], gap: Gap, findings: &mut Findings) -> Result<(), AllocError> {
+fn check_gap(text: &[u8], gap: Gap, findings: &mut Findings) {
     let mut line = gap.line;
     let mut told = 0;
     for place in gap.before..gap.end {
@@ -57,20 +56,19 @@ fn check_gap(text: &[u8], gap: Gap, findings: &mut Findings) -> Result<(), Alloc
                     bytes: word,
                     start: u32::try_from(place).unwrap_or(u32::MAX),
                 };
-                add_turn(at, number, findings)?;
+                add_turn(at, number, findings);
             }
         }
     }
-    Ok(())
 }
 
 // Looks at a gap only where it has the first byte of such a character.
-fn check_bytes(text: &[u8], gap: Gap, findings: &mut Findings) -> Result<(), AllocError> {
+fn check_bytes(text: &[u8], gap: Gap, findings: &mut Findings) {
     match text.get(gap.start..gap.end) {
         Some(bytes) if SHORTEST <= bytes.len() && bytes.contains(&LEAD) => {
             check_gap(text, gap, findings)
         }
-        _ => Ok(()),
+        _ => {}
     }
 }
 
@@ -79,7 +77,7 @@ pub fn check_comments(
     text: &[u8],
     tokens: &[Token],
     findings: &mut Findings,
-) -> Result<(), AllocError> {
+) {
     let mut gap = Gap {
         before: 0,
         line: 1,
@@ -88,7 +86,7 @@ pub fn check_comments(
     };
     for token in tokens {
         gap.end = token.start as usize;
-        check_bytes(text, gap, findings)?;
+        check_bytes(text, gap, findings);
         gap.before = token.start as usize;
         gap.line = token.line;
         gap.start = token.end as usize;

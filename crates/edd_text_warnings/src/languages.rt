@@ -75,33 +75,32 @@ fn check_text<'r>(
     let mut variants = Variants::of(raw);
     let wrong = wrong_in(raw, &mut variants, languages)?;
     if variants.has_stray_bar {
-        let message = String::from_str(findings.alloc, "a bar in this text opens no language")?;
-        findings.add(Lint::StrayBar, at, message)?;
+        findings.say(Lint::StrayBar, at, "a bar in this text opens no language");
     }
-    add_wrong(wrong, at, findings)
+    add_wrong(wrong, at, findings);
+    Ok(())
 }
 
 // Tells what is wrong with the languages of a text.
-fn add_wrong(wrong: Wrong<'_>, at: Mark<'_>, findings: &mut Findings) -> Result<(), AllocError> {
+fn add_wrong(wrong: Wrong<'_>, at: Mark<'_>, findings: &mut Findings) {
     let alloc = findings.alloc;
     if let Some(code) = wrong.repeated {
         let code = code_text(code);
-        let message = format!(in alloc; "{code} is twice in this text")?;
-        findings.add(Lint::RepeatedLanguage, at, message)?;
+        let message = format!(in alloc; "{code} is twice in this text");
+        findings.add(Lint::RepeatedLanguage, at, message);
     }
     if let Some(code) = wrong.empty {
         if wrong.has_words {
             let code = code_text(code);
-            let message = format!(in alloc; "this text has no words in {code}")?;
-            findings.add(Lint::EmptyLanguage, at, message)?;
+            let message = format!(in alloc; "this text has no words in {code}");
+            findings.add(Lint::EmptyLanguage, at, message);
         }
     }
     if let Some(code) = wrong.unknown {
         let code = code_text(code);
-        let message = format!(in alloc; "{code} is no code of a language")?;
-        findings.add(Lint::UnknownLanguage, at, message)?;
+        let message = format!(in alloc; "{code} is no code of a language");
+        findings.add(Lint::UnknownLanguage, at, message);
     }
-    Ok(())
 }
 
 // How many choices words have: they are parted by semicolons.
@@ -116,10 +115,10 @@ fn choices_in(words: &[u8]) -> usize {
 }
 
 // A language with another number of choices than the first one.
-fn check_choices(raw: &[u8], at: Mark<'_>, findings: &mut Findings) -> Result<(), AllocError> {
+fn check_choices(raw: &[u8], at: Mark<'_>, findings: &mut Findings) {
     let mut variants = Variants::of(raw);
     let Some(first) = variants.pass() else {
-        return Ok(());
+        return;
     };
     let count = choices_in(first.words);
     for _ in raw {
@@ -130,11 +129,10 @@ fn check_choices(raw: &[u8], at: Mark<'_>, findings: &mut Findings) -> Result<()
         if other != count {
             let (one, two) = (code_text(first.code), code_text(variant.code));
             let alloc = findings.alloc;
-            let message = format!(in alloc; "{count} choices in {one}, but {other} in {two}")?;
+            let message = format!(in alloc; "{count} choices in {one}, but {other} in {two}");
             return findings.add(Lint::UnevenChoices, at, message);
         }
     }
-    Ok(())
 }
 
 /// The languages of the texts of a description. Those with codes of three digits are compared
@@ -148,7 +146,7 @@ pub fn check_languages(texts: &[Spoken<'_>], findings: &mut Findings) -> Result<
             check_text(raw, spoken.at, &mut languages, findings)?;
             languages.end(spoken.at)?;
             if spoken.is_choices {
-                check_choices(raw, spoken.at, findings)?;
+                check_choices(raw, spoken.at, findings);
             }
         }
     }

@@ -203,8 +203,8 @@ impl<'a, 'r> Languages<'a, 'r> {
             if here.get(*place) != number {
                 let code = self.all.get(*place).copied().unwrap_or(UNMET).name;
                 let alloc = findings.alloc;
-                let message = format!(in alloc; "this text lacks {code}, which most texts have")?;
-                findings.add(Lint::MissingLanguage, text.at, message)?;
+                let message = format!(in alloc; "this text lacks {code}, which most texts have");
+                findings.add(Lint::MissingLanguage, text.at, message);
             }
         }
         Ok(())

@@ -170,8 +170,8 @@ pub fn check_abort_methods(
             let method = str::from_utf8(one.method).unwrap_or("");
             let message = format!(in alloc;
                 "{method} is an abort method, in which this lists nothing"
-            )?;
-            findings.add(Lint::NestedAbortMethod, one.at, message)?;
+            );
+            findings.add(Lint::NestedAbortMethod, one.at, message);
         }
     }
     Ok(())

@@ -184,23 +184,19 @@ impl<'a> Brackets<'a> {
     }
 
     // The IF at a number, where its two branches are the same.
-    fn check_branches(&self, number: usize, findings: &mut Findings) -> Result<(), AllocError> {
+    fn check_branches(&self, number: usize, findings: &mut Findings) {
         let Some(first) = self.condition(number) else {
-            return Ok(());
+            return;
         };
         let other = first.branch.to.saturating_add(1);
         if !self.is_else(other) {
-            return Ok(());
+            return;
         }
         match (self.branch(other.saturating_add(1)), self.mark(number)) {
             (Some(second), Some(at)) if self.are_alike(first.branch, second) => {
-                let message = String::from_str(
-                    findings.alloc,
-                    "both branches of this condition are the same",
-                )?;
-                findings.add(Lint::EqualBranches, at, message)
+                findings.say(Lint::EqualBranches, at, "both branches of this condition are the same")
             }
-            _ => Ok(()),
+            _ => {}
         }
     }
 
@@ -212,9 +208,9 @@ impl<'a> Brackets<'a> {
     }
 
     // The chain that begins at a number, where it has more than one condition.
-    fn check_chain(&self, number: usize, findings: &mut Findings) -> Result<(), AllocError> {
+    fn check_chain(&self, number: usize, findings: &mut Findings) {
         if self.next(number).is_none() {
-            return Ok(());
+            return;
         }
         let alloc = findings.alloc;
         let mut seen = BTreeMap::new(alloc);
@@ -225,11 +221,10 @@ impl<'a> Brackets<'a> {
             };
             let condition = self.condition(here).map(|one| one.condition);
             if let (Some(condition), Some(mark)) = (condition, self.mark(here)) {
-                self.add_condition(condition, mark, &mut seen, findings)?;
+                self.add_condition(condition, mark, &mut seen, findings);
             }
             at = self.next(here);
         }
-        Ok(())
     }
 
     fn add_condition(
@@ -238,39 +233,40 @@ impl<'a> Brackets<'a> {
         mark: Mark<'a>,
         seen: &mut BTreeMap<String, Mark<'a>>,
         findings: &mut Findings,
-    ) -> Result<(), AllocError> {
-        let Some(written) = self.written(findings.alloc, condition)? else {
-            return Ok(());
+    ) {
+        let written = match self.written(findings.alloc, condition) {
+            Ok(Some(written)) => written,
+            Ok(None) => return,
+            Err(_) => return findings.refuse(),
         };
         if let Some(earlier) = seen.get(&written) {
             let message = String::from_str(
                 findings.alloc,
                 "an earlier condition of this chain is the same, so this branch is never taken",
-            )?;
-            return findings.add_beside(Lint::RepeatedCondition, mark, message, *earlier);
+            );
+            findings.add_beside(Lint::RepeatedCondition, mark, message, *earlier);
+            return;
         }
-        seen.insert(written, mark)?;
-        Ok(())
+        if seen.insert(written, mark).is_err() {
+            findings.refuse();
+        }
     }
 }
 
 /// The conditions of an item.
-pub fn check_branches(
-    text: &[u8],
-    tokens: &[Token],
-    findings: &mut Findings,
-) -> Result<(), AllocError> {
+pub fn check_branches(text: &[u8], tokens: &[Token], findings: &mut Findings) {
     if !tokens.iter().any(|token| begins_condition(token.kind)) {
-        return Ok(());
+        return;
     }
-    let brackets = brackets_of(findings.alloc, text, tokens)?;
+    let Ok(brackets) = brackets_of(findings.alloc, text, tokens) else {
+        return findings.refuse();
+    };
     for (number, token) in tokens.iter().enumerate() {
         if begins_condition(token.kind) {
-            brackets.check_branches(number, findings)?;
+            brackets.check_branches(number, findings);
             if number == 0 || !brackets.is_else(number.saturating_sub(1)) {
-                brackets.check_chain(number, findings)?;
+                brackets.check_chain(number, findings);
             }
         }
     }
-    Ok(())
 }

@@ -21,7 +21,7 @@ fn check_codes(
     codes: &[ResponseCode],
     tokens_left: &mut TokensLeft<'_>,
     findings: &mut Findings,
-) -> Result<(), AllocError> {
+) {
     let mut list = Numbers::new(
         findings.alloc,
         Lint::RepeatedResponseCode,
@@ -30,9 +30,8 @@ fn check_codes(
     tokens_left.to_word(Keyword::ResponseCodes);
     for code in codes {
         let at = tokens_left.to(TokenKind::Integer(code.number));
-        list.add(i64::from(code.number), at, findings)?;
+        list.add(i64::from(code.number), at, findings);
     }
-    Ok(())
 }
 
 /// The attributes of a command, whose number is added to those of the others.
@@ -53,16 +52,16 @@ pub fn check_command<'a>(
         match attribute {
             Attribute::Number(_, number) => {
                 let at = tokens_left.to_word(Keyword::Number);
-                commands.add(i64::from(*number), at, findings)?;
+                commands.add(i64::from(*number), at, findings);
             }
             Attribute::Transaction { number, parts, .. } => {
                 let at = tokens_left.to_word(Keyword::Transaction);
                 check_messages(parts, instrument, findings)?;
                 if let Some(number) = number {
-                    transactions.add(i64::from(*number), at, findings)?;
+                    transactions.add(i64::from(*number), at, findings);
                 }
             }
-            Attribute::ResponseCodes(_, codes) => check_codes(codes, &mut tokens_left, findings)?,
+            Attribute::ResponseCodes(_, codes) => check_codes(codes, &mut tokens_left, findings),
             _ => {}
         }
     }

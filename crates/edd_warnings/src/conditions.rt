@@ -17,7 +17,6 @@ use edd_syntax::reference::Target;
 use edd_syntax::symbols::Keyword;
 use edd_syntax::text::Text;
 use edd_syntax::types::Handling;
-use std::alloc::AllocError;
 
 // A value under conditions.
 trait LintValue {
@@ -26,8 +25,7 @@ trait LintValue {
         &self,
         _walk: &mut Walk<'_>,
         _findings: &mut Findings,
-    ) -> Result<(), AllocError> {
-        Ok(())
+    ) {
     }
 }
 
@@ -44,7 +42,7 @@ impl LintValue for MenuEntry<Target> {}
 impl LintValue for DataItem<Target> {}
 
 impl LintValue for Expr<Target> {
-    fn check_value(&self, walk: &mut Walk<'_>, findings: &mut Findings) -> Result<(), AllocError> {
+    fn check_value(&self, walk: &mut Walk<'_>, findings: &mut Findings) {
         check_expression(self, false, walk, findings)
     }
 }
@@ -55,7 +53,7 @@ fn check_step<'a, V: LintValue>(
     selects: &mut Vec<Numbers<'a>>,
     walk: &mut Walk<'a>,
     findings: &mut Findings,
-) -> Result<(), AllocError> {
+) {
     match step {
         Step::Value(value) => value.check_value(walk, findings),
         Step::If(condition) => {
@@ -65,24 +63,24 @@ fn check_step<'a, V: LintValue>(
         Step::Select(on) => {
             let at = walk.tokens_left.to_word(Keyword::Select);
             let labels = Numbers::new(findings.alloc, Lint::RepeatedCase, "the CASE");
-            selects.push(labels)?;
-            walk.selected.push(selected_variable(on))?;
+            if selects.push(labels).is_err() {
+                findings.refuse();
+            }
+            walk.select(selected_variable(on));
             check_condition(on, at, COMPARED, walk, findings)
         }
         Step::Case(label) => {
             let at = walk.tokens_left.to_word(Keyword::Case);
             if let Some(Some(variable)) = walk.selected.last().copied() {
-                check_label(variable, *label, at, walk, findings)?;
+                check_label(variable, *label, at, walk, findings);
             }
-            match selects.last_mut() {
-                Some(labels) => labels.add(*label, at, findings),
-                None => Ok(()),
+            if let Some(labels) = selects.last_mut() {
+                labels.add(*label, at, findings);
             }
         }
         Step::EndOfSelect => {
             selects.pop();
             walk.selected.pop();
-            Ok(())
         }
     }
 }
@@ -91,24 +89,27 @@ fn check_steps<V: LintValue>(
     steps: &[Step<'_, V>],
     walk: &mut Walk<'_>,
     findings: &mut Findings,
-) -> Result<(), AllocError> {
+) {
     let mut selects = Vec::new(findings.alloc);
     for step in steps {
-        check_step(step, &mut selects, walk, findings)?;
+        check_step(step, &mut selects, walk, findings);
     }
-    Ok(())
 }
 
 fn check_cond<V: LintValue>(
     c: &Cond<Target, V>,
     walk: &mut Walk<'_>,
     findings: &mut Findings,
-) -> Result<(), AllocError> {
+) {
     if let Cond::Value(value) = c {
-        return value.check_value(walk, findings);
+        value.check_value(walk, findings);
+        return;
     }
     let mut steps = Vec::new(findings.alloc);
-    push_cond(c, &mut steps)?;
+    if push_cond(c, &mut steps).is_err() {
+        findings.refuse();
+        return;
+    }
     check_steps(&steps, walk, findings)
 }
 
@@ -116,18 +117,17 @@ fn check_conds<V: LintValue>(
     all: &[Cond<Target, V>],
     walk: &mut Walk<'_>,
     findings: &mut Findings,
-) -> Result<(), AllocError> {
+) {
     for c in all {
-        check_cond(c, walk, findings)?;
+        check_cond(c, walk, findings);
     }
-    Ok(())
 }
 
 fn check_type_part(
     part: &TypePart<Target>,
     walk: &mut Walk<'_>,
     findings: &mut Findings,
-) -> Result<(), AllocError> {
+) {
     match part {
         TypePart::OneNumber { value, .. } => check_cond(value, walk, findings),
         TypePart::OneFormat { format, .. } => check_cond(format, walk, findings),
@@ -139,7 +139,7 @@ fn check_transaction_part(
     part: &TransactionPart<Target>,
     walk: &mut Walk<'_>,
     findings: &mut Findings,
-) -> Result<(), AllocError> {
+) {
     match part {
         TransactionPart::Request(_, items) | TransactionPart::Reply(_, items) => {
             check_conds(items, walk, findings)
@@ -151,22 +151,22 @@ fn check_attribute(
     attribute: &Attribute<Target>,
     walk: &mut Walk<'_>,
     findings: &mut Findings,
-) -> Result<(), AllocError> {
+) {
     match attribute {
-        Attribute::OneText(_, _, text) => check_cond(text, walk, findings)?,
-        Attribute::Handling(_, handling) => check_cond(handling, walk, findings)?,
-        Attribute::Validity(_, validity) => check_cond(validity, walk, findings)?,
+        Attribute::OneText(_, _, text) => check_cond(text, walk, findings),
+        Attribute::Handling(_, handling) => check_cond(handling, walk, findings),
+        Attribute::Validity(_, validity) => check_cond(validity, walk, findings),
         Attribute::TypeOf { parts, .. } => {
             for part in parts {
-                check_type_part(part, walk, findings)?;
+                check_type_part(part, walk, findings);
             }
         }
         Attribute::Transaction { parts, .. } => {
             for part in parts {
-                check_transaction_part(part, walk, findings)?;
+                check_transaction_part(part, walk, findings);
             }
         }
-        Attribute::Items(_, entries) => check_conds(entries, walk, findings)?,
+        Attribute::Items(_, entries) => check_conds(entries, walk, findings),
         Attribute::Class(_, _)
         | Attribute::Number(_, _)
         | Attribute::Operation(_, _)
@@ -175,7 +175,6 @@ fn check_attribute(
         | Attribute::Definition(_, _)
         | Attribute::Elements(_, _) => {}
     }
-    Ok(())
 }
 
 /// The conditionals of an item's attributes.
@@ -184,10 +183,12 @@ pub fn check_conditionals(
     tokens_left: TokensLeft<'_>,
     instrument: &Instrument,
     findings: &mut Findings,
-) -> Result<(), AllocError> {
+) {
     let mut walk = Walk::new(findings.alloc, tokens_left, Sort::Attribute, instrument);
     for attribute in attributes {
-        check_attribute(attribute, &mut walk, findings)?;
+        check_attribute(attribute, &mut walk, findings);
     }
-    Ok(())
+    if walk.is_refused {
+        findings.refuse();
+    }
 }

@@ -19,12 +19,12 @@ fn check_enumerator<'a>(
     kind: VarType,
     list: &mut Numbers<'a>,
     findings: &mut Findings<'a>,
-) -> Result<(), AllocError> {
+) {
     let sign = if enumerator.value < 0 { 1 } else { 0 };
     let behind = enumerator.at.0.saturating_add(1).saturating_add(sign);
     let at = findings.mark(TokenNo(behind));
-    check_range(range, "the enumerator", enumerator.value, at, findings)?;
-    check_bit(enumerator.value, kind, at, findings)?;
+    check_range(range, "the enumerator", enumerator.value, at, findings);
+    check_bit(enumerator.value, kind, at, findings);
     list.add(enumerator.value, at, findings)
 }
 
@@ -39,19 +39,22 @@ fn check_bit(
     kind: VarType,
     at: Mark<'_>,
     findings: &mut Findings,
-) -> Result<(), AllocError> {
+) {
     if kind != VarType::BitEnumerated {
-        return Ok(());
+        return;
     }
     let alloc = findings.alloc;
-    let message = match bits_of(number) {
-        Some(0) => String::from_str(alloc, "0 has no bit, and each enumerator names one")?,
-        Some(1) | None => return Ok(()),
-        Some(bits) => {
-            format!(in alloc; "{number} has {bits} bits, and each enumerator names one")?
+    match bits_of(number) {
+        Some(0) => {
+            findings.say(Lint::EnumeratorBits, at, "0 has no bit, and each enumerator names one")
         }
-    };
-    findings.add(Lint::EnumeratorBits, at, message)
+        Some(1) | None => {}
+        Some(bits) => {
+            let message =
+                format!(in alloc; "{number} has {bits} bits, and each enumerator names one");
+            findings.add(Lint::EnumeratorBits, at, message)
+        }
+    }
 }
 
 // Has so many lists that there is one of this number.
@@ -68,14 +71,19 @@ pub fn check_enumerators(
     range: Range,
     kind: VarType,
     findings: &mut Findings,
-) -> Result<(), AllocError> {
+) {
     let alloc = findings.alloc;
+    let Ok(enumerators) = enumerators_of(alloc, parts) else {
+        findings.refuse();
+        return;
+    };
     let mut lists = Vec::new(alloc);
-    for (number, enumerator) in &enumerators_of(alloc, parts)? {
-        grow(alloc, *number, &mut lists)?;
+    for (number, enumerator) in &enumerators {
+        if grow(alloc, *number, &mut lists).is_err() {
+            findings.refuse();
+        }
         if let Some(list) = lists.get_mut(*number) {
-            check_enumerator(enumerator, range, kind, list, findings)?;
+            check_enumerator(enumerator, range, kind, list, findings);
         }
     }
-    Ok(())
 }

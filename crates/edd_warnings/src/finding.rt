@@ -33,11 +33,10 @@ fn check_variable(
     variable: u16,
     instrument: &Instrument,
     findings: &mut Findings,
-) -> Result<(), AllocError> {
+) {
     for attribute in attributes {
-        check_type(attribute, variable, instrument, findings)?;
+        check_type(attribute, variable, instrument, findings);
     }
-    Ok(())
 }
 
 // The attributes of one item.
@@ -51,21 +50,22 @@ fn check_item<'a>(
 ) -> Result<(), AllocError> {
     let tokens_left = TokensLeft::new(text, tokens);
     let attributes = item.attributes();
-    check_conditionals(attributes, tokens_left, instrument, findings)?;
-    check_branches(text, tokens, findings)?;
+    check_conditionals(attributes, tokens_left, instrument, findings);
+    check_branches(text, tokens, findings);
     match item.kind() {
         Kind::Variable => {
             let variable = gathered.variables;
             gathered.variables = variable.saturating_add(1);
-            check_variable(attributes, variable, instrument, findings)
+            check_variable(attributes, variable, instrument, findings);
         }
         Kind::Command => {
             let commands = &mut gathered.commands;
-            check_command(attributes, tokens_left, instrument, commands, findings)
+            check_command(attributes, tokens_left, instrument, commands, findings)?;
         }
         Kind::Method => check_method(attributes, text, tokens, instrument, findings),
-        Kind::Menu | Kind::Collection | Kind::Array => Ok(()),
+        Kind::Menu | Kind::Collection | Kind::Array => {}
     }
+    Ok(())
 }
 
 /// The warnings of a description, by their lines, and on one line in the order of the lints. `text`

@@ -8,7 +8,6 @@ use edd_syntax::item::TypePart;
 use edd_syntax::numbers::TokenNo;
 use edd_syntax::reference::Target;
 use edd_syntax::text::Text;
-use std::alloc::AllocError;
 
 // What a format has before its letter.
 #[derive(Clone, Copy, PartialEq, Eq)]
@@ -47,17 +46,14 @@ fn is_format(text: &str) -> bool {
 }
 
 // One of the texts that a format may be.
-fn check_text(at: TokenNo, text: &Text, findings: &mut Findings) -> Result<(), AllocError> {
+fn check_text(at: TokenNo, text: &Text, findings: &mut Findings) {
     match text {
         Text::Quoted(text) if !is_format(text.as_str()) => {
-            let message = String::from_str(
-                findings.alloc,
-                "this is no format of a whole number, as 4d or 04x is",
-            )?;
             let at = findings.mark(at);
-            findings.add(Lint::MeaninglessFormat, at, message)
+            let words = "this is no format of a whole number, as 4d or 04x is";
+            findings.say(Lint::MeaninglessFormat, at, words)
         }
-        _ => Ok(()),
+        _ => {}
     }
 }
 
@@ -65,22 +61,24 @@ fn check_format(
     at: TokenNo,
     format: &Cond<Target, Text>,
     findings: &mut Findings,
-) -> Result<(), AllocError> {
-    for (_, text) in &values_in(findings.alloc, format)? {
-        check_text(at, text, findings)?;
+) {
+    let Ok(texts) = values_in(findings.alloc, format) else {
+        findings.refuse();
+        return;
+    };
+    for (_, text) in &texts {
+        check_text(at, text, findings);
     }
-    Ok(())
 }
 
 /// The formats of a type.
 pub fn check_formats(
     parts: &[TypePart<Target>],
     findings: &mut Findings,
-) -> Result<(), AllocError> {
+) {
     for part in parts {
         if let TypePart::OneFormat { at, format, .. } = part {
-            check_format(*at, format, findings)?;
+            check_format(*at, format, findings);
         }
     }
-    Ok(())
 }

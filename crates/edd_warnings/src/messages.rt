@@ -40,22 +40,17 @@ fn check_mask(
     most: i64,
     at: Mark<'_>,
     findings: &mut Findings,
-) -> Result<(), AllocError> {
+) {
     let alloc = findings.alloc;
     if most < i64::from(mask) {
         let message = format!(in alloc;
             "{mask} has bits that its variable, of at most {most}, does not have"
-        )?;
-        findings.add(Lint::WideMask, at, message)?;
+        );
+        findings.add(Lint::WideMask, at, message);
     }
     if mask & bits != 0 {
-        let message = String::from_str(
-            alloc,
-            "this mask has bits that one before it has, of the same variable",
-        )?;
-        findings.add(Lint::OverlappingMasks, at, message)?;
+        findings.say(Lint::OverlappingMasks, at, "this mask has bits that one before it has, of the same variable");
     }
-    Ok(())
 }
 
 impl Message<'_, '_> {
@@ -75,7 +70,7 @@ impl Message<'_, '_> {
         let bits = before.map(|carried| carried.bits).unwrap_or(0);
         if let (Some(mask), Some(range)) = (mask, self.instrument.range(variable)) {
             let most = range.high.saturating_sub(range.low);
-            check_mask(mask, bits, most, at, findings)?;
+            check_mask(mask, bits, most, at, findings);
         }
         let is_whole = mask.is_none() && !is_info;
         let is_twice = match before {
@@ -87,8 +82,8 @@ impl Message<'_, '_> {
             Some(carried) if self.is_reply && is_twice => {
                 let name = self.instrument.name_of(variable);
                 let alloc = findings.alloc;
-                let message = format!(in alloc; "{name} is in this reply already")?;
-                findings.add_beside(Lint::RepeatedDataItem, at, message, carried.at)?;
+                let message = format!(in alloc; "{name} is in this reply already");
+                findings.add_beside(Lint::RepeatedDataItem, at, message, carried.at);
             }
             _ => {}
         }

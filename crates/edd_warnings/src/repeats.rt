@@ -3,7 +3,7 @@
 use edd_lints::lint::Lint;
 use edd_lints::tokens_left::Mark;
 use edd_lints::warning::Findings;
-use std::alloc::{AllocError, Global};
+use std::alloc::Global;
 use std::collections::BTreeMap;
 
 /// The numbers of a list so far, with the place of each.
@@ -47,23 +47,21 @@ impl<'a> Numbers<'a> {
     }
 
     /// Adds a number, with a warning where the list has it already.
-    pub fn add(
-        &mut self,
-        number: i64,
-        at: Mark<'a>,
-        findings: &mut Findings,
-    ) -> Result<(), AllocError> {
+    pub fn add(&mut self, number: i64, at: Mark<'a>, findings: &mut Findings) {
         if self.rises(number) {
-            self.rising.push(number)?;
-            self.places.push(at)?;
-            return Ok(());
+            if self.rising.push(number).is_err() || self.places.push(at).is_err() {
+                findings.refuse();
+            }
+            return;
         }
         if let Some(earlier) = self.earlier(number) {
             let what = self.what;
-            let message = format!(in findings.alloc; "{what} {number} is there already")?;
-            return findings.add_beside(self.lint, at, message, earlier);
+            let message = format!(in findings.alloc; "{what} {number} is there already");
+            findings.add_beside(self.lint, at, message, earlier);
+            return;
         }
-        self.others.insert(number, at)?;
-        Ok(())
+        if self.others.insert(number, at).is_err() {
+            findings.refuse();
+        }
     }
 }

@@ -25,13 +25,13 @@ pub fn check_range(
     number: i64,
     at: Mark<'_>,
     findings: &mut Findings,
-) -> Result<(), AllocError> {
+) {
     if range.holds(number) {
-        return Ok(());
+        return;
     }
     let Range { low, high } = range;
     let alloc = findings.alloc;
-    let message = format!(in alloc; "{what} {number} is outside of the type's {low} to {high}")?;
+    let message = format!(in alloc; "{what} {number} is outside of the type's {low} to {high}");
     findings.add(Lint::ValueOutOfRange, at, message)
 }
 
@@ -93,35 +93,34 @@ fn crossed(low: Option<Constant>, high: Option<Constant>) -> Option<(Constant, C
     }
 }
 
-fn check_limits(options: Options, findings: &mut Findings) -> Result<(), AllocError> {
+fn check_limits(options: Options, findings: &mut Findings) {
     let Some((least, greatest)) = crossed(options.least, options.greatest) else {
-        return Ok(());
+        return;
     };
     let (low, high) = (least.number, greatest.number);
     let at = findings.mark(least.at);
     let other = findings.mark(greatest.at);
-    let message = format!(in findings.alloc; "MIN_VALUE {low} is over MAX_VALUE {high}")?;
+    let message = format!(in findings.alloc; "MIN_VALUE {low} is over MAX_VALUE {high}");
     findings.add_beside(Lint::LimitsCrossed, at, message, other)
 }
 
-fn check_default(options: Options, findings: &mut Findings) -> Result<(), AllocError> {
+fn check_default(options: Options, findings: &mut Findings) {
     if let Some((least, default)) = crossed(options.least, options.default) {
         let (low, number) = (least.number, default.number);
         let at = findings.mark(default.at);
         let other = findings.mark(least.at);
         let alloc = findings.alloc;
-        let message = format!(in alloc; "DEFAULT_VALUE {number} is below MIN_VALUE {low}")?;
-        findings.add_beside(Lint::DefaultOutsideLimits, at, message, other)?;
+        let message = format!(in alloc; "DEFAULT_VALUE {number} is below MIN_VALUE {low}");
+        findings.add_beside(Lint::DefaultOutsideLimits, at, message, other);
     }
     if let Some((default, greatest)) = crossed(options.default, options.greatest) {
         let (number, high) = (default.number, greatest.number);
         let at = findings.mark(default.at);
         let other = findings.mark(greatest.at);
         let alloc = findings.alloc;
-        let message = format!(in alloc; "DEFAULT_VALUE {number} is over MAX_VALUE {high}")?;
-        findings.add_beside(Lint::DefaultOutsideLimits, at, message, other)?;
+        let message = format!(in alloc; "DEFAULT_VALUE {number} is over MAX_VALUE {high}");
+        findings.add_beside(Lint::DefaultOutsideLimits, at, message, other);
     }
-    Ok(())
 }
 
 // A warning on each constant of an option that is outside of the range.
@@ -129,17 +128,20 @@ fn check_option(
     part: &TypePart<Target>,
     range: Range,
     findings: &mut Findings,
-) -> Result<(), AllocError> {
+) {
     let TypePart::OneNumber { at, which, value } = part else {
-        return Ok(());
+        return;
     };
     let at = findings.mark(*at);
-    for (_, e) in &values_in(findings.alloc, value)? {
+    let Ok(values) = values_in(findings.alloc, value) else {
+        findings.refuse();
+        return;
+    };
+    for (_, e) in &values {
         if let Some(number) = number_of(e) {
-            check_range(range, which.attr().word(), number, at, findings)?;
+            check_range(range, which.attr().word(), number, at, findings);
         }
     }
-    Ok(())
 }
 
 // All bits of the enumerators of a type; nothing where it has none.
@@ -151,23 +153,27 @@ fn bits_of(alloc: Global, parts: &[TypePart<Target>]) -> Result<Option<i64>, All
     Ok(bits)
 }
 
-// What is said of a default value that no enumerator names.
-fn unnamed(
+// Says of a default value that no enumerator names it.
+fn check_unnamed(
     number: i64,
     variable: u16,
     bits: Option<i64>,
+    at: Mark<'_>,
     instrument: &Instrument,
-    alloc: Global,
-) -> Result<Option<String>, AllocError> {
+    findings: &mut Findings,
+) {
+    let alloc = findings.alloc;
     match bits {
-        Some(bits) if number & !bits != 0 => Ok(Some(format!(in alloc;
-            "{number} has bits that no enumerator names"
-        )?)),
+        Some(bits) if number & !bits != 0 => {
+            let message = format!(in alloc; "{number} has bits that no enumerator names");
+            findings.add(Lint::UnlistedValue, at, message)
+        }
         _ if instrument.is_unlisted(variable, number) => {
             let name = instrument.name_of(variable);
-            Ok(Some(format!(in alloc; "{number} is no enumerator of {name}")?))
+            let message = format!(in alloc; "{number} is no enumerator of {name}");
+            findings.add(Lint::UnlistedValue, at, message)
         }
-        _ => Ok(None),
+        _ => {}
     }
 }
 
@@ -178,29 +184,28 @@ fn check_named(
     bits: Option<i64>,
     instrument: &Instrument,
     findings: &mut Findings,
-) -> Result<(), AllocError> {
+) {
     let TypePart::OneNumber {
         at,
         which: NumberOption::DefaultValue,
         value,
     } = part
     else {
-        return Ok(());
+        return;
     };
-    let alloc = findings.alloc;
-    for (_, e) in &values_in(alloc, value)? {
-        let message = match (number_of(e), instrument.range(variable)) {
+    let at = findings.mark(*at);
+    let Ok(values) = values_in(findings.alloc, value) else {
+        findings.refuse();
+        return;
+    };
+    for (_, e) in &values {
+        match (number_of(e), instrument.range(variable)) {
             (Some(number), Some(range)) if range.holds(number) => {
-                unnamed(number, variable, bits, instrument, alloc)?
+                check_unnamed(number, variable, bits, at, instrument, findings)
             }
-            _ => None,
-        };
-        if let Some(message) = message {
-            let at = findings.mark(*at);
-            findings.add(Lint::UnlistedValue, at, message)?;
+            _ => {}
         }
     }
-    Ok(())
 }
 
 // The default values of a type that no enumerator names.
@@ -209,7 +214,7 @@ fn check_defaults(
     variable: u16,
     instrument: &Instrument,
     findings: &mut Findings,
-) -> Result<(), AllocError> {
+) {
     let is_default = |part: &TypePart<Target>| matches!(
         part,
         TypePart::OneNumber {
@@ -218,18 +223,21 @@ fn check_defaults(
         }
     );
     if !parts.iter().any(is_default) {
-        return Ok(());
+        return;
     }
     let is_of_bits = instrument.kind(variable) == Some(VarType::BitEnumerated);
     let bits = if is_of_bits {
-        bits_of(findings.alloc, parts)?
+        bits_of(findings.alloc, parts)
     } else {
-        None
+        Ok(None)
+    };
+    let Ok(bits) = bits else {
+        findings.refuse();
+        return;
     };
     for part in parts {
-        check_named(part, variable, bits, instrument, findings)?;
+        check_named(part, variable, bits, instrument, findings);
     }
-    Ok(())
 }
 
 /// The type of the variable with a number, among its attributes.
@@ -238,21 +246,21 @@ pub fn check_type(
     variable: u16,
     instrument: &Instrument,
     findings: &mut Findings,
-) -> Result<(), AllocError> {
+) {
     let Attribute::TypeOf { word, parts, .. } = attribute else {
-        return Ok(());
+        return;
     };
     let TypeWord::Known { kind, size } = word else {
-        return Ok(());
+        return;
     };
     let range = Range::of(*kind, *size);
     for part in parts {
-        check_option(part, range, findings)?;
+        check_option(part, range, findings);
     }
     let options = options_of(parts);
-    check_limits(options, findings)?;
-    check_default(options, findings)?;
-    check_defaults(parts, variable, instrument, findings)?;
-    check_formats(parts, findings)?;
+    check_limits(options, findings);
+    check_default(options, findings);
+    check_defaults(parts, variable, instrument, findings);
+    check_formats(parts, findings);
     check_enumerators(parts, range, *kind, findings)
 }
