@@ -15,14 +15,6 @@ pub struct Chain<'c> {
     found: Vec<bool>,
 }
 
-fn none_found(alloc: Global, count: usize) -> Result<Vec<bool>, AllocError> {
-    let mut found = Vec::with_capacity(alloc, count)?;
-    for _ in 0..count {
-        found.push(false)?;
-    }
-    Ok(found)
-}
-
 /// By what lines are found again.
 #[derive(Clone, Copy, PartialEq, Eq, Debug)]
 pub enum By {
@@ -42,26 +34,30 @@ impl By {
 }
 
 impl<'c> Chain<'c> {
+    // From the last line on, so that what a key led to is the line after this one.
     pub fn of(alloc: Global, lines: &'c [Line], by: By) -> Result<Chain<'c>, AllocError> {
-        let mut first: IndexMap<&'c str, usize> = IndexMap::new(alloc);
-        let mut last: IndexMap<&'c str, usize> = IndexMap::new(alloc);
-        let mut next: Vec<usize> = Vec::with_capacity(alloc, lines.len())?;
-        for (number, line) in lines.iter().enumerate() {
-            let key = by.key(line);
-            next.push(lines.len())?;
-            match last.insert(key, number)? {
-                Some(before) => {
-                    if let Some(link) = next.get_mut(before) {
-                        *link = number;
-                    }
-                }
-                None => {
-                    first.insert(key, number)?;
-                }
+        let count = lines.len();
+        let found = Vec::from_elem(alloc, false, count)?;
+        let mut chain = Chain {
+            first: IndexMap::new(alloc),
+            next: Vec::from_elem(alloc, count, count)?,
+            found,
+        };
+        for number in (0..count).rev() {
+            if let Some(line) = lines.get(number) {
+                chain.put(by.key(line), number)?;
             }
         }
-        let found = none_found(alloc, lines.len())?;
-        Ok(Chain { first, next, found })
+        Ok(chain)
+    }
+
+    // Puts a line before the others of its key.
+    fn put(&mut self, key: &'c str, number: usize) -> Result<(), AllocError> {
+        let later = self.first.insert(key, number)?;
+        if let (Some(later), Some(next)) = (later, self.next.get_mut(number)) {
+            *next = later;
+        }
+        Ok(())
     }
 
     /// The first line of a key that was not found yet.

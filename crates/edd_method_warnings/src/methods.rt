@@ -49,13 +49,8 @@ fn locals_of<'a>(
     Ok(locals)
 }
 
-// A warning on a local that is not read, or read before anything sets it, or that hides an item.
-fn check_local(
-    slot: u8,
-    at: Mark<'_>,
-    walk: &Walk<'_>,
-    findings: &mut Findings,
-) {
+// A warning on a local that is not read, or read before anything sets it.
+fn check_use(slot: u8, at: Mark<'_>, walk: &Walk<'_>, findings: &mut Findings) {
     let name = at.word();
     let alloc = findings.alloc;
     if !walk.reads.contains(slot) {
@@ -68,8 +63,13 @@ fn check_local(
         let message = format!(in alloc; "the local {name} is read before anything sets it");
         findings.add(Lint::UnsetLocal, at, message);
     }
+}
+
+// A warning on a local that hides an item.
+fn check_name(at: Mark<'_>, walk: &Walk<'_>, findings: &mut Findings) {
+    let name = at.word();
     if walk.instrument.has_name(name.as_bytes()) {
-        let message = format!(in alloc; "this local hides the item {name}");
+        let message = format!(in findings.alloc; "this local hides the item {name}");
         findings.add(Lint::HidingLocal, at, message);
     }
 }
@@ -82,7 +82,8 @@ fn check_locals(
 ) {
     for (slot, at) in locals.iter().enumerate() {
         let slot = u8::try_from(slot).unwrap_or(u8::MAX);
-        check_local(slot, *at, walk, findings);
+        check_use(slot, *at, walk, findings);
+        check_name(*at, walk, findings);
     }
 }
 

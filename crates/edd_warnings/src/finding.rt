@@ -68,6 +68,25 @@ fn check_item<'a>(
     Ok(())
 }
 
+// All items, one by one.
+fn check_items<'a>(
+    text: &'a [u8],
+    tokens: &'a [Token],
+    items: &[Item<Target>],
+    instrument: &Instrument,
+    findings: &mut Findings<'a>,
+) -> Result<(), AllocError> {
+    let item_tokens = items_of(findings.alloc, tokens)?;
+    let mut gathered = Gathered {
+        variables: 0,
+        commands: command_numbers(findings.alloc),
+    };
+    for (item, own) in items.iter().zip(&item_tokens) {
+        check_item(item, text, own, instrument, &mut gathered, findings)?;
+    }
+    check_uses(text, tokens, items, &item_tokens, &instrument.names, findings)
+}
+
 /// The warnings of a description, by their lines, and on one line in the order of the lints. `text`
 /// and `tokens` are those that it was made of: they say where each item and value is. Fails only
 /// where it is out of memory.
@@ -78,19 +97,10 @@ pub fn warnings(
     checked: &Checked,
 ) -> Result<Vec<Warning>, AllocError> {
     let mut findings = Findings::new(alloc, &*text, &*tokens);
-    let items = items_of(alloc, tokens)?;
     let elements = checked.elements(alloc)?;
     let instrument = Instrument::of(alloc, &checked.items, &elements)?;
-    let mut gathered = Gathered {
-        variables: 0,
-        commands: command_numbers(alloc),
-    };
-    for (item, own) in checked.items.iter().zip(&items) {
-        check_item(item, text, own, &instrument, &mut gathered, &mut findings)?;
-    }
+    check_items(text, tokens, &checked.items, &instrument, &mut findings)?;
     check_texts(text, tokens, &mut findings)?;
     check_abort_methods(text, tokens, &mut findings)?;
-    let names = &instrument.names;
-    check_uses(text, tokens, &checked.items, &items, names, &mut findings)?;
     findings.sorted()
 }
