@@ -46,7 +46,9 @@ fn usual_length(tree: Option<Tree>) -> usize {
         Some(Tree::Elements(elements)) => elements.len(),
         _ => 0,
     };
-    elements.saturating_mul(ELEMENT_LENGTH).saturating_add(USUAL_LENGTH)
+    elements
+        .saturating_mul(ELEMENT_LENGTH)
+        .saturating_add(USUAL_LENGTH)
 }
 
 fn operation_number(operation: Operation) -> u32

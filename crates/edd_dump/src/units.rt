@@ -1,6 +1,5 @@
 //! The lines of a unit.
 
-
 use crate::instructions::Page;
 use edd_display::{ShowFault, print};
 use edd_instructions::{Instruction, decode};

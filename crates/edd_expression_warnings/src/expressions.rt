@@ -30,15 +30,15 @@ fn may_trap(operator: Operator) -> bool {
 }
 
 // What can trap after an abort method was added.
-fn check_late_trap(
-    at: Mark<'_>,
-    walk: &Walk<'_>,
-    findings: &mut Findings,
-) {
+fn check_late_trap(at: Mark<'_>, walk: &Walk<'_>, findings: &mut Findings) {
     if !walk.has_abort_method {
         return;
     }
-    findings.say(Lint::TrapAfterAbortMethod, at, "this can trap, and a trap runs no abort methods")
+    findings.say(
+        Lint::TrapAfterAbortMethod,
+        at,
+        "this can trap, and a trap runs no abort methods",
+    )
 }
 
 // What an operator with this second operand does, which traps where it does not take it.
@@ -58,7 +58,11 @@ fn check_trap(
     let alloc = findings.alloc;
     match trap_of(walk.sort, operator, number) {
         Some(Trap::DivZero) => {
-            findings.say(Lint::TrappingExpression, at, "this always traps: it divides by 0")
+            findings.say(
+                Lint::TrappingExpression,
+                at,
+                "this always traps: it divides by 0",
+            )
         }
         Some(_) => {
             let message = format!(in alloc; "this always traps: it shifts by {number}");
@@ -69,11 +73,7 @@ fn check_trap(
 }
 
 #[cycle(expressions)]
-fn check_arguments(
-    arguments: &[Argument<Target>],
-    walk: &mut Walk<'_>,
-    findings: &mut Findings,
-) {
+fn check_arguments(arguments: &[Argument<Target>], walk: &mut Walk<'_>, findings: &mut Findings) {
     for argument in arguments {
         if let Argument::Value(e) = argument {
             check_expression(e, false, walk, findings);
@@ -95,9 +95,7 @@ fn check_index(
     match evaluate(index, walk.sort) {
         Known::Number(number) if !walk.instrument.has_element(array.0, number) => {
             let alloc = findings.alloc;
-            let message = format!(in alloc;
-                "this always traps: the array has no element {number}"
-            );
+            let message = format!(in alloc; "this always traps: the array has no element {number}");
             findings.add(Lint::MissingElement, at, message)
         }
         Known::Nothing => check_late_trap(at, walk, findings),
@@ -135,7 +133,11 @@ fn check_comparison(
         return;
     };
     if is_statement {
-        findings.say(Lint::DroppedComparison, at, "what this comparison gives is not used: = assigns");
+        findings.say(
+            Lint::DroppedComparison,
+            at,
+            "what this comparison gives is not used: = assigns",
+        );
     }
     let is_misread = check_compared(first, second, at, findings);
     if !is_misread && !is_statement {
@@ -318,12 +320,7 @@ pub fn check_condition(
 }
 
 /// The same of a loop's condition, which may never change.
-pub fn check_tested(
-    e: &Expr<Target>,
-    assigns: &str,
-    walk: &mut Walk<'_>,
-    findings: &mut Findings,
-) {
+pub fn check_tested(e: &Expr<Target>, assigns: &str, walk: &mut Walk<'_>, findings: &mut Findings) {
     check_assigned_condition(e, assigns, walk, findings);
     check_expression(e, false, walk, findings)
 }

@@ -20,15 +20,6 @@ fn is_bare_comparison(e: &Expr<Target>) -> bool {
     matches!(e, Expr::Compare(_, _, _))
 }
 
-fn add_text(
-    lint: Lint,
-    at: Mark<'_>,
-    message: &str,
-    findings: &mut Findings,
-) {
-    findings.say(lint, at, message)
-}
-
 /// Bits of a comparison, as in `a & 2 == 2`, which is `a & (2 == 2)`. Two comparisons, as in
 /// `a == 1 | a == 2`, bind as they look.
 pub fn check_bits(
@@ -43,7 +34,7 @@ pub fn check_bits(
         return;
     }
     let message = "comparisons are evaluated before this sign: parentheses say what is meant";
-    add_text(Lint::MisreadOperators, at, message, findings)
+    findings.say(Lint::MisreadOperators, at, message)
 }
 
 /// A comparison of what a comparison gives, as in `1 < a < 5`, or of what `!` gives, as in
@@ -62,7 +53,7 @@ pub fn check_compared(
     } else {
         return false;
     };
-    add_text(Lint::MisreadOperators, at, message, findings);
+    findings.say(Lint::MisreadOperators, at, message);
     true
 }
 
@@ -114,11 +105,10 @@ pub fn check_operands(
     if !is_settled || !are_same(first, second) {
         return;
     }
-    add_text(
+    findings.say(
         Lint::EqualOperands,
         at,
         "both sides of this sign are the same",
-        findings,
     )
 }
 
@@ -133,11 +123,10 @@ pub fn check_logical(
 ) {
     let last = last_of(first, sign);
     if are_same(last, second) {
-        return add_text(
+        return findings.say(
             Lint::EqualOperands,
             at,
             "both sides of this sign are the same",
-            findings,
         );
     }
     let (Some(one), Some(other)) = (compared_with(last, sort), compared_with(second, sort)) else {
@@ -149,11 +138,11 @@ pub fn check_logical(
     let (one, other) = ((one.1, one.2), (other.1, other.2));
     if sign == Symbol::LogicalAnd && never_both(one, other) {
         let message = "the comparisons on both sides of this sign never hold together";
-        return add_text(Lint::SettledComparison, at, message, findings);
+        return findings.say(Lint::SettledComparison, at, message);
     }
     if sign == Symbol::LogicalOr && always_one(one, other) {
         let message = "one of the comparisons on both sides of this sign always holds";
-        return add_text(Lint::SettledComparison, at, message, findings);
+        return findings.say(Lint::SettledComparison, at, message);
     }
 }
 
@@ -215,11 +204,10 @@ pub fn check_chosen(
     if !are_same_values(first, second) {
         return;
     }
-    add_text(
+    findings.say(
         Lint::EqualBranches,
         at,
         "this gives the same in either case",
-        findings,
     )
 }
 
@@ -305,7 +293,7 @@ pub fn check_settled(
     if let Expr::Compare(_, first, second) = compared {
         if are_same(first, second) {
             let message = "both sides of this sign are the same";
-            return add_text(Lint::EqualOperands, at, message, findings);
+            return findings.say(Lint::EqualOperands, at, message);
         }
     }
     let Some((target, comparison, number)) = compared_with(compared, walk.sort) else {
@@ -327,12 +315,7 @@ pub fn check_settled(
     }
 }
 
-fn add_settled(
-    range: Range,
-    gives: bool,
-    at: Mark<'_>,
-    findings: &mut Findings,
-) {
+fn add_settled(range: Range, gives: bool, at: Mark<'_>, findings: &mut Findings) {
     let Range { low, high } = range;
     let gives = if gives { "true" } else { "false" };
     let alloc = findings.alloc;

@@ -106,12 +106,7 @@ pub fn is_itself(to: Target, value: &Expr<Target>) -> bool {
 }
 
 /// An assignment of a variable or a local to itself.
-pub fn check_assigned(
-    to: Target,
-    value: &Expr<Target>,
-    at: Mark<'_>,
-    findings: &mut Findings,
-) {
+pub fn check_assigned(to: Target, value: &Expr<Target>, at: Mark<'_>, findings: &mut Findings) {
     if !is_itself(to, value) {
         return;
     }
@@ -120,11 +115,7 @@ pub fn check_assigned(
 
 /// A plain decimal number of a method that is another one in 32 bits. What is written with `0x`
 /// is meant as bits.
-pub fn check_wrapped(
-    value: &Expr<Target>,
-    walk: &Walk<'_>,
-    findings: &mut Findings,
-) {
+pub fn check_wrapped(value: &Expr<Target>, walk: &Walk<'_>, findings: &mut Findings) {
     let Expr::Literal(number) = value else {
         return;
     };

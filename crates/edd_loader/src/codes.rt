@@ -12,7 +12,11 @@ pub fn is_code(bytes: &[u8]) -> bool
         [a, b] => a.is_ascii_lowercase() && b.is_ascii_lowercase(),
         [a, b, c] => a.is_ascii_digit() && b.is_ascii_digit() && c.is_ascii_digit(),
         [a, b, space, c, d] => {
-            a.is_ascii_lowercase() && b.is_ascii_lowercase() && *space == b' ' && c.is_ascii_lowercase() && d.is_ascii_lowercase()
+            a.is_ascii_lowercase()
+                && b.is_ascii_lowercase()
+                && *space == b' '
+                && c.is_ascii_lowercase()
+                && d.is_ascii_lowercase()
         }
         _ => false,
     }

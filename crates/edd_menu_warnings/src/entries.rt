@@ -198,12 +198,7 @@ impl<'i, 'a> Shown<'i, 'a> {
 
     // An item that a menu shows without a LABEL, or an empty menu. The name of a menu often says
     // enough.
-    fn check(
-        &self,
-        item: &Item<Target>,
-        place: usize,
-        findings: &mut Findings,
-    ) {
+    fn check(&self, item: &Item<Target>, place: usize, findings: &mut Findings) {
         let Some(said) = self.said.get(place) else {
             return;
         };

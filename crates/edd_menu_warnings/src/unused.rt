@@ -87,11 +87,7 @@ fn lint_of(kind: Kind, number: usize, around: Around) -> Option<(Lint, &'static 
 }
 
 // What is told of an item to which nothing refers.
-fn add_unused(
-    item: &Item<Target>,
-    lint: (Lint, &'static str),
-    findings: &mut Findings,
-) {
+fn add_unused(item: &Item<Target>, lint: (Lint, &'static str), findings: &mut Findings) {
     let (lint, what) = lint;
     let message = format!(in findings.alloc; "{what} {}", item.name());
     let at = findings.mark(item.at());

@@ -43,11 +43,7 @@ pub fn check_fall(
 }
 
 /// A `;` between the head of a loop and the block that looks like its body.
-pub fn check_block_after(
-    head: Option<Mark<'_>>,
-    s: &Stmt<Target>,
-    findings: &mut Findings,
-) {
+pub fn check_block_after(head: Option<Mark<'_>>, s: &Stmt<Target>, findings: &mut Findings) {
     match (head, s) {
         (Some(at), Stmt::Block(_)) => {
             let message = "a ; stands between this and the block after it";
@@ -68,11 +64,7 @@ fn check_case(label: i64, walk: &mut Walk<'_>, findings: &mut Findings) {
 }
 
 /// A label, which is passed.
-pub fn check_label_part(
-    part: &Part<Target>,
-    walk: &mut Walk<'_>,
-    findings: &mut Findings,
-) {
+pub fn check_label_part(part: &Part<Target>, walk: &mut Walk<'_>, findings: &mut Findings) {
     match part {
         Part::CaseLabel { label, .. } => check_case(*label, walk, findings),
         Part::DefaultLabel { .. } => {

@@ -99,11 +99,7 @@ fn known_of(condition: Option<&Expr<Target>>) -> Known {
 }
 
 // A condition that never changes. A plain number says so on purpose.
-fn say_constant(
-    looped: &Loop<'_, '_>,
-    number: i64,
-    findings: &mut Findings,
-) {
+fn say_constant(looped: &Loop<'_, '_>, number: i64, findings: &mut Findings) {
     match looped.condition {
         Some(e) if !is_literal(e) => {
             let message = format!(in findings.alloc; "this condition is always {number}");

@@ -75,11 +75,7 @@ fn check_name(at: Mark<'_>, walk: &Walk<'_>, findings: &mut Findings) {
 }
 
 // All locals, in the order of their slots.
-fn check_locals(
-    locals: &[Mark<'_>],
-    walk: &Walk<'_>,
-    findings: &mut Findings,
-) {
+fn check_locals(locals: &[Mark<'_>], walk: &Walk<'_>, findings: &mut Findings) {
     for (slot, at) in locals.iter().enumerate() {
         let slot = u8::try_from(slot).unwrap_or(u8::MAX);
         check_use(slot, *at, walk, findings);
@@ -109,7 +105,11 @@ fn check_added(parts: &[Part<Target>], findings: &mut Findings) {
             added = added.saturating_add(1);
             if MOST < added {
                 let at = findings.mark(at);
-                findings.say(Lint::AbortMethodLimit, at, "this lists nothing: eight are listed");
+                findings.say(
+                    Lint::AbortMethodLimit,
+                    at,
+                    "this lists nothing: eight are listed",
+                );
             }
         }
     }

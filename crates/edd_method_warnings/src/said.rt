@@ -13,11 +13,6 @@ pub fn pass(walk: &mut Walk<'_>, symbol: Symbol) {
 }
 
 /// Adds a warning in these words.
-pub fn say(
-    lint: Lint,
-    at: Mark<'_>,
-    message: &str,
-    findings: &mut Findings,
-) {
+pub fn say(lint: Lint, at: Mark<'_>, message: &str, findings: &mut Findings) {
     findings.say(lint, at, message)
 }

@@ -54,11 +54,7 @@ fn check_test(
 }
 
 // The condition of a loop.
-fn check_loop_test(
-    e: &Expr<Target>,
-    walk: &mut Walk<'_>,
-    findings: &mut Findings,
-) -> bool {
+fn check_loop_test(e: &Expr<Target>, walk: &mut Walk<'_>, findings: &mut Findings) -> bool {
     let before = walk.asks;
     walk.asks = false;
     check_tested(e, COMPARED, walk, findings);
@@ -67,11 +63,7 @@ fn check_loop_test(
     asks
 }
 
-fn check_optional(
-    e: &Option<Expr<Target>>,
-    walk: &mut Walk<'_>,
-    findings: &mut Findings,
-) -> bool {
+fn check_optional(e: &Option<Expr<Target>>, walk: &mut Walk<'_>, findings: &mut Findings) -> bool {
     match e {
         Some(e) => check_value(e, true, walk, findings),
         None => false,
@@ -182,11 +174,7 @@ fn is_dropped(e: &Expr<Target>) -> bool {
 }
 
 // An expression as a statement: an abort ends what comes after it.
-fn check_evaluated<'a>(
-    e: &Expr<Target>,
-    walk: &mut Walk<'a>,
-    findings: &mut Findings,
-) -> Flow<'a> {
+fn check_evaluated<'a>(e: &Expr<Target>, walk: &mut Walk<'a>, findings: &mut Findings) -> Flow<'a> {
     let at = walk.tokens_left.next();
     let before = walk.acts;
     walk.acts = false;
@@ -365,11 +353,7 @@ fn check_block<'a>(
 }
 
 #[cycle(statements)]
-fn check_statement<'a>(
-    s: &Stmt<Target>,
-    walk: &mut Walk<'a>,
-    findings: &mut Findings,
-) -> Flow<'a> {
+fn check_statement<'a>(s: &Stmt<Target>, walk: &mut Walk<'a>, findings: &mut Findings) -> Flow<'a> {
     match s {
         Stmt::Empty => {
             pass(walk, Symbol::Semicolon);

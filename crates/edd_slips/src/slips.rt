@@ -99,7 +99,10 @@ fn signs(around: &Around<'_>) -> Option<Slip> {
             "a sign such as && or >= is written without a space in it",
         );
     }
-    if around.word(around.before) == "-" && around.word(around.token) == ">" && is_call_ahead(around) {
+    if around.word(around.before) == "-"
+        && around.word(around.token) == ">"
+        && is_call_ahead(around)
+    {
         return on(around.before, "a function is called by its name alone");
     }
     let help = help_of_signs(around.word(around.before), around.word(around.token))?;
@@ -176,7 +179,10 @@ fn names(around: &Around<'_>) -> Option<Slip> {
         return on(around.token, "there are no casts: all locals have 32 bits");
     }
     if is_type && around.before.kind == TokenKind::Name && around.is_in_method() && is_on_line {
-        return on(around.token, "the type stands before the name, as in int k;");
+        return on(
+            around.token,
+            "the type stands before the name, as in int k;",
+        );
     }
     if is_type && around.before.kind == TokenKind::Keyword(Keyword::Method) {
         return on(around.token, "a METHOD has a name alone, and no type");
@@ -300,9 +306,15 @@ fn value(around: &Around<'_>) -> Option<Slip> {
         TokenKind::Symbol(Symbol::Semicolon | Symbol::CloseParenthesis | Symbol::Comma)
     );
     if is_end && is_half_asked(around) {
-        return on(around.token, "a : is missing: a choice is written a ? b : c");
+        return on(
+            around.token,
+            "a : is missing: a choice is written a ? b : c",
+        );
     }
-    let is_label = matches!(around.back(2)?.kind, TokenKind::Keyword(Keyword::MethodCase));
+    let is_label = matches!(
+        around.back(2)?.kind,
+        TokenKind::Keyword(Keyword::MethodCase)
+    );
     let is_sign = matches!(around.token.kind, TokenKind::Symbol(Symbol::Operator(_)));
     if is_label && is_sign {
         return on(

@@ -43,11 +43,7 @@ fn check_class(word: &str, at: Mark<'_>, findings: &mut Findings) {
 }
 
 /// The words of each CLASS.
-pub fn check_classes(
-    text: &[u8],
-    tokens: &[Token],
-    findings: &mut Findings,
-) {
+pub fn check_classes(text: &[u8], tokens: &[Token], findings: &mut Findings) {
     let mut is_inside = false;
     for token in tokens {
         match token.kind {

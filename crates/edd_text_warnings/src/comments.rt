@@ -73,11 +73,7 @@ fn check_bytes(text: &[u8], gap: Gap, findings: &mut Findings) {
 }
 
 /// The characters in comments that turn the direction. Lines of a preprocessor are as comments.
-pub fn check_comments(
-    text: &[u8],
-    tokens: &[Token],
-    findings: &mut Findings,
-) {
+pub fn check_comments(text: &[u8], tokens: &[Token], findings: &mut Findings) {
     let mut gap = Gap {
         before: 0,
         line: 1,

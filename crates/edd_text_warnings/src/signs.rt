@@ -112,13 +112,25 @@ fn check_text(
 ) -> Result<(), AllocError> {
     let alloc = findings.alloc;
     if is_shown_as_it_is(spoken) && has_placeholder(spoken.raw()) {
-        findings.say(Lint::UnreadPlaceholder, spoken.at, "texts are shown as they are: nothing is put in place of this %");
+        findings.say(
+            Lint::UnreadPlaceholder,
+            spoken.at,
+            "texts are shown as they are: nothing is put in place of this %",
+        );
     }
     if let Some(at) = joined_at(spoken) {
-        findings.say(Lint::JoinedTexts, at, "this text and the one before it are one: a comma or a space is missing");
+        findings.say(
+            Lint::JoinedTexts,
+            at,
+            "this text and the one before it are one: a comma or a space is missing",
+        );
     }
     if may_turn && has_turn(spoken.raw()) {
-        findings.say(Lint::BidirectionalText, spoken.at, "this text has a character that turns its direction and is not seen");
+        findings.say(
+            Lint::BidirectionalText,
+            spoken.at,
+            "this text has a character that turns its direction and is not seen",
+        );
     }
     Ok(())
 }

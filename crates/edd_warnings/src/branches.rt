@@ -194,7 +194,11 @@ impl<'a> Brackets<'a> {
         }
         match (self.branch(other.saturating_add(1)), self.mark(number)) {
             (Some(second), Some(at)) if self.are_alike(first.branch, second) => {
-                findings.say(Lint::EqualBranches, at, "both branches of this condition are the same")
+                findings.say(
+                    Lint::EqualBranches,
+                    at,
+                    "both branches of this condition are the same",
+                )
             }
             _ => {}
         }

@@ -17,11 +17,7 @@ pub fn command_numbers<'a>(alloc: Global) -> Numbers<'a> {
     Numbers::new(alloc, Lint::RepeatedCommandNumber, "the command number")
 }
 
-fn check_codes(
-    codes: &[ResponseCode],
-    tokens_left: &mut TokensLeft<'_>,
-    findings: &mut Findings,
-) {
+fn check_codes(codes: &[ResponseCode], tokens_left: &mut TokensLeft<'_>, findings: &mut Findings) {
     let mut list = Numbers::new(
         findings.alloc,
         Lint::RepeatedResponseCode,

@@ -21,12 +21,7 @@ use edd_syntax::types::Handling;
 // A value under conditions.
 trait LintValue {
     // Looks at the expressions in it. Most values have none.
-    fn check_value(
-        &self,
-        _walk: &mut Walk<'_>,
-        _findings: &mut Findings,
-    ) {
-    }
+    fn check_value(&self, _walk: &mut Walk<'_>, _findings: &mut Findings) {}
 }
 
 impl LintValue for Text {}
@@ -85,22 +80,14 @@ fn check_step<'a, V: LintValue>(
     }
 }
 
-fn check_steps<V: LintValue>(
-    steps: &[Step<'_, V>],
-    walk: &mut Walk<'_>,
-    findings: &mut Findings,
-) {
+fn check_steps<V: LintValue>(steps: &[Step<'_, V>], walk: &mut Walk<'_>, findings: &mut Findings) {
     let mut selects = Vec::new(findings.alloc);
     for step in steps {
         check_step(step, &mut selects, walk, findings);
     }
 }
 
-fn check_cond<V: LintValue>(
-    c: &Cond<Target, V>,
-    walk: &mut Walk<'_>,
-    findings: &mut Findings,
-) {
+fn check_cond<V: LintValue>(c: &Cond<Target, V>, walk: &mut Walk<'_>, findings: &mut Findings) {
     if let Cond::Value(value) = c {
         value.check_value(walk, findings);
         return;
@@ -123,11 +110,7 @@ fn check_conds<V: LintValue>(
     }
 }
 
-fn check_type_part(
-    part: &TypePart<Target>,
-    walk: &mut Walk<'_>,
-    findings: &mut Findings,
-) {
+fn check_type_part(part: &TypePart<Target>, walk: &mut Walk<'_>, findings: &mut Findings) {
     match part {
         TypePart::OneNumber { value, .. } => check_cond(value, walk, findings),
         TypePart::OneFormat { format, .. } => check_cond(format, walk, findings),
@@ -147,11 +130,7 @@ fn check_transaction_part(
     }
 }
 
-fn check_attribute(
-    attribute: &Attribute<Target>,
-    walk: &mut Walk<'_>,
-    findings: &mut Findings,
-) {
+fn check_attribute(attribute: &Attribute<Target>, walk: &mut Walk<'_>, findings: &mut Findings) {
     match attribute {
         Attribute::OneText(_, _, text) => check_cond(text, walk, findings),
         Attribute::Handling(_, handling) => check_cond(handling, walk, findings),

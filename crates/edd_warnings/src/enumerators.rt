@@ -34,24 +34,24 @@ fn bits_of(number: i64) -> Option<u32> {
 }
 
 // An enumerator of a BIT_ENUMERATED, which is the name of one bit.
-fn check_bit(
-    number: i64,
-    kind: VarType,
-    at: Mark<'_>,
-    findings: &mut Findings,
-) {
+fn check_bit(number: i64, kind: VarType, at: Mark<'_>, findings: &mut Findings) {
     if kind != VarType::BitEnumerated {
         return;
     }
     let alloc = findings.alloc;
     match bits_of(number) {
         Some(0) => {
-            findings.say(Lint::EnumeratorBits, at, "0 has no bit, and each enumerator names one")
+            findings.say(
+                Lint::EnumeratorBits,
+                at,
+                "0 has no bit, and each enumerator names one",
+            )
         }
         Some(1) | None => {}
         Some(bits) => {
-            let message =
-                format!(in alloc; "{number} has {bits} bits, and each enumerator names one");
+            let message = format!(in alloc;
+                "{number} has {bits} bits, and each enumerator names one"
+            );
             findings.add(Lint::EnumeratorBits, at, message)
         }
     }

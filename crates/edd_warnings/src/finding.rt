@@ -84,7 +84,14 @@ fn check_items<'a>(
     for (item, own) in items.iter().zip(&item_tokens) {
         check_item(item, text, own, instrument, &mut gathered, findings)?;
     }
-    check_uses(text, tokens, items, &item_tokens, &instrument.names, findings)
+    check_uses(
+        text,
+        tokens,
+        items,
+        &item_tokens,
+        &instrument.names,
+        findings,
+    )
 }
 
 /// The warnings of a description, by their lines, and on one line in the order of the lints. `text`

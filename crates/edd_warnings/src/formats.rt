@@ -57,11 +57,7 @@ fn check_text(at: TokenNo, text: &Text, findings: &mut Findings) {
     }
 }
 
-fn check_format(
-    at: TokenNo,
-    format: &Cond<Target, Text>,
-    findings: &mut Findings,
-) {
+fn check_format(at: TokenNo, format: &Cond<Target, Text>, findings: &mut Findings) {
     let Ok(texts) = values_in(findings.alloc, format) else {
         findings.refuse();
         return;
@@ -72,10 +68,7 @@ fn check_format(
 }
 
 /// The formats of a type.
-pub fn check_formats(
-    parts: &[TypePart<Target>],
-    findings: &mut Findings,
-) {
+pub fn check_formats(parts: &[TypePart<Target>], findings: &mut Findings) {
     for part in parts {
         if let TypePart::OneFormat { at, format, .. } = part {
             check_format(*at, format, findings);

@@ -34,13 +34,7 @@ struct Message<'i, 'n> {
 }
 
 // A mask of a variable that was there with other masks.
-fn check_mask(
-    mask: u32,
-    bits: u32,
-    most: i64,
-    at: Mark<'_>,
-    findings: &mut Findings,
-) {
+fn check_mask(mask: u32, bits: u32, most: i64, at: Mark<'_>, findings: &mut Findings) {
     let alloc = findings.alloc;
     if most < i64::from(mask) {
         let message = format!(in alloc;
@@ -49,7 +43,11 @@ fn check_mask(
         findings.add(Lint::WideMask, at, message);
     }
     if mask & bits != 0 {
-        findings.say(Lint::OverlappingMasks, at, "this mask has bits that one before it has, of the same variable");
+        findings.say(
+            Lint::OverlappingMasks,
+            at,
+            "this mask has bits that one before it has, of the same variable",
+        );
     }
 }
 

@@ -19,13 +19,7 @@ use edd_syntax::types::VarType;
 use std::alloc::{AllocError, Global};
 
 /// A warning where a number is outside of the range of its variable.
-pub fn check_range(
-    range: Range,
-    what: &str,
-    number: i64,
-    at: Mark<'_>,
-    findings: &mut Findings,
-) {
+pub fn check_range(range: Range, what: &str, number: i64, at: Mark<'_>, findings: &mut Findings) {
     if range.holds(number) {
         return;
     }
@@ -124,11 +118,7 @@ fn check_default(options: Options, findings: &mut Findings) {
 }
 
 // A warning on each constant of an option that is outside of the range.
-fn check_option(
-    part: &TypePart<Target>,
-    range: Range,
-    findings: &mut Findings,
-) {
+fn check_option(part: &TypePart<Target>, range: Range, findings: &mut Findings) {
     let TypePart::OneNumber { at, which, value } = part else {
         return;
     };
