@@ -9,6 +9,7 @@ pub mod Carried
 pub mod Conditionals
 pub mod Parts
 pub mod TreeStrings
+pub mod TreeWrites
 pub mod KeptConditions
 pub mod GoodParts
 pub mod GoodTrees
