@@ -4,6 +4,7 @@ use crate::spots::Place;
 use crate::walk::{Item, Map};
 use edd_lexer::token::{Token, TokenKind};
 use edd_reports::words::is_sign;
+use edd_sinks::ListSink;
 use edd_syntax::numbers::Kind;
 use edd_syntax::symbols::Symbol;
 use std::alloc::{AllocError, Global};
@@ -48,11 +49,11 @@ struct Inner {
 /// What is declared, in an order that depends on places alone: items first.
 #[derive(Drop)]
 pub struct Declarations {
-    pub all: Vec<Declaration>,
+    pub all: ListSink<Declaration>,
     /// The first item with each name, by the numbers of names.
     items: Vec<Option<usize>>,
     /// Sorted by item and key.
-    inner: Vec<Inner>,
+    inner: ListSink<Inner>,
 }
 
 /// Tokens, of which some have a word by its number: names alike have one number.
@@ -67,7 +68,7 @@ pub struct Words<'t> {
 impl Words<'_> {
     /// The number of a token's word.
     pub fn number(&self, token: usize) -> Option<usize> {
-        self.numbers.get(token).copied().unwrap_or(None)
+        *self.numbers.get(token)?
     }
 
     /// The value of a token that is an integer.
@@ -79,19 +80,16 @@ impl Words<'_> {
     }
 
     pub fn is_name(&self, token: usize) -> bool {
-        match self.tokens.get(token) {
-            Some(token) => token.kind == TokenKind::Name,
-            None => false,
-        }
+        self.tokens
+            .get(token)
+            .is_some_and(|token| token.kind == TokenKind::Name)
     }
 
     // The name behind a token and a comma.
     fn named_behind(&self, token: usize) -> Option<usize> {
         let name = token.saturating_add(2);
-        if is_sign(self.tokens, token.saturating_add(1), Symbol::Comma) && self.is_name(name) {
-            return Some(name);
-        }
-        None
+        let is_behind_comma = is_sign(self.tokens, token.saturating_add(1), Symbol::Comma);
+        (is_behind_comma && self.is_name(name)).then_some(name)
     }
 }
 
@@ -133,69 +131,62 @@ impl Declarations {
     /// What is declared in a text.
     pub fn of(alloc: Global, words: Words<'_>, map: &Map) -> Result<Declarations, AllocError> {
         let mut found = Declarations {
-            all: Vec::new(alloc),
+            all: ListSink::new(alloc),
             items: Vec::from_elem(alloc, None, words.count)?,
-            inner: Vec::new(alloc),
+            inner: ListSink::new(alloc),
         };
-        found.add_items(words, &map.items)?;
+        found.add_items(words, &map.items);
         let mut item = 0;
         for (token, spot) in map.spots.iter().enumerate() {
             item = item_from(&map.items, item, token);
             if let Some((sort, key)) = inner_at(words, &map.items, item, token, spot.place) {
-                found.add_inner(item, key, Declaration { sort, token })?;
+                found.add_inner(item, key, Declaration { sort, token });
             }
         }
-        found.inner.sort_by_key(|inner| (inner.item, inner.key))?;
+        found.inner.check()?;
+        found
+            .inner
+            .items
+            .sort_by_key(|inner| (inner.item, inner.key))?;
         Ok(found)
     }
 
-    fn add_items(&mut self, words: Words<'_>, items: &[Item]) -> Result<(), AllocError> {
+    fn add_items(&mut self, words: Words<'_>, items: &[Item]) {
         for (index, item) in items.iter().enumerate() {
             self.all.push(Declaration {
                 sort: Sort::Item(index),
                 token: item.name,
-            })?;
+            });
             let number = words.number(item.name).unwrap_or(words.count);
             if let Some(first) = self.items.get_mut(number) {
                 *first = first.or(Some(index));
             }
         }
-        Ok(())
     }
 
-    fn add_inner(
-        &mut self,
-        item: usize,
-        key: usize,
-        declaration: Declaration,
-    ) -> Result<(), AllocError> {
+    fn add_inner(&mut self, item: usize, key: usize, declaration: Declaration) {
         self.inner.push(Inner {
             item,
             key,
-            declaration: self.all.len(),
-        })?;
-        self.all.push(declaration)?;
-        Ok(())
+            declaration: self.all.items.len(),
+        });
+        self.all.push(declaration);
     }
 
     /// The first item of a name. Its declaration has the same number.
     pub fn item(&self, name: usize) -> Option<usize> {
-        self.items.get(name).copied().unwrap_or(None)
+        *self.items.get(name)?
     }
 
     /// The first member or element of an item that has this key.
     pub fn inner(&self, item: usize, key: usize) -> Option<usize> {
-        let number = self
-            .inner
-            .partition_point(|inner| (inner.item, inner.key) < (item, key));
-        let found = self.inner.get(number)?;
-        if found.item == item && found.key == key {
-            return Some(found.declaration);
-        }
-        None
+        let inner = &self.inner.items;
+        let number = inner.partition_point(|inner| (inner.item, inner.key) < (item, key));
+        let found = inner.get(number)?;
+        (found.item == item && found.key == key).then_some(found.declaration)
     }
 
     pub fn sort(&self, declaration: usize) -> Option<Sort> {
-        Some(self.all.get(declaration)?.sort)
+        Some(self.all.items.get(declaration)?.sort)
     }
 }

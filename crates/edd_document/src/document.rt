@@ -27,6 +27,13 @@ pub struct Document<'a> {
     meanings: Meanings,
 }
 
+// What is past the end of the text.
+const NOWHERE: Spot = Spot {
+    place: Place::Other,
+    open: None,
+    is_in_parentheses: false,
+};
+
 // The number of each name, by the names and by the tokens.
 fn add_names<'a>(
     text: &'a [u8],
@@ -76,6 +83,14 @@ impl<'a> Document<'a> {
         })
     }
 
+    fn words(&self) -> Words<'_> {
+        Words {
+            tokens: &self.tokens,
+            numbers: &self.numbers,
+            count: self.names.len(),
+        }
+    }
+
     pub fn text(&self) -> &'a [u8] {
         self.text
     }
@@ -91,7 +106,7 @@ impl<'a> Document<'a> {
 
     /// All that is declared: the items first, in their order.
     pub fn declarations(&self) -> &[Declaration] {
-        &self.meanings.declarations.all
+        &self.meanings.declarations.all.items
     }
 
     /// Of each token the declaration that it names or makes, by its place among the declarations.
@@ -114,19 +129,18 @@ impl<'a> Document<'a> {
             numbers.push(if is_named { Some(number) } else { *old })?;
         }
         let words = Words {
-            tokens: &self.tokens,
             numbers: &numbers,
             count: count.saturating_add(1),
+            ..self.words()
         };
         Ok(meanings_of(alloc, words, &self.map)?.of_tokens)
     }
 
     /// A token as it is written.
     pub fn word(&self, token: usize) -> &'a str {
-        match self.tokens.get(token) {
-            Some(token) => word_of(self.text, token),
-            None => "",
-        }
+        self.tokens
+            .get(token)
+            .map_or("", |token| word_of(self.text, token))
     }
 
     /// What sort of token it is.
@@ -137,22 +151,12 @@ impl<'a> Document<'a> {
     /// The place of a token.
     pub fn span(&self, token: usize) -> Option<Span> {
         let span = span_of(self.tokens.get(token)?);
-        if span.start <= span.end && span.end <= self.text.len() {
-            return Some(span);
-        }
-        None
+        (span.start <= span.end && span.end <= self.text.len()).then_some(span)
     }
 
     /// What may stand at a token; past the last one at the end of the text.
     pub fn spot(&self, token: usize) -> Spot {
-        match self.map.spots.get(token) {
-            Some(spot) => *spot,
-            None => Spot {
-                place: Place::Other,
-                open: None,
-                is_in_parentheses: false,
-            },
-        }
+        self.map.spots.get(token).copied().unwrap_or(NOWHERE)
     }
 
     /// The first token that ends behind a byte.
@@ -200,17 +204,16 @@ impl<'a> Document<'a> {
 
     /// The declaration that a token names.
     pub fn meaning(&self, token: usize) -> Option<usize> {
-        self.meanings.of_tokens.get(token).copied().unwrap_or(None)
+        *self.meanings.of_tokens.get(token)?
     }
 
     pub fn declared(&self, declaration: usize) -> Option<Declaration> {
-        self.meanings.declarations.all.get(declaration).copied()
+        self.declarations().get(declaration).copied()
     }
 
     /// The first item that has the name of a token, by its place among the items.
     pub fn first_item(&self, token: usize) -> Option<usize> {
-        let name = self.numbers.get(token).copied().unwrap_or(None)?;
-        self.meanings.declarations.item(name)
+        self.meanings.declarations.item(self.words().number(token)?)
     }
 
     /// The item that a token names.
@@ -223,20 +226,19 @@ impl<'a> Document<'a> {
 
     /// The collection whose members a name before a `.` has, by its place among the items.
     pub fn collection_at(&self, token: usize) -> Option<usize> {
-        let words = Words {
-            tokens: &self.tokens,
-            numbers: &self.numbers,
-            count: self.names.len(),
-        };
         let declarations = &self.meanings.declarations;
-        collection_of(words, self.items(), declarations, self.meaning(token)?)
+        collection_of(
+            self.words(),
+            self.items(),
+            declarations,
+            self.meaning(token)?,
+        )
     }
 
     /// The name of an item by its place among the items.
     pub fn item_name(&self, item: usize) -> &'a str {
-        match self.items().get(item) {
-            Some(item) => self.word(item.name),
-            None => "",
-        }
+        self.items()
+            .get(item)
+            .map_or("", |item| self.word(item.name))
     }
 }

@@ -4,6 +4,7 @@ use edd_lexer::fault::LexFault;
 use edd_lexer::lex;
 use edd_lexer::token::{Token, TokenKind};
 use edd_reports::words::{span_of, tokens_before, word_of};
+use edd_sinks::ListSink;
 use std::alloc::{AllocError, Global};
 
 /// How many lines with faults are left out. The text after one more has no tokens.
@@ -48,12 +49,9 @@ fn start_of(text: &[u8], line: u32) -> usize {
 
 // The line of the first string that goes over the end of a line: most often its quote is missing.
 fn long_string(text: &[u8], tokens: &[Token]) -> Option<u32> {
-    for token in tokens {
-        if token.kind == TokenKind::String && word_of(text, token).contains('\n') {
-            return Some(token.line);
-        }
-    }
-    None
+    let is_long = |token: &&Token| token.kind == TokenKind::String
+        && word_of(text, token).contains('\n');
+    Some(tokens.iter().find(is_long)?.line)
 }
 
 // What can be kept of a text before a line at fault.
@@ -94,7 +92,7 @@ fn beginning(alloc: Global, line: &[u8]) -> Result<Vec<Token>, AllocError> {
 }
 
 // Adds the tokens of a part.
-fn append(tokens: &mut Vec<Token>, found: &[Token], part: Part) -> Result<(), AllocError> {
+fn append(tokens: &mut ListSink<Token>, found: &[Token], part: Part) {
     let shift = u32::try_from(part.start).unwrap_or(u32::MAX);
     for token in found {
         tokens.push(Token {
@@ -102,21 +100,20 @@ fn append(tokens: &mut Vec<Token>, found: &[Token], part: Part) -> Result<(), Al
             end: token.end.saturating_add(shift),
             line: token.line.saturating_add(part.lines),
             kind: token.kind,
-        })?;
+        });
     }
-    Ok(())
 }
 
 // Adds what can be kept of a part whose line is at fault, and gives the part behind that line.
 fn append_sound(
     alloc: Global,
-    tokens: &mut Vec<Token>,
+    tokens: &mut ListSink<Token>,
     text: &[u8],
     part: Part,
     fault: u32,
 ) -> Result<Part, AllocError> {
     let sound = sound_before(alloc, text, fault)?;
-    append(tokens, &sound.tokens, part)?;
+    append(tokens, &sound.tokens, part);
     let start = start_of(text, sound.line);
     let end = start_of(text, sound.line.saturating_add(1));
     let kept = beginning(alloc, text.get(start..end).unwrap_or(b""))?;
@@ -124,7 +121,7 @@ fn append_sound(
         start: part.start.saturating_add(start),
         lines: part.lines.saturating_add(sound.line.saturating_sub(1)),
     };
-    append(tokens, &kept, line)?;
+    append(tokens, &kept, line);
     Ok(Part {
         start: part.start.saturating_add(end),
         lines: part.lines.saturating_add(sound.line),
@@ -134,25 +131,27 @@ fn append_sound(
 /// The tokens of a text. A line with a lexical fault has those before it alone, and a text that is
 /// too long has none.
 pub fn tokens_of(alloc: Global, text: &[u8]) -> Result<Vec<Token>, AllocError> {
-    let mut tokens = Vec::new(alloc);
+    let mut tokens = ListSink::new(alloc);
     let mut part = Part { start: 0, lines: 0 };
-    if MOST_BYTES < text.len() {
-        return Ok(tokens);
-    }
-    for _ in 0..MOST_FAULTS {
+    let tries = if MOST_BYTES < text.len() {
+        0
+    } else {
+        MOST_FAULTS
+    };
+    for _ in 0..tries {
         let rest = text.get(part.start..).unwrap_or(b"");
         let fault = match lex(alloc, rest) {
             Ok(found) => {
-                append(&mut tokens, &found, part)?;
-                return Ok(tokens);
+                append(&mut tokens, &found, part);
+                break;
             }
             Err(LexFault::Memory) => return Err(AllocError),
             Err(fault) => fault,
         };
         let Some(line) = fault.line() else {
-            return Ok(tokens);
+            break;
         };
         part = append_sound(alloc, &mut tokens, rest, part, line)?;
     }
-    Ok(tokens)
+    tokens.finish()
 }

@@ -42,10 +42,7 @@ pub fn collection_of(
         Sort::Member { names, .. } => declarations.item(words.number(names?)?)?,
         Sort::Element { .. } | Sort::Local { .. } => return None,
     };
-    if items.get(item)?.kind == Kind::Collection {
-        return Some(item);
-    }
-    None
+    (items.get(item)?.kind == Kind::Collection).then_some(item)
 }
 
 impl Resolver<'_> {
@@ -54,7 +51,7 @@ impl Resolver<'_> {
     }
 
     fn meaning(&self, token: usize) -> Option<usize> {
-        self.meanings.of_tokens.get(token).copied().unwrap_or(None)
+        *self.meanings.of_tokens.get(token)?
     }
 
     fn set_meaning(&mut self, token: usize, declaration: usize) {
@@ -64,8 +61,8 @@ impl Resolver<'_> {
     }
 
     fn set_declared(&mut self) {
-        for index in 0..self.meanings.declarations.all.len() {
-            if let Some(declared) = self.meanings.declarations.all.get(index).copied() {
+        for index in 0..self.meanings.declarations.all.items.len() {
+            if let Some(declared) = self.meanings.declarations.all.items.get(index).copied() {
                 self.set_meaning(declared.token, index);
             }
         }
@@ -110,99 +107,72 @@ impl Resolver<'_> {
     }
 
     fn referred(&self, token: usize, place: Place) -> Option<usize> {
-        let is_member = match token.checked_sub(1) {
-            Some(before) => self.is_sign(before, Symbol::Dot),
-            None => false,
-        };
         if !place.refers() {
             return None;
         }
         if self.words.integer(token).is_some() {
             return self.element(token);
         }
-        if is_member {
-            return self.member(token);
+        match token.checked_sub(1) {
+            Some(before) if self.is_sign(before, Symbol::Dot) => self.member(token),
+            _ => self.named(token, place),
         }
-        self.named(token, place)
     }
 
     // Declares a local.
-    fn declare(&mut self, token: usize, spot: &Spot) -> Result<(), AllocError> {
+    fn declare(&mut self, token: usize, spot: &Spot) {
         let (Some(open), Some(name)) = (spot.open, self.words.number(token)) else {
-            return Ok(());
+            return;
         };
-        let local = self.meanings.declarations.all.len();
+        let all = &mut self.meanings.declarations.all;
+        let local = all.items.len();
         let end = self.words.tokens.len();
         let sort = Sort::Local {
             open,
             from: end,
             until: end,
         };
-        self.meanings
-            .declarations
-            .all
-            .push(Declaration { sort, token })?;
+        all.push(Declaration { sort, token });
         self.set_meaning(token, local);
         self.scopes.declare(open, name, local);
-        Ok(())
     }
 
-    // Says from where on a local may be used.
-    fn begin_use(&mut self, local: usize, token: usize) {
-        if let Some(declared) = self.meanings.declarations.all.get_mut(local) {
-            if let Sort::Local { open, until, .. } = declared.sort {
-                declared.sort = Sort::Local {
-                    open,
-                    from: token,
-                    until,
-                };
-            }
+    // Ends a declarator, behind which its local may be used.
+    fn end_declarator(&mut self, token: usize) {
+        if let Some(local) = self.scopes.end_declarator()
+            && let Some(declared) = self.meanings.declarations.all.items.get_mut(local)
+            && let Sort::Local { from, .. } = &mut declared.sort
+        {
+            *from = token;
         }
-    }
-
-    // Says where a local may be used no more.
-    fn end_use(&mut self, local: usize, token: usize) {
-        if let Some(declared) = self.meanings.declarations.all.get_mut(local) {
-            if let Sort::Local { open, from, .. } = declared.sort {
-                declared.sort = Sort::Local {
-                    open,
-                    from,
-                    until: token,
-                };
-            }
-        }
-    }
-
-    fn end_declarator(&mut self, token: usize) -> Result<(), AllocError> {
-        if let Some(local) = self.scopes.end_declarator()? {
-            self.begin_use(local, token);
-        }
-        Ok(())
     }
 
     // Ends the use of the locals that were declared in the braces of a token, or in any.
-    fn close(&mut self, open: Option<usize>, token: usize) -> Result<(), AllocError> {
-        self.end_declarator(token)?;
+    fn close(&mut self, open: Option<usize>, token: usize) {
+        self.end_declarator(token);
         for _ in 0..self.scopes.len() {
-            match self.scopes.take_back(open) {
-                Some(local) => self.end_use(local, token),
-                None => break,
+            let Some(local) = self.scopes.take_back(open) else {
+                return;
+            };
+            if let Some(declared) = self.meanings.declarations.all.items.get_mut(local)
+                && let Sort::Local { until, .. } = &mut declared.sort
+            {
+                *until = token;
             }
         }
-        Ok(())
     }
 
-    fn take(&mut self, number: usize, token: &Token, spot: &Spot) -> Result<(), AllocError> {
+    fn take(&mut self, number: usize, token: &Token, spot: &Spot) {
         if !spot.place.is_in_body() {
             if !self.scopes.is_empty() {
-                self.close(None, number)?;
+                self.close(None, number);
             }
         } else if is_kind(token, Symbol::CloseBrace) {
-            self.close(spot.open, number)?;
+            self.close(spot.open, number);
         } else if is_kind(token, Symbol::Semicolon)
             || (is_kind(token, Symbol::Comma) && !spot.is_in_parentheses)
         {
-            self.end_declarator(number)?;
+            self.end_declarator(number);
         }
         match token.kind {
             TokenKind::Name if spot.place == Place::Declarator => self.declare(number, spot),
@@ -210,9 +180,8 @@ impl Resolver<'_> {
                 if let Some(declaration) = self.referred(number, spot.place) {
                     self.set_meaning(number, declaration);
                 }
-                Ok(())
             }
-            _ => Ok(()),
+            _ => {}
         }
     }
 }
@@ -231,8 +200,10 @@ pub fn meanings_of(alloc: Global, words: Words<'_>, map: &Map) -> Result<Meaning
     resolver.set_declared();
     for (number, token) in words.tokens.iter().enumerate() {
         if let Some(spot) = map.spots.get(number) {
-            resolver.take(number, token, spot)?;
+            resolver.take(number, token, spot);
         }
     }
+    resolver.scopes.check()?;
+    resolver.meanings.declarations.all.check()?;
     Ok(resolver.meanings)
 }

@@ -4,7 +4,7 @@ use edd_syntax::numbers::{Attr, Home, Kind, ValueKind};
 use edd_syntax::symbols::Keyword;
 
 /// What braces hold.
-#[derive(Clone, Copy, PartialEq, Eq, Debug)]
+#[derive(Clone, Copy, PartialEq, Eq)]
 pub enum Braces {
     /// The attributes of an item.
     Item(Kind),
@@ -26,7 +26,7 @@ pub enum Braces {
 }
 
 /// What may stand at a place.
-#[derive(Clone, Copy, PartialEq, Eq, Debug)]
+#[derive(Clone, Copy, PartialEq, Eq)]
 pub enum Place {
     /// An item.
     Top,
@@ -90,18 +90,12 @@ pub struct Spot {
 
 /// Whether an attribute of this word has an expression as its value.
 pub fn is_number_word(word: Keyword) -> bool {
-    match Attr::from_word(word) {
-        Some(attr) => attr.shape().value == ValueKind::Expression,
-        None => false,
-    }
+    Attr::from_word(word).is_some_and(|attr| attr.shape().value == ValueKind::Expression)
 }
 
 /// Whether a word begins a part in the braces of TYPE.
 pub fn is_type_part(word: Keyword) -> bool {
-    match Attr::from_word(word) {
-        Some(attr) => attr.shape().home == Home::Type,
-        None => false,
-    }
+    Attr::from_word(word).is_some_and(|attr| attr.shape().home == Home::Type)
 }
 
 /// Whether a word begins an attribute of an item.

@@ -3,6 +3,7 @@
 use crate::spots::{Braces, Place, Spot, is_attribute, is_number_word, is_type_part};
 use edd_lexer::token::{Token, TokenKind};
 use edd_reports::words::{is_sign, is_word, item_kind};
+use edd_sinks::ListSink;
 use edd_syntax::numbers::Kind;
 use edd_syntax::symbols::{Keyword, Symbol};
 use std::alloc::{AllocError, Global};
@@ -54,13 +55,14 @@ struct Head {
 #[derive(Drop)]
 struct Walk<'t> {
     tokens: &'t [Token],
-    levels: Vec<Level>,
+    levels: ListSink<Level>,
     head: Option<Head>,
     /// The kind after OF.
     of: Option<Kind>,
     /// Whether the last item goes on.
     is_in_item: bool,
-    map: Map,
+    spots: ListSink<Spot>,
+    items: ListSink<Item>,
 }
 
 impl Level {
@@ -173,30 +175,24 @@ fn braces_of(word: Keyword) -> Braces {
 }
 
 impl Walk<'_> {
+    fn kind(&self, number: usize) -> Option<TokenKind> {
+        Some(self.tokens.get(number)?.kind)
+    }
+
     fn is_before(&self, number: usize, sign: Symbol) -> bool {
-        match number.checked_sub(1) {
-            Some(before) => is_sign(self.tokens, before, sign),
-            None => false,
-        }
+        let before = number.checked_sub(1);
+        before.is_some_and(|before| is_sign(self.tokens, before, sign))
     }
 
     fn is_word_before(&self, number: usize, word: Keyword) -> bool {
-        match number.checked_sub(1) {
-            Some(before) => is_word(self.tokens, before, word),
-            None => false,
-        }
+        let before = number.checked_sub(1);
+        before.is_some_and(|before| is_word(self.tokens, before, word))
     }
 
     // Whether the token of a number is the class of a response code.
     fn is_class(&self, number: usize) -> bool {
-        let Some(value) = number.checked_sub(2) else {
-            return false;
-        };
-        let is_behind_number = match self.tokens.get(value) {
-            Some(token) => matches!(token.kind, TokenKind::Integer(_)),
-            None => false,
-        };
-        is_behind_number && self.is_before(number, Symbol::Comma)
+        let value = number.checked_sub(2).and_then(|value| self.kind(value));
+        matches!(value, Some(TokenKind::Integer(_))) && self.is_before(number, Symbol::Comma)
     }
 
     fn body_place(&self, level: &Level, number: usize) -> Place {
@@ -214,7 +210,7 @@ impl Walk<'_> {
         if level.parentheses != 0 && level.braces != Braces::Body {
             return level.inside;
         }
-        let begins = match self.tokens.get(number).map(|token| token.kind) {
+        let begins = match self.kind(number) {
             Some(TokenKind::Keyword(word)) => level.begins(word),
             _ => false,
         };
@@ -235,7 +231,7 @@ impl Walk<'_> {
     }
 
     fn spot(&self, number: usize) -> Spot {
-        match (self.levels.last(), self.head) {
+        match (self.levels.items.last(), self.head) {
             (Some(level), _) => Spot {
                 place: self.place_in(level, number),
                 open: Some(level.open),
@@ -254,14 +250,12 @@ impl Walk<'_> {
     fn begun(&self, number: usize, token: &Token) -> Option<Kind> {
         let kind = item_kind(token)?;
         let is_operation = kind == Kind::Command && self.is_word_before(number, Keyword::Operation);
-        if is_operation || self.is_word_before(number, Keyword::Of) {
-            return None;
-        }
-        Some(kind)
+        let is_begun = !is_operation && !self.is_word_before(number, Keyword::Of);
+        is_begun.then_some(kind)
     }
 
     fn begin(&mut self, number: usize, kind: Kind) {
-        self.levels.clear();
+        self.levels.items.clear();
         self.is_in_item = false;
         self.of = None;
         self.head = Some(Head {
@@ -272,53 +266,47 @@ impl Walk<'_> {
     }
 
     // A name before the braces of an item is that of the item.
-    fn take_name(&mut self, number: usize) -> Result<(), AllocError> {
-        let Some(head) = self.head else {
-            return Ok(());
-        };
-        if head.is_named || !self.levels.is_empty() {
-            return Ok(());
+    fn take_name(&mut self, number: usize) {
+        if let Some(head) = &mut self.head
+            && !head.is_named
+            && self.levels.items.is_empty()
+        {
+            head.is_named = true;
+            self.is_in_item = true;
+            self.items.push(Item {
+                kind: head.kind,
+                first: head.first,
+                name: number,
+                last: number,
+            });
         }
-        self.head = Some(Head {
-            is_named: true,
-            ..head
-        });
-        self.is_in_item = true;
-        self.map.items.push(Item {
-            kind: head.kind,
-            first: head.first,
-            name: number,
-            last: number,
-        })?;
-        Ok(())
     }
 
     // Takes a word that begins no item.
     fn take_word(&mut self, number: usize, word: Keyword, token: &Token) {
-        if self.is_word_before(number, Keyword::Of) && self.levels.is_empty() {
+        if self.is_word_before(number, Keyword::Of) && self.levels.items.is_empty() {
             self.of = item_kind(token);
         }
         if is_attribute(word) {
-            self.levels.truncate(1);
+            self.levels.items.truncate(1);
         }
-        if let Some(level) = self.levels.last_mut() {
+        if let Some(level) = self.levels.items.last_mut() {
             level.take_word(word);
         }
     }
 
-    fn open(&mut self, number: usize) -> Result<(), AllocError> {
-        let braces = match (self.levels.last(), self.head) {
+    fn open(&mut self, number: usize) {
+        let braces = match (self.levels.items.last(), self.head) {
             (Some(level), _) => level.inner(),
             (None, Some(head)) => Braces::Item(head.kind),
             (None, None) => Braces::Other,
         };
-        self.levels.push(Level::new(braces, number))?;
-        Ok(())
+        self.levels.push(Level::new(braces, number));
     }
 
     fn close(&mut self) {
-        self.levels.pop();
-        match self.levels.last_mut() {
+        self.levels.items.pop();
+        match self.levels.items.last_mut() {
             Some(level) => level.take_braces(),
             None => {
                 self.head = None;
@@ -327,19 +315,11 @@ impl Walk<'_> {
         }
     }
 
-    fn take_sign(&mut self, number: usize, sign: Symbol) -> Result<(), AllocError> {
+    fn take_sign(&mut self, number: usize, sign: Symbol) {
         let is_behind_condition = self.is_word_before(number, Keyword::If)
             || self.is_word_before(number, Keyword::Select);
-        match sign {
-            Symbol::OpenBrace => return self.open(number),
-            Symbol::CloseBrace => {
-                self.close();
-                return Ok(());
-            }
-            _ => {}
-        }
-        let Some(level) = self.levels.last_mut() else {
-            return Ok(());
+        let Some(level) = self.levels.items.last_mut() else {
+            return;
         };
         match sign {
             Symbol::Semicolon => level.take_semicolon(),
@@ -355,38 +335,29 @@ impl Walk<'_> {
             Symbol::CloseParenthesis => level.parentheses = level.parentheses.saturating_sub(1),
             _ => level.is_fresh = false,
         }
-        Ok(())
     }
 
-    fn take(&mut self, number: usize, token: &Token) -> Result<(), AllocError> {
+    fn take(&mut self, number: usize, token: &Token) {
         if let Some(kind) = self.begun(number, token) {
             self.begin(number, kind);
-            return Ok(());
+            return;
         }
-        if let (true, Some(item)) = (self.is_in_item, self.map.items.last_mut()) {
+        if let (true, Some(item)) = (self.is_in_item, self.items.items.last_mut()) {
             item.last = number;
         }
         match token.kind {
-            TokenKind::Keyword(word) => {
-                self.take_word(number, word, token);
-                Ok(())
-            }
+            TokenKind::Keyword(word) => self.take_word(number, word, token),
+            TokenKind::Symbol(Symbol::OpenBrace) => self.open(number),
+            TokenKind::Symbol(Symbol::CloseBrace) => self.close(),
             TokenKind::Symbol(sign) => self.take_sign(number, sign),
-            TokenKind::Name => {
-                self.take_name(number)?;
-                self.take_value();
-                Ok(())
+            kind => {
+                if kind == TokenKind::Name {
+                    self.take_name(number);
+                }
+                if let Some(level) = self.levels.items.last_mut() {
+                    level.is_fresh = false;
+                }
             }
-            _ => {
-                self.take_value();
-                Ok(())
-            }
-        }
-    }
-
-    fn take_value(&mut self) {
-        if let Some(level) = self.levels.last_mut() {
-            level.is_fresh = false;
         }
     }
 }
@@ -395,21 +366,23 @@ impl Walk<'_> {
 pub fn map_of(alloc: Global, tokens: &[Token]) -> Result<Map, AllocError> {
     let mut walk = Walk {
         tokens,
-        levels: Vec::new(alloc),
+        levels: ListSink::new(alloc),
         head: None,
         of: None,
         is_in_item: false,
-        map: Map {
-            spots: Vec::with_capacity(alloc, tokens.len().saturating_add(1))?,
-            items: Vec::new(alloc),
-        },
+        spots: ListSink::new(alloc),
+        items: ListSink::new(alloc),
     };
     for (number, token) in tokens.iter().enumerate() {
         let spot = walk.spot(number);
-        walk.map.spots.push(spot)?;
-        walk.take(number, token)?;
+        walk.spots.push(spot);
+        walk.take(number, token);
     }
-    let spot = walk.spot(tokens.len());
-    walk.map.spots.push(spot)?;
-    Ok(walk.map)
+    let end = walk.spot(tokens.len());
+    walk.spots.push(end);
+    walk.levels.check()?;
+    Ok(Map {
+        spots: walk.spots.finish()?,
+        items: walk.items.finish()?,
+    })
 }

@@ -2,7 +2,7 @@
 
 use edd_reports::words::Span;
 use edd_syntax::numbers::Kind;
-use std::alloc::{AllocError, AllocFailed};
+use std::alloc::AllocError;
 
 /// What is told of a place.
 #[derive(Drop)]
@@ -14,7 +14,7 @@ pub struct Hover {
 }
 
 /// Why a name is not changed.
-#[derive(Clone, Copy, PartialEq, Eq, Debug)]
+#[derive(Clone, Copy)]
 pub enum RenameFault {
     /// No name that is declared in the text.
     NothingHere,
@@ -31,12 +31,6 @@ pub enum RenameFault {
 
 impl From<AllocError> for RenameFault {
     fn from(_e: AllocError) -> RenameFault {
-        RenameFault::Memory
-    }
-}
-
-impl<T: Drop> From<AllocFailed<T>> for RenameFault {
-    fn from(_e: AllocFailed<T>) -> RenameFault {
         RenameFault::Memory
     }
 }
@@ -62,7 +56,7 @@ pub struct Fold {
 }
 
 /// What a completion is.
-#[derive(Clone, Copy, PartialEq, Eq, Debug)]
+#[derive(Clone, Copy)]
 pub enum CompletionKind {
     Item(Kind),
     Member,

@@ -2,7 +2,7 @@
 
 use crate::answers::Signature;
 use crate::comments::is_unread;
-use crate::functions::{Written, as_called};
+use crate::functions::{as_called, parameter_places};
 use edd_document::Document;
 use edd_document::spots::Place;
 use edd_lexer::token::TokenKind;
@@ -18,50 +18,36 @@ pub struct Call {
     pub argument: usize,
 }
 
-// How far one is on the way back from a token.
-#[derive(Clone, Copy)]
-struct Way {
-    closed: usize,
-    commas: usize,
-}
-
 // The function whose parentheses a token opens.
 fn called(document: &Document<'_>, open: usize) -> Option<Builtin> {
     let name = open.checked_sub(1)?;
-    if document.kind(name) != Some(TokenKind::Name) {
-        return None;
+    match document.kind(name)? {
+        TokenKind::Name => Builtin::named(document.word(name)),
+        _ => None,
     }
-    Builtin::named(document.word(name))
 }
 
 /// The innermost call of a function whose parentheses are open before a token.
 pub fn call_before(document: &Document<'_>, token: usize) -> Option<Call> {
-    let mut way = Way {
-        closed: 0,
-        commas: 0,
-    };
+    let mut closed: usize = 0;
+    let mut argument: usize = 0;
     for count in 1..=token {
         let number = token.saturating_sub(count);
         let Some(TokenKind::Symbol(sign)) = document.kind(number) else {
             continue;
         };
         match sign {
-            Symbol::CloseParenthesis | Symbol::CloseBracket => {
-                way.closed = way.closed.saturating_add(1);
-            }
-            Symbol::OpenParenthesis | Symbol::OpenBracket if way.closed != 0 => {
-                way.closed = way.closed.saturating_sub(1);
+            Symbol::CloseParenthesis | Symbol::CloseBracket => closed = closed.saturating_add(1),
+            Symbol::OpenParenthesis | Symbol::OpenBracket if closed != 0 => {
+                closed = closed.saturating_sub(1);
             }
             Symbol::OpenParenthesis | Symbol::OpenBracket => {
                 if let Some(function) = called(document, number) {
-                    return Some(Call {
-                        function,
-                        argument: way.commas,
-                    });
+                    return Some(Call { function, argument });
                 }
-                way.commas = 0;
+                argument = 0;
             }
-            Symbol::Comma if way.closed == 0 => way.commas = way.commas.saturating_add(1),
+            Symbol::Comma if closed == 0 => argument = argument.saturating_add(1),
             Symbol::Semicolon | Symbol::OpenBrace | Symbol::CloseBrace => return None,
             _ => {}
         }
@@ -82,10 +68,9 @@ pub fn signature(
     let Some(call) = call_before(document, token) else {
         return Ok(None);
     };
-    let Written { label, parameters } = as_called(alloc, call.function)?;
     Ok(Some(Signature {
-        label,
-        parameters,
+        label: as_called(alloc, call.function)?,
+        parameters: parameter_places(alloc, call.function)?,
         active: call.argument,
     }))
 }

@@ -24,12 +24,8 @@ fn block_length(inside: &[u8]) -> usize {
 
 // How many bytes a line comment has whose inside is this, without the end of the line.
 fn line_length(inside: &[u8]) -> usize {
-    for (index, byte) in inside.iter().enumerate() {
-        if *byte == b'\n' {
-            return index.saturating_add(2);
-        }
-    }
-    inside.len().saturating_add(2)
+    let end = inside.iter().position(|byte| *byte == b'\n');
+    end.unwrap_or(inside.len()).saturating_add(2)
 }
 
 // How many bytes a comment has that a text begins with, and whether it is a block.
@@ -72,10 +68,8 @@ fn has_signs(text: &[u8]) -> bool {
 /// fault.
 pub fn is_unread(document: &Document<'_>, byte: usize) -> bool {
     let next = document.token_from(byte);
-    let mut start = match next.checked_sub(1) {
-        Some(before) => document.span(before).map_or(0, |span| span.end),
-        None => 0,
-    };
+    let before = next.checked_sub(1).and_then(|before| document.span(before));
+    let mut start = before.map_or(0, |span| span.end);
     let end = document
         .span(next)
         .map_or(document.text().len(), |span| span.start);

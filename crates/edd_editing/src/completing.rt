@@ -59,6 +59,9 @@ const KINDS_OF_MEMBERS: [Kind; 5] = [
     Kind::Method,
 ];
 
+/// The kinds of what holds a value that a device has.
+const HOLDERS: [Kind; 2] = [Kind::Variable, Kind::Collection];
+
 /// The kinds whose items have values, in an expression.
 const VALUES: [Kind; 3] = [Kind::Variable, Kind::Collection, Kind::Array];
 
@@ -136,47 +139,45 @@ fn is_enumerated(document: &Document<'_>, open: usize) -> bool {
     word == "ENUMERATED" || word == "BIT_ENUMERATED"
 }
 
+// What sort of token is before another one.
+fn kind_before(document: &Document<'_>, token: usize) -> Option<TokenKind> {
+    document.kind(token.checked_sub(1)?)
+}
+
 // Whether a value is still to be written before a token.
 fn wants_value(document: &Document<'_>, token: usize) -> bool {
-    let before = token
-        .checked_sub(1)
-        .and_then(|before| document.kind(before));
     !matches!(
-        before,
+        kind_before(document, token),
         Some(TokenKind::Name | TokenKind::Integer(_) | TokenKind::Decimal | TokenKind::String)
     )
 }
 
 // Whether a statement may begin at a token.
 fn begins_statement(document: &Document<'_>, token: usize) -> bool {
-    let before = token
-        .checked_sub(1)
-        .and_then(|before| document.kind(before));
-    match before {
-        Some(TokenKind::Symbol(sign)) => matches!(
-            sign,
-            Symbol::Semicolon
-                | Symbol::OpenBrace
-                | Symbol::CloseBrace
-                | Symbol::CloseParenthesis
-                | Symbol::Colon
-        ),
-        Some(TokenKind::Keyword(word)) => matches!(word, Keyword::MethodElse | Keyword::Do),
-        _ => false,
-    }
+    matches!(
+        kind_before(document, token),
+        Some(
+            TokenKind::Symbol(
+                Symbol::Semicolon
+                    | Symbol::OpenBrace
+                    | Symbol::CloseBrace
+                    | Symbol::CloseParenthesis
+                    | Symbol::Colon
+            ) | TokenKind::Keyword(Keyword::MethodElse | Keyword::Do)
+        )
+    )
 }
 
 impl Offers<'_, '_> {
     // A word, unless the braces around a cursor have it already.
-    fn add_missing(&mut self, cursor: Cursor, word: Keyword) -> Result<(), AllocError> {
-        if has_word(self.document, cursor, word) {
-            return Ok(());
+    fn add_missing(&mut self, cursor: Cursor, word: Keyword) {
+        if !has_word(self.document, cursor, word) {
+            self.add_words(&[word], CompletionKind::Attribute);
         }
-        self.add_words(&[word], CompletionKind::Attribute)
     }
 
     // The attributes that an item doesn't have yet. TRANSACTION may be there several times.
-    fn add_attributes(&mut self, cursor: Cursor, kind: Kind) -> Result<(), AllocError> {
+    fn add_attributes(&mut self, cursor: Cursor, kind: Kind) {
         for attribute in ATTRIBUTES {
             let Some(word) = attribute.word_in_item() else {
                 continue;
@@ -185,119 +186,107 @@ impl Offers<'_, '_> {
                 continue;
             }
             if attribute == Attr::Transaction {
-                self.add_words(&[word], CompletionKind::Attribute)?;
+                self.add_words(&[word], CompletionKind::Attribute);
             } else {
-                self.add_missing(cursor, word)?;
+                self.add_missing(cursor, word);
             }
         }
-        Ok(())
     }
 
     // The parts that braces of TYPE or TRANSACTION don't have yet.
-    fn add_parts_of(&mut self, cursor: Cursor, home: Home) -> Result<(), AllocError> {
+    fn add_parts_of(&mut self, cursor: Cursor, home: Home) {
         for attribute in ATTRIBUTES {
             let shape = attribute.shape();
-            if shape.home != home || attribute.word_in_item().is_some() {
-                continue;
-            }
-            if let Some(word) = shape.word {
-                self.add_missing(cursor, word)?;
+            if shape.home == home
+                && attribute.word_in_item().is_none()
+                && let Some(word) = shape.word
+            {
+                self.add_missing(cursor, word);
             }
         }
-        Ok(())
     }
 
     // The parts that these braces don't have yet.
-    fn add_parts(&mut self, cursor: Cursor, braces: Braces) -> Result<(), AllocError> {
+    fn add_parts(&mut self, cursor: Cursor, braces: Braces) {
         match braces {
             Braces::Item(kind) => self.add_attributes(cursor, kind),
             Braces::Transaction => self.add_parts_of(cursor, Home::Transaction),
             Braces::Type => {
                 let open = self.document.spot(cursor.token).open.unwrap_or(0);
                 if is_enumerated(self.document, open) {
-                    self.add_missing(cursor, Keyword::DefaultValue)
+                    self.add_missing(cursor, Keyword::DefaultValue);
                 } else {
-                    self.add_parts_of(cursor, Home::Type)
+                    self.add_parts_of(cursor, Home::Type);
                 }
             }
-            _ => Ok(()),
+            _ => {}
         }
     }
 
-    fn add_items_of(&mut self, kinds: &[Kind]) -> Result<(), AllocError> {
+    fn add_items_of(&mut self, kinds: &[Kind]) {
         for kind in kinds {
-            self.add_items(*kind)?;
+            self.add_items(*kind);
         }
-        Ok(())
     }
 
     // What may come before the braces of an item.
-    fn add_head(&mut self, token: usize) -> Result<(), AllocError> {
+    fn add_head(&mut self, token: usize) {
         let before = token.saturating_sub(1);
         let document = self.document;
         if document.is_keyword(before, Keyword::Of) {
             let is_array = document.is_keyword(before.saturating_sub(1), Keyword::Array);
             let count = if is_array { 1 } else { MEMBERS };
             let kinds = ITEMS.get(..count).unwrap_or(&ITEMS);
-            return self.add_words(kinds, CompletionKind::Keyword);
-        }
-        if document.is_keyword(before, Keyword::Collection)
+            self.add_words(kinds, CompletionKind::Keyword);
+        } else if document.is_keyword(before, Keyword::Collection)
             || document.is_keyword(before, Keyword::Array)
         {
-            return self.add_words(&[Keyword::Of], CompletionKind::Keyword);
+            self.add_words(&[Keyword::Of], CompletionKind::Keyword);
         }
-        Ok(())
     }
 
     // The value of an attribute.
-    fn add_value(&mut self, token: usize, word: Keyword) -> Result<(), AllocError> {
+    fn add_value(&mut self, token: usize, word: Keyword) {
         if !wants_value(self.document, token) {
-            return Ok(());
+            return;
         }
         if is_number_word(word) {
-            self.add_items_of(&VALUES)?;
+            self.add_items_of(&VALUES);
         } else if let Some(role) = role_at(Place::Value(word)) {
-            self.add_values(role)?;
+            self.add_values(role);
         }
         let is_first = self.document.is_keyword(token.saturating_sub(1), word);
         if is_first && may_be_conditional(word) {
-            self.add_words(&CONDITIONS, CompletionKind::Keyword)?;
+            self.add_words(&CONDITIONS, CompletionKind::Keyword);
         }
-        Ok(())
     }
 
     // An element of a list.
-    fn add_entry(&mut self, word: Keyword) -> Result<(), AllocError> {
-        if word == Keyword::Items {
-            self.add_items_of(&ENTRIES)?;
-        } else {
-            self.add_items_of(&[Kind::Variable, Kind::Collection])?;
-        }
-        self.add_words(&CONDITIONS, CompletionKind::Keyword)
+    fn add_entry(&mut self, word: Keyword) {
+        let is_menu = word == Keyword::Items;
+        self.add_items_of(if is_menu { &ENTRIES } else { &HOLDERS });
+        self.add_words(&CONDITIONS, CompletionKind::Keyword);
     }
 
     // The names of an expression in a method, and the words of a statement where one may begin.
-    fn add_body(&mut self, token: usize) -> Result<(), AllocError> {
+    fn add_body(&mut self, token: usize) {
         let call = call_before(self.document, token);
         match call.and_then(|call| call.function.parameters().get(call.argument).copied()) {
-            Some(Parameter::Text) => return Ok(()),
+            Some(Parameter::Text) => return,
             Some(Parameter::Method) => return self.add_items(Kind::Method),
-            Some(Parameter::DeviceVariable) => {
-                return self.add_items_of(&[Kind::Variable, Kind::Collection]);
-            }
+            Some(Parameter::DeviceVariable) => return self.add_items_of(&HOLDERS),
             Some(Parameter::Number) | None => {}
         }
-        self.add_locals(token)?;
-        self.add_items_of(&VALUES)?;
-        self.add_functions()?;
+        self.add_locals(token);
+        self.add_items_of(&VALUES);
+        self.add_functions();
         if begins_statement(self.document, token) {
-            self.add_words(&STATEMENTS, CompletionKind::Keyword)?;
+            self.add_words(&STATEMENTS, CompletionKind::Keyword);
         }
-        Ok(())
     }
 
     // What may stand at a cursor that is behind no dot.
-    fn add_at(&mut self, cursor: Cursor) -> Result<(), AllocError> {
+    fn add_at(&mut self, cursor: Cursor) {
         let token = cursor.token;
         match self.document.spot(token).place {
             Place::Top => self.add_words(&ITEMS, CompletionKind::Keyword),
@@ -310,10 +299,11 @@ impl Offers<'_, '_> {
             Place::MemberItem(None) => self.add_items_of(&KINDS_OF_MEMBERS),
             Place::ElementVariable => self.add_items(Kind::Variable),
             Place::Body => self.add_body(token),
-            place => match role_at(place) {
-                Some(role) => self.add_values(role),
-                None => Ok(()),
-            },
+            place => {
+                if let Some(role) = role_at(place) {
+                    self.add_values(role);
+                }
+            }
         }
     }
 }
@@ -334,31 +324,26 @@ pub fn completions<'a>(
     byte: usize,
 ) -> Result<Completions<'a>, AllocError> {
     let byte = byte.min(document.text().len());
-    let here = Span {
+    let mut offers = Offers::new(alloc, document);
+    let mut replaced = Span {
         start: byte,
         end: byte,
     };
-    let mut offers = Offers::new(alloc, document);
-    let cursor = match cursor_at(document, byte) {
-        Some(cursor) if !is_unread(document, byte) => cursor,
-        _ => {
-            return Ok(Completions {
-                replaced: here,
-                entries: Vec::new(alloc),
-            });
+    if let Some(cursor) = cursor_at(document, byte)
+        && !is_unread(document, byte)
+    {
+        replaced = cursor.replaced;
+        let token = cursor.token;
+        if kind_before(document, token) != Some(TokenKind::Symbol(Symbol::Dot)) {
+            offers.add_at(cursor);
+        } else if let Some(owner) = token.checked_sub(2)
+            && let Some(collection) = document.collection_at(owner)
+        {
+            offers.add_members(collection);
         }
-    };
-    let before = cursor.token.checked_sub(1);
-    if before.is_some_and(|before| document.is_sign(before, Symbol::Dot)) {
-        let owner = cursor.token.checked_sub(2);
-        if let Some(collection) = owner.and_then(|owner| document.collection_at(owner)) {
-            offers.add_members(collection)?;
-        }
-    } else {
-        offers.add_at(cursor)?;
     }
     Ok(Completions {
-        replaced: cursor.replaced,
-        entries: offers.entries,
+        replaced,
+        entries: offers.entries.finish()?,
     })
 }

@@ -97,22 +97,19 @@ fn end_of(document: &Document<'_>, token: usize, is_before: bool) -> Option<usiz
 
 // The expression of the default value of a description's first variable.
 fn value_of(items: &[Item<Target>], sort: Sort) -> Known {
-    let Some(item) = items.first() else {
-        return Known::Nothing;
-    };
-    match item.attributes() {
-        [Attribute::TypeOf { parts, .. }] => match parts.as_slice() {
-            [
-                TypePart::OneNumber {
-                    which: NumberOption::DefaultValue,
-                    value: Cond::Value(value),
-                    ..
-                },
-            ] => evaluate(value, sort),
-            _ => Known::Nothing,
-        },
-        _ => Known::Nothing,
+    if let Some(item) = items.first()
+        && let [Attribute::TypeOf { parts, .. }] = item.attributes()
+        && let [
+            TypePart::OneNumber {
+                which: NumberOption::DefaultValue,
+                value: Cond::Value(value),
+                ..
+            },
+        ] = parts.as_slice()
+    {
+        return evaluate(value, sort);
     }
+    Known::Nothing
 }
 
 // What the source of an expression gives.
@@ -162,17 +159,17 @@ pub fn told(
     document: &Document<'_>,
     place: Span,
     sort: Sort,
-) -> Result<Option<String>, AllocError> {
+) -> Result<String, AllocError> {
     let source = text_in(document.text(), place);
     match value_in(alloc, source, sort)? {
         Known::Number(value) => {
             let value = format!(in alloc; "{value}")?;
             if value.as_str() == source {
-                return Ok(None);
+                return Ok(String::new(alloc));
             }
-            Ok(Some(format!(in alloc; "Value: `{value}`")?))
+            format!(in alloc; "Value: `{value}`")
         }
-        Known::Traps(_) => Ok(Some(String::from_str(alloc, "It has no value: it traps.")?)),
-        Known::Nothing => Ok(None),
+        Known::Traps(_) => String::from_str(alloc, "It has no value: it traps."),
+        Known::Nothing => Ok(String::new(alloc)),
     }
 }

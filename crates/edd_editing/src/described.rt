@@ -6,6 +6,7 @@ use edd_document::spots::Place;
 use edd_document::{Document, Item};
 use edd_lexer::token::TokenKind;
 use edd_reports::words::{Span, kind_word, text_in};
+use edd_sinks::TextSink;
 use edd_strings::{StringFault, choose, split};
 use edd_syntax::symbols::{Keyword, Symbol};
 use edd_syntax::words::{Variant, Words};
@@ -15,40 +16,26 @@ const ENGLISH: &str = "en";
 
 // The token with which an attribute of an item begins, or a part of its TYPE.
 fn attribute(document: &Document<'_>, item: &Item, word: Keyword) -> Option<usize> {
-    for token in item.first..=item.last {
-        let is_word = document.kind(token) == Some(TokenKind::Keyword(word));
-        if is_word && matches!(document.spot(token).place, Place::Start(_)) {
-            return Some(token);
-        }
-    }
-    None
+    (item.first..=item.last).find(|token| {
+        document.is_keyword(*token, word) && matches!(document.spot(*token).place, Place::Start(_))
+    })
 }
 
-// The strings that follow a token, joined; nothing where there are none.
-fn strings_behind(
-    alloc: Global,
-    document: &Document<'_>,
-    token: usize,
-) -> Result<Option<String>, AllocError> {
-    let mut raw = String::new(alloc);
-    let first = token.saturating_add(1);
-    if document.kind(first) != Some(TokenKind::String) {
-        return Ok(None);
-    }
+// The strings from a token on, joined.
+fn joined(alloc: Global, document: &Document<'_>, first: usize) -> Result<String, AllocError> {
+    let mut raw = TextSink::new(alloc);
     for next in first..document.tokens().len() {
-        let Some(place) = document.span(next) else {
+        let (Some(TokenKind::String), Some(place)) = (document.kind(next), document.span(next))
+        else {
             break;
         };
-        if document.kind(next) != Some(TokenKind::String) {
-            break;
-        }
         let inside = Span {
             start: place.start.saturating_add(1),
             end: place.end.saturating_sub(1),
         };
-        raw.push_str(text_in(document.text(), inside))?;
+        raw.push_str(text_in(document.text(), inside));
     }
-    Ok(Some(raw))
+    raw.finish()
 }
 
 // The text of an attribute that is one text without conditions.
@@ -58,12 +45,11 @@ fn text_of(
     item: &Item,
     word: Keyword,
 ) -> Result<Option<Words>, AllocError> {
-    let Some(token) = attribute(document, item, word) else {
+    let first = attribute(document, item, word).map_or(usize::MAX, |token| token.saturating_add(1));
+    if document.kind(first) != Some(TokenKind::String) {
         return Ok(None);
-    };
-    let Some(raw) = strings_behind(alloc, document, token)? else {
-        return Ok(None);
-    };
+    }
+    let raw = joined(alloc, document, first)?;
     match split(alloc, raw.as_str()) {
         Ok(words) => Ok(Some(words)),
         Err(StringFault::Memory) => Err(AllocError),
@@ -79,27 +65,27 @@ pub fn label_of(alloc: Global, document: &Document<'_>, item: &Item) -> Result<S
     }
 }
 
-fn push_variant(markdown: &mut String, variant: &Variant) -> Result<(), AllocError> {
-    push_code(markdown, variant.code.as_str())?;
-    markdown.push(' ')?;
-    push_escaped(markdown, variant.text.as_str())
+fn push_variant(markdown: &mut TextSink, variant: &Variant) {
+    push_code(markdown, variant.code.as_str());
+    markdown.push(' ');
+    push_escaped(markdown, variant.text.as_str());
 }
 
 // Adds a text in all its languages, each on a line of its own.
-fn push_words(markdown: &mut String, words: &Words) -> Result<(), AllocError> {
+fn push_words(markdown: &mut TextSink, words: &Words) {
     let Words::Variants { first, rest } = words else {
-        return Ok(());
+        return;
     };
-    push_paragraph(markdown)?;
+    push_paragraph(markdown);
     if rest.is_empty() && first.code.as_str() == ENGLISH {
-        return push_escaped(markdown, first.text.as_str());
+        push_escaped(markdown, first.text.as_str());
+        return;
     }
-    push_variant(markdown, first)?;
+    push_variant(markdown, first);
     for variant in rest {
-        markdown.push_str("  \n")?;
-        push_variant(markdown, variant)?;
+        markdown.push_str("  \n");
+        push_variant(markdown, variant);
     }
-    Ok(())
 }
 
 // The source of the value behind the word of an attribute: up to its semicolon, or the brace that
@@ -111,8 +97,7 @@ fn value_behind(document: &Document<'_>, token: usize, last: usize) -> Option<Sp
     let mut end = start;
     for next in first..=last {
         let place = document.span(next)?;
-        let is_else = document.kind(next.saturating_add(1))
-            == Some(TokenKind::Keyword(Keyword::Else));
+        let is_else = document.is_keyword(next.saturating_add(1), Keyword::Else);
         match document.kind(next) {
             Some(TokenKind::Symbol(Symbol::OpenBrace)) => depth = depth.saturating_add(1),
             Some(TokenKind::Symbol(Symbol::CloseBrace)) if depth == 0 => break,
@@ -151,94 +136,86 @@ fn type_source(document: &Document<'_>, item: &Item) -> Option<Span> {
 }
 
 // Adds the type of a variable and its limits, as they are written.
-fn push_type(
-    document: &Document<'_>,
-    item: &Item,
-    markdown: &mut String,
-) -> Result<(), AllocError> {
+fn push_type(document: &Document<'_>, item: &Item, markdown: &mut TextSink) {
     let Some(source) = type_source(document, item) else {
-        return Ok(());
+        return;
     };
-    push_paragraph(markdown)?;
-    push_code(markdown, text_in(document.text(), source))?;
+    push_paragraph(markdown);
+    push_code(markdown, text_in(document.text(), source));
     for word in [Keyword::MinValue, Keyword::MaxValue] {
-        let Some(token) = attribute(document, item, word) else {
-            continue;
-        };
-        if let Some(value) = value_behind(document, token, item.last) {
-            markdown.push_str(", ")?;
-            push_escaped(markdown, word.spelling())?;
-            markdown.push(' ')?;
-            push_code(markdown, text_in(document.text(), value))?;
+        if let Some(token) = attribute(document, item, word)
+            && let Some(value) = value_behind(document, token, item.last)
+        {
+            markdown.push_str(", ");
+            push_escaped(markdown, word.spelling());
+            markdown.push(' ');
+            push_code(markdown, text_in(document.text(), value));
         }
     }
-    Ok(())
 }
 
-/// Adds what the text says of an item: its kind, name, label, type with limits, and help.
-pub fn push_item(
+// Adds the text of an attribute of an item.
+fn push_text(
     alloc: Global,
     document: &Document<'_>,
     item: &Item,
-    markdown: &mut String,
-) -> Result<(), AllocError> {
-    push_paragraph(markdown)?;
-    let (kind, name) = (kind_word(item.kind), document.word(item.name));
-    write!(markdown, "`{kind} {name}`")?;
-    if let Some(words) = text_of(alloc, document, item, Keyword::Label)? {
-        push_words(markdown, &words)?;
+    word: Keyword,
+    markdown: &mut TextSink,
+) {
+    match text_of(alloc, document, item, word) {
+        Ok(Some(words)) => push_words(markdown, &words),
+        Ok(None) => {}
+        Err(AllocError) => markdown.refuse(),
     }
-    push_type(document, item, markdown)?;
-    if let Some(words) = text_of(alloc, document, item, Keyword::Help)? {
-        push_words(markdown, &words)?;
-    }
-    Ok(())
 }
 
-// Adds a line on a member or an element, and the item that it names.
-fn push_inner(
+// Adds what the text says of an item: its kind, name, label, type with limits, and help.
+fn push_item(alloc: Global, document: &Document<'_>, item: &Item, markdown: &mut TextSink) {
+    push_paragraph(markdown);
+    let (kind, name) = (kind_word(item.kind), document.word(item.name));
+    write!(markdown, "`{kind} {name}`");
+    push_text(alloc, document, item, Keyword::Label, markdown);
+    push_type(document, item, markdown);
+    push_text(alloc, document, item, Keyword::Help, markdown);
+}
+
+// Adds what the text says of the item that a token names, if there is one.
+fn push_named(
     alloc: Global,
     document: &Document<'_>,
-    line: String,
     names: Option<usize>,
-    markdown: &mut String,
-) -> Result<(), AllocError> {
-    push_code(markdown, line.as_str())?;
-    match names.and_then(|token| document.item_named(token)) {
-        Some(item) => push_item(alloc, document, &item, markdown),
-        None => Ok(()),
+    markdown: &mut TextSink,
+) {
+    if let Some(item) = names.and_then(|token| document.item_named(token)) {
+        push_item(alloc, document, &item, markdown);
     }
 }
 
-/// What the text says of a declaration.
-pub fn described(
+/// Adds what the text says of a declaration.
+pub fn push_declaration(
     alloc: Global,
     document: &Document<'_>,
     declaration: usize,
-) -> Result<Option<String>, AllocError> {
-    let mut markdown = String::new(alloc);
+    markdown: &mut TextSink,
+) {
     let Some(declared) = document.declared(declaration) else {
-        return Ok(None);
+        return;
     };
     let word = document.word(declared.token);
     match declared.sort {
         Sort::Item(item) => {
-            let Some(item) = document.items().get(item) else {
-                return Ok(None);
-            };
-            push_item(alloc, document, item, &mut markdown)?;
+            if let Some(item) = document.items().get(item) {
+                push_item(alloc, document, item, markdown);
+            }
         }
         Sort::Member { collection, names } => {
-            let owner = document.item_name(collection);
-            let line = format!(in alloc; "{owner}.{word}")?;
-            push_inner(alloc, document, line, names, &mut markdown)?;
+            write!(markdown, "`{}.{word}`", document.item_name(collection));
+            push_named(alloc, document, names, markdown);
         }
         Sort::Element { array, names } => {
-            let owner = document.item_name(array);
-            let line = format!(in alloc; "{owner}[{word}]")?;
-            push_inner(alloc, document, line, names, &mut markdown)?;
+            write!(markdown, "`{}[{word}]`", document.item_name(array));
+            push_named(alloc, document, names, markdown);
         }
-        Sort::Local { .. } => write!(markdown, "`int {word}`: a local, which has 32 bits")?,
+        Sort::Local { .. } => write!(markdown, "`int {word}`: a local, which has 32 bits"),
     }
-    Ok(Some(markdown))
 }

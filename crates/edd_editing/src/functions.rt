@@ -1,6 +1,7 @@
 //! The functions that methods may call, and what they do.
 
 use edd_reports::words::Span;
+use edd_sinks::{ListSink, TextSink};
 use edd_syntax::operators::{Builtin, Parameter, RequestKind};
 use std::alloc::{AllocError, Global};
 
@@ -39,14 +40,7 @@ pub fn effect_of(function: Builtin) -> &'static str {
     }
 }
 
-/// How a function is called, and where its parameters are in that.
-#[derive(Drop)]
-pub struct Written {
-    pub label: String,
-    pub parameters: Vec<Span>,
-}
-
-/// What a function takes in a place, as a word.
+// What a function takes in a place, as a word.
 fn parameter_word(parameter: Parameter) -> &'static str {
     match parameter {
         Parameter::Text => "text",
@@ -56,22 +50,29 @@ fn parameter_word(parameter: Parameter) -> &'static str {
     }
 }
 
-/// A function as it is called, with what it takes.
-pub fn as_called(alloc: Global, function: Builtin) -> Result<Written, AllocError> {
-    let mut label = String::from_str(alloc, function.name())?;
-    let mut parameters = Vec::new(alloc);
-    label.push('(')?;
+/// A function as it is called, as `DELAY(number, text)`.
+pub fn as_called(alloc: Global, function: Builtin) -> Result<String, AllocError> {
+    let mut label = TextSink::new(alloc);
+    label.push_str(function.name());
+    label.push('(');
+    let mut between = "";
     for parameter in function.parameters() {
-        if !parameters.is_empty() {
-            label.push_str(", ")?;
-        }
-        let start = label.len();
-        label.push_str(parameter_word(*parameter))?;
-        parameters.push(Span {
-            start,
-            end: label.len(),
-        })?;
+        label.push_str(between);
+        label.push_str(parameter_word(*parameter));
+        between = ", ";
     }
-    label.push(')')?;
-    Ok(Written { label, parameters })
+    label.push(')');
+    label.finish()
+}
+
+/// Where the parameters of a function are in that.
+pub fn parameter_places(alloc: Global, function: Builtin) -> Result<Vec<Span>, AllocError> {
+    let mut places = ListSink::new(alloc);
+    let mut start = function.name().len().saturating_add(1);
+    for parameter in function.parameters() {
+        let end = start.saturating_add(parameter_word(*parameter).len());
+        places.push(Span { start, end });
+        start = end.saturating_add(2);
+    }
+    places.finish()
 }

@@ -3,8 +3,8 @@
 use crate::answers::Hover;
 use crate::comments::is_unread;
 use crate::constant::{constant_around, told};
-use crate::described::described;
-use crate::functions::{Written, as_called, effect_of};
+use crate::described::push_declaration;
+use crate::functions::{as_called, effect_of};
 use crate::keyword_terms::{Section, meaning_of, section_of};
 use crate::markdown::{push_escaped, push_paragraph};
 use crate::place_terms::meaning_at;
@@ -12,72 +12,48 @@ use edd_document::Document;
 use edd_instructions::Sort;
 use edd_lexer::token::TokenKind;
 use edd_reports::words::Span;
+use edd_sinks::TextSink;
 use edd_syntax::operators::Builtin;
 use std::alloc::{AllocError, Global};
 
 /// The page that tells of the language.
 const PAGE: &str = "docs/LANGUAGE.md";
 
-// A word with its meaning, and where the page tells of it.
-fn term(
-    alloc: Global,
-    word: &str,
-    meaning: &str,
-    section: Section,
-) -> Result<Option<String>, AllocError> {
-    let heading = section.heading();
-    let mut markdown = format!(in alloc; "`{word}`")?;
-    push_paragraph(&mut markdown)?;
-    push_escaped(&mut markdown, meaning)?;
-    push_paragraph(&mut markdown)?;
-    write!(markdown, "{PAGE}, {heading}")?;
-    Ok(Some(markdown))
+// Adds a word with its meaning, and where the page tells of it.
+fn push_term(markdown: &mut TextSink, word: &str, meaning: &str, section: Section) {
+    write!(markdown, "`{word}`");
+    push_paragraph(markdown);
+    push_escaped(markdown, meaning);
+    push_paragraph(markdown);
+    write!(markdown, "{PAGE}, {}", section.heading());
 }
 
-// A name that no declaration has: a function, or a word that means something in its place.
-fn undeclared(
-    alloc: Global,
-    document: &Document<'_>,
-    token: usize,
-) -> Result<Option<String>, AllocError> {
+// Adds what a function does.
+fn push_function(alloc: Global, function: Builtin, markdown: &mut TextSink) {
+    match as_called(alloc, function) {
+        Ok(label) => push_term(markdown, &label, effect_of(function), Section::Methods),
+        Err(AllocError) => markdown.refuse(),
+    }
+}
+
+// Adds what is told of a token that names no declaration: of a word that means something in its
+// place, or of a function.
+fn push_token(alloc: Global, document: &Document<'_>, token: usize, markdown: &mut TextSink) {
     let place = document.spot(token).place;
     let word = document.word(token);
-    if let Some(meaning) = meaning_at(place, word) {
-        return term(alloc, word, meaning, Section::Attributes);
-    }
-    match Builtin::named(word) {
-        Some(function) if place.is_in_body() => {
-            let Written { label, .. } = as_called(alloc, function)?;
-            term(alloc, label.as_str(), effect_of(function), Section::Methods)
+    match (document.kind(token), meaning_at(place, word)) {
+        (Some(TokenKind::Keyword(_) | TokenKind::Name), Some(meaning)) => {
+            push_term(markdown, word, meaning, Section::Attributes);
         }
-        _ => Ok(None),
-    }
-}
-
-fn sort_at(document: &Document<'_>, token: usize) -> Sort {
-    if document.spot(token).place.is_in_body() {
-        Sort::Method
-    } else {
-        Sort::Attribute
-    }
-}
-
-// What is told of a token that names no declaration.
-fn of_token(
-    alloc: Global,
-    document: &Document<'_>,
-    token: usize,
-) -> Result<Option<String>, AllocError> {
-    match document.kind(token) {
-        Some(TokenKind::Keyword(word)) => {
-            let place = document.spot(token).place;
-            match meaning_at(place, word.spelling()) {
-                Some(meaning) => term(alloc, word.spelling(), meaning, Section::Attributes),
-                None => term(alloc, word.spelling(), meaning_of(word), section_of(word)),
+        (Some(TokenKind::Keyword(keyword)), None) => {
+            push_term(markdown, word, meaning_of(keyword), section_of(keyword));
+        }
+        (Some(TokenKind::Name), None) if place.is_in_body() => {
+            if let Some(function) = Builtin::named(word) {
+                push_function(alloc, function, markdown);
             }
         }
-        Some(TokenKind::Name) => undeclared(alloc, document, token),
-        _ => Ok(None),
+        _ => {}
     }
 }
 
@@ -90,17 +66,20 @@ fn of_constant(
     let Some(place) = constant_around(document, token) else {
         return Ok(None);
     };
-    match told(alloc, document, place, sort_at(document, token))? {
-        Some(markdown) => Ok(Some(Hover { place, markdown })),
-        None => Ok(None),
-    }
+    let sort = if document.spot(token).place.is_in_body() {
+        Sort::Method
+    } else {
+        Sort::Attribute
+    };
+    let markdown = told(alloc, document, place, sort)?;
+    Ok(hover_on(place, markdown))
 }
 
-fn hover_on(place: Span, markdown: Option<String>) -> Option<Hover> {
-    match markdown {
-        Some(markdown) => Some(Hover { place, markdown }),
-        None => None,
+fn hover_on(place: Span, markdown: String) -> Option<Hover> {
+    if markdown.is_empty() {
+        return None;
     }
+    Some(Hover { place, markdown })
 }
 
 /// What is told of a byte: of a name what the text says where it is declared, of a word or function
@@ -119,11 +98,14 @@ pub fn hover(
     if is_unread(document, byte) {
         return Ok(None);
     }
-    if let Some(declaration) = document.meaning(token) {
-        return Ok(hover_on(place, described(alloc, document, declaration)?));
+    let mut markdown = TextSink::new(alloc);
+    let declaration = document.meaning(token);
+    match declaration {
+        Some(declaration) => push_declaration(alloc, document, declaration, &mut markdown),
+        None => push_token(alloc, document, token, &mut markdown),
     }
-    match of_token(alloc, document, token)? {
-        Some(markdown) => Ok(Some(Hover { place, markdown })),
-        None => of_constant(alloc, document, token),
+    match hover_on(place, markdown.finish()?) {
+        None if declaration.is_none() => of_constant(alloc, document, token),
+        hover => Ok(hover),
     }
 }

@@ -5,12 +5,13 @@ use crate::comments::comment_from;
 use edd_document::Document;
 use edd_lexer::token::TokenKind;
 use edd_reports::words::Span;
+use edd_sinks::ListSink;
 use edd_syntax::symbols::Symbol as Sign;
 use std::alloc::{AllocError, Global};
 
 /// The items of a text, in their order.
 pub fn symbols<'a>(alloc: Global, document: &Document<'a>) -> Result<Vec<Symbol<'a>>, AllocError> {
-    let mut symbols = Vec::with_capacity(alloc, document.items().len())?;
+    let mut symbols = ListSink::new(alloc);
     for item in document.items() {
         let places = (
             document.span(item.first),
@@ -26,19 +27,14 @@ pub fn symbols<'a>(alloc: Global, document: &Document<'a>) -> Result<Vec<Symbol<
                     end: last.end,
                 },
                 name_place,
-            })?;
+            });
         }
     }
-    Ok(symbols)
+    symbols.finish()
 }
 
 // Adds the block comments between two places.
-fn add_comments(
-    document: &Document<'_>,
-    start: usize,
-    end: usize,
-    folds: &mut Vec<Fold>,
-) -> Result<(), AllocError> {
+fn add_comments(document: &Document<'_>, start: usize, end: usize, folds: &mut ListSink<Fold>) {
     let mut from = start;
     for _ in start..end {
         let Some(comment) = comment_from(document.text(), from, end) else {
@@ -56,22 +52,21 @@ fn add_comments(
                     end,
                 },
                 is_comment: true,
-            })?;
+            });
         }
         from = end;
     }
-    Ok(())
 }
 
 /// The braces and the block comments of a text, by where they begin.
 pub fn folds(alloc: Global, document: &Document<'_>) -> Result<Vec<Fold>, AllocError> {
-    let mut folds = Vec::new(alloc);
+    let mut folds = ListSink::new(alloc);
     let mut end = 0;
     for (number, token) in document.tokens().iter().enumerate() {
         let Some(place) = document.span(number) else {
             continue;
         };
-        add_comments(document, end, place.start, &mut folds)?;
+        add_comments(document, end, place.start, &mut folds);
         end = place.end;
         if token.kind != TokenKind::Symbol(Sign::CloseBrace) {
             continue;
@@ -82,10 +77,11 @@ pub fn folds(alloc: Global, document: &Document<'_>) -> Result<Vec<Fold>, AllocE
                 start,
                 end: place,
                 is_comment: false,
-            })?;
+            });
         }
     }
-    add_comments(document, end, document.text().len(), &mut folds)?;
+    add_comments(document, end, document.text().len(), &mut folds);
+    let mut folds = folds.finish()?;
     folds.sort_by_key(|fold| fold.start.start)?;
     Ok(folds)
 }

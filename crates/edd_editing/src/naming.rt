@@ -47,55 +47,42 @@ pub fn references(
     byte: usize,
     declared: bool,
 ) -> Result<Vec<Span>, AllocError> {
-    let meaning = match document.token_at(byte) {
-        Some(token) => document.meaning(token),
-        None => None,
-    };
-    match meaning {
+    let token = document.token_at(byte);
+    match token.and_then(|token| document.meaning(token)) {
         Some(meaning) => places_of(alloc, document, meaning, declared),
         None => Ok(Vec::new(alloc)),
     }
 }
 
-// The token at a byte that can be renamed.
-fn renamed_token(document: &Document<'_>, byte: usize) -> Option<usize> {
-    let token = document.token_at(byte)?;
-    if document.kind(token) != Some(TokenKind::Name) {
-        return None;
-    }
-    document.meaning(token)?;
-    Some(token)
-}
-
 /// The name at a byte, where it can be changed.
 pub fn renameable(document: &Document<'_>, byte: usize) -> Option<Span> {
-    document.span(renamed_token(document, byte)?)
+    let token = document.token_at(byte)?;
+    document.meaning(token)?;
+    match document.kind(token)? {
+        TokenKind::Name => document.span(token),
+        _ => None,
+    }
 }
 
-// What a word is to the lexer.
-enum Spelling {
-    Name,
-    Reserved,
-    Other,
-}
-
-fn spelling_of(alloc: Global, word: &str) -> Result<Spelling, AllocError> {
+// Whether a word can be a name.
+fn check_name(alloc: Global, word: &str) -> Result<(), RenameFault> {
+    if LONGEST < word.len() {
+        return Err(RenameFault::NotAName);
+    }
     let tokens = match lex(alloc, word.as_bytes()) {
         Ok(tokens) => tokens,
-        Err(LexFault::Memory) => return Err(AllocError),
-        Err(_) => return Ok(Spelling::Other),
+        Err(LexFault::Memory) => return Err(RenameFault::Memory),
+        Err(_) => return Err(RenameFault::NotAName),
     };
     let [token] = tokens.as_slice() else {
-        return Ok(Spelling::Other);
+        return Err(RenameFault::NotAName);
     };
     let place = span_of(token);
-    if place.start != 0 || place.end != word.len() {
-        return Ok(Spelling::Other);
-    }
+    let is_whole = place.start == 0 && place.end == word.len();
     match token.kind {
-        TokenKind::Name => Ok(Spelling::Name),
-        TokenKind::Keyword(_) => Ok(Spelling::Reserved),
-        _ => Ok(Spelling::Other),
+        TokenKind::Name if is_whole => Ok(()),
+        TokenKind::Keyword(_) if is_whole => Err(RenameFault::Reserved),
+        _ => Err(RenameFault::NotAName),
     }
 }
 
@@ -135,9 +122,7 @@ fn changed(document: &Document<'_>, declaration: usize, after: &[Option<usize>])
             continue;
         }
         return match meaning {
-            Some(other) if *other != declaration => document
-                .declared(*other)
-                .map(|found| found.token),
+            Some(other) if *other != declaration => Some(document.declared(*other)?.token),
             _ => Some(token),
         };
     }
@@ -166,20 +151,13 @@ pub fn rename(
     byte: usize,
     name: &str,
 ) -> Result<Vec<Span>, RenameFault> {
-    let Some(token) = renamed_token(document, byte) else {
+    let token = document
+        .token_at(byte)
+        .filter(|token| document.kind(*token) == Some(TokenKind::Name));
+    let Some(meaning) = token.and_then(|token| document.meaning(token)) else {
         return Err(RenameFault::NothingHere);
     };
-    let Some(meaning) = document.meaning(token) else {
-        return Err(RenameFault::NothingHere);
-    };
-    if LONGEST < name.len() {
-        return Err(RenameFault::NotAName);
-    }
-    match spelling_of(alloc, name)? {
-        Spelling::Name => {}
-        Spelling::Reserved => return Err(RenameFault::Reserved),
-        Spelling::Other => return Err(RenameFault::NotAName),
-    }
+    check_name(alloc, name)?;
     if let Some(token) = clash(alloc, document, meaning, name)? {
         let place = document.span(token).unwrap_or(Span { start: 0, end: 0 });
         return Err(RenameFault::Clash(place));

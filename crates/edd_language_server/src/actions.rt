@@ -2,15 +2,16 @@
 
 use crate::fixes::{Fix, fix_of};
 use crate::greeting::QUICK_FIX;
-use crate::query::{Query, Refusal};
+use crate::query::{Query, Refusal, bad_params};
 use crate::renaming::edit_of;
 use edd_check::{Choices, Reports, diagnose};
-use edd_open_documents::{View, diagnostic, edited};
+use edd_open_documents::{diagnostic, edited};
 use edd_protocol::{list_at, range_at};
 use edd_protocol_shapes::{Action, WorkspaceEdit};
 use edd_reports::diagnostic::{Diagnostic, Finding, Help};
 use edd_reports::words::Span;
-use std::alloc::{AllocError, Global};
+use edd_sinks::ListSink;
+use std::alloc::AllocError;
 
 /// Once so many edits are found, no further finding is looked at.
 const MOST_TRIED: usize = 8;
@@ -25,28 +26,19 @@ struct Tried<'a> {
 
 // Whether quick fixes are among what is asked for.
 fn is_asked(query: Query<'_>) -> bool {
-    match query.params.pointer("/context/only") {
-        Some(_) => {
-            let only = list_at(query.params, "/context/only");
-            only.iter().any(|kind| kind.as_str() == Some(QUICK_FIX) || kind.as_str() == Some(""))
-        }
-        None => true,
-    }
+    let only = list_at(query.params, "/context/only");
+    query.params.pointer("/context/only").is_none()
+        || only.iter().any(|kind| kind.as_str() == Some(QUICK_FIX) || kind.as_str() == Some(""))
 }
 
 // The bytes that are asked about.
 fn asked_place(query: Query<'_>) -> Result<Span, Refusal> {
     let Some(range) = range_at(query.params, "/range") else {
-        return Err(Refusal::BadParams("no range is named"));
+        return Err(bad_params("no range is named"));
     };
-    let content = &query.opened.content;
     Ok(Span {
-        start: content
-            .lines
-            .byte(query.text(), range.start, query.client.encoding),
-        end: content
-            .lines
-            .byte(query.text(), range.end, query.client.encoding),
+        start: query.byte_at(range.start),
+        end: query.byte_at(range.end),
     })
 }
 
@@ -66,7 +58,7 @@ fn count(reports: &Reports) -> usize {
 
 fn first_place(reports: &Reports) -> usize {
     match reports.shown.first() {
-        Some(found) => found.place.map(|place| place.start).unwrap_or(0),
+        Some(found) => found.place.map_or(0, |place| place.start),
         None => usize::MAX,
     }
 }
@@ -78,10 +70,8 @@ fn is_further(before: &Reports, after: &Reports) -> bool {
 }
 
 // Whether the text compiles further with a change.
-fn helps(alloc: Global, query: Query<'_>, fix: Fix<'_>) -> Result<bool, AllocError> {
-    let Some(reports) = &query.opened.reports else {
-        return Ok(false);
-    };
+fn helps(query: Query<'_>, reports: &Reports, fix: Fix<'_>) -> Result<bool, AllocError> {
+    let alloc = query.alloc;
     let text = edited(
         alloc,
         query.text(),
@@ -93,76 +83,68 @@ fn helps(alloc: Global, query: Query<'_>, fix: Fix<'_>) -> Result<bool, AllocErr
     Ok(is_further(reports, &after))
 }
 
-// Adds the changes that the helps of a finding say.
-fn add_changes<'a>(found: &'a Diagnostic, made: &mut Vec<Tried<'a>>) -> Result<(), AllocError> {
-    for help in &found.helps {
-        if let Some(fix) = fix_of(found, help) {
-            made.push(Tried { found, help, fix })?;
+// The changes that the helps say of what is wrong at these places.
+fn changes<'a>(
+    query: Query<'a>,
+    reports: &'a Reports,
+    asked: Span,
+) -> Result<Vec<Tried<'a>>, AllocError> {
+    let mut made = ListSink::new(query.alloc);
+    for found in &reports.shown {
+        if is_at(found, asked) && made.items.len() < MOST_TRIED {
+            add_changes(found, &mut made);
         }
     }
-    Ok(())
+    made.finish()
 }
 
-// The changes that the helps say of what is wrong at these places.
-fn changes<'a>(alloc: Global, query: Query<'a>, asked: Span) -> Result<Vec<Tried<'a>>, AllocError> {
-    let mut made = Vec::new(alloc);
-    let Some(reports) = &query.opened.reports else {
-        return Ok(made);
-    };
-    for found in &reports.shown {
-        if is_at(found, asked) && made.len() < MOST_TRIED {
-            add_changes(found, &mut made)?;
+// Adds the changes that the helps of a finding say.
+fn add_changes<'a>(found: &'a Diagnostic, made: &mut ListSink<Tried<'a>>) {
+    for help in &found.helps {
+        if let Some(fix) = fix_of(found, help) {
+            made.push(Tried { found, help, fix });
         }
     }
-    Ok(made)
 }
 
 // What is mended.
 fn mended<'a>(
-    alloc: Global,
-    view: View<'a>,
+    query: Query<'a>,
     found: &'a Diagnostic,
 ) -> Result<Vec<edd_protocol_shapes::Diagnostic<'a>>, AllocError> {
-    let only = diagnostic(alloc, view, found)?;
-    Ok(vec![in alloc; only]?)
+    let only = diagnostic(query.alloc, query.view, found)?;
+    Ok(vec![in query.alloc; only]?)
 }
 
-fn edit_by<'a>(
-    alloc: Global,
-    query: Query<'a>,
-    fix: Fix<'a>,
-) -> Result<WorkspaceEdit<'a>, AllocError> {
-    let mut edits = Vec::new(alloc);
-    edits.push(query.edit(fix.place, fix.text))?;
-    edit_of(alloc, query, edits)
+fn edit_by<'a>(query: Query<'a>, fix: Fix<'a>) -> Result<WorkspaceEdit<'a>, AllocError> {
+    edit_of(
+        query,
+        vec![in query.alloc; query.edit(fix.place, fix.text)]?,
+    )
 }
 
-fn action_of<'a>(
-    alloc: Global,
-    query: Query<'a>,
-    tried: Tried<'a>,
-) -> Result<Action<'a>, AllocError> {
-    let view = View {
-        opened: query.opened,
-        client: query.client,
-    };
+fn action_of<'a>(query: Query<'a>, tried: Tried<'a>) -> Result<Action<'a>, AllocError> {
     Ok(Action {
         title: tried.help.text.as_str(),
         kind: QUICK_FIX,
-        diagnostics: mended(alloc, view, tried.found)?,
-        edit: edit_by(alloc, query, tried.fix)?,
+        diagnostics: mended(query, tried.found)?,
+        edit: edit_by(query, tried.fix)?,
     })
 }
 
 /// Answers with the edits after which the text compiles further.
-pub fn actions(alloc: Global, query: Query<'_>, out: &mut Vec<u8>) -> Result<(), Refusal> {
+pub fn actions(query: Query<'_>, out: &mut Vec<u8>) -> Result<(), Refusal> {
     let asked = asked_place(query)?;
-    let changes = changes(alloc, query, asked)?;
-    let mut made = Vec::with_capacity(alloc, changes.len())?;
-    for tried in &changes {
-        if is_asked(query) && helps(alloc, query, tried.fix)? {
-            made.push(action_of(alloc, query, *tried)?)?;
+    let mut made = ListSink::new(query.alloc);
+    if let Some(reports) = &query.view.opened.reports
+        && is_asked(query)
+    {
+        let changes = changes(query, reports, asked)?;
+        for tried in &changes {
+            if helps(query, reports, tried.fix)? {
+                made.push(action_of(query, *tried)?);
+            }
         }
     }
-    query.answer(alloc, &made, out)
+    query.answer(&made.finish()?, out)
 }

@@ -1,10 +1,11 @@
 //! What may be written at the cursor.
 
 use crate::query::{Query, Refusal};
-use edd_editing::{CompletionKind, Completions as Found, Document, completions as found_at};
+use edd_editing::{CompletionKind, Completions as Found, completions as found_at};
 use edd_protocol_shapes::{Completion, Completions, TextEdit};
+use edd_sinks::ListSink;
 use edd_syntax::numbers::Kind;
-use std::alloc::{AllocError, Global};
+use std::alloc::AllocError;
 
 /// A kind of item as the protocol counts kinds of completions.
 fn item_kind(kind: Kind) -> u8 {
@@ -30,40 +31,33 @@ fn kind_of(kind: CompletionKind) -> u8 {
     }
 }
 
-fn items<'a>(
-    alloc: Global,
-    query: Query<'_>,
-    found: &'a Found<'_>,
-) -> Result<Vec<Completion<'a>>, AllocError> {
+fn items<'a>(query: Query<'_>, found: &'a Found<'_>) -> Result<Vec<Completion<'a>>, AllocError> {
     let range = query.range(found.replaced);
-    let mut made = Vec::with_capacity(alloc, found.entries.len())?;
+    let mut made = ListSink::new(query.alloc);
     for (number, entry) in found.entries.iter().enumerate() {
+        let detail = entry.detail.as_str();
         made.push(Completion {
             label: entry.label,
             kind: kind_of(entry.kind),
-            detail: if entry.detail.is_empty() {
-                None
-            } else {
-                Some(entry.detail.as_str())
-            },
-            sort_text: format!(in alloc; "{number:06}")?,
+            detail: (!detail.is_empty()).then_some(detail),
+            sort_text: format!(in query.alloc; "{number:06}")?,
             text_edit: TextEdit {
                 range,
                 new_text: entry.label,
             },
-        })?;
+        });
     }
-    Ok(made)
+    made.finish()
 }
 
 /// Answers with all that may be written there, in the order of the queries.
-pub fn completions(alloc: Global, query: Query<'_>, out: &mut Vec<u8>) -> Result<(), Refusal> {
+pub fn completions(query: Query<'_>, out: &mut Vec<u8>) -> Result<(), Refusal> {
     let byte = query.byte()?;
-    let document = Document::of(alloc, query.text().as_bytes())?;
-    let found = found_at(alloc, &document, byte)?;
+    let document = query.document()?;
+    let found = found_at(query.alloc, &document, byte)?;
     let answered = Completions {
         is_incomplete: false,
-        items: items(alloc, query, &found)?,
+        items: items(query, &found)?,
     };
-    query.answer(alloc, &answered, out)
+    query.answer(&answered, out)
 }

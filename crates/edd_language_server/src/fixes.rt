@@ -22,11 +22,7 @@ enum Said<'a> {
 }
 
 fn one_word(words: &str) -> Option<&str> {
-    if words.is_empty() || words.contains(' ') {
-        None
-    } else {
-        Some(words)
-    }
+    (!words.is_empty() && !words.contains(' ')).then_some(words)
 }
 
 // What is put in by a help as `a ; is missing here`, and with a blank behind it by one as

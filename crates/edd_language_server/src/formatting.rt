@@ -21,10 +21,10 @@ fn layout_of(alloc: Global, text: &str) -> Result<String, AllocError> {
 }
 
 /// Answers with an edit of the whole text; with none where it is laid out already, or is refused.
-pub fn format(alloc: Global, query: Query<'_>, out: &mut Vec<u8>) -> Result<(), Refusal> {
+pub fn format(query: Query<'_>, out: &mut Vec<u8>) -> Result<(), Refusal> {
     let text = query.text();
-    let laid = layout_of(alloc, text)?;
-    let mut edits: Vec<TextEdit<'_>> = Vec::new(alloc);
+    let laid = layout_of(query.alloc, text)?;
+    let mut edits: Vec<TextEdit<'_>> = Vec::new(query.alloc);
     if laid.as_str() != text {
         let whole = Span {
             start: 0,
@@ -32,5 +32,5 @@ pub fn format(alloc: Global, query: Query<'_>, out: &mut Vec<u8>) -> Result<(), 
         };
         edits.push(query.edit(whole, laid.as_str()))?;
     }
-    query.answer(alloc, &edits, out)
+    query.answer(&edits, out)
 }

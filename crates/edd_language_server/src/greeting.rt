@@ -2,67 +2,40 @@
 
 use edd_open_documents::Client;
 use edd_protocol::Encoding;
-use edd_protocol_shapes::{Abilities, Actions, Greeting, Renames, Server, Synchronized, Triggered};
+use edd_sinks::TextSink;
+use std::alloc::{AllocError, Global};
 
 /// The kind of the edits that are offered.
 pub const QUICK_FIX: &str = "quickfix";
 
-const KINDS: [&str; 1] = [QUICK_FIX];
+/// What the server can for every editor. 2 stands for changes of parts of a text, the point comes
+/// before a member, and the last two signs ask for what a function takes.
+const ABILITIES: &str = concat!(
+    r#","textDocumentSync":{"openClose":true,"change":2,"save":false},"#,
+    r#""hoverProvider":true,"definitionProvider":true,"referencesProvider":true,"#,
+    r#""documentHighlightProvider":true,"documentSymbolProvider":true,"#,
+    r#""foldingRangeProvider":true,"documentFormattingProvider":true,"#,
+    r#""completionProvider":{"triggerCharacters":["."]},"#,
+    r#""signatureHelpProvider":{"triggerCharacters":["(",","]},"#,
+);
 
-/// What asks for completions by itself: the point before a member.
-const MEMBERS: [&str; 1] = ["."];
-
-/// What asks for what a function takes.
-const ARGUMENTS: [&str; 2] = ["(", ","];
-
-/// The changes are of parts of a text.
-const INCREMENTAL: u8 = 2;
-
-fn abilities(client: Client) -> Abilities {
-    Abilities {
-        position_encoding: match client.encoding {
-            Encoding::Utf8 => "utf-8",
-            Encoding::Utf16 => "utf-16",
-        },
-        text_document_sync: Synchronized {
-            open_close: true,
-            change: INCREMENTAL,
-            save: false,
-        },
-        hover_provider: true,
-        definition_provider: true,
-        references_provider: true,
-        document_highlight_provider: true,
-        document_symbol_provider: true,
-        folding_range_provider: true,
-        document_formatting_provider: true,
-        completion_provider: Triggered {
-            trigger_characters: &MEMBERS,
-        },
-        signature_help_provider: Triggered {
-            trigger_characters: &ARGUMENTS,
-        },
-        rename_provider: if client.prepares_renames {
-            Renames::Prepared {
-                prepare_provider: true,
-            }
-        } else {
-            Renames::Plain(true)
-        },
-        code_action_provider: if client.has_actions {
-            Some(Actions {
-                code_action_kinds: &KINDS,
-            })
-        } else {
-            None
-        },
+/// What the server can for an editor, as JSON.
+pub fn greeting(alloc: Global, client: Client) -> Result<String, AllocError> {
+    let mut greeting = TextSink::new(alloc);
+    greeting.push_str(r#"{"capabilities":{"positionEncoding":"#);
+    greeting.push_str(match client.encoding {
+        Encoding::Utf8 => r#""utf-8""#,
+        Encoding::Utf16 => r#""utf-16""#,
+    });
+    greeting.push_str(ABILITIES);
+    greeting.push_str(if client.prepares_renames {
+        r#""renameProvider":{"prepareProvider":true}"#
+    } else {
+        r#""renameProvider":true"#
+    });
+    if client.has_actions {
+        greeting.push_str(r#","codeActionProvider":{"codeActionKinds":["quickfix"]}"#);
     }
-}
-
-/// What the server can for an editor.
-pub fn greeting(client: Client) -> Greeting {
-    Greeting {
-        capabilities: abilities(client),
-        server_info: Server { name: "edd" },
-    }
+    greeting.push_str(r#"},"serverInfo":{"name":"edd"}}"#);
+    greeting.finish()
 }

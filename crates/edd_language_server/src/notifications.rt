@@ -17,10 +17,17 @@ pub fn take(
     let Some(params) = call.params else {
         return Ok(());
     };
-    match call.method {
-        "textDocument/didOpen" => open(alloc, server, params, out),
-        "textDocument/didChange" => change(alloc, server, params, out),
-        "textDocument/didClose" => close(alloc, server, params, out),
+    let Some(uri) = text_at(params, "/textDocument/uri") else {
+        return Ok(());
+    };
+    let is_new = match call.method {
+        "textDocument/didOpen" => open(alloc, server, params, uri)?,
+        "textDocument/didChange" => change(alloc, server, params, uri)?,
+        "textDocument/didClose" if server.documents.close(uri) => return clear(alloc, uri, out),
+        _ => false,
+    };
+    match server.documents.get_mut(uri) {
+        Some(opened) if is_new => publish(alloc, opened, server.client, out),
         _ => Ok(()),
     }
 }
@@ -29,17 +36,10 @@ fn version_in(params: &Value) -> Option<i64> {
     params.pointer("/textDocument/version")?.as_i64()
 }
 
-fn open(
-    alloc: Global,
-    server: &mut Server,
-    params: &Value,
-    out: &mut Vec<u8>,
-) -> Result<(), AllocError> {
-    let Some(uri) = text_at(params, "/textDocument/uri") else {
-        return Ok(());
-    };
+// Whether the text of a document is a new one, here and below.
+fn open(alloc: Global, server: &mut Server, params: &Value, uri: &str) -> Result<bool, AllocError> {
     let Some(text) = text_at(params, "/textDocument/text") else {
-        return Ok(());
+        return Ok(false);
     };
     server.documents.open(Opened {
         uri: String::from_str(alloc, uri)?,
@@ -47,55 +47,25 @@ fn open(
         content: Content::of(alloc, String::from_str(alloc, text)?)?,
         reports: None,
     })?;
-    look(alloc, server, uri, out)
-}
-
-// Looks at a document anew.
-fn look(
-    alloc: Global,
-    server: &mut Server,
-    uri: &str,
-    out: &mut Vec<u8>,
-) -> Result<(), AllocError> {
-    match server.documents.get_mut(uri) {
-        Some(opened) => publish(alloc, opened, server.client, out),
-        None => Ok(()),
-    }
+    Ok(true)
 }
 
 fn change(
     alloc: Global,
     server: &mut Server,
     params: &Value,
-    out: &mut Vec<u8>,
-) -> Result<(), AllocError> {
-    let Some(uri) = text_at(params, "/textDocument/uri") else {
-        return Ok(());
-    };
+    uri: &str,
+) -> Result<bool, AllocError> {
+    let encoding = server.client.encoding;
     let Some(opened) = server.documents.get_mut(uri) else {
-        return Ok(());
+        return Ok(false);
     };
     let changes = list_at(params, "/contentChanges");
-    let Some(content) = opened
-        .content
-        .after(alloc, changes, server.client.encoding)?
-    else {
-        return Ok(());
+    let Some(content) = opened.content.after(alloc, changes, encoding)? else {
+        return Ok(false);
     };
     opened.content = content;
     opened.version = version_in(params);
     opened.reports = None;
-    publish(alloc, opened, server.client, out)
-}
-
-fn close(
-    alloc: Global,
-    server: &mut Server,
-    params: &Value,
-    out: &mut Vec<u8>,
-) -> Result<(), AllocError> {
-    match text_at(params, "/textDocument/uri") {
-        Some(uri) if server.documents.close(uri) => clear(alloc, uri, out),
-        _ => Ok(()),
-    }
+    Ok(true)
 }

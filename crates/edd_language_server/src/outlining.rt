@@ -1,11 +1,11 @@
 //! What a document declares, and which of its lines may be hidden.
 
 use crate::query::{Query, Refusal};
-use edd_editing::{Document, Fold as Braces, Symbol, folds as folds_of, symbols as symbols_of};
+use edd_editing::{Fold as Braces, folds as folds_of, symbols as symbols_of};
 use edd_protocol_shapes::{Fold, Located, Outlined};
 use edd_reports::words::kind_word;
+use edd_sinks::ListSink;
 use edd_syntax::numbers::Kind;
-use std::alloc::{AllocError, Global};
 
 /// A kind of item as the protocol counts kinds of symbols.
 fn symbol_kind(kind: Kind) -> u8 {
@@ -19,50 +19,32 @@ fn symbol_kind(kind: Kind) -> u8 {
     }
 }
 
-fn outlined<'a>(
-    alloc: Global,
-    query: Query<'_>,
-    symbols: &[Symbol<'a>],
-) -> Result<Vec<Outlined<'a>>, AllocError> {
-    let mut made = Vec::with_capacity(alloc, symbols.len())?;
-    for symbol in symbols {
-        made.push(Outlined {
-            name: symbol.name,
-            detail: kind_word(symbol.kind),
-            kind: symbol_kind(symbol.kind),
-            range: query.range(symbol.place),
-            selection_range: query.range(symbol.name_place),
-        })?;
-    }
-    Ok(made)
-}
-
-fn located<'a>(
-    alloc: Global,
-    query: Query<'a>,
-    symbols: &[Symbol<'a>],
-) -> Result<Vec<Located<'a>>, AllocError> {
-    let mut made = Vec::with_capacity(alloc, symbols.len())?;
-    for symbol in symbols {
-        made.push(Located {
-            name: symbol.name,
-            kind: symbol_kind(symbol.kind),
-            location: query.location(symbol.place),
-        })?;
-    }
-    Ok(made)
-}
-
 /// Answers with the items of the document, in order.
-pub fn symbols(alloc: Global, query: Query<'_>, out: &mut Vec<u8>) -> Result<(), Refusal> {
-    let document = Document::of(alloc, query.text().as_bytes())?;
-    let symbols = symbols_of(alloc, &document)?;
-    if query.client.has_tree {
-        let answered = outlined(alloc, query, symbols.as_slice())?;
-        return query.answer(alloc, &answered, out);
+pub fn symbols(query: Query<'_>, out: &mut Vec<u8>) -> Result<(), Refusal> {
+    let document = query.document()?;
+    let symbols = symbols_of(query.alloc, &document)?;
+    if query.view.client.has_tree {
+        let answered = query.each(
+            &symbols,
+            |symbol| Outlined {
+                name: symbol.name,
+                detail: kind_word(symbol.kind),
+                kind: symbol_kind(symbol.kind),
+                range: query.range(symbol.place),
+                selection_range: query.range(symbol.name_place),
+            },
+        )?;
+        return query.answer(&answered, out);
     }
-    let answered = located(alloc, query, symbols.as_slice())?;
-    query.answer(alloc, &answered, out)
+    let answered = query.each(
+        &symbols,
+        |symbol| Located {
+            name: symbol.name,
+            kind: symbol_kind(symbol.kind),
+            location: query.view.location(symbol.place),
+        },
+    )?;
+    query.answer(&answered, out)
 }
 
 // The lines below the first one; of braces without the line of the closing one.
@@ -76,23 +58,19 @@ fn fold_of(query: Query<'_>, braces: &Braces) -> Fold {
         } else {
             last.saturating_sub(1)
         },
-        kind: if braces.is_comment {
-            Some("comment")
-        } else {
-            None
-        },
+        kind: braces.is_comment.then_some("comment"),
     }
 }
 
 /// Answers with the lines that may be hidden.
-pub fn folds(alloc: Global, query: Query<'_>, out: &mut Vec<u8>) -> Result<(), Refusal> {
-    let document = Document::of(alloc, query.text().as_bytes())?;
-    let mut made = Vec::new(alloc);
-    for braces in &folds_of(alloc, &document)? {
+pub fn folds(query: Query<'_>, out: &mut Vec<u8>) -> Result<(), Refusal> {
+    let document = query.document()?;
+    let mut made = ListSink::new(query.alloc);
+    for braces in &folds_of(query.alloc, &document)? {
         let fold = fold_of(query, braces);
         if fold.start_line < fold.end_line {
-            made.push(fold)?;
+            made.push(fold);
         }
     }
-    query.answer(alloc, &made, out)
+    query.answer(&made.finish()?, out)
 }

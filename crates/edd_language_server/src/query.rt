@@ -1,9 +1,12 @@
 //! A request about a document.
 
-use edd_open_documents::{Client, Documents, Opened};
-use edd_protocol::{ErrorCode, Id, Range, answer, position_at, refuse, text_at};
-use edd_protocol_shapes::{Location, TextEdit};
+use crate::server::Server;
+use edd_editing::Document;
+use edd_open_documents::View;
+use edd_protocol::{Call, ErrorCode, Id, Position, Range, answer, position_at, refuse, text_at};
+use edd_protocol_shapes::TextEdit;
 use edd_reports::words::Span;
+use edd_sinks::ListSink;
 use serde::Serialize;
 use serde_json::Value;
 use std::alloc::{AllocError, AllocFailed, Global};
@@ -11,12 +14,16 @@ use std::alloc::{AllocError, AllocFailed, Global};
 /// Why a request is not answered.
 #[derive(Drop)]
 pub enum Refusal {
-    /// Its parameters are not those of its method.
-    BadParams(&'static str),
+    /// What is wrong with it, for a reader.
+    Wrong(ErrorCode, &'static str),
     /// What is asked can't be done, with why for a reader.
     Failed(String),
-    UnknownMethod,
     Memory,
+}
+
+/// The parameters of a request are not those of its method.
+pub fn bad_params(words: &'static str) -> Refusal {
+    Refusal::Wrong(ErrorCode::InvalidParams, words)
 }
 
 impl From<AllocError> for Refusal {
@@ -38,75 +45,70 @@ pub fn tell(
     refusal: &Refusal,
     out: &mut Vec<u8>,
 ) -> Result<(), AllocError> {
-    let (code, message) = match refusal {
-        Refusal::BadParams(message) => (ErrorCode::InvalidParams, *message),
-        Refusal::Failed(message) => (ErrorCode::RequestFailed, message.as_str()),
-        Refusal::UnknownMethod => (ErrorCode::MethodNotFound, "no such method"),
-        Refusal::Memory => return Err(AllocError),
-    };
-    refuse(alloc, id, code, message, out)
+    match refusal {
+        Refusal::Wrong(code, words) => refuse(alloc, id, *code, words, out),
+        Refusal::Failed(words) => refuse(alloc, id, ErrorCode::RequestFailed, words, out),
+        Refusal::Memory => Err(AllocError),
+    }
 }
 
 /// A request about a document that is open.
 #[derive(Clone, Copy)]
 pub struct Query<'a> {
+    pub alloc: Global,
     pub id: Id<'a>,
     pub params: &'a Value,
-    pub opened: &'a Opened,
-    pub client: Client,
+    pub view: View<'a>,
 }
 
 impl<'a> Query<'a> {
     pub fn of(
+        alloc: Global,
+        server: &'a Server,
         id: Id<'a>,
-        params: Option<&'a Value>,
-        documents: &'a Documents,
-        client: Client,
+        call: Call<'a>,
     ) -> Result<Query<'a>, Refusal> {
-        let Some(params) = params else {
-            return Err(Refusal::BadParams("parameters are missing"));
+        let Some(params) = call.params else {
+            return Err(bad_params("parameters are missing"));
         };
         let Some(uri) = text_at(params, "/textDocument/uri") else {
-            return Err(Refusal::BadParams("no document is named"));
+            return Err(bad_params("no document is named"));
         };
-        match documents.get(uri) {
-            Some(opened) => Ok(Query {
-                id,
-                params,
-                opened,
-                client,
-            }),
-            None => Err(Refusal::BadParams("the document is not open")),
-        }
-    }
-
-    pub fn uri(self) -> &'a str {
-        self.opened.uri.as_str()
+        let Some(opened) = server.documents.get(uri) else {
+            return Err(bad_params("the document is not open"));
+        };
+        let client = server.client;
+        Ok(Query {
+            alloc,
+            id,
+            params,
+            view: View { opened, client },
+        })
     }
 
     pub fn text(self) -> &'a str {
-        self.opened.content.text.as_str()
+        self.view.text()
+    }
+
+    pub fn document(self) -> Result<Document<'a>, AllocError> {
+        Document::of(self.alloc, self.text().as_bytes())
+    }
+
+    pub fn byte_at(self, position: Position) -> usize {
+        let lines = &self.view.opened.content.lines;
+        lines.byte(self.text(), position, self.view.client.encoding)
     }
 
     /// The byte at which the cursor is.
     pub fn byte(self) -> Result<usize, Refusal> {
-        let Some(position) = position_at(self.params, "/position") else {
-            return Err(Refusal::BadParams("no position is named"));
-        };
-        let lines = &self.opened.content.lines;
-        Ok(lines.byte(self.text(), position, self.client.encoding))
+        match position_at(self.params, "/position") {
+            Some(position) => Ok(self.byte_at(position)),
+            None => Err(bad_params("no position is named")),
+        }
     }
 
     pub fn range(self, place: Span) -> Range {
-        let lines = &self.opened.content.lines;
-        lines.range(self.text(), place.start, place.end, self.client.encoding)
-    }
-
-    pub fn location(self, place: Span) -> Location<'a> {
-        Location {
-            uri: self.uri(),
-            range: self.range(place),
-        }
+        self.view.range(place)
     }
 
     pub fn edit(self, place: Span, new_text: &str) -> TextEdit<'_> {
@@ -116,14 +118,19 @@ impl<'a> Query<'a> {
         }
     }
 
+    /// What is made of each of some things.
+    pub fn each<T, U: Drop, F: Fn(&T) -> U>(self, all: &[T], of: F) -> Result<Vec<U>, AllocError>
+        requires { F.IsAlwaysCallable of }
+    {
+        let mut made = ListSink::new(self.alloc);
+        for one in all {
+            made.push(of(one));
+        }
+        made.finish()
+    }
+
     /// Answers it.
-    pub fn answer<T: Serialize>(
-        self,
-        alloc: Global,
-        outcome: &T,
-        out: &mut Vec<u8>,
-    ) -> Result<(), Refusal> {
-        answer(alloc, self.id, outcome, out)?;
-        Ok(())
+    pub fn answer<T: Serialize>(self, outcome: &T, out: &mut Vec<u8>) -> Result<(), Refusal> {
+        Ok(answer(self.alloc, self.id, outcome, out)?)
     }
 }

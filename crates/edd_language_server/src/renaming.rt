@@ -1,36 +1,36 @@
 //! Another name for what is named at the cursor.
 
-use crate::query::{Query, Refusal};
-use edd_editing::{Document, RenameFault, rename as renamed, renameable};
+use crate::query::{Query, Refusal, bad_params};
+use edd_editing::{RenameFault, rename as renamed, renameable};
 use edd_protocol::text_at;
 use edd_protocol_shapes::{Renamed, TextEdit, WorkspaceEdit};
-use edd_reports::words::{Span, text_in};
-use std::alloc::{AllocError, AllocFailed, Global};
+use edd_reports::words::text_in;
+use std::alloc::AllocError;
 use std::collections::BTreeMap;
 
 /// Answers with the place of the name and the name so far, or `null` where nothing can be renamed.
-pub fn prepare(alloc: Global, query: Query<'_>, out: &mut Vec<u8>) -> Result<(), Refusal> {
+pub fn prepare(query: Query<'_>, out: &mut Vec<u8>) -> Result<(), Refusal> {
     let byte = query.byte()?;
-    let text = query.text().as_bytes();
-    let document = Document::of(alloc, text)?;
+    let document = query.document()?;
     let Some(place) = renameable(&document, byte) else {
-        return query.answer(alloc, &(), out);
+        return query.answer(&(), out);
     };
     let answered = Renamed {
         range: query.range(place),
-        placeholder: text_in(text, place),
+        placeholder: text_in(query.text().as_bytes(), place),
     };
-    query.answer(alloc, &answered, out)
+    query.answer(&answered, out)
 }
 
 // Why it can't have the new name.
-fn refusal_of(alloc: Global, query: Query<'_>, name: &str, fault: &RenameFault) -> Refusal {
+fn refusal_of(query: Query<'_>, name: &str, fault: RenameFault) -> Refusal {
+    let alloc = query.alloc;
     let message = match fault {
         RenameFault::NothingHere => String::from_str(alloc, "nothing here has a name of its own"),
         RenameFault::NotAName => format!(in alloc; "{name} is no name"),
         RenameFault::Reserved => format!(in alloc; "{name} is a reserved word"),
         RenameFault::Clash(place) => {
-            let line = query.range(*place).start.line.saturating_add(1);
+            let line = query.range(place).start.line.saturating_add(1);
             format!(in alloc; "{name} is declared already, on line {line}")
         }
         RenameFault::Memory => return Refusal::Memory,
@@ -41,43 +41,28 @@ fn refusal_of(alloc: Global, query: Query<'_>, name: &str, fault: &RenameFault) 
     }
 }
 
-// An edit for each place.
-fn edits<'a>(
-    alloc: Global,
-    query: Query<'a>,
-    places: &[Span],
-    name: &'a str,
-) -> Result<Vec<TextEdit<'a>>, AllocError> {
-    let mut made = Vec::with_capacity(alloc, places.len())?;
-    for place in places {
-        made.push(query.edit(*place, name))?;
-    }
-    Ok(made)
-}
-
 /// Edits of the document of a query.
 pub fn edit_of<'a>(
-    alloc: Global,
     query: Query<'a>,
     edits: Vec<TextEdit<'a>>,
 ) -> Result<WorkspaceEdit<'a>, AllocError> {
-    let mut changes = BTreeMap::new(alloc);
-    changes.insert(query.uri(), edits)?;
+    let mut changes = BTreeMap::new(query.alloc);
+    changes.insert(query.view.opened.uri.as_str(), edits)?;
     Ok(WorkspaceEdit { changes })
 }
 
 /// Answers with the edits that give it the new name.
-pub fn rename(alloc: Global, query: Query<'_>, out: &mut Vec<u8>) -> Result<(), Refusal> {
+pub fn rename(query: Query<'_>, out: &mut Vec<u8>) -> Result<(), Refusal> {
     let byte = query.byte()?;
     let Some(name) = text_at(query.params, "/newName") else {
-        return Err(Refusal::BadParams("no new name is given"));
+        return Err(bad_params("no new name is given"));
     };
-    let document = Document::of(alloc, query.text().as_bytes())?;
-    let places = match renamed(alloc, &document, byte, name) {
+    let document = query.document()?;
+    let places = match renamed(query.alloc, &document, byte, name) {
         Ok(places) => places,
-        Err(fault) => return Err(refusal_of(alloc, query, name, &fault)),
+        Err(fault) => return Err(refusal_of(query, name, fault)),
     };
-    let made = edits(alloc, query, places.as_slice(), name)?;
-    let answered = edit_of(alloc, query, made)?;
-    query.answer(alloc, &answered, out)
+    let edits = query.each(&places, |place| query.edit(*place, name))?;
+    let answered = edit_of(query, edits)?;
+    query.answer(&answered, out)
 }

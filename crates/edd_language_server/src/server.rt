@@ -6,7 +6,7 @@ use edd_protocol::{Call, ErrorCode, Frame, Framing, Id, Misread, read, refuse, v
 use std::alloc::{AllocError, Global};
 
 /// How far a conversation is.
-#[derive(Clone, Copy, PartialEq, Eq, Debug)]
+#[derive(Clone, Copy, PartialEq, Eq)]
 pub enum Stage {
     /// Before `initialize`.
     Fresh,
@@ -34,7 +34,7 @@ impl Server {
 }
 
 /// Whether the server goes on.
-#[derive(Clone, Copy, PartialEq, Eq, Debug)]
+#[derive(Clone, Copy, PartialEq, Eq)]
 pub enum Next {
     GoOn,
     /// The editor has asked for the end, and before for the shutdown if it is clean.

@@ -1,6 +1,7 @@
 //! Which braces, parentheses and brackets belong together.
 
 use edd_lexer::token::{Token, TokenKind};
+use edd_sinks::ListSink;
 use edd_syntax::symbols::Symbol;
 use std::alloc::{AllocError, Global};
 
@@ -14,7 +15,7 @@ struct Open {
 #[derive(Drop)]
 struct Pairs {
     partners: Vec<Option<usize>>,
-    open: Vec<Open>,
+    open: ListSink<Open>,
     open_braces: usize,
 }
 
@@ -25,12 +26,16 @@ impl Pairs {
         }
     }
 
-    fn open(&mut self, symbol: Symbol, number: usize) -> Result<(), AllocError> {
+    fn join(&mut self, open: Open, number: usize) {
+        self.set(open.number, number);
+        self.set(number, open.number);
+    }
+
+    fn open(&mut self, symbol: Symbol, number: usize) {
         if symbol == Symbol::OpenBrace {
             self.open_braces = self.open_braces.saturating_add(1);
         }
-        self.open.push(Open { symbol, number })?;
-        Ok(())
+        self.open.push(Open { symbol, number });
     }
 
     // Closes the innermost brace, and what is open in it has no partner.
@@ -38,14 +43,13 @@ impl Pairs {
         if self.open_braces == 0 {
             return;
         }
-        for _ in 0..self.open.len() {
-            let Some(open) = self.open.pop() else {
+        for _ in 0..self.open.items.len() {
+            let Some(open) = self.open.items.pop() else {
                 return;
             };
             if open.symbol == Symbol::OpenBrace {
                 self.open_braces = self.open_braces.saturating_sub(1);
-                self.set(open.number, number);
-                self.set(number, open.number);
+                self.join(open, number);
                 return;
             }
         }
@@ -53,33 +57,30 @@ impl Pairs {
 
     // Closes a parenthesis or a bracket, if it is the innermost sign that is open.
     fn close(&mut self, opener: Symbol, number: usize) {
-        let Some(open) = self.open.last().copied() else {
-            return;
-        };
-        if open.symbol == opener {
-            let _ = self.open.pop();
-            self.set(open.number, number);
-            self.set(number, open.number);
+        if let Some(open) = self.open.items.last().copied()
+            && open.symbol == opener
+        {
+            let _ = self.open.items.pop();
+            self.join(open, number);
         }
     }
 
-    fn take(&mut self, symbol: Symbol, number: usize) -> Result<(), AllocError> {
+    fn take(&mut self, symbol: Symbol, number: usize) {
         match symbol {
-            Symbol::OpenBrace | Symbol::OpenParenthesis | Symbol::OpenBracket => return self.open(
-                symbol, number,
-            ),
+            Symbol::OpenBrace | Symbol::OpenParenthesis | Symbol::OpenBracket => {
+                self.open(symbol, number);
+            }
             Symbol::CloseBrace => self.close_brace(number),
             Symbol::CloseParenthesis => self.close(Symbol::OpenParenthesis, number),
             Symbol::CloseBracket => self.close(Symbol::OpenBracket, number),
             _ => {}
         }
-        Ok(())
     }
 
     // Braces that are open at the end have it as their partner.
     fn end(&mut self, end: usize) {
-        for _ in 0..self.open.len() {
-            if let Some(open) = self.open.pop()
+        for _ in 0..self.open.items.len() {
+            if let Some(open) = self.open.items.pop()
                 && open.symbol == Symbol::OpenBrace
             {
                 self.set(open.number, end);
@@ -93,21 +94,16 @@ impl Pairs {
 /// A brace that is never closed has the count of all tokens.
 pub fn partners(alloc: Global, tokens: &[Token]) -> Result<Vec<Option<usize>>, AllocError> {
     let mut pairs = Pairs {
-        partners: Vec::new(alloc),
-        open: Vec::new(alloc),
+        partners: Vec::from_elem(alloc, None, tokens.len())?,
+        open: ListSink::new(alloc),
         open_braces: 0,
     };
     for (number, token) in tokens.iter().enumerate() {
-        pairs.partners.push(None)?;
         if let TokenKind::Symbol(symbol) = token.kind {
-            pairs.take(symbol, number)?;
+            pairs.take(symbol, number);
         }
     }
     pairs.end(tokens.len());
-    let Pairs {
-        partners,
-        open: _,
-        open_braces: _,
-    } = pairs;
-    Ok(partners)
+    pairs.open.check()?;
+    Ok(pairs.partners)
 }

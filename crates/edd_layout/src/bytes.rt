@@ -2,10 +2,7 @@
 
 /// The byte at a place, or 0 at the end.
 pub fn byte_at(text: &[u8], place: usize) -> u8 {
-    match text.get(place) {
-        Some(byte) => *byte,
-        None => 0,
-    }
+    text.get(place).copied().unwrap_or(0)
 }
 
 /// The columns that a text of one line takes.
@@ -22,8 +19,5 @@ pub fn columns(text: &[u8]) -> usize {
 
 /// The bytes of a text from a place up to another.
 pub fn bytes_in(text: &[u8], start: usize, end: usize) -> &[u8] {
-    match text.get(start..end) {
-        Some(bytes) => bytes,
-        None => &[],
-    }
+    text.get(start..end).unwrap_or(&[])
 }

@@ -20,15 +20,16 @@ use crate::writer::{Following, Known, TEXT_LIMIT, Writer};
 use edd_lexer::fault::LexFault;
 use edd_lexer::lex;
 use edd_lexer::token::Token;
+use edd_sinks::ListSink;
 use std::alloc::{AllocError, Global};
 
 fn new_writer<'a>(alloc: Global, known: Known<'a>) -> Writer<'a> {
     Writer {
         known,
-        out: Vec::new(alloc),
+        out: ListSink::new(alloc),
         column: 0,
         token_column: 0,
-        frames: Vec::new(alloc),
+        frames: ListSink::new(alloc),
         base: 0,
         joined_until: 0,
         following: Following::Begins,
@@ -43,21 +44,18 @@ fn written(alloc: Global, known: Known<'_>) -> Result<Vec<u8>, AllocError> {
     let mut writer = new_writer(alloc, known);
     let count = known.source.tokens.len();
     for number in 0..count {
-        writer.put_token(number)?;
-        if writer.out.len() > TEXT_LIMIT {
+        writer.put_token(number);
+        if writer.length() > TEXT_LIMIT {
             break;
         }
     }
-    let indent = match writer.frames.last() {
-        Some(frame) => frame.inner(),
-        None => 0,
-    };
-    writer.put_remarks(count, new_line(indent))?;
-    if !writer.out.is_empty() {
-        writer.out.push(b'\n')?;
+    let indent = writer.frames.items.last().map_or(0, |frame| frame.inner());
+    writer.put_remarks(count, new_line(indent));
+    if writer.length() != 0 {
+        writer.out.push(b'\n');
     }
-    let Writer { out, .. } = writer;
-    Ok(out)
+    writer.frames.check()?;
+    writer.out.finish()
 }
 
 // The layout of a text with these tokens.

@@ -5,6 +5,7 @@ use crate::remarks::{Remark, RemarkKind, Remarks};
 use crate::roles::Role;
 use crate::source::Source;
 use crate::touching::touches;
+use edd_sinks::ListSink;
 use std::alloc::{AllocError, Global};
 
 /// A token, as if all were on one line.
@@ -27,7 +28,7 @@ fn ends_line(text: &[u8], remark: Remark) -> bool {
 
 #[derive(Drop)]
 struct Measuring {
-    measures: Vec<Measure>,
+    measures: ListSink<Measure>,
     end: usize,
     line_ends: usize,
 }
@@ -66,7 +67,7 @@ pub fn measures(
     remarks: &Remarks,
 ) -> Result<Vec<Measure>, AllocError> {
     let mut measuring = Measuring {
-        measures: Vec::new(alloc),
+        measures: ListSink::new(alloc),
         end: 0,
         line_ends: 0,
     };
@@ -81,17 +82,11 @@ pub fn measures(
         }
         let token = source.bytes(number);
         measuring.add(columns(token), token.contains(&b'\n'));
-        let (end, line_ends) = (measuring.end, measuring.line_ends);
         measuring.measures.push(Measure {
             touches,
-            end,
-            line_ends,
-        })?;
+            end: measuring.end,
+            line_ends: measuring.line_ends,
+        });
     }
-    let Measuring {
-        measures,
-        end: _,
-        line_ends: _,
-    } = measuring;
-    Ok(measures)
+    measuring.measures.finish()
 }

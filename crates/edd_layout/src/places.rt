@@ -44,10 +44,6 @@ fn begins_item(word: Keyword) -> bool {
     )
 }
 
-fn begins_attribute(word: Keyword) -> bool {
-    Attr::begun_by(word).is_some()
-}
-
 // Whether a token of the second role begins an element behind one of the first, with nothing
 // between them.
 fn begins_element(before: Role, role: Role, word: Option<Keyword>) -> bool {
@@ -66,17 +62,17 @@ fn begins_element(before: Role, role: Role, word: Option<Keyword>) -> bool {
 
 impl Writer<'_> {
     pub fn role(&self, number: usize) -> Role {
-        match self.known.roles.get(number) {
-            Some(role) => *role,
-            None => Role::Separator,
-        }
+        self.known
+            .roles
+            .get(number)
+            .copied()
+            .unwrap_or(Role::Separator)
     }
 
     fn is_below_text(&self, number: usize) -> bool {
-        match number.checked_sub(1) {
-            Some(before) => self.known.source.is_text(number) && self.known.source.is_text(before),
-            None => false,
-        }
+        let source = self.known.source;
+        let before = number.checked_sub(1);
+        source.is_text(number) && before.is_some_and(|before| source.is_text(before))
     }
 
     // Whether the token of a number begins a line in a frame.
@@ -84,15 +80,10 @@ impl Writer<'_> {
         let word = self.known.source.keyword(number);
         let before = number.saturating_sub(1);
         match kind {
-            None => match word {
-                Some(word) => begins_item(word)
-                    && !self.known.source.is_keyword(before, Keyword::Of),
-                None => false,
-            },
-            Some(FrameKind::Item) => match word {
-                Some(word) => begins_attribute(word),
-                None => false,
-            },
+            None => {
+                word.is_some_and(begins_item) && !self.known.source.is_keyword(before, Keyword::Of)
+            }
+            Some(FrameKind::Item) => word.is_some_and(|word| Attr::begun_by(word).is_some()),
             Some(FrameKind::List) => begins_element(self.role(before), self.role(number), word),
             Some(FrameKind::Codes) => self.role(number) == Role::Number,
             Some(FrameKind::Cases) => matches!(word, Some(Keyword::Case | Keyword::Default)),
@@ -177,7 +168,7 @@ impl Writer<'_> {
         if self.role(number) == Role::Separator && !behind_brace {
             return Place::Here;
         }
-        match self.frames.last().copied() {
+        match self.frames.items.last().copied() {
             Some(frame) if frame.close == number => self.place_of_close(frame),
             Some(frame) => self.place_in(number, frame),
             None if self.following == Following::Begins || self.begins_line(number, None) =>

@@ -2,6 +2,7 @@
 
 use crate::bytes::byte_at;
 use edd_lexer::token::Token;
+use edd_sinks::ListSink;
 use std::alloc::{AllocError, Global};
 
 #[derive(Clone, Copy, PartialEq, Eq)]
@@ -41,12 +42,11 @@ pub struct Remarks {
 
 // The place of the next line's end, or the end of the text.
 fn line_end(text: &[u8], start: usize) -> usize {
-    for place in start..text.len() {
-        if byte_at(text, place) == b'\n' {
-            return place;
-        }
+    let rest = text.get(start..).unwrap_or(&[]);
+    match rest.iter().position(|byte| *byte == b'\n') {
+        Some(length) => start.saturating_add(length),
+        None => text.len(),
     }
-    text.len()
 }
 
 // The place behind the `*/` that closes the comment which begins at a place.
@@ -75,51 +75,62 @@ fn remark_at(text: &[u8], place: usize) -> Option<(RemarkKind, usize)> {
 impl Remarks {
     /// Whether a comment or a mark is before the token of a number.
     pub fn has_any(&self, number: usize) -> bool {
-        match self.gaps.get(number) {
-            Some(gap) => gap.first < gap.last,
-            None => false,
-        }
+        self.gaps
+            .get(number)
+            .is_some_and(|gap| gap.first < gap.last)
     }
+}
 
+#[derive(Drop)]
+struct Reading<'a> {
+    text: &'a [u8],
+    remarks: ListSink<Remark>,
+    gaps: ListSink<Gap>,
+}
+
+impl Reading<'_> {
     // Takes what is from a place up to where the next token begins.
-    fn add(&mut self, text: &[u8], from: usize, to: usize) -> Result<(), AllocError> {
-        let first = self.remarks.len();
+    fn take(&mut self, from: usize, to: usize) {
+        let first = self.remarks.items.len();
         let mut lines: usize = 0;
         let mut behind = from;
         for place in from..to {
             if place < behind {
                 continue;
             }
-            if let Some((kind, end)) = remark_at(text, place) {
+            if let Some((kind, end)) = remark_at(self.text, place) {
                 self.remarks.push(Remark {
                     kind,
                     start: place,
                     end,
                     lines,
-                })?;
+                });
                 lines = 0;
                 behind = end;
-            } else if byte_at(text, place) == b'\n' {
+            } else if byte_at(self.text, place) == b'\n' {
                 lines = lines.saturating_add(1);
             }
         }
-        let last = self.remarks.len();
-        self.gaps.push(Gap { first, last, lines })?;
-        Ok(())
+        let last = self.remarks.items.len();
+        self.gaps.push(Gap { first, last, lines });
     }
 }
 
 /// The remarks of a text with these tokens.
 pub fn read_remarks(alloc: Global, text: &[u8], tokens: &[Token]) -> Result<Remarks, AllocError> {
-    let mut remarks = Remarks {
-        remarks: Vec::new(alloc),
-        gaps: Vec::new(alloc),
+    let mut reading = Reading {
+        text,
+        remarks: ListSink::new(alloc),
+        gaps: ListSink::new(alloc),
     };
     let mut from: usize = 0;
     for token in tokens {
-        remarks.add(text, from, token.start as usize)?;
+        reading.take(from, token.start as usize);
         from = token.end as usize;
     }
-    remarks.add(text, from, text.len())?;
-    Ok(remarks)
+    reading.take(from, text.len());
+    Ok(Remarks {
+        remarks: reading.remarks.finish()?,
+        gaps: reading.gaps.finish()?,
+    })
 }

@@ -2,6 +2,7 @@
 
 use crate::source::Source;
 use edd_lexer::token::TokenKind;
+use edd_sinks::ListSink;
 use edd_syntax::operators::{Comparison, Operator};
 use edd_syntax::symbols::{Keyword, Symbol};
 use std::alloc::{AllocError, Global};
@@ -50,9 +51,9 @@ struct Context {
 
 #[derive(Drop)]
 struct Reading {
-    roles: Vec<Role>,
+    roles: ListSink<Role>,
     outside: Context,
-    contexts: Vec<Context>,
+    contexts: ListSink<Context>,
 }
 
 const OUTSIDE: Context = Context {
@@ -96,21 +97,15 @@ fn role_of_operator(symbol: Symbol, before: Role, context: Context) -> Role {
 
 impl Reading {
     fn context(&self) -> Context {
-        match self.contexts.last() {
-            Some(context) => *context,
-            None => self.outside,
-        }
+        self.contexts.items.last().copied().unwrap_or(self.outside)
     }
 
     fn before(&self) -> Role {
-        match self.roles.last() {
-            Some(role) => *role,
-            None => Role::Separator,
-        }
+        self.roles.items.last().copied().unwrap_or(Role::Separator)
     }
 
     fn set_in_label(&mut self, in_label: bool) {
-        match self.contexts.last_mut() {
+        match self.contexts.items.last_mut() {
             Some(context) => context.in_label = in_label,
             None => self.outside.in_label = in_label,
         }
@@ -145,7 +140,7 @@ impl Reading {
     }
 
     // Begins what is between the token of a number and the one that closes it.
-    fn enter(&mut self, source: Source<'_>, number: usize, close: usize) -> Result<(), AllocError> {
+    fn enter(&mut self, source: Source<'_>, number: usize, close: usize) {
         let around = self.context();
         let is_brace = source.is_symbol(number, Symbol::OpenBrace);
         let word = number
@@ -157,22 +152,16 @@ impl Reading {
             is_body: around.is_body || (is_brace && word == Some(Keyword::Definition)),
             has_masks: is_brace && (around.has_masks || is_data),
             in_label: false,
-        })?;
-        Ok(())
+        });
     }
 
     // Reads the token of a number.
-    fn take(
-        &mut self,
-        source: Source<'_>,
-        number: usize,
-        kind: TokenKind,
-    ) -> Result<(), AllocError> {
+    fn take(&mut self, source: Source<'_>, number: usize, kind: TokenKind) {
         if self.context().close == number {
-            let _ = self.contexts.pop();
+            let _ = self.contexts.items.pop();
         }
         let role = self.role_of(source, number, kind);
-        self.roles.push(role)?;
+        self.roles.push(role);
         match kind {
             TokenKind::Keyword(
                 Keyword::Case | Keyword::Default | Keyword::MethodCase | Keyword::MethodDefault,
@@ -180,9 +169,10 @@ impl Reading {
             TokenKind::Symbol(Symbol::Colon) => self.set_in_label(false),
             _ => {}
         }
-        match source.partner(number) {
-            Some(close) if close > number => self.enter(source, number, close),
-            _ => Ok(()),
+        if let Some(close) = source.partner(number)
+            && close > number
+        {
+            self.enter(source, number, close);
         }
     }
 }
@@ -190,17 +180,13 @@ impl Reading {
 /// The role of each token.
 pub fn roles(alloc: Global, source: Source<'_>) -> Result<Vec<Role>, AllocError> {
     let mut reading = Reading {
-        roles: Vec::new(alloc),
+        roles: ListSink::new(alloc),
         outside: OUTSIDE,
-        contexts: Vec::new(alloc),
+        contexts: ListSink::new(alloc),
     };
     for (number, token) in source.tokens.iter().enumerate() {
-        reading.take(source, number, token.kind)?;
+        reading.take(source, number, token.kind);
     }
-    let Reading {
-        roles,
-        outside: _,
-        contexts: _,
-    } = reading;
-    Ok(roles)
+    reading.contexts.check()?;
+    reading.roles.finish()
 }

@@ -22,19 +22,17 @@ impl<'a> Source<'a> {
     }
 
     pub fn partner(&self, number: usize) -> Option<usize> {
-        match self.partners.get(number) {
-            Some(partner) => *partner,
-            None => None,
-        }
+        *self.partners.get(number)?
+    }
+
+    pub fn kind(&self, number: usize) -> Option<TokenKind> {
+        Some(self.tokens.get(number)?.kind)
     }
 
     pub fn keyword(&self, number: usize) -> Option<Keyword> {
-        match self.tokens.get(number) {
-            Some(token) => match token.kind {
-                TokenKind::Keyword(keyword) => Some(keyword),
-                _ => None,
-            },
-            None => None,
+        match self.kind(number)? {
+            TokenKind::Keyword(keyword) => Some(keyword),
+            _ => None,
         }
     }
 
@@ -43,12 +41,9 @@ impl<'a> Source<'a> {
     }
 
     pub fn symbol(&self, number: usize) -> Option<Symbol> {
-        match self.tokens.get(number) {
-            Some(token) => match token.kind {
-                TokenKind::Symbol(symbol) => Some(symbol),
-                _ => None,
-            },
-            None => None,
+        match self.kind(number)? {
+            TokenKind::Symbol(symbol) => Some(symbol),
+            _ => None,
         }
     }
 
@@ -57,10 +52,7 @@ impl<'a> Source<'a> {
     }
 
     pub fn is_text(&self, number: usize) -> bool {
-        match self.tokens.get(number) {
-            Some(token) => token.kind == TokenKind::String,
-            None => false,
-        }
+        self.kind(number) == Some(TokenKind::String)
     }
 
     pub fn is_separator(&self, number: usize) -> bool {
@@ -97,10 +89,8 @@ impl<'a> Source<'a> {
         if self.header_of(before) != Some(Keyword::If) {
             return false;
         }
-        match self.partner(before) {
-            Some(open) => self.is_keyword(open.saturating_sub(2), Keyword::Else),
-            None => false,
-        }
+        let open = self.partner(before);
+        open.is_some_and(|open| self.is_keyword(open.saturating_sub(2), Keyword::Else))
     }
 
     // The brace that an ELSE of a number is followed by, across the IF that may stand between them.
@@ -117,11 +107,7 @@ impl<'a> Source<'a> {
             return None;
         }
         let brace = self.partner(open)?.saturating_add(1);
-        if self.is_symbol(brace, Symbol::OpenBrace) {
-            Some(brace)
-        } else {
-            None
-        }
+        self.is_symbol(brace, Symbol::OpenBrace).then_some(brace)
     }
 
     /// The last brace of an IF with all that follows its ELSE, where one of its braces closes at a

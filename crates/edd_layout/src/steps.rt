@@ -4,17 +4,13 @@ use crate::frames::{Control, Frame, FrameKind, INDENT, kind_of_braces};
 use crate::roles::Role;
 use crate::writer::{Following, Writer};
 use edd_syntax::symbols::{Keyword, Symbol};
-use std::alloc::AllocError;
 
 /// The columns that a line may have.
 const LINE_WIDTH: usize = 100;
 
 impl Writer<'_> {
     fn kind(&self) -> Option<FrameKind> {
-        match self.frames.last() {
-            Some(frame) => Some(frame.kind),
-            None => None,
-        }
+        Some(self.frames.items.last()?.kind)
     }
 
     // Whether all behind the token of a number, up to that of another and a sign directly after it,
@@ -38,22 +34,21 @@ impl Writer<'_> {
         }
     }
 
-    fn enter(&mut self, kind: FrameKind, close: usize, indent: usize) -> Result<(), AllocError> {
+    fn enter(&mut self, kind: FrameKind, close: usize, indent: usize) {
         self.frames.push(Frame {
             kind,
             close,
             indent,
             outer: self.base,
             is_labelled: false,
-        })?;
-        Ok(())
+        });
     }
 
     // Opens parentheses or brackets that close with the token of a number.
-    fn open_group(&mut self, number: usize, close: usize) -> Result<(), AllocError> {
+    fn open_group(&mut self, number: usize, close: usize) {
         if self.fits(number, close) {
             self.joined_until = close.saturating_add(1);
-            return Ok(());
+            return;
         }
         let is_for = self.known.source.header_of(close) == Some(Keyword::For);
         let kind = if is_for {
@@ -61,14 +56,14 @@ impl Writer<'_> {
         } else {
             FrameKind::Arguments
         };
-        self.enter(kind, close, self.column)
+        self.enter(kind, close, self.column);
     }
 
     // Opens braces that close with the token of a number.
-    fn open_braces(&mut self, number: usize, close: usize) -> Result<(), AllocError> {
+    fn open_braces(&mut self, number: usize, close: usize) {
         if close == number.saturating_add(1) && !self.known.remarks.has_any(close) {
             self.joined_until = close.saturating_add(1);
-            return Ok(());
+            return;
         }
         let source = self.known.source;
         let kind = kind_of_braces(source, number, self.kind());
@@ -78,11 +73,11 @@ impl Writer<'_> {
             let end = source.chain_end(close);
             if self.fits(number, end) {
                 self.joined_until = end.saturating_add(1);
-                return Ok(());
+                return;
             }
         }
         self.following = Following::Begins;
-        self.enter(kind, close, self.base.saturating_add(INDENT))
+        self.enter(kind, close, self.base.saturating_add(INDENT));
     }
 
     // Decides at the first of some texts in a row whether each has a line of its own.
@@ -93,11 +88,10 @@ impl Writer<'_> {
             self.texts = None;
             return;
         }
-        let goes_on = match number.checked_sub(1) {
-            Some(before) => source.is_text(before),
-            None => false,
-        };
-        if goes_on {
+        if number
+            .checked_sub(1)
+            .is_some_and(|before| source.is_text(before))
+        {
             return;
         }
         let mut last = number;
@@ -129,54 +123,57 @@ impl Writer<'_> {
         goes_on
     }
 
+    // Leaves the innermost frame, where it is that of a statement under a word.
+    fn leave_controlled(&mut self) -> Option<Frame> {
+        let frame = self.frames.items.last()?;
+        if !frame.is_controlled() {
+            return None;
+        }
+        self.frames.items.pop()
+    }
+
     // Ends the statement whose last token has a number, and those that end with it.
     fn end_statement(&mut self, number: usize) {
         self.following = Following::Begins;
-        for _ in 0..self.frames.len() {
-            let Some(frame) = self.frames.last().copied() else {
+        for _ in 0..self.frames.items.len() {
+            let Some(frame) = self.leave_controlled() else {
                 return;
             };
-            if !frame.is_controlled() {
-                return;
-            }
-            let _ = self.frames.pop();
             if self.goes_on(number, frame) {
                 return;
             }
         }
     }
 
-    fn control(&mut self, control: Control) -> Result<(), AllocError> {
+    fn control(&mut self, control: Control) {
         self.following = Following::Begins;
-        self.enter(FrameKind::Controlled(control), usize::MAX, self.base)
+        self.enter(FrameKind::Controlled(control), usize::MAX, self.base);
     }
 
     // What the token of a number does among statements.
-    fn step_in_body(&mut self, number: usize) -> Result<(), AllocError> {
+    fn step_in_body(&mut self, number: usize) {
         let source = self.known.source;
         match self.role(number) {
             Role::CloseBrace => self.end_statement(number),
-            Role::Separator if source.is_symbol(number, Symbol::Semicolon) => self.end_statement(
-                number,
-            ),
+            Role::Separator if source.is_symbol(number, Symbol::Semicolon) => {
+                self.end_statement(number);
+            }
             Role::LabelColon => {
                 self.following = Following::Begins;
-                if let Some(frame) = self.frames.last_mut() {
+                if let Some(frame) = self.frames.items.last_mut() {
                     frame.is_labelled = true;
                 }
             }
-            Role::CloseHeader if source.header_of(number) == Some(Keyword::MethodIf) =>
-                return self.control(Control::If),
-            Role::CloseHeader => return self.control(Control::Other),
-            Role::Keyword if source.is_keyword(number, Keyword::Do) => return self.control(
-                Control::Do,
-            ),
-            Role::Keyword if source.is_keyword(number, Keyword::MethodElse) => return self.control(
-                Control::Other,
-            ),
+            Role::CloseHeader if source.header_of(number) == Some(Keyword::MethodIf) => {
+                self.control(Control::If);
+            }
+            Role::CloseHeader => self.control(Control::Other),
+            Role::Keyword if source.is_keyword(number, Keyword::Do) => self.control(Control::Do),
+            Role::Keyword if source.is_keyword(number, Keyword::MethodElse) => {
+                self.control(Control::Other);
+            }
             _ => {}
         }
-        Ok(())
     }
 
     // Whether the token of a number ends a line in a frame.
@@ -194,16 +191,12 @@ impl Writer<'_> {
     }
 
     // What the token of a number does in the frame that is open.
-    fn step_in(&mut self, number: usize) -> Result<(), AllocError> {
+    fn step_in(&mut self, number: usize) {
         match self.kind() {
             Some(FrameKind::Body | FrameKind::Controlled(_)) => self.step_in_body(number),
-            Some(FrameKind::Arguments | FrameKind::Parts) => Ok(()),
-            kind => {
-                if self.ends_line(number, kind) {
-                    self.following = Following::Begins;
-                }
-                Ok(())
-            }
+            Some(FrameKind::Arguments | FrameKind::Parts) => {}
+            kind if self.ends_line(number, kind) => self.following = Following::Begins,
+            _ => {}
         }
     }
 
@@ -212,43 +205,42 @@ impl Writer<'_> {
         if number < self.joined_until || self.role(number) != Role::CloseBrace {
             return;
         }
-        for _ in 0..self.frames.len() {
-            match self.frames.last() {
-                Some(frame) if frame.is_controlled() => {}
-                _ => return,
+        for _ in 0..self.frames.items.len() {
+            if self.leave_controlled().is_none() {
+                return;
             }
-            let _ = self.frames.pop();
         }
     }
 
     // Takes what the token of a number opens, closes or ends.
-    fn step(&mut self, number: usize) -> Result<(), AllocError> {
+    fn step(&mut self, number: usize) {
         self.following = Following::Inside;
-        if let Some(frame) = self.frames.last()
+        if let Some(frame) = self.frames.items.last().copied()
             && frame.close == number
         {
-            let _ = self.frames.pop();
+            let _ = self.frames.items.pop();
         }
         let source = self.known.source;
         if number.saturating_add(1) < self.joined_until {
-            return Ok(());
+            return;
         }
         if source.is_text(number) {
             self.begin_texts(number);
         }
         match source.partner(number) {
-            Some(close) if close > number && source.is_symbol(number, Symbol::OpenBrace) =>
-                self.open_braces(number, close),
+            Some(close) if close > number && source.is_symbol(number, Symbol::OpenBrace) => {
+                self.open_braces(number, close);
+            }
             Some(close) if close > number => self.open_group(number, close),
             _ => self.step_in(number),
         }
     }
 
     /// Writes the token of a number.
-    pub fn put_token(&mut self, number: usize) -> Result<(), AllocError> {
+    pub fn put_token(&mut self, number: usize) {
         self.leave_statements(number);
         let place = self.place(number);
-        self.put(number, place)?;
-        self.step(number)
+        self.put(number, place);
+        self.step(number);
     }
 }

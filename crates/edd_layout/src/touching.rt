@@ -75,14 +75,10 @@ pub fn touches(source: Source<'_>, number: usize, before: Role, role: Role) -> b
     if !is_joined(before, role) {
         return false;
     }
-    let Some(earlier) = source.tokens.get(number.saturating_sub(1)) else {
-        return false;
-    };
-    let Some(token) = source.tokens.get(number) else {
-        return false;
-    };
-    match source.text.get(token.start as usize) {
-        Some(byte) => !sticks(earlier.kind, *byte),
-        None => false,
+    let earlier = source.kind(number.saturating_sub(1));
+    let first = source.bytes(number).first();
+    match (earlier, first) {
+        (Some(earlier), Some(byte)) => !sticks(earlier, *byte),
+        _ => false,
     }
 }

@@ -7,8 +7,8 @@ use crate::places::Place;
 use crate::remarks::{Gap, Remark, RemarkKind, Remarks};
 use crate::roles::Role;
 use crate::source::Source;
+use edd_sinks::ListSink;
 use edd_syntax::symbols::{Keyword, Symbol};
-use std::alloc::AllocError;
 
 /// A text has at most so many bytes. A layout that gets longer is given up.
 pub const TEXT_LIMIT: usize = 1_048_576;
@@ -37,12 +37,12 @@ pub struct Known<'a> {
 #[derive(Drop)]
 pub struct Writer<'a> {
     pub known: Known<'a>,
-    pub out: Vec<u8>,
+    pub out: ListSink<u8>,
     /// The columns of the line so far.
     pub column: usize,
     /// The column at which the last token began.
     pub token_column: usize,
-    pub frames: Vec<Frame>,
+    pub frames: ListSink<Frame>,
     /// The columns before the line that has begun last.
     pub base: usize,
     /// Up to the token of this number all are on the line.
@@ -57,8 +57,8 @@ pub struct Writer<'a> {
 }
 
 impl Writer<'_> {
-    fn push_bytes(&mut self, bytes: &[u8]) -> Result<(), AllocError> {
-        self.out.extend_from_slice(bytes)?;
+    fn push_bytes(&mut self, bytes: &[u8]) {
+        self.out.extend_from_slice(bytes);
         for byte in bytes {
             if *byte == b'\n' {
                 self.column = 0;
@@ -66,39 +66,38 @@ impl Writer<'_> {
                 self.column = self.column.saturating_add(1);
             }
         }
-        Ok(())
     }
 
-    fn push_often(&mut self, byte: u8, count: usize) -> Result<(), AllocError> {
+    fn push_often(&mut self, byte: u8, count: usize) {
         for _ in 0..count {
-            self.out.push(byte)?;
+            self.out.push(byte);
         }
         self.column = self.column.saturating_add(count);
-        Ok(())
     }
 
-    fn blank(&mut self) -> Result<(), AllocError> {
-        if self.out.is_empty() {
-            return Ok(());
+    /// How many bytes are written.
+    pub fn length(&self) -> usize {
+        self.out.items.len()
+    }
+
+    fn blank(&mut self) {
+        if self.length() != 0 {
+            self.push_often(b' ', 1);
         }
-        self.push_often(b' ', 1)
     }
 
     // Ends the line, and begins the next one at a column.
-    fn end_line(&mut self, with_blank_line: bool, column: usize) -> Result<(), AllocError> {
+    fn end_line(&mut self, with_blank_line: bool, column: usize) {
         self.has_ended = true;
-        if self.out.is_empty() || self.out.len() > TEXT_LIMIT {
-            return Ok(());
+        if self.length() == 0 || self.length() > TEXT_LIMIT {
+            return;
         }
-        self.push_bytes(b"\n")?;
-        if with_blank_line {
-            self.push_bytes(b"\n")?;
-        }
-        self.push_often(b' ', column)
+        self.push_bytes(if with_blank_line { b"\n\n" } else { b"\n" });
+        self.push_often(b' ', column);
     }
 
     // Writes a comment or a mark; a CR before a line's end is part of the end.
-    fn push_remark(&mut self, bytes: &[u8]) -> Result<(), AllocError> {
+    fn push_remark(&mut self, bytes: &[u8]) {
         let mut returns: usize = 0;
         for byte in bytes {
             if *byte == b'\r' {
@@ -106,12 +105,11 @@ impl Writer<'_> {
                 continue;
             }
             if *byte != b'\n' {
-                self.push_often(b'\r', returns)?;
+                self.push_often(b'\r', returns);
             }
             returns = 0;
-            self.push_bytes(&[*byte])?;
+            self.push_bytes(&[*byte]);
         }
-        Ok(())
     }
 
     // The column at which a line goes on that a comment has ended.
@@ -134,28 +132,23 @@ impl Writer<'_> {
         }
     }
 
-    fn put_remark(
-        &mut self,
-        remark: Remark,
-        column: usize,
-        keeps_blank_line: bool,
-    ) -> Result<(), AllocError> {
+    fn put_remark(&mut self, remark: Remark, column: usize, keeps_blank_line: bool) {
         let is_mark = remark.kind == RemarkKind::Mark;
-        if is_mark || self.must_end || remark.lines > 0 || self.out.is_empty() {
+        if is_mark || self.must_end || remark.lines > 0 || self.length() == 0 {
             let column = if is_mark { 0 } else { column };
-            self.end_line(keeps_blank_line && remark.lines > 1, column)?;
+            self.end_line(keeps_blank_line && remark.lines > 1, column);
         } else {
-            self.blank()?;
+            self.blank();
         }
         self.must_end = remark.kind != RemarkKind::BlockComment;
         let text = self.known.source.text;
-        self.push_remark(bytes_in(text, remark.start, remark.end))
+        self.push_remark(bytes_in(text, remark.start, remark.end));
     }
 
     /// Writes the comments and marks before the token of a number.
-    pub fn put_remarks(&mut self, number: usize, place: Place) -> Result<(), AllocError> {
+    pub fn put_remarks(&mut self, number: usize, place: Place) {
         let Some(gap) = self.known.remarks.gaps.get(number).copied() else {
-            return Ok(());
+            return;
         };
         self.must_end = false;
         self.has_ended = false;
@@ -168,16 +161,15 @@ impl Writer<'_> {
         let is_behind_brace = self.is_behind_brace(number);
         for index in gap.first..gap.last {
             let Some(remark) = self.known.remarks.remarks.get(index).copied() else {
-                return Ok(());
+                return;
             };
             let keeps_blank_line = is_line && (self.has_ended || !is_behind_brace);
-            self.put_remark(remark, column, keeps_blank_line)?;
+            self.put_remark(remark, column, keeps_blank_line);
         }
-        Ok(())
     }
 
     // Goes to where the token of a number stands, behind the remarks before it.
-    fn go_to(&mut self, number: usize, gap: Gap, place: Place) -> Result<(), AllocError> {
+    fn go_to(&mut self, number: usize, gap: Gap, place: Place) {
         let has_remarks = gap.first < gap.last;
         let is_separator = self.known.source.is_separator(number);
         // A comment that stands before the token on its line stays there.
@@ -187,31 +179,31 @@ impl Writer<'_> {
             Place::Below(column) => self.end_line(false, column),
             Place::Line { indent, keeps, .. } => {
                 let is_first = !self.has_ended && self.is_behind_brace(number);
-                self.end_line(keeps && !is_first && gap.lines > 1, indent)
+                self.end_line(keeps && !is_first && gap.lines > 1, indent);
             }
             Place::Here if self.must_end || (has_remarks && gap.lines > 0) => {
                 let column = self.continued(number);
-                self.end_line(false, column)
+                self.end_line(false, column);
             }
             Place::Here => match self.known.measures.get(number) {
-                Some(measure) if measure.touches && (!has_remarks || is_separator) => Ok(()),
+                Some(measure) if measure.touches && (!has_remarks || is_separator) => {}
                 _ => self.blank(),
             },
         }
     }
 
     /// Writes the token of a number in a place, with the comments and marks before it.
-    pub fn put(&mut self, number: usize, place: Place) -> Result<(), AllocError> {
-        self.put_remarks(number, place)?;
+    pub fn put(&mut self, number: usize, place: Place) {
+        self.put_remarks(number, place);
         let Some(gap) = self.known.remarks.gaps.get(number).copied() else {
-            return Ok(());
+            return;
         };
-        self.go_to(number, gap, place)?;
+        self.go_to(number, gap, place);
         if let Place::Line { indent, .. } = place {
             self.base = indent;
         }
         self.token_column = self.column;
         let source = self.known.source;
-        self.push_bytes(source.bytes(number))
+        self.push_bytes(source.bytes(number));
     }
 }

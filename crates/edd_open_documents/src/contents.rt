@@ -17,17 +17,6 @@ impl Content {
         Ok(Content { text, lines })
     }
 
-    // This text with another one in the place of the bytes from one up to another.
-    fn with(
-        &self,
-        alloc: Global,
-        start: usize,
-        end: usize,
-        new: &str,
-    ) -> Result<Content, AllocError> {
-        Content::of(alloc, edited(alloc, self.text.as_str(), start, end, new)?)
-    }
-
     // This text with a change; nothing where the change is no change of the protocol.
     fn changed(
         &self,
@@ -44,9 +33,11 @@ impl Content {
             }
             return Ok(Some(Content::of(alloc, String::from_str(alloc, new)?)?));
         };
-        let start = self.lines.byte(self.text.as_str(), range.start, encoding);
-        let end = self.lines.byte(self.text.as_str(), range.end, encoding);
-        Ok(Some(self.with(alloc, start, end, new)?))
+        let text = self.text.as_str();
+        let start = self.lines.byte(text, range.start, encoding);
+        let end = self.lines.byte(text, range.end, encoding);
+        let edited = edited(alloc, text, start, end, new)?;
+        Ok(Some(Content::of(alloc, edited)?))
     }
 
     /// This text with changes, one after the other; nothing where one of them is none, or there are
@@ -83,13 +74,5 @@ pub fn edited(
 ) -> Result<String, AllocError> {
     let before = text.get(..start).unwrap_or(text);
     let after = text.get(end.max(start)..).unwrap_or("");
-    let length = before
-        .len()
-        .saturating_add(new.len())
-        .saturating_add(after.len());
-    let mut made = String::with_capacity(alloc, length)?;
-    made.push_str(before)?;
-    made.push_str(new)?;
-    made.push_str(after)?;
-    Ok(made)
+    format!(in alloc; "{before}{new}{after}")
 }

@@ -7,13 +7,16 @@ use edd_protocol::{Range, notify};
 use edd_protocol_shapes::{Code, Diagnostic, Diagnostics, Location, Related, Severity};
 use edd_reports::diagnostic::{Finding, Help};
 use edd_reports::words::Span;
+use edd_sinks::{ListSink, TextSink};
 use std::alloc::{AllocError, Global};
-use std::fmt::Write as _;
 
 /// Who says what is wrong.
 const SOURCE: &str = "edd";
 
 const PUBLISH: &str = "textDocument/publishDiagnostics";
+
+/// Where what has no place is shown.
+const BEGINNING: Span = Span { start: 0, end: 0 };
 
 /// A document and the editor that looks at it.
 #[derive(Clone, Copy)]
@@ -23,87 +26,86 @@ pub struct View<'a> {
 }
 
 impl<'a> View<'a> {
-    // The range of a place. What has none is at the beginning of the text.
-    fn range(self, place: Option<Span>) -> Range {
-        let place = place.unwrap_or(Span { start: 0, end: 0 });
-        let content = &self.opened.content;
-        let text = content.text.as_str();
-        content
-            .lines
-            .range(text, place.start, place.end, self.client.encoding)
+    pub fn text(self) -> &'a str {
+        self.opened.content.text.as_str()
+    }
+
+    pub fn range(self, place: Span) -> Range {
+        let lines = &self.opened.content.lines;
+        lines.range(self.text(), place.start, place.end, self.client.encoding)
+    }
+
+    pub fn location(self, place: Span) -> Location<'a> {
+        Location {
+            uri: self.opened.uri.as_str(),
+            range: self.range(place),
+        }
     }
 }
 
-/// What a finding says.
-#[derive(Drop)]
-struct Words {
+// What a finding says.
+#[derive(Clone, Copy)]
+struct Words<'a> {
     code: Option<Code>,
-    message: String,
+    message: &'a str,
     severity: Severity,
 }
 
-fn words_of(alloc: Global, finding: &Finding) -> Result<Words, AllocError> {
+fn words_of(finding: &Finding) -> Words<'_> {
     match finding {
         Finding::Refused(refusal) => {
             let refusal = refusal.as_str();
             let (number, message) = refusal.split_once(' ').unwrap_or(("", refusal));
-            Ok(Words {
+            Words {
                 code: number.parse::<u16>().ok().map(Code::Number),
-                message: String::from_str(alloc, message)?,
+                message,
                 severity: Severity::Error,
-            })
+            }
         }
         Finding::Warned {
             lint,
             message,
             is_denied,
-        } => Ok(Words {
+        } => Words {
             code: Some(Code::Name(*lint)),
-            message: message.clone()?,
+            message: message.as_str(),
             severity: if *is_denied {
                 Severity::Error
             } else {
                 Severity::Warning
             },
-        }),
+        },
     }
 }
 
 // Adds a line of help; for an editor that shows no other places with the place that it speaks of.
-fn push_help(view: View<'_>, help: &Help, message: &mut String) -> Result<(), AllocError> {
-    message.push_str("\nhelp: ")?;
-    message.push_str(help.text.as_str())?;
-    if help.place.is_some() {
-        let at = view.range(help.place).start;
+fn push_help(view: View<'_>, help: &Help, message: &mut TextSink) {
+    message.push_str("\nhelp: ");
+    message.push_str(help.text.as_str());
+    if let Some(place) = help.place {
+        let at = view.range(place).start;
         let line = at.line.saturating_add(1);
         let column = at.character.saturating_add(1);
-        write!(message, " at {line}:{column}")?;
+        write!(message, " at {line}:{column}");
     }
-    Ok(())
 }
 
 // The helps: those that speak of another place apart, if the editor shows these.
 fn add_helps<'a>(
-    alloc: Global,
     view: View<'a>,
     helps: &'a [Help],
-    message: &mut String,
-) -> Result<Vec<Related<'a>>, AllocError> {
-    let mut related = Vec::new(alloc);
+    message: &mut TextSink,
+    related: &mut ListSink<Related<'a>>,
+) {
     for help in helps {
-        if help.place.is_some() && view.client.has_related {
-            related.push(Related {
-                location: Location {
-                    uri: view.opened.uri.as_str(),
-                    range: view.range(help.place),
-                },
+        match help.place {
+            Some(place) if view.client.has_related => related.push(Related {
+                location: view.location(place),
                 message: help.text.as_str(),
-            })?;
-        } else {
-            push_help(view, help, message)?;
+            }),
+            _ => push_help(view, help, message),
         }
     }
-    Ok(related)
 }
 
 /// What is wrong at a place of a document.
@@ -112,18 +114,18 @@ pub fn diagnostic<'a>(
     view: View<'a>,
     found: &'a edd_reports::diagnostic::Diagnostic,
 ) -> Result<Diagnostic<'a>, AllocError> {
-    let Words {
-        code,
-        mut message,
-        severity,
-    } = words_of(alloc, &found.finding)?;
-    let related = add_helps(alloc, view, found.helps.as_slice(), &mut message)?;
+    let words = words_of(&found.finding);
+    let mut message = TextSink::new(alloc);
+    let mut related = ListSink::new(alloc);
+    message.push_str(words.message);
+    add_helps(view, found.helps.as_slice(), &mut message, &mut related);
+    let related = related.finish()?;
     Ok(Diagnostic {
-        range: view.range(found.place),
-        severity: severity.number(),
-        code,
+        range: view.range(found.place.unwrap_or(BEGINNING)),
+        severity: words.severity.number(),
+        code: words.code,
         source: SOURCE,
-        message,
+        message: message.finish()?,
         related_information: if related.is_empty() {
             None
         } else {
@@ -135,7 +137,7 @@ pub fn diagnostic<'a>(
 // How many more findings there are than are shown.
 fn of_more<'a>(alloc: Global, view: View<'a>, more: usize) -> Result<Diagnostic<'a>, AllocError> {
     Ok(Diagnostic {
-        range: view.range(None),
+        range: view.range(BEGINNING),
         severity: Severity::Information.number(),
         code: None,
         source: SOURCE,

@@ -43,7 +43,7 @@ pub fn value_of(alloc: Global, content: &[u8]) -> Result<Option<Value>, AllocErr
 fn id_of(value: &Value) -> Option<Id<'_>> {
     match value.as_i64() {
         Some(number) => Some(Id::Number(number)),
-        None => value.as_str().map(Id::Text),
+        None => Some(Id::Text(value.as_str()?)),
     }
 }
 

@@ -19,7 +19,7 @@ enum Part {
 }
 
 /// What the bytes so far have come to.
-#[derive(Clone, Copy, PartialEq, Eq, Debug)]
+#[derive(Clone, Copy)]
 pub enum Frame {
     /// All bytes were taken, and no message is whole.
     Partial,
@@ -40,11 +40,10 @@ pub struct Framing {
 
 // Whether a header part ends here: with a blank line, whose lines may end in LF alone.
 fn is_ended(header: &[u8]) -> bool {
-    match header {
-        b"\r\n" | b"\n" => true,
-        [.., b'\n', b'\r', b'\n'] | [.., b'\n', b'\n'] => true,
-        _ => false,
-    }
+    matches!(
+        header,
+        b"\r\n" | b"\n" | [.., b'\n', b'\r', b'\n'] | [.., b'\n', b'\n']
+    )
 }
 
 impl Framing {

@@ -4,7 +4,7 @@
 pub const MOST_CONTENT: usize = 67_108_864;
 
 /// Why no content follows a header part, or none that is taken.
-#[derive(Clone, Copy, PartialEq, Eq, Debug)]
+#[derive(Clone, Copy)]
 pub enum HeaderFault {
     /// No field says how long the content is.
     NoLength,
@@ -31,11 +31,8 @@ impl HeaderFault {
 // The value of a field, if the line is one of this name.
 fn value_of<'a>(line: &'a str, name: &str) -> Option<&'a str> {
     let (before, value) = line.split_once(':')?;
-    if before.trim().eq_ignore_ascii_case(name) {
-        Some(value.trim())
-    } else {
-        None
-    }
+    let is_named = before.trim().eq_ignore_ascii_case(name);
+    is_named.then_some(value.trim())
 }
 
 /// Reads the fields before the blank line: how many bytes of content follow it. Other fields are

@@ -13,6 +13,6 @@ mod positions;
 pub use calls::{Call, Id, Misread, read, value_of};
 pub use framing::{Frame, Framing};
 pub use header::{HeaderFault, MOST_CONTENT, content_length};
-pub use messages::{ErrorCode, answer, notify, refuse};
+pub use messages::{ErrorCode, answer, answer_json, notify, refuse};
 pub use params::{flag_at, list_at, position_at, range_at, text_at};
 pub use positions::{Encoding, Lines, Position, Range};

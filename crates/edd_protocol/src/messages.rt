@@ -59,8 +59,18 @@ pub fn answer<T: Serialize>(
     outcome: &T,
     out: &mut Vec<u8>,
 ) -> Result<(), AllocError> {
-    let id = text_of(alloc, &id)?;
     let outcome = text_of(alloc, outcome)?;
+    answer_json(alloc, id, &outcome, out)
+}
+
+/// Answers a request with an outcome that is JSON.
+pub fn answer_json(
+    alloc: Global,
+    id: Id<'_>,
+    outcome: &str,
+    out: &mut Vec<u8>,
+) -> Result<(), AllocError> {
+    let id = text_of(alloc, &id)?;
     let body = format!(in alloc; "{{\"jsonrpc\":\"2.0\",\"id\":{id},\"result\":{outcome}}}")?;
     send(alloc, body.as_str(), out)
 }

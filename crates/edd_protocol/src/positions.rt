@@ -1,5 +1,6 @@
 //! Places in a text as lines and columns.
 
+use edd_sinks::ListSink;
 use serde::Serialize;
 use std::alloc::{AllocError, Global};
 
@@ -56,33 +57,33 @@ fn units_in(bytes: &[u8]) -> usize {
 }
 
 fn starts_of(alloc: Global, text: &str) -> Result<Vec<usize>, AllocError> {
-    let mut starts = Vec::new(alloc);
-    starts.push(0)?;
+    let mut starts = ListSink::new(alloc);
+    starts.push(0);
     let mut before = 0;
     for (index, byte) in text.as_bytes().iter().enumerate() {
         if before == b'\r' && *byte != b'\n' {
-            starts.push(index)?;
+            starts.push(index);
         }
         if *byte == b'\n' {
-            starts.push(index.saturating_add(1))?;
+            starts.push(index.saturating_add(1));
         }
         before = *byte;
     }
     if before == b'\r' {
-        starts.push(text.len())?;
+        starts.push(text.len());
     }
-    Ok(starts)
+    starts.finish()
 }
 
 fn steps_of(alloc: Global, text: &str) -> Result<Vec<usize>, AllocError> {
-    let mut steps = Vec::new(alloc);
+    let mut steps = ListSink::new(alloc);
     let mut units: usize = 0;
     for bytes in text.as_bytes().chunks(STEP) {
-        steps.push(units)?;
+        steps.push(units);
         units = units.saturating_add(units_in(bytes));
     }
-    steps.push(units)?;
-    Ok(steps)
+    steps.push(units);
+    steps.finish()
 }
 
 // The last number of a list in order that is not above another, and 0 where there is none.

@@ -23,7 +23,7 @@ impl Severity {
 }
 
 /// The number of a refusal, or the name of a lint.
-#[derive(Drop, Serialize)]
+#[derive(Clone, Copy, Serialize)]
 #[serde(untagged)]
 pub enum Code {
     Number(u16),

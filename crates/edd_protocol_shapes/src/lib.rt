@@ -3,14 +3,12 @@
 //! Proved is that writing them is safe and ends.
 #![tactic(auto)]
 
-mod abilities;
 mod completions;
 mod diagnostics;
 mod edits;
 mod places;
 mod signatures;
 
-pub use abilities::{Abilities, Actions, Greeting, Renames, Server, Synchronized, Triggered};
 pub use completions::{Completion, Completions};
 pub use diagnostics::{Code, Diagnostic, Diagnostics, Related, Severity};
 pub use edits::{Action, TextEdit, WorkspaceEdit};
