@@ -21,7 +21,6 @@ mod reports;
 
 pub use diagnosing::diagnose;
 pub use edd_reports::diagnostic::{Diagnostic, Finding};
-pub use edd_reports::nearest::Nearest;
 pub use edd_reports::words::Span;
 pub use edd_reports::{Format, ReportFault};
 pub use edd_warnings::{Choices, LINTS, Level, Lint};

@@ -6,29 +6,21 @@
 use crate::characters::help_of_character;
 use crate::finding::Found;
 use crate::quotes::{is_before_quote, missing_quote};
-use crate::scanning::{Scanned, Shape, byte_at, piece_at};
+use crate::scanning::{Scanned, Shape, byte_at, line_length, piece_at};
 use edd_lexer::fault::LexFault;
 use edd_lexer::lex;
-use edd_reports::diagnostic::{Diagnostic, Finding};
+use edd_reports::diagnostic::{Draft, Finding};
 use edd_reports::words::{Span, text_in};
 use std::alloc::{AllocError, Global};
 
 /// The most bytes of a name.
 const LONGEST_NAME: usize = 255;
 
-// What is said of a character past ASCII that no token has.
-fn named_character(
-    alloc: Global,
-    fault: &LexFault,
-    word: &str,
-) -> Result<Option<String>, AllocError> {
-    match (fault, word.chars().next()) {
-        (LexFault::BadCharacter { .. }, Some(character))
-            if !character.is_ascii() || character.is_ascii_control() => {
-            Ok(Some(help_of_character(alloc, character)?))
-        }
-        _ => Ok(None),
-    }
+// The character past ASCII that no token has.
+fn named_character(fault: &LexFault, word: &str) -> Option<char> {
+    let character = word.chars().next()?;
+    let is_named = !character.is_ascii() || character.is_ascii_control();
+    (is_named && matches!(fault, LexFault::BadCharacter { .. })).then_some(character)
 }
 
 // Where the first byte of a line is, counted from 1; the end of the text where there is no such
@@ -57,12 +49,12 @@ fn is_refused(alloc: Global, piece: &[u8], fault: &LexFault) -> Result<bool, All
 
 // Whether two faults are of one kind.
 fn is_alike(one: &LexFault, other: &LexFault) -> bool {
-    match (one, other) {
+    matches!(
+        (one, other),
         (LexFault::BadCharacter { .. }, LexFault::BadCharacter { .. })
-        | (LexFault::BadEscape { .. }, LexFault::BadEscape { .. })
-        | (LexFault::BadNumber { .. }, LexFault::BadNumber { .. }) => true,
-        _ => false,
-    }
+            | (LexFault::BadEscape { .. }, LexFault::BadEscape { .. })
+            | (LexFault::BadNumber { .. }, LexFault::BadNumber { .. })
+    )
 }
 
 // Whether a mark of the byte order is at a place that is not the beginning.
@@ -84,10 +76,7 @@ fn is_at(alloc: Global, text: &[u8], piece: Scanned, fault: &LexFault) -> Result
         (LexFault::BadEscape { .. }, Shape::String)
         | (LexFault::BadNumber { .. }, Shape::Word)
         | (LexFault::BadCharacter { .. }, Shape::Word | Shape::Sign) => {
-            if end < start || text.len() < end {
-                return Ok(false);
-            }
-            is_refused(alloc, &text[start..end], fault)
+            is_refused(alloc, text.get(start..end).unwrap_or(b""), fault)
         }
         _ => Ok(false),
     }
@@ -126,23 +115,19 @@ fn valid_length(text: &[u8]) -> usize {
 
 // The first character of the piece that no token begins with or goes on with.
 fn first_bad_character(text: &[u8], span: Span) -> Span {
-    for (index, byte) in text.iter().enumerate().take(span.end).skip(span.start) {
-        if 0x80 <= *byte {
-            let rest = Span {
-                start: index,
-                end: span.end,
-            };
-            let length = match text_in(text, rest).chars().next() {
-                Some(character) => character.len_utf8(),
-                None => 1,
-            };
-            return Span {
-                start: index,
-                end: index.saturating_add(length),
-            };
-        }
+    let mut bytes = text.get(span.start..span.end).unwrap_or(b"").iter();
+    let Some(before) = bytes.position(|byte| 0x80 <= *byte) else {
+        return span;
+    };
+    let start = span.start.saturating_add(before);
+    let length = match text_in(text, Span { start, ..span }).chars().next() {
+        Some(character) => character.len_utf8(),
+        None => 1,
+    };
+    Span {
+        start,
+        end: start.saturating_add(length),
     }
-    span
 }
 
 // The first backslash of a string that no escape begins with.
@@ -167,12 +152,7 @@ fn first_bad_escape(text: &[u8], span: Span) -> Span {
 
 // Whether all letters of a word are among some.
 fn is_of(word: &str, allowed: &str) -> bool {
-    for letter in word.chars() {
-        if !allowed.contains(letter) {
-            return false;
-        }
-    }
-    true
+    word.chars().all(|letter| allowed.contains(letter))
 }
 
 const NUMBER: &str = "a number has no 0 in front, unless it is as 0x1F, and is at most 4294967295";
@@ -265,45 +245,27 @@ fn narrowed(text: &[u8], span: Span, fault: &LexFault) -> Span {
 
 // Whether it is known where the text goes on after a fault.
 fn has_end(fault: &LexFault) -> bool {
-    match fault {
-        LexFault::BadCharacter { .. } | LexFault::BadEscape { .. } | LexFault::BadNumber { .. } =>
-            true,
-        _ => false,
-    }
-}
-
-// Sets the place of a fault on a line. The answer is from where on the text may be looked at again.
-fn place_on(
-    alloc: Global,
-    text: &[u8],
-    line: u32,
-    fault: &LexFault,
-    found: &mut Diagnostic,
-) -> Result<Option<usize>, AllocError> {
-    if let Some(span) = find(alloc, text, line, fault)? {
-        let place = narrowed(text, span, fault);
-        found.place = Some(place);
-        return Ok(if has_end(fault) {
-            Some(place.start)
-        } else {
-            None
-        });
-    }
-    let start = start_of_line(text, line);
-    found.place = Some(Span { start, end: start });
-    Ok(None)
+    matches!(
+        fault,
+        LexFault::BadCharacter { .. } | LexFault::BadEscape { .. } | LexFault::BadNumber { .. }
+    )
 }
 
 // Whether a fault may come of a quote that is missing before it.
 fn may_miss_quote(fault: &LexFault) -> bool {
-    match fault {
-        LexFault::OpenString { .. }
-        | LexFault::BadCharacter { .. }
-        | LexFault::BadEscape { .. }
-        | LexFault::BadNumber { .. }
-        | LexFault::Directive { .. } => true,
-        _ => false,
-    }
+    has_end(fault)
+        || matches!(
+            fault,
+            LexFault::OpenString { .. } | LexFault::Directive { .. }
+        )
+}
+
+// Whether a fault is that of a word or a sign outside of strings.
+fn is_outside(fault: &LexFault) -> bool {
+    matches!(
+        fault,
+        LexFault::BadCharacter { .. } | LexFault::BadNumber { .. }
+    )
 }
 
 // Whether a word begins right after a string, as where a quote is missing and those after it open
@@ -322,7 +284,8 @@ fn first_long_string(text: &[u8], before: usize, any: bool) -> Option<Span> {
             return None;
         }
         let piece = piece_at(text, place);
-        let is_long = piece.shape == Shape::String && text_in(text, piece.span).contains('\n');
+        let is_long = matches!(piece.shape, Shape::String)
+            && text_in(text, piece.span).contains('\n');
         if is_long && (any || goes_on(text, piece.span)) {
             return Some(piece.span);
         }
@@ -333,31 +296,13 @@ fn first_long_string(text: &[u8], before: usize, any: bool) -> Option<Span> {
 
 /// Says which string may be the one that misses its quote, where an earlier one than the place goes
 /// over several lines: any such, or one after which a word goes on.
-pub fn help_long_string(
-    alloc: Global,
-    text: &[u8],
-    before: Option<Span>,
-    any: bool,
-    found: &mut Diagnostic,
-) -> Result<(), AllocError> {
-    let before = match before {
-        Some(place) => place.start,
-        None => text.len(),
-    };
-    match first_long_string(text, before, any) {
-        Some(place) => {
-            let help = String::from_str(alloc, "a string goes over several lines, which begins")?;
-            found.help_at(Some(place), help)
-        }
-        None => Ok(()),
-    }
-}
-
-// Whether a fault is that of a word or a sign outside of strings.
-fn is_outside(fault: &LexFault) -> bool {
-    match fault {
-        LexFault::BadCharacter { .. } | LexFault::BadNumber { .. } => true,
-        _ => false,
+pub fn help_long_string(text: &[u8], before: Option<usize>, any: bool, found: &mut Draft) {
+    let before = before.unwrap_or(text.len());
+    if let Some(place) = first_long_string(text, before, any) {
+        found.say_at(
+            Some(place),
+            "a string goes over several lines, which begins",
+        );
     }
 }
 
@@ -372,65 +317,77 @@ fn is_remark(text: &[u8], fault: &LexFault, place: Option<Span>) -> bool {
     let (LexFault::Directive { .. }, Some(place)) = (fault, place) else {
         return false;
     };
-    let end = end_of_line(text, place.start);
-    let words = text_in(
-        text,
-        Span {
-            start: place.start.saturating_add(1),
-            end,
-        },
-    )
-    .trim_start();
-    for word in DIRECTIVES {
-        if words.starts_with(word) {
-            return false;
-        }
-    }
-    !words.is_empty()
-}
-
-// Where the line of a place ends.
-fn end_of_line(text: &[u8], place: usize) -> usize {
-    for (number, byte) in text.iter().enumerate().skip(place) {
-        if *byte == b'\n' {
-            return number;
-        }
-    }
-    text.len()
+    let line = text.get(place.start..).unwrap_or(b"");
+    let start = place.start.saturating_add(1);
+    let end = place.start.saturating_add(line_length(line));
+    let words = text_in(text, Span { start, end }).trim_start();
+    !words.is_empty() && !DIRECTIVES.iter().any(|word| words.starts_with(*word))
 }
 
 // Says what helps at a fault, or the quote that is missing before it.
-fn help_fault(
-    alloc: Global,
-    text: &[u8],
-    fault: &LexFault,
-    help: String,
-    found: &mut Diagnostic,
-) -> Result<(), AllocError> {
-    let place = found.place;
+fn help_fault(text: &[u8], fault: &LexFault, place: Option<Span>, found: &mut Draft) {
+    let is_open = matches!(fault, LexFault::OpenString { .. });
     let quote = match place {
         Some(place) if may_miss_quote(fault) => missing_quote(text, place.start),
         _ => None,
     };
-    let is_open = matches!(fault, LexFault::OpenString { .. });
-    if let Some(quote) = quote {
-        if is_open {
-            found.help(help)?;
+    if is_open || quote.is_none() {
+        found.help(help_at(found.alloc, text, fault, place));
+    }
+    match (quote, place) {
+        (Some(quote), _) => found.say_at(Some(quote.string), quote.help),
+        (None, Some(place)) if is_open => help_long_string(text, Some(place.start), true, found),
+        (None, Some(place)) if is_outside(fault) && is_before_quote(text, place.end) => {
+            found.say("a quote may be missing before this, at the beginning of a text")
         }
-        let text = String::from_str(alloc, quote.help)?;
-        return found.help_at(Some(quote.string), text);
+        _ => {}
     }
-    found.help(help)?;
-    if is_open {
-        return help_long_string(alloc, text, place, true, found);
+}
+
+// Where a fault is, if it has a place, and from where on the text may be looked at again.
+fn place_of(
+    alloc: Global,
+    text: &[u8],
+    fault: &LexFault,
+) -> Result<(Option<Span>, Option<usize>), AllocError> {
+    let start = match (fault, fault.line()) {
+        (LexFault::NotUtf8 { .. }, _) => valid_length(text),
+        (_, None) => return Ok((None, None)),
+        (_, Some(line)) => match find(alloc, text, line, fault)? {
+            Some(span) => {
+                let place = narrowed(text, span, fault);
+                return Ok((Some(place), has_end(fault).then_some(place.start)));
+            }
+            None => start_of_line(text, line),
+        },
+    };
+    Ok((Some(Span { start, end: start }), None))
+}
+
+// What helps at a fault, with the byte before its place and the one after it.
+fn help_at(
+    alloc: Global,
+    text: &[u8],
+    fault: &LexFault,
+    place: Option<Span>,
+) -> Result<String, AllocError> {
+    let (word, before, after) = match place {
+        Some(place) => (
+            text_in(text, place),
+            byte_at(text, place.start.saturating_sub(1)),
+            byte_at(text, place.start.saturating_add(1)),
+        ),
+        None => ("", 0, 0),
+    };
+    if let Some(character) = named_character(fault, word) {
+        return help_of_character(alloc, character);
     }
-    match place {
-        Some(place) if is_outside(fault) && is_before_quote(text, place.end) => {
-            let help = "a quote may be missing before this, at the beginning of a text";
-            found.help(String::from_str(alloc, help)?)
-        }
-        _ => Ok(()),
-    }
+    let help = if is_remark(text, fault, place) {
+        "a comment is written // .. or /* .. */"
+    } else {
+        help_of(fault, word, before, after)
+    };
+    String::from_str(alloc, help)
 }
 
 /// What is said of a text that has no tokens.
@@ -440,38 +397,12 @@ pub fn found_in(
     fault: &LexFault,
     refusal: String,
 ) -> Result<Found, AllocError> {
-    let mut diagnostic = Diagnostic::new(alloc, Finding::Refused(refusal));
-    let goes_on = match (fault, fault.line()) {
-        (LexFault::NotUtf8 { .. }, _) => {
-            let start = valid_length(text);
-            diagnostic.place = Some(Span { start, end: start });
-            None
-        }
-        (_, Some(line)) => place_on(alloc, text, line, fault, &mut diagnostic)?,
-        (_, None) => None,
-    };
-    let word = match diagnostic.place {
-        Some(place) => text_in(text, place),
-        None => "",
-    };
-    let before = match diagnostic.place {
-        Some(place) => byte_at(text, place.start.saturating_sub(1)),
-        None => 0,
-    };
-    let after = match diagnostic.place {
-        Some(place) => byte_at(text, place.start.saturating_add(1)),
-        None => 0,
-    };
-    let help = match named_character(alloc, fault, word)? {
-        None if is_remark(text, fault, diagnostic.place) => {
-            String::from_str(alloc, "a comment is written // .. or /* .. */")?
-        }
-        Some(help) => help,
-        None => String::from_str(alloc, help_of(fault, word, before, after))?,
-    };
-    help_fault(alloc, text, fault, help, &mut diagnostic)?;
+    let (place, goes_on) = place_of(alloc, text, fault)?;
+    let mut found = Draft::new(alloc, Finding::Refused(refusal));
+    found.show_at(place);
+    help_fault(text, fault, place, &mut found);
     Ok(Found {
-        diagnostic,
+        diagnostic: found.finish()?,
         goes_on,
     })
 }

@@ -44,19 +44,15 @@ fn closes(text: &[u8], string: Span) -> bool {
         start: string.start.saturating_add(1),
         end: string.end,
     };
-    match text_in(text, inside).trim_start().chars().next() {
-        Some(first) => matches!(first, ';' | ',' | ')' | '}'),
-        None => false,
-    }
+    text_in(text, inside)
+        .trim_start()
+        .starts_with(&[';', ',', ')', '}'])
 }
 
 // Whether the first line of a string ends as a line of code.
 fn is_code(words: &str) -> bool {
     match words.split_once('\n') {
-        Some((first, _)) => {
-            let first = first.trim_end();
-            first.ends_with(';') || first.ends_with('}') || first.ends_with('{')
-        }
+        Some((first, _)) => first.trim_end().ends_with(&[';', '}', '{']),
         None => false,
     }
 }
@@ -80,7 +76,7 @@ pub fn missing_quote(text: &[u8], before: usize) -> Option<MissingQuote> {
             return None;
         }
         let piece = piece_at(text, place);
-        if piece.shape == Shape::String && is_too_long(text, piece.span) {
+        if matches!(piece.shape, Shape::String) && is_too_long(text, piece.span) {
             return Some(MissingQuote {
                 string: piece.span,
                 help: if closes(text, piece.span) {

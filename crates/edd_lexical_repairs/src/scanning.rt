@@ -3,7 +3,7 @@
 use edd_reports::words::Span;
 
 /// What a piece of a text is, as far as it can be told from its first bytes.
-#[derive(Clone, Copy, PartialEq, Eq)]
+#[derive(Clone, Copy)]
 pub enum Shape {
     Gap,
     Comment,
@@ -37,14 +37,11 @@ fn comment_length(text: &[u8]) -> Option<usize> {
     None
 }
 
-// How many bytes there are before the first LF.
-fn line_length(text: &[u8]) -> usize {
-    for (index, byte) in text.iter().enumerate() {
-        if *byte == b'\n' {
-            return index;
-        }
-    }
-    text.len()
+/// How many bytes there are before the first LF.
+pub fn line_length(text: &[u8]) -> usize {
+    text.iter()
+        .position(|byte| *byte == b'\n')
+        .unwrap_or(text.len())
 }
 
 // How many bytes there are up to the quote that closes a string and with it.
@@ -68,39 +65,24 @@ fn is_of_word(byte: u8) -> bool {
 }
 
 fn word_length(text: &[u8]) -> usize {
-    for (index, byte) in text.iter().enumerate() {
-        if !is_of_word(*byte) {
-            return index;
-        }
-    }
-    text.len()
-}
-
-/// The first piece of a text, by its length.
-#[derive(Clone, Copy)]
-struct First {
-    shape: Shape,
-    length: usize,
-}
-
-fn piece_of(shape: Shape, length: usize) -> First {
-    First { shape, length }
+    text.iter()
+        .position(|byte| !is_of_word(*byte))
+        .unwrap_or(text.len())
 }
 
 // What begins with `/*` or `"`, from the first byte after that.
-fn closed(shape: Shape, open: Shape, before: usize, length: Option<usize>) -> First {
+fn closed(shape: Shape, open: Shape, before: usize, length: Option<usize>) -> (Shape, usize) {
     match length {
-        Some(length) => piece_of(shape, before.saturating_add(length)),
-        None => piece_of(open, before),
+        Some(length) => (shape, before.saturating_add(length)),
+        None => (open, before),
     }
 }
 
-fn first_piece(text: &[u8]) -> First {
+// The first piece of a text, by its length.
+fn first_piece(text: &[u8]) -> (Shape, usize) {
     match text {
-        [b' ' | b'\t' | b'\r' | b'\n' | 0x0b | 0x0c, ..] => piece_of(Shape::Gap, 1),
-        [b'/', b'/', behind @ ..] => {
-            piece_of(Shape::Comment, line_length(behind).saturating_add(2))
-        }
+        [b' ' | b'\t' | b'\r' | b'\n' | 0x0b | 0x0c, ..] => (Shape::Gap, 1),
+        [b'/', b'/', behind @ ..] => (Shape::Comment, line_length(behind).saturating_add(2)),
         [b'/', b'*', behind @ ..] => {
             closed(
                 Shape::Comment,
@@ -110,14 +92,14 @@ fn first_piece(text: &[u8]) -> First {
             )
         }
         [b'"', behind @ ..] => closed(Shape::String, Shape::OpenString, 1, string_length(behind)),
-        [byte, ..] if is_of_word(*byte) => piece_of(Shape::Word, word_length(text)),
-        _ => piece_of(Shape::Sign, 1),
+        [byte, ..] if is_of_word(*byte) => (Shape::Word, word_length(text)),
+        _ => (Shape::Sign, 1),
     }
 }
 
 /// The piece that begins at a place.
 pub fn piece_at(text: &[u8], start: usize) -> Scanned {
-    let First { shape, length } = first_piece(text.get(start..).unwrap_or(b""));
+    let (shape, length) = first_piece(text.get(start..).unwrap_or(b""));
     let end = start.saturating_add(length);
     Scanned {
         shape,

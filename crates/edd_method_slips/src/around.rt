@@ -32,26 +32,9 @@ pub struct Around<'a> {
     pub before: &'a Token,
 }
 
-/// Whether the token that does not fit is in the body of a method.
-pub fn is_in_body(at: At<'_>) -> bool {
-    match Around::of(at) {
-        Some(around) => around.is_in_method(),
-        None => false,
-    }
-}
-
 pub fn on(token: &Token, help: &'static str) -> Option<Slip> {
     Some(Slip {
         place: span_of(token),
-        help,
-    })
-}
-
-/// A slip right after a token.
-pub fn behind(token: &Token, help: &'static str) -> Option<Slip> {
-    let end = token.end as usize;
-    Some(Slip {
-        place: Span { start: end, end },
         help,
     })
 }
@@ -60,30 +43,104 @@ pub fn is_symbol(token: &Token, symbol: Symbol) -> bool {
     token.kind == TokenKind::Symbol(symbol)
 }
 
+pub fn is_keyword(token: &Token, word: Keyword) -> bool {
+    token.kind == TokenKind::Keyword(word)
+}
+
+pub fn is_integer(token: &Token) -> bool {
+    matches!(token.kind, TokenKind::Integer(_))
+}
+
 pub fn is_joined(before: &Token, token: &Token) -> bool {
     before.end == token.start
+}
+
+impl<'a> At<'a> {
+    /// The token that does not fit.
+    pub fn token(&self) -> Option<&'a Token> {
+        self.tokens.get(self.number)
+    }
+
+    /// The token so many places before it.
+    pub fn back(&self, count: usize) -> Option<&'a Token> {
+        self.tokens.get(self.number.checked_sub(count)?)
+    }
+
+    /// The token after it.
+    pub fn ahead(&self) -> Option<&'a Token> {
+        self.tokens.get(self.number.saturating_add(1))
+    }
+
+    /// What the token so many places before it is.
+    pub fn kind_back(&self, count: usize) -> Option<TokenKind> {
+        Some(self.back(count)?.kind)
+    }
+
+    /// Whether the token so many places before it is this sign.
+    pub fn is_back(&self, count: usize, sign: Symbol) -> bool {
+        self.kind_back(count) == Some(TokenKind::Symbol(sign))
+    }
+
+    /// Whether the token after it is this sign.
+    pub fn is_ahead(&self, sign: Symbol) -> bool {
+        self.ahead().is_some_and(|token| is_symbol(token, sign))
+    }
+
+    /// Whether it is in the body of a method: the last DEFINITION is after the last word of an item.
+    /// Words of items stand in no body.
+    pub fn is_in_body(&self) -> bool {
+        let before = self.tokens.get(..self.number).unwrap_or(&[]);
+        let last = before.iter().rev().find(|token| is_keyword(token, Keyword::Definition)
+            || item_kind(token).is_some());
+        last.is_some_and(|token| is_keyword(token, Keyword::Definition))
+    }
 }
 
 impl<'a> Around<'a> {
     pub fn of(at: At<'a>) -> Option<Around<'a>> {
         Some(Around {
             at,
-            token: at.tokens.get(at.number)?,
-            before: at.tokens.get(at.number.checked_sub(1)?)?,
+            token: at.token()?,
+            before: at.back(1)?,
+        })
+    }
+
+    /// Whether the token that does not fit is this sign.
+    pub fn is(&self, sign: Symbol) -> bool {
+        is_symbol(self.token, sign)
+    }
+
+    /// Whether the token before it is this sign.
+    pub fn follows(&self, sign: Symbol) -> bool {
+        is_symbol(self.before, sign)
+    }
+
+    /// Whether both are on one line.
+    pub fn is_on_line(&self) -> bool {
+        self.before.line == self.token.line
+    }
+
+    /// A slip at the token that does not fit.
+    pub fn here(&self, help: &'static str) -> Option<Slip> {
+        on(self.token, help)
+    }
+
+    /// A slip at the token before it.
+    pub fn on_before(&self, help: &'static str) -> Option<Slip> {
+        on(self.before, help)
+    }
+
+    /// A slip right after the token before it.
+    pub fn behind(&self, help: &'static str) -> Option<Slip> {
+        let end = self.before.end as usize;
+        Some(Slip {
+            place: Span { start: end, end },
+            help,
         })
     }
 
     pub fn word(&self, token: &Token) -> &'a str {
         word_of(self.at.text, token)
-    }
-
-    /// The token so many places before the one that does not fit.
-    pub fn back(&self, count: usize) -> Option<&'a Token> {
-        self.at.tokens.get(self.at.number.checked_sub(count)?)
-    }
-
-    pub fn ahead(&self) -> Option<&'a Token> {
-        self.at.tokens.get(self.at.number.saturating_add(1))
     }
 
     /// The number of the token with which the statement begins that holds the one before.
@@ -105,21 +162,27 @@ impl<'a> Around<'a> {
         first
     }
 
-    /// Whether the token is in the body of a method: the last DEFINITION is after the last word of an
-    /// item. Words of items stand in no body.
-    pub fn is_in_method(&self) -> bool {
-        for count in 1..=self.at.number {
-            let Some(token) = self.back(count) else {
-                return false;
-            };
-            if token.kind == TokenKind::Keyword(Keyword::Definition) {
-                return true;
-            }
-            if item_kind(token).is_some() {
-                return false;
-            }
-        }
-        false
+    /// The tokens of that statement up to the one before.
+    pub fn so_far(&self) -> &'a [Token] {
+        self.at
+            .tokens
+            .get(self.statement()..self.at.number)
+            .unwrap_or(&[])
+    }
+
+    /// Whether that statement begins with the token before.
+    pub fn is_second(&self) -> bool {
+        self.statement().saturating_add(1) == self.at.number
+    }
+
+    /// The number of the sign that opens what the token before closes.
+    pub fn opening(&self, pair: Pair) -> Option<usize> {
+        opened(self.at.tokens, self.at.number.checked_sub(1)?, 0, pair)
+    }
+
+    /// The word before the parentheses that the token before closes.
+    pub fn word_before(&self) -> Option<&'a Token> {
+        word_before(self.at.tokens, self.at.number.checked_sub(1)?)
     }
 }
 

@@ -1,13 +1,13 @@
 //! Slips in the bodies of methods that are known by the tokens around them.
 
 use crate::around::{
-    Around, At, BRACES, PARENTHESES, Slip, behind, is_joined, is_symbol, on, open_brace, opened,
-    word_before,
+    Around, At, BRACES, PARENTHESES, Slip, is_joined, is_keyword, is_symbol, on, opened,
 };
 use crate::branches::{lone_else, no_condition, no_word};
 use crate::values::value_slip;
 use edd_lexer::token::{Token, TokenKind};
 use edd_reports::outline::Outline;
+use edd_reports::tables::said_of;
 use edd_reports::words::{is_sign, is_word};
 use edd_syntax::numbers::{Attr, Kind};
 use edd_syntax::operators::Operator;
@@ -16,35 +16,24 @@ use edd_syntax::symbols::{Keyword, Symbol};
 /// How many tokens are looked at for the `for` whose parts these are.
 const LONGEST: usize = 64;
 
-fn is_keyword(token: &Token, word: Keyword) -> bool {
-    token.kind == TokenKind::Keyword(word)
-}
-
-// What is said of a word that begins statements in other languages.
-fn help_of_word(word: &str) -> Option<&'static str> {
-    match word {
-        "begin" | "BEGIN" | "end" | "END" => Some("statements stand between { and }"),
-        "repeat" | "REPEAT" => Some("such a loop is written do { .. } while (..);"),
-        "try" | "catch" | "throw" => Some("there is no try: a function gives a code"),
-        "print" | "printf" => Some("a text is shown by PUT_MESSAGE(..)"),
-        "unless" => Some("there is no unless: the opposite is written if (!(..))"),
-        "foreach" | "loop" => Some("a loop is written for (..; ..; ..) or while (..)"),
-        "set" | "let" | "call" => Some("this word may be left out"),
-        "then" => Some("then may be left out"),
-        "THEN" => Some("THEN may be left out"),
-        "otherwise" => Some("the other branch begins with else"),
-        "exit" | "leave" => Some("a loop is left by break;"),
-        "this" | "self" => Some("a variable or a function is named alone"),
-        "enum" | "struct" | "union" | "typedef" => Some(
-            "a method declares numbers alone, as in int k = 1;",
-        ),
-        "goto" => Some("there are no labels, and no goto"),
-        "function" | "def" | "sub" => Some(
-            "there are no functions of one's own: what is done again stands in a loop",
-        ),
-        _ => None,
-    }
-}
+/// Words that begin statements in other languages, and what is said of them.
+const HELPS: &str = "
+begin BEGIN end END: statements stand between { and }
+repeat REPEAT: such a loop is written do { .. } while (..);
+try catch throw: there is no try: a function gives a code
+print printf: a text is shown by PUT_MESSAGE(..)
+unless: there is no unless: the opposite is written if (!(..))
+foreach loop: a loop is written for (..; ..; ..) or while (..)
+set let call: this word may be left out
+then: then may be left out
+THEN: THEN may be left out
+otherwise: the other branch begins with else
+exit leave: a loop is left by break;
+this self: a variable or a function is named alone
+enum struct union typedef: a method declares numbers alone, as in int k = 1;
+goto: there are no labels, and no goto
+function def sub: there are no functions of one's own: what is done again stands in a loop
+";
 
 // The number of the parenthesis that is open before the token, also across the `;` of a `for`.
 fn open_before(around: &Around<'_>) -> Option<usize> {
@@ -67,22 +56,20 @@ fn open_before(around: &Around<'_>) -> Option<usize> {
 
 // A fourth part of a `for`, a second expression in one, or one part alone.
 fn part_of_for(around: &Around<'_>) -> Option<Slip> {
-    let help = match around.token.kind {
-        TokenKind::Symbol(Symbol::Semicolon) => "a for has three parts",
-        TokenKind::Symbol(Symbol::Colon) => "a for has three parts, as in for (i = 0; i < 3; i++)",
-        TokenKind::Symbol(Symbol::CloseParenthesis) => {
+    let help = match (around.token.kind, around.word(around.token)) {
+        (TokenKind::Symbol(Symbol::Semicolon), _) => "a for has three parts",
+        (TokenKind::Symbol(Symbol::Colon | Symbol::CloseParenthesis), _)
+        | (TokenKind::Name, "in" | "of" | "to") => {
             "a for has three parts, as in for (i = 0; i < 3; i++)"
         }
-        TokenKind::Name if matches!(around.word(around.token), "in" | "of" | "to") => {
-            "a for has three parts, as in for (i = 0; i < 3; i++)"
+        (TokenKind::Symbol(Symbol::Comma), _) => {
+            "one expression stands in each part of a for, and ; parts them"
         }
-        TokenKind::Symbol(Symbol::Comma) =>
-            "one expression stands in each part of a for, and ; parts them",
         _ => return None,
     };
-    let open = open_before(around)?;
-    if is_word(around.at.tokens, open.checked_sub(1)?, Keyword::For) {
-        return on(around.token, help);
+    let word = open_before(around)?.checked_sub(1)?;
+    if is_word(around.at.tokens, word, Keyword::For) {
+        return around.here(help);
     }
     None
 }
@@ -90,29 +77,19 @@ fn part_of_for(around: &Around<'_>) -> Option<Slip> {
 // Whether the parentheses before the token are those of the `while` that ends a `do`.
 fn ends_do(around: &Around<'_>) -> bool {
     let tokens = around.at.tokens;
-    for count in 2..=around.at.number {
-        let number = around.at.number.saturating_sub(count);
-        if !is_word(tokens, number, Keyword::While) {
-            continue;
-        }
-        let Some(brace) = number.checked_sub(1) else {
-            return false;
-        };
-        return match opened(tokens, brace, 0, BRACES) {
-            Some(open) if is_sign(tokens, brace, Symbol::CloseBrace) => is_word(
-                tokens,
-                open.saturating_sub(1),
-                Keyword::Do,
-            ),
-            _ => false,
-        };
-    }
-    false
+    let mut before = (0..around.at.number.saturating_sub(1)).rev();
+    let word = before.find(|number| is_word(tokens, *number, Keyword::While));
+    let Some(brace) = word.and_then(|number| number.checked_sub(1)) else {
+        return false;
+    };
+    let open = opened(tokens, brace, 0, BRACES);
+    is_sign(tokens, brace, Symbol::CloseBrace)
+        && open.is_some_and(|open| is_word(tokens, open.saturating_sub(1), Keyword::Do))
 }
 
 // What is missing before a closing brace.
 fn cut_off(around: &Around<'_>) -> Option<Slip> {
-    if !is_symbol(around.token, Symbol::CloseBrace) {
+    if !around.is(Symbol::CloseBrace) {
         return None;
     }
     match around.before.kind {
@@ -126,15 +103,15 @@ fn cut_off(around: &Around<'_>) -> Option<Slip> {
             | Symbol::Question
             | Symbol::OpenParenthesis
             | Symbol::Comma,
-        ) => on(around.before, "a value is missing after this sign"),
+        ) => around.on_before("a value is missing after this sign"),
         TokenKind::Keyword(Keyword::MethodElse) => {
-            on(around.before, "a statement is missing after this else")
+            around.on_before("a statement is missing after this else")
         }
         TokenKind::Symbol(Symbol::CloseParenthesis) => {
-            let word = word_before(around.at.tokens, around.at.number.checked_sub(1)?)?;
+            let word = around.word_before()?;
             match word.kind {
                 TokenKind::Keyword(Keyword::While) if ends_do(around) => {
-                    behind(around.before, "a ; is missing here")
+                    around.behind("a ; is missing here")
                 }
                 TokenKind::Keyword(
                     Keyword::MethodIf | Keyword::While | Keyword::For | Keyword::Switch,
@@ -148,79 +125,71 @@ fn cut_off(around: &Around<'_>) -> Option<Slip> {
 
 // A `do` whose `while` is missing after its braces.
 fn half_of_do(around: &Around<'_>) -> Option<Slip> {
-    if !is_symbol(around.before, Symbol::CloseBrace) {
+    if !around.follows(Symbol::CloseBrace) {
         return None;
     }
-    let open = opened(
-        around.at.tokens,
-        around.at.number.checked_sub(1)?,
-        0,
-        BRACES,
-    )?;
-    let word = open.checked_sub(1)?;
+    let word = around.opening(BRACES)?.checked_sub(1)?;
     if !is_word(around.at.tokens, word, Keyword::Do) {
         return None;
     }
-    let token = around.at.tokens.get(word)?;
-    if is_sign(
+    let is_while = is_sign(
         around.at.tokens,
         word.checked_sub(1)?,
         Symbol::CloseParenthesis,
-    ) {
-        return on(
-            token,
-            "a loop begins with while (..) or with do, and not with both",
-        );
-    }
-    on(token, "this do ends with while (..); after its braces")
+    );
+    let help = if is_while {
+        "a loop begins with while (..) or with do, and not with both"
+    } else {
+        "this do ends with while (..); after its braces"
+    };
+    on(around.at.tokens.get(word)?, help)
 }
+
+const FUNCTIONS: &str = "PUT_MESSAGE send_command save_values process_abort ivar_value lvar_value";
 
 // Whether two words are the name of a function without the `_` between them.
 fn is_parted(around: &Around<'_>) -> bool {
-    matches!(
-        (around.word(around.before), around.word(around.token)),
-        ("PUT", "MESSAGE")
-            | ("send", "command")
-            | ("save", "values")
-            | ("process", "abort")
-            | ("ivar" | "lvar", "value")
-    )
+    let (before, word) = (around.word(around.before), around.word(around.token));
+    for name in FUNCTIONS.split(' ') {
+        if let Some((first, last)) = name.split_once('_') {
+            if first == before && last == word {
+                return true;
+            }
+        }
+    }
+    false
 }
 
 // Whether a statement begins with the token before.
 fn begins(around: &Around<'_>) -> bool {
-    let is_branch = around.back(2).is_some_and(|token| {
-        is_symbol(token, Symbol::CloseParenthesis) || is_keyword(token, Keyword::MethodElse)
-    });
-    is_branch || around.statement() == around.at.number.saturating_sub(1)
+    around.is_second()
+        || around.at.is_back(2, Symbol::CloseParenthesis)
+        || around
+            .at
+            .back(2)
+            .is_some_and(|token| is_keyword(token, Keyword::MethodElse))
 }
 
 // A statement that does not go on as its word asks.
 fn after_word(around: &Around<'_>) -> Option<Slip> {
-    let is_on_line = around.before.line == around.token.line;
     match around.before.kind {
-        TokenKind::Keyword(Keyword::Break | Keyword::Continue) if is_on_line => {
-            on(around.token, "break and continue stand alone")
+        TokenKind::Keyword(Keyword::Break | Keyword::Continue) if around.is_on_line() => {
+            around.here("break and continue stand alone")
         }
-        TokenKind::Name if is_symbol(around.token, Symbol::Colon) => {
-            match around.ahead().map(|next| next.kind) {
+        TokenKind::Name if around.is(Symbol::Colon) => {
+            match around.at.ahead().map(|next| next.kind) {
                 Some(TokenKind::Keyword(Keyword::Int | Keyword::Long)) => {
-                    on(around.before, "a local is declared as in int k;")
+                    around.on_before("a local is declared as in int k;")
                 }
-                _ if around.statement() == around.at.number.saturating_sub(1) => {
-                    on(around.before, "there are no labels, and no goto")
-                }
+                _ if around.is_second() => around.on_before("there are no labels, and no goto"),
                 _ => None,
             }
         }
         TokenKind::Name if around.token.kind == TokenKind::Name && is_parted(around) => {
-            on(
-                around.token,
-                "a name of a function is one word, as send_command",
-            )
+            around.here("a name of a function is one word, as send_command")
         }
         TokenKind::Name if begins(around) => {
-            on(around.before, help_of_word(around.word(around.before))?)
+            around.on_before(said_of(around.word(around.before), HELPS)?)
         }
         _ => None,
     }
@@ -245,7 +214,7 @@ fn goes_on_with_value(around: &Around<'_>) -> bool {
 // A call after which no `;` comes: a branch whose word is another one, or in capitals.
 fn after_call(around: &Around<'_>, word: &Token) -> Option<Slip> {
     let name = around.word(word);
-    if let Some(help) = help_of_word(name) {
+    if let Some(help) = said_of(name, HELPS) {
         return on(word, help);
     }
     for (branch, help) in BRANCHES {
@@ -253,16 +222,12 @@ fn after_call(around: &Around<'_>, word: &Token) -> Option<Slip> {
             return on(word, help);
         }
     }
-    let closing = around.at.number.checked_sub(1)?;
-    let open = opened(around.at.tokens, closing, 0, PARENTHESES)?;
-    let is_first = around.statement().saturating_add(1) == open;
-    if is_first && is_symbol(around.token, Symbol::OpenBrace) {
-        return on(
-            word,
-            "no branch and no loop begins with this word, but with if, while, for or switch",
-        );
+    let is_first = around.statement().saturating_add(1) == around.opening(PARENTHESES)?;
+    if !is_first || !around.is(Symbol::OpenBrace) {
+        return None;
     }
-    None
+    let help = "no branch and no loop begins with this word, but with if, while, for or switch";
+    on(word, help)
 }
 
 /// The words of branches and loops, which are written in small letters.
@@ -275,23 +240,17 @@ const BRANCHES: [(&str, &str); 4] = [
 
 // What is said where a statement follows parentheses.
 fn after_parentheses(around: &Around<'_>) -> Option<Slip> {
-    let word = word_before(around.at.tokens, around.at.number.checked_sub(1)?)?;
+    let word = around.word_before()?;
     match word.kind {
         TokenKind::Keyword(Keyword::MethodElse) => on(word, "an if is missing after this else"),
         TokenKind::Name => after_call(around, word),
         TokenKind::Keyword(Keyword::MethodIf | Keyword::While | Keyword::Switch)
             if goes_on_with_value(around) => {
-            on(
-                around.token,
-                "the ) before this ends the condition: parentheses stand around all of it",
-            )
+            around.here("the ) before this ends the condition: parentheses stand around all of it")
         }
         TokenKind::Keyword(Keyword::MethodIf | Keyword::While | Keyword::For | Keyword::Switch)
-            if is_symbol(around.token, Symbol::Colon) => {
-            on(
-                around.token,
-                "a statement stands right after the parentheses, without a sign",
-            )
+            if around.is(Symbol::Colon) => {
+            around.here("a statement stands right after the parentheses, without a sign")
         }
         _ => None,
     }
@@ -299,53 +258,31 @@ fn after_parentheses(around: &Around<'_>) -> Option<Slip> {
 
 // What may not stand in the place of a statement or of an argument.
 fn in_place(around: &Around<'_>) -> Option<Slip> {
-    if let Some(slip) = no_condition(around) {
-        return Some(slip);
-    }
-    let after = around.before.kind;
-    let begins = matches!(
-        after,
-        TokenKind::Symbol(Symbol::CloseParenthesis) | TokenKind::Keyword(Keyword::MethodElse)
-    );
-    match around.token.kind {
-        TokenKind::Keyword(Keyword::MethodElse) => lone_else(around),
-        TokenKind::Keyword(Keyword::Int | Keyword::Long) if begins => {
-            on(
-                around.token,
-                "a local is declared between braces, as in { int k; .. }",
-            )
+    match (around.before.kind, around.token.kind) {
+        (_, TokenKind::Keyword(Keyword::MethodElse)) => lone_else(around),
+        (
+            TokenKind::Symbol(Symbol::CloseParenthesis) | TokenKind::Keyword(Keyword::MethodElse),
+            TokenKind::Keyword(Keyword::Int | Keyword::Long),
+        ) => around.here("a local is declared between braces, as in { int k; .. }"),
+        (TokenKind::Symbol(Symbol::Comma), TokenKind::Symbol(Symbol::CloseParenthesis)) => {
+            around.on_before("a value is missing after this comma, or the comma is one too many")
         }
-        TokenKind::Symbol(Symbol::CloseParenthesis)
-            if matches!(after, TokenKind::Symbol(Symbol::Comma)) => {
-            on(
-                around.before,
-                "a value is missing after this comma, or the comma is one too many",
-            )
+        (TokenKind::Symbol(Symbol::OpenParenthesis), TokenKind::Symbol(Symbol::Comma)) => {
+            around.here("a value is missing before ,")
         }
-        TokenKind::Symbol(Symbol::Comma)
-            if matches!(after, TokenKind::Symbol(Symbol::OpenParenthesis)) => {
-            on(around.token, "a value is missing before ,")
+        (
+            TokenKind::Symbol(Symbol::Semicolon | Symbol::OpenBrace | Symbol::CloseBrace),
+            TokenKind::Symbol(Symbol::Operator(Operator::Divide | Operator::Multiply)),
+        ) => around.here("a comment is written // .. or /* .. */"),
+        (_, TokenKind::Symbol(Symbol::Comma))
+            if is_keyword(around.at.back(2)?, Keyword::MethodCase) => {
+            around.here("each label has a case of its own, as in case 1: case 2:")
         }
-        TokenKind::Symbol(Symbol::Operator(Operator::Divide | Operator::Multiply))
-            if matches!(
-                after,
-                TokenKind::Symbol(Symbol::Semicolon | Symbol::OpenBrace | Symbol::CloseBrace)
-            ) => { on(around.token, "a comment is written // .. or /* .. */") }
-        TokenKind::Symbol(Symbol::Comma) if is_keyword(around.back(2)?, Keyword::MethodCase) => {
-            on(
-                around.token,
-                "each label has a case of its own, as in case 1: case 2:",
-            )
-        }
-        TokenKind::Symbol(Symbol::Operator(Operator::And | Operator::Multiply))
-            if matches!(
-                after,
-                TokenKind::Symbol(Symbol::OpenParenthesis | Symbol::Comma | Symbol::Equals)
-            ) && is_joined(around.token, around.ahead()?) => {
-            on(
-                around.token,
-                "a variable is named alone, without a sign before it",
-            )
+        (
+            TokenKind::Symbol(Symbol::OpenParenthesis | Symbol::Comma | Symbol::Equals),
+            TokenKind::Symbol(Symbol::Operator(Operator::And | Operator::Multiply)),
+        ) if is_joined(around.token, around.at.ahead()?) => {
+            around.here("a variable is named alone, without a sign before it")
         }
         _ => None,
     }
@@ -353,128 +290,81 @@ fn in_place(around: &Around<'_>) -> Option<Slip> {
 
 /// A slip in the body of a method.
 pub fn statement_slip(around: &Around<'_>) -> Option<Slip> {
-    if !around.is_in_method() {
+    if !around.at.is_in_body() {
         return None;
     }
-    if let Some(slip) = in_place(around) {
-        return Some(slip);
-    }
-    if let Some(slip) = no_word(around) {
-        return Some(slip);
-    }
-    if let Some(slip) = after_parentheses(around) {
-        return Some(slip);
-    }
-    if let Some(slip) = after_word(around) {
-        return Some(slip);
-    }
-    if let Some(slip) = cut_off(around) {
-        return Some(slip);
-    }
-    if let Some(slip) = part_of_for(around) {
-        return Some(slip);
-    }
-    if let Some(slip) = half_of_do(around) {
-        return Some(slip);
-    }
-    value_slip(around)
+    no_condition(around)
+        .or_else(|| in_place(around))
+        .or_else(|| no_word(around))
+        .or_else(|| after_parentheses(around))
+        .or_else(|| after_word(around))
+        .or_else(|| cut_off(around))
+        .or_else(|| part_of_for(around))
+        .or_else(|| half_of_do(around))
+        .or_else(|| value_slip(around))
 }
 
 // Whether a statement begins with a token, and no attribute.
 fn begins_statement(at: At<'_>) -> bool {
-    let Some(token) = at.tokens.get(at.number) else {
-        return false;
-    };
-    let next = at.tokens.get(at.number.saturating_add(1));
-    match token.kind {
-        TokenKind::Keyword(
-            Keyword::MethodIf
-            | Keyword::While
-            | Keyword::Do
-            | Keyword::For
-            | Keyword::Switch
-            | Keyword::Return
-            | Keyword::Int
-            | Keyword::Long,
-        ) => true,
-        TokenKind::Name => match next {
-            Some(next) => matches!(
-                next.kind,
-                TokenKind::Symbol(
-                    Symbol::OpenParenthesis
-                        | Symbol::Equals
-                        | Symbol::CompoundAssign(_)
-                        | Symbol::Increment
-                        | Symbol::Decrement
-                )
+    match at.token().map(|token| token.kind) {
+        Some(
+            TokenKind::Keyword(
+                Keyword::MethodIf
+                | Keyword::While
+                | Keyword::Do
+                | Keyword::For
+                | Keyword::Switch
+                | Keyword::Return
+                | Keyword::Int
+                | Keyword::Long,
             ),
-            None => false,
-        },
+        ) => true,
+        Some(TokenKind::Name) => matches!(
+            at.ahead().map(|next| next.kind),
+            Some(TokenKind::Symbol(
+                Symbol::OpenParenthesis
+                    | Symbol::Equals
+                    | Symbol::CompoundAssign(_)
+                    | Symbol::Increment
+                    | Symbol::Decrement,
+            ),)
+        ),
         _ => false,
     }
 }
 
 // Whether an attribute begins with a token, and nothing else.
 fn begins_attribute(at: At<'_>) -> bool {
-    match at.tokens.get(at.number) {
-        Some(
-            Token {
-                kind: TokenKind::Keyword(word),
-                ..
-            },
-        ) => Attr::begun_by(*word).is_some(),
+    match at.token().map(|token| token.kind) {
+        Some(TokenKind::Keyword(word)) => Attr::begun_by(word).is_some(),
         _ => false,
     }
 }
 
-// The kind of the last item before a token.
-fn last_item(at: At<'_>, outline: &Outline) -> Option<Kind> {
-    let mut last = None;
-    for item in outline.items.iter() {
-        if item.name < at.number {
-            last = Some(item.kind);
-        }
-    }
-    last
+// Whether a token is in the braces of a METHOD that open at another one, behind its body.
+fn is_behind_body(at: At<'_>, outline: &Outline, open: usize) -> bool {
+    outline.kind_around(at.tokens, at.number) == Some(Kind::Method)
+        && (open..at.number).any(|number| is_word(at.tokens, number, Keyword::Definition))
 }
 
 /// The brace that ends a method or its body too early, where statements go on after it.
 pub fn early_end(at: At<'_>, outline: &Outline) -> Option<Slip> {
-    let brace = at.tokens.get(at.number.checked_sub(1)?)?;
-    if begins_attribute(at) && is_symbol(brace, Symbol::CloseBrace) {
-        if outline.opened(at.tokens, at.number).is_none() {
-            return on(
-                brace,
-                "this brace ends the item: one closing brace may be too many up to here",
-            );
-        }
+    let brace = at.back(1)?;
+    if !is_symbol(brace, Symbol::CloseBrace) {
         return None;
     }
-    if !begins_statement(at) || !is_symbol(brace, Symbol::CloseBrace) {
-        return None;
-    }
-    let Some(open) = outline.opened(at.tokens, at.number) else {
-        if !matches!(last_item(at, outline), Some(Kind::Method)) {
-            return None;
+    let help = match outline.opened(at.tokens, at.number) {
+        None if begins_attribute(at) => {
+            "this brace ends the item: one closing brace may be too many up to here"
         }
-        return on(
-            brace,
-            "this brace ends the METHOD: one closing brace may be too many up to here",
-        );
+        _ if !begins_statement(at) => return None,
+        None if outline.kind_before(at.number) == Some(Kind::Method) => {
+            "this brace ends the METHOD: one closing brace may be too many up to here"
+        }
+        Some(open) if is_behind_body(at, outline, open) => {
+            "this brace ends the body of the method: one closing brace may be too many up to here"
+        }
+        _ => return None,
     };
-    if !matches!(
-        outline.kind_around(at.tokens, at.number),
-        Some(Kind::Method)
-    ) {
-        return None;
-    }
-    for number in open..at.number {
-        if is_word(at.tokens, number, Keyword::Definition) {
-            return on(
-                brace,
-                "this brace ends the body of the method: one closing brace may be too many up to here",
-            );
-        }
-    }
-    None
+    on(brace, help)
 }

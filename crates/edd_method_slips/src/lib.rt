@@ -8,7 +8,7 @@ mod branches;
 mod values;
 
 pub use around::{
-    Around, At, Slip, behind, is_in_body, is_joined, is_symbol, on, open_brace, open_bracket,
+    Around, At, Slip, is_integer, is_joined, is_keyword, is_symbol, on, open_brace, open_bracket,
     open_parenthesis,
 };
 pub use bodies::{early_end, statement_slip};

@@ -1,46 +1,35 @@
 //! Slips in the values of methods, and in what functions take.
 
-use crate::around::{Around, Slip, behind, is_symbol, on, open_parenthesis, word_before};
+use crate::around::{Around, Slip, is_integer, is_symbol, open_parenthesis};
 use edd_lexer::token::TokenKind;
-use edd_reports::words::is_sign;
+use edd_reports::tables::is_among;
 use edd_syntax::symbols::{Keyword, Symbol};
 
 // Whether a sign stands in the statement before the token.
 fn has_sign(around: &Around<'_>, sign: Symbol) -> bool {
-    for number in around.statement()..around.at.number {
-        if is_sign(around.at.tokens, number, sign) {
-            return true;
-        }
-    }
-    false
+    around.so_far().iter().any(|token| is_symbol(token, sign))
 }
 
 // Whether something is compared in the statement before the token.
 fn compares(around: &Around<'_>) -> bool {
-    for number in around.statement()..around.at.number {
-        let is_comparison = matches!(
-            around.at.tokens.get(number).map(|token| token.kind),
-            Some(TokenKind::Symbol(Symbol::Comparison(_) | Symbol::LogicalAnd | Symbol::LogicalOr))
-        );
-        if is_comparison {
-            return true;
-        }
-    }
-    false
+    around.so_far().iter().any(|token| {
+        matches!(
+            token.kind,
+            TokenKind::Symbol(Symbol::Comparison(_) | Symbol::LogicalAnd | Symbol::LogicalOr)
+        )
+    })
 }
 
 // A parenthesis or a bracket that is open at a closing brace.
 fn unclosed(around: &Around<'_>) -> Option<Slip> {
-    if !is_symbol(around.token, Symbol::CloseBrace)
-        || is_symbol(around.ahead()?, Symbol::OpenBrace)
-    {
+    if !around.is(Symbol::CloseBrace) || is_symbol(around.at.ahead()?, Symbol::OpenBrace) {
         return None;
     }
-    if is_symbol(around.back(2)?, Symbol::OpenBracket) {
-        return behind(around.before, "a ] is missing here");
+    if is_symbol(around.at.back(2)?, Symbol::OpenBracket) {
+        return around.behind("a ] is missing here");
     }
     open_parenthesis(around.at)?;
-    behind(around.before, "a ) is missing here")
+    around.behind("a ) is missing here")
 }
 
 // A `:` that belongs to no `?`, or a `=` in a condition.
@@ -49,88 +38,53 @@ fn signs(around: &Around<'_>) -> Option<Slip> {
         TokenKind::Symbol(Symbol::Colon)
             if has_sign(around, Symbol::Equals)
                 && !has_sign(around, Symbol::Question)
-                && around.ahead()?.line == around.token.line => {
-            on(
-                around.token,
-                "a ? is missing: a choice is written a ? b : c",
-            )
+                && around.at.ahead()?.line == around.token.line => {
+            around.here("a ? is missing: a choice is written a ? b : c")
         }
         TokenKind::Symbol(Symbol::Equals)
             if compares(around) && open_parenthesis(around.at).is_some() => {
-            on(around.token, "equal is written ==")
+            around.here("equal is written ==")
         }
         _ => None,
     }
 }
 
-fn is_unit(word: &str) -> bool {
-    matches!(
-        word,
-        "s" | "ms" | "sec" | "seconds" | "min" | "minutes" | "mm" | "mA" | "mV" | "bar" | "Hz"
-    )
-}
+const UNITS: &str = "s ms sec seconds min minutes mm mA mV bar Hz";
 
-// Whether a word is an operator in other languages, which has words of its own.
-fn is_operator_word(word: &str) -> bool {
-    matches!(
-        word,
-        "not" | "NOT" | "and" | "AND" | "or" | "OR" | "mod" | "MOD" | "div" | "DIV" | "xor" | "XOR"
-    )
-}
+/// Words that are operators in other languages, which have words of their own.
+const OPERATORS: &str = "not NOT and AND or OR mod MOD div DIV xor XOR";
 
-// Whether a word is `int` or `long` by a slip of typing.
-fn is_misspelled_type(word: &str) -> bool {
-    matches!(
-        word,
-        "Int"
-            | "INT"
-            | "in"
-            | "itn"
-            | "nit"
-            | "ints"
-            | "Long"
-            | "LONG"
-            | "lng"
-            | "lon"
-            | "logn"
-            | "longs"
-    )
-}
+/// `int` or `long` by a slip of typing.
+const MISSPELLED: &str = "Int INT in itn nit ints Long LONG lng lon logn longs";
 
-// An `if` in the place of a value.
-fn choice(around: &Around<'_>) -> Option<Slip> {
-    let is_if = around.token.kind == TokenKind::Keyword(Keyword::MethodIf);
-    if is_if && is_symbol(around.before, Symbol::Equals) {
-        return on(
-            around.token,
-            "a choice between two values is written a ? b : c",
-        );
+// What is no value after `=`: an `if`, or several values.
+fn no_value(around: &Around<'_>) -> Option<Slip> {
+    match around.token.kind {
+        _ if !around.follows(Symbol::Equals) => None,
+        TokenKind::Keyword(Keyword::MethodIf) => {
+            around.here("a choice between two values is written a ? b : c")
+        }
+        TokenKind::Symbol(Symbol::OpenBrace) => {
+            around.here("a local has one value: arrays have variables alone")
+        }
+        _ => None,
     }
-    None
 }
 
 // What stands right after a name that begins a statement.
 fn after_first_name(around: &Around<'_>) -> Option<Slip> {
-    let is_number = matches!(around.token.kind, TokenKind::Integer(_));
-    let is_in_braces = is_symbol(around.token, Symbol::OpenBrace)
-        && matches!(around.ahead()?.kind, TokenKind::Integer(_));
-    if is_number || is_in_braces {
-        return on(
-            around.token,
-            "what a function takes stands in parentheses, as in send_command(1)",
-        );
+    let is_in_braces = around.is(Symbol::OpenBrace) && is_integer(around.at.ahead()?);
+    if is_integer(around.token) || is_in_braces {
+        return around.here("what a function takes stands in parentheses, as in send_command(1)");
     }
     let before = around.word(around.before);
     let is_assigned = around.token.kind == TokenKind::Name
-        && around.before.line == around.token.line
-        && !is_operator_word(before)
-        && !is_misspelled_type(before)
-        && !is_operator_word(around.word(around.token));
+        && around.is_on_line()
+        && !is_among(before, OPERATORS)
+        && !is_among(before, MISSPELLED)
+        && !is_among(around.word(around.token), OPERATORS);
     if is_assigned {
-        return on(
-            around.token,
-            "= or another operator, or a ; is missing before this",
-        );
+        return around.here("= or another operator, or a ; is missing before this");
     }
     None
 }
@@ -155,26 +109,25 @@ fn goes_on(ahead: TokenKind) -> bool {
 // A value right after a value inside of a statement.
 fn after_value(around: &Around<'_>) -> Option<Slip> {
     let is_value = matches!(around.token.kind, TokenKind::Integer(_) | TokenKind::Name);
-    if goes_on(around.ahead()?.kind)
+    if goes_on(around.at.ahead()?.kind)
         || !is_value
-        || around.before.line != around.token.line
+        || !around.is_on_line()
         || open_parenthesis(around.at).is_some()
     {
         return None;
     }
-    on(around.token, "an operator or a ; is missing before this")
+    around.here("an operator or a ; is missing before this")
 }
 
 // A value right after a value, or after a name that begins a statement.
 fn side_by_side(around: &Around<'_>) -> Option<Slip> {
-    let is_first = around.statement() == around.at.number.saturating_sub(1);
+    let is_first = around.is_second();
     match around.before.kind {
         TokenKind::Integer(_)
-            if around.token.kind == TokenKind::Name && is_unit(around.word(around.token)) => {
-            on(around.token, "a number stands alone, without its unit")
-        }
+            if around.token.kind == TokenKind::Name && is_among(around.word(around.token), UNITS) =>
+            { around.here("a number stands alone, without its unit") }
         TokenKind::Name if is_first => after_first_name(around),
-        TokenKind::Name if is_operator_word(around.word(around.before)) => None,
+        TokenKind::Name if is_among(around.word(around.before), OPERATORS) => None,
         TokenKind::Name | TokenKind::Integer(_) if !is_first => after_value(around),
         _ => None,
     }
@@ -182,67 +135,36 @@ fn side_by_side(around: &Around<'_>) -> Option<Slip> {
 
 // A value right after parentheses, or parentheses right after a number.
 fn beside_parentheses(around: &Around<'_>) -> Option<Slip> {
-    if around.before.line != around.token.line {
+    if !around.is_on_line() {
         return None;
     }
-    let is_open = is_symbol(around.token, Symbol::OpenParenthesis);
+    let is_open = around.is(Symbol::OpenParenthesis);
     let is_operand = is_open
         || matches!(around.token.kind, TokenKind::Integer(_) | TokenKind::Name);
-    let is_step = is_symbol(around.before, Symbol::Increment)
-        || is_symbol(around.before, Symbol::Decrement);
+    let is_step = around.follows(Symbol::Increment) || around.follows(Symbol::Decrement);
     if is_step && is_operand && has_sign(around, Symbol::Equals) {
-        return on(
-            around.token,
-            "an operator is missing before this: ++ and -- stand at one variable",
-        );
+        return around.here("an operator is missing before this: ++ and -- stand at one variable");
     }
-    if is_open && matches!(around.before.kind, TokenKind::Integer(_)) {
-        return on(around.token, "an operator is missing before this");
+    if is_open && is_integer(around.before) {
+        return around.here("an operator is missing before this");
     }
-    if !is_symbol(around.before, Symbol::CloseParenthesis) {
+    if !around.follows(Symbol::CloseParenthesis) {
         return None;
     }
-    let closing = around.at.number.checked_sub(1)?;
-    let is_branch = match word_before(around.at.tokens, closing) {
-        Some(word) => matches!(word.kind, TokenKind::Keyword(_)),
-        None => false,
-    };
-    let is_value = is_open || matches!(around.token.kind, TokenKind::Integer(_));
+    let word = around.word_before();
+    let is_branch = word.is_some_and(|word| matches!(word.kind, TokenKind::Keyword(_)));
+    let is_value = is_open || is_integer(around.token);
     if is_branch || !is_value {
         return None;
     }
-    on(around.token, "an operator or a ; is missing before this")
-}
-
-// Several values for one local.
-fn many_values(around: &Around<'_>) -> Option<Slip> {
-    let is_list = is_symbol(around.token, Symbol::OpenBrace)
-        && is_symbol(around.before, Symbol::Equals);
-    if is_list {
-        return on(
-            around.token,
-            "a local has one value: arrays have variables alone",
-        );
-    }
-    None
+    around.here("an operator or a ; is missing before this")
 }
 
 /// A slip in a value of a method.
 pub fn value_slip(around: &Around<'_>) -> Option<Slip> {
-    if let Some(slip) = unclosed(around) {
-        return Some(slip);
-    }
-    if let Some(slip) = signs(around) {
-        return Some(slip);
-    }
-    if let Some(slip) = choice(around) {
-        return Some(slip);
-    }
-    if let Some(slip) = many_values(around) {
-        return Some(slip);
-    }
-    if let Some(slip) = beside_parentheses(around) {
-        return Some(slip);
-    }
-    side_by_side(around)
+    unclosed(around)
+        .or_else(|| signs(around))
+        .or_else(|| no_value(around))
+        .or_else(|| beside_parentheses(around))
+        .or_else(|| side_by_side(around))
 }

@@ -2,6 +2,7 @@
 
 use edd_lexer::token::TokenKind;
 use edd_reports::nearest::Nearest;
+use edd_reports::tables::said_of;
 use edd_syntax::operators::Comparison;
 use edd_syntax::symbols::{KEYWORDS, Keyword, Symbol};
 use std::alloc::{AllocError, Global};
@@ -134,24 +135,28 @@ pub fn nearest_word(alloc: Global, word: &str) -> Result<Option<&'static str>, A
     Ok(nearest.alone())
 }
 
+/// Words of other languages, and what EDDL has for them.
+const WORDS: &str = "
+and AND: &&
+or OR: ||
+not NOT: !
+MOD mod: %
+XOR xor: ^
+DIV div: /
+SHL shl: <<
+SHR shr: >>
+SWITCH switch: SELECT
+SELECT: switch
+ELIF ELSIF ELSEIF: ELSE IF
+ELSE OTHERWISE: DEFAULT
+EXECUTE RUN: COMMAND
+bool boolean byte integer var: int
+";
+
 /// What EDDL has for a word of another language; for some it is nothing.
 pub fn word_for(word: &str) -> Option<&'static str> {
-    match word {
-        "and" | "AND" => Some("&&"),
-        "or" | "OR" => Some("||"),
-        "not" | "NOT" => Some("!"),
-        "then" | "THEN" => Some(""),
-        "MOD" | "mod" => Some("%"),
-        "XOR" | "xor" => Some("^"),
-        "DIV" | "div" => Some("/"),
-        "SHL" | "shl" => Some("<<"),
-        "SHR" | "shr" => Some(">>"),
-        "SWITCH" | "switch" => Some("SELECT"),
-        "SELECT" => Some("switch"),
-        "ELIF" | "ELSIF" | "ELSEIF" => Some("ELSE IF"),
-        "ELSE" | "OTHERWISE" => Some("DEFAULT"),
-        "EXECUTE" | "RUN" => Some("COMMAND"),
-        "bool" | "boolean" | "byte" | "integer" | "var" => Some("int"),
-        _ => None,
+    if matches!(word, "then" | "THEN") {
+        return Some("");
     }
+    said_of(word, WORDS)
 }

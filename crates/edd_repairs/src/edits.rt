@@ -13,20 +13,6 @@ pub struct Edit<'a> {
     pub instead: Option<&'a str>,
 }
 
-// The bytes between two places.
-fn between(text: &[u8], start: usize, end: usize) -> &[u8] {
-    if end < start || text.len() < end {
-        return b"";
-    }
-    &text[start..end]
-}
-
-// How many tokens a part of an edit is.
-fn count_of(alloc: Global, part: &str) -> Result<usize, AllocError> {
-    let tokens = tokens_of(alloc, part.as_bytes())?;
-    Ok(tokens.len())
-}
-
 impl<'a> Edit<'a> {
     /// The text with this edit.
     pub fn applied(
@@ -39,16 +25,16 @@ impl<'a> Edit<'a> {
             Some(token) => (token.start as usize, token.end as usize),
             None => (text.len(), text.len()),
         };
-        let mut made = Vec::from_slice(alloc, between(text, 0, start))?;
+        let mut made = Vec::from_slice(alloc, text.get(..start).unwrap_or(b""))?;
         made.push(b' ')?;
         made.extend_from_slice(self.before.as_bytes())?;
         made.push(b' ')?;
         match self.instead {
             Some(word) => made.extend_from_slice(word.as_bytes())?,
-            None => made.extend_from_slice(between(text, start, end))?,
+            None => made.extend_from_slice(text.get(start..end).unwrap_or(b""))?,
         }
         made.push(b' ')?;
-        made.extend_from_slice(between(text, end, text.len()))?;
+        made.extend_from_slice(text.get(end..).unwrap_or(b""))?;
         Ok(made)
     }
 
@@ -59,10 +45,11 @@ impl<'a> Edit<'a> {
             return Ok(number);
         }
         let instead = match self.instead {
-            Some(word) => count_of(alloc, word)?,
+            Some(word) => tokens_of(alloc, word.as_bytes())?.len(),
             None => 1,
         };
-        let added = count_of(alloc, self.before)?.saturating_add(instead);
+        let before = tokens_of(alloc, self.before.as_bytes())?.len();
+        let added = before.saturating_add(instead);
         let behind = number.saturating_sub(self.token);
         if behind < added {
             return Ok(self.token);

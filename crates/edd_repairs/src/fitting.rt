@@ -1,7 +1,8 @@
 //! What fits where a token does not: what the grammar takes in its place.
 
 use crate::grammar::Grammar;
-use crate::trials::Misfit;
+use crate::trials::takes;
+use edd_method_slips::At;
 use std::alloc::{AllocError, Global};
 
 /// Something that may fit, by how it could be written.
@@ -86,67 +87,98 @@ fn called(spelling: &'static str) -> &'static str {
     }
 }
 
-// The names of what fits in one line, if they are few enough to be of use.
-fn line_of(alloc: Global, names: &[&str]) -> Result<Option<String>, AllocError> {
-    if names.is_empty() || MOST < names.len() {
-        return Ok(None);
-    }
-    let mut text = String::new(alloc);
-    for name in names {
-        if !text.is_empty() {
-            text.push_str(" or ")?;
-        }
-        text.push_str(name)?;
-    }
-    Ok(Some(text))
+/// What fits in the place of a token so far, by its names.
+#[derive(Drop)]
+struct Fitting<'a> {
+    alloc: Global,
+    at: At<'a>,
+    /// The names in one line.
+    text: String,
+    count: usize,
+    /// Whether memory for a trial or a name was refused.
+    is_refused: bool,
 }
 
-// Adds what fits of some words and signs.
-fn look<G: Grammar>(
-    alloc: Global,
-    at: Misfit<'_>,
-    spellings: &[&'static str],
-    found: &mut Vec<&'static str>,
-) -> Result<(), AllocError> {
-    for spelling in spellings {
-        if at.takes::<G>(alloc, spelling)? {
-            found.push(called(spelling))?;
+impl Fitting<'_> {
+    // Whether something fits.
+    fn takes<G: Grammar>(&mut self, spelling: &str) -> bool {
+        match takes::<G>(self.alloc, self.at, spelling) {
+            Ok(takes) => takes,
+            Err(_) => {
+                self.is_refused = true;
+                false
+            }
         }
     }
-    Ok(())
+
+    // Adds what something is called, where it fits.
+    fn push(&mut self, fits: bool, spelling: &'static str) {
+        if !fits {
+            return;
+        }
+        let between = if self.count == 0 { "" } else { " or " };
+        self.count = self.count.saturating_add(1);
+        if self.text.push_str(between).is_err() || self.text.push_str(called(spelling)).is_err() {
+            self.is_refused = true;
+        }
+    }
+
+    // Adds what fits of some words and signs.
+    fn look<G: Grammar>(&mut self, spellings: &[&'static str]) {
+        for spelling in spellings {
+            let fits = self.takes::<G>(spelling);
+            self.push(fits, spelling);
+        }
+    }
+
+    // Adds all that fits. One name stands for what is an item, a statement or a value.
+    fn look_at_all<G: Grammar>(&mut self) {
+        if self.takes::<G>(ITEM) {
+            return self.push(true, ITEM);
+        }
+        let has_name = self.takes::<G>(NAME);
+        let has_number = self.takes::<G>(NUMBER);
+        let has_end = self.takes::<G>(SEMICOLON);
+        let has_brace = self.takes::<G>(OPEN);
+        if has_name && has_number && has_end && has_brace {
+            return self.push(true, "a statement");
+        }
+        if has_name && has_number && self.takes::<G>(SIGN) {
+            return self.push(true, "a value");
+        }
+        self.push(has_name, NAME);
+        if !has_name {
+            self.look::<G>(&WORDS);
+        }
+        self.push(has_number, NUMBER);
+        self.look::<G>(&[TEXT, OPERATOR]);
+        self.push(has_end, SEMICOLON);
+        self.push(has_brace, OPEN);
+        self.look::<G>(&OTHERS);
+    }
 }
 
 /// What fits in the place of a token, in words; nothing where that is too much or not known.
-pub fn what_fits<G: Grammar>(alloc: Global, at: Misfit<'_>) -> Result<Option<String>, AllocError> {
-    let mut found = Vec::new(alloc);
-    if at.takes::<G>(alloc, ITEM)? {
-        return Ok(Some(String::from_str(alloc, called(ITEM))?));
+pub fn what_fits<G: Grammar>(alloc: Global, at: At<'_>) -> Result<Option<String>, AllocError> {
+    let mut found = Fitting {
+        alloc,
+        at,
+        text: String::new(alloc),
+        count: 0,
+        is_refused: false,
+    };
+    found.look_at_all::<G>();
+    let Fitting {
+        text,
+        count,
+        is_refused,
+        ..
+    } = found;
+    if is_refused {
+        return Err(AllocError);
     }
-    let has_name = at.takes::<G>(alloc, NAME)?;
-    let has_number = at.takes::<G>(alloc, NUMBER)?;
-    let has_end = at.takes::<G>(alloc, SEMICOLON)?;
-    let has_brace = at.takes::<G>(alloc, OPEN)?;
-    if has_name && has_number && has_end && has_brace {
-        return Ok(Some(String::from_str(alloc, "a statement")?));
+    if count == 0 || MOST < count {
+        return Ok(None);
     }
-    if has_name && has_number && at.takes::<G>(alloc, SIGN)? {
-        return Ok(Some(String::from_str(alloc, "a value")?));
-    }
-    if has_name {
-        found.push(called(NAME))?;
-    } else {
-        look::<G>(alloc, at, &WORDS, &mut found)?;
-    }
-    if has_number {
-        found.push(called(NUMBER))?;
-    }
-    look::<G>(alloc, at, &[TEXT, OPERATOR], &mut found)?;
-    if has_end {
-        found.push(SEMICOLON)?;
-    }
-    if has_brace {
-        found.push(OPEN)?;
-    }
-    look::<G>(alloc, at, &OTHERS, &mut found)?;
-    line_of(alloc, &found)
+    Ok(Some(text))
 }

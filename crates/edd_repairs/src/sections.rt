@@ -20,14 +20,6 @@ pub struct Section {
     pub is_open: bool,
 }
 
-/// What is before a piece.
-#[derive(Clone, Copy, PartialEq, Eq)]
-enum Before {
-    CloseBrace,
-    Of,
-    Other,
-}
-
 /// A scan for items.
 #[derive(Drop)]
 struct Scan<'a> {
@@ -40,7 +32,8 @@ struct Scan<'a> {
     missed: usize,
     /// Whether an item in column 1 may begin though braces are open.
     may_be_off: bool,
-    before: Before,
+    /// The piece before, with no gaps and comments between.
+    before: &'a str,
     line: u32,
     found: Vec<Section>,
     /// Whether the last section has no end so far.
@@ -81,16 +74,13 @@ pub fn is_item_word(word: &str) -> bool {
 
 // Whether a byte is the first of its line.
 fn is_first(text: &[u8], place: usize) -> bool {
-    match place.checked_sub(1) {
-        Some(before) => byte_at(text, before) == b'\n',
-        None => true,
-    }
+    place == 0 || byte_at(text, place.saturating_sub(1)) == b'\n'
 }
 
 impl<'a> Scan<'a> {
     // Whether an item begins with a piece.
     fn begins(&self, piece: Scanned) -> bool {
-        let is_word = piece.shape == Shape::Word && self.before != Before::Of;
+        let is_word = matches!(piece.shape, Shape::Word) && self.before != "OF";
         let word = text_in(self.text, piece.span);
         let is_closed = self.depth == 0;
         let begins_line = is_first(self.text, piece.span.start);
@@ -103,7 +93,7 @@ impl<'a> Scan<'a> {
         if begins_line {
             is_closed || self.may_be_off
         } else {
-            is_closed && self.before == Before::CloseBrace
+            is_closed && self.before == "}"
         }
     }
 
@@ -149,23 +139,11 @@ impl<'a> Scan<'a> {
     }
 
     fn take_sign(&mut self, place: usize) {
-        self.before = Before::Other;
         match byte_at(self.text, place) {
             b'{' => self.depth = self.depth.saturating_add(1),
-            b'}' => {
-                self.before = Before::CloseBrace;
-                self.close(place);
-            }
+            b'}' => self.close(place),
             _ => {}
         }
-    }
-
-    fn take_word(&mut self, word: &str) {
-        self.before = if word == "OF" {
-            Before::Of
-        } else {
-            Before::Other
-        };
     }
 
     fn take(&mut self, piece: Scanned) -> Result<(), AllocError> {
@@ -174,11 +152,11 @@ impl<'a> Scan<'a> {
             self.begin(piece.span.start)?;
             self.may_be_off = self.may_be_off && !is_left_out_word(word);
         }
-        match piece.shape {
-            Shape::Gap | Shape::Comment => {}
-            Shape::Sign => self.take_sign(piece.span.start),
-            Shape::Word => self.take_word(word),
-            _ => self.before = Before::Other,
+        if !matches!(piece.shape, Shape::Gap | Shape::Comment) {
+            self.before = word;
+        }
+        if matches!(piece.shape, Shape::Sign) {
+            self.take_sign(piece.span.start);
         }
         let lines = word
             .as_bytes()
@@ -205,7 +183,7 @@ pub fn sections(
         depth: 0,
         missed: 0,
         may_be_off: !is_left_out,
-        before: Before::Other,
+        before: "",
         line: 1,
         found: Vec::new(alloc),
         is_inside: false,

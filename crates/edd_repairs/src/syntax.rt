@@ -4,13 +4,14 @@ use crate::braces::{help_braces, help_response_codes};
 use crate::fitting::what_fits;
 use crate::grammar::Grammar;
 use crate::sections::is_item_word;
-use crate::trials::{Change, Misfit};
+use crate::trials::{Change, best_change, best_word, wants_text};
 use edd_lexer::token::{Token, TokenKind};
 use edd_lexical_repairs::{Found, help_long_string};
-use edd_method_slips::{early_end, open_bracket, open_parenthesis};
-use edd_reports::diagnostic::{Diagnostic, Finding};
+use edd_method_slips::{At, early_end, is_symbol, open_bracket, open_parenthesis};
+use edd_reports::diagnostic::{Draft, Finding};
 use edd_reports::outline::Outline;
-use edd_reports::words::{Span, item_kind, kind_word, span_of, tokens_before, word_of};
+use edd_reports::tables::said_of;
+use edd_reports::words::{Span, end_of, item_kind, kind_word, span_of, tokens_before, word_of};
 use edd_slips::{help_of_left_out, slip_at};
 use edd_syntax::numbers::{ATTRIBUTES, Attr, Home, KINDS, Kind};
 use edd_syntax::symbols::{Keyword, Symbol};
@@ -29,27 +30,15 @@ fn short<'a>(text: &'a [u8], token: &Token) -> &'a str {
     "a long word or string"
 }
 
-// The place after the last token.
-fn end_of(tokens: &[Token]) -> Option<Span> {
-    let end = tokens.last()?.end as usize;
-    Some(Span { start: end, end })
-}
-
 // Says which braces are open, where that is of interest.
-fn help_open(
-    alloc: Global,
-    tokens: &[Token],
-    outline: &Outline,
-    number: usize,
-    found: &mut Diagnostic,
-) -> Result<(), AllocError> {
-    if let Some(brace) = outline.opened(tokens, number) {
-        if let Some(token) = tokens.get(brace) {
-            let text = String::from_str(alloc, "a brace is still open, which was opened")?;
-            found.help_at(Some(span_of(token)), text)?;
-        }
+fn help_open(at: At<'_>, outline: &Outline, found: &mut Draft) {
+    let brace = outline.opened(at.tokens, at.number);
+    if let Some(token) = brace.and_then(|brace| at.tokens.get(brace)) {
+        found.say_at(
+            Some(span_of(token)),
+            "a brace is still open, which was opened",
+        );
     }
-    Ok(())
 }
 
 // The attribute with this word.
@@ -76,142 +65,144 @@ fn push_kinds(line: &mut String, attr: Attr) -> Result<(), AllocError> {
     Ok(())
 }
 
+// What is said of an attribute in an item of a kind that has none such.
+fn no_attribute(alloc: Global, kind: Kind, attr: Attr) -> Result<String, AllocError> {
+    let (kind, word) = (kind_word(kind), attr.word());
+    let mut line = format!(in alloc; "{kind} has no {word}; it stands in")?;
+    push_kinds(&mut line, attr)?;
+    Ok(line)
+}
+
 // Says of an attribute that it does not belong in this item, where that is so.
-fn help_attribute(
-    alloc: Global,
-    kind: Kind,
-    attr: Attr,
-    found: &mut Diagnostic,
-) -> Result<bool, AllocError> {
-    let word = attr.word();
+fn help_attribute(kind: Kind, attr: Attr, found: &mut Draft) -> bool {
+    let (alloc, word) = (found.alloc, attr.word());
     if is_option(attr) {
-        let text = format!(in alloc;
+        found.help(format!(in alloc;
             "{word} stands in the braces of TYPE, as in TYPE INTEGER {{ {word} ..; }}"
-        )?;
-        found.help(text)?;
-        return Ok(true);
+        ));
+    } else if attr.is_of_transaction() && attr != Attr::Transaction {
+        found.help(format!(in alloc; "{word} stands in the braces of TRANSACTION"));
+    } else if attr.may_belong_to(kind) {
+        return false;
+    } else {
+        found.help(no_attribute(alloc, kind, attr));
     }
-    if attr.is_of_transaction() && attr != Attr::Transaction {
-        let text = format!(in alloc; "{word} stands in the braces of TRANSACTION")?;
-        found.help(text)?;
-        return Ok(true);
-    }
-    if attr.may_belong_to(kind) {
-        return Ok(false);
-    }
-    let mut text = format!(in alloc; "{} has no {word}; it stands in", kind_word(kind))?;
-    push_kinds(&mut text, attr)?;
-    found.help(text)?;
-    Ok(true)
+    true
 }
 
 // A bracket that is open, if more than one token is after it, so that it may end at several.
-fn far_bracket(at: Misfit<'_>) -> Option<Span> {
-    let open = open_bracket(at.place())?;
-    let near = at.tokens.get(at.number.checked_sub(2)?)?;
-    if open == span_of(near) {
+fn far_bracket(at: At<'_>) -> Option<Span> {
+    let open = open_bracket(at)?;
+    if open == span_of(at.back(2)?) {
         return None;
     }
     Some(open)
 }
 
-// Says what a change of the token is.
-fn help_change(
-    alloc: Global,
-    at: Misfit<'_>,
-    change: Change<'_>,
-    found: &mut Diagnostic,
-) -> Result<(), AllocError> {
-    let Some(token) = at.tokens.get(at.number) else {
-        return Ok(());
-    };
-    let word = short(at.text, token);
-    let text = match change {
-        Change::Behind(sign) => {
-            if let Some(place) = at.end_before() {
-                found.place = Some(place);
-            }
-            if let ("]", Some(open)) = (sign, far_bracket(at)) {
-                let text = "a ] is missing, up to here, for the [ that is open";
-                return found.help_at(Some(open), String::from_str(alloc, text)?);
-            }
-            if let (")", Some(open)) = (sign, open_parenthesis(at.place())) {
-                let text = "a ) is missing, up to here, for the ( that is open";
-                return found.help_at(Some(open), String::from_str(alloc, text)?);
-            }
-            format!(in alloc; "a {sign} is missing here")?
+// Says that a sign is missing after the token before.
+fn help_behind(at: At<'_>, sign: &str, found: &mut Draft) {
+    if let Some(before) = at.back(1) {
+        found.show_at(Some(end_of(before)));
+    }
+    match (sign, far_bracket(at), open_parenthesis(at)) {
+        ("]", Some(open), _) => {
+            found.say_at(
+                Some(open),
+                "a ] is missing, up to here, for the [ that is open",
+            )
         }
-        Change::Before(sign) => format!(in alloc; "a {sign} is missing before {word}")?,
-        Change::Missing((_, name)) => format!(in alloc; "{name} is missing before {word}")?,
-        Change::Instead(other) => {
-            found.place = Some(span_of(token));
-            format!(in alloc; "{other} may be meant in place of {word}")?
+        (")", _, Some(open)) => {
+            found.say_at(
+                Some(open),
+                "a ) is missing, up to here, for the ( that is open",
+            )
         }
-        Change::LeaveOut => {
-            found.place = Some(span_of(token));
-            format!(in alloc; "{word} may be left out")?
+        _ => {
+            let alloc = found.alloc;
+            found.help(format!(in alloc; "a {sign} is missing here"))
         }
-        Change::Quoted => format!(in alloc; "quotes may be missing around {word}")?,
-        Change::Renamed => format!(in alloc; "{word} is a reserved word and can be no name")?,
-    };
-    found.help(text)?;
-    Ok(())
+    }
+}
+
+// Says what a change of a token is.
+fn help_change(at: At<'_>, token: &Token, change: Change<'_>, found: &mut Draft) {
+    let (alloc, word) = (found.alloc, short(at.text, token));
+    if matches!(change, Change::Instead(_) | Change::LeaveOut) {
+        found.show_at(Some(span_of(token)));
+    }
+    found.help(match change {
+        Change::Behind(sign) => return help_behind(at, sign, found),
+        Change::Before(sign) => format!(in alloc; "a {sign} is missing before {word}"),
+        Change::Missing((_, name)) => format!(in alloc; "{name} is missing before {word}"),
+        Change::Instead(other) => format!(in alloc; "{other} may be meant in place of {word}"),
+        Change::LeaveOut => format!(in alloc; "{word} may be left out"),
+        Change::Quoted => format!(in alloc; "quotes may be missing around {word}"),
+        Change::Renamed => format!(in alloc; "{word} is a reserved word and can be no name"),
+    });
 }
 
 const IDENTIFICATION: &str =
     "a description begins with MANUFACTURER .., DEVICE_TYPE .., DEVICE_REVISION .., DD_REVISION ..";
 
-fn is_condition(token: &Token) -> bool {
-    matches!(
-        token.kind,
-        TokenKind::Keyword(Keyword::If | Keyword::Select)
-    )
+// The token and the change of it that may be meant: a word right before the one that does not
+// fit, or a change of that one.
+fn change_of<'a, G: Grammar>(
+    alloc: Global,
+    at: At<'a>,
+    token: &'a Token,
+) -> Result<Option<(At<'a>, &'a Token, Change<'a>)>, AllocError> {
+    let number = at.number.saturating_sub(1);
+    if let Some(before) = at.back(1) {
+        if at.first <= number {
+            let earlier = At { number, ..at };
+            if let Some(change) = best_word::<G>(alloc, earlier, before)? {
+                return Ok(Some((earlier, before, change)));
+            }
+        }
+    }
+    let change = best_change::<G>(alloc, at, token)?;
+    Ok(change.map(|change| (at, token, change)))
+}
+
+// What is said of a token that no change mends.
+fn help_of_word<G: Grammar>(
+    alloc: Global,
+    at: At<'_>,
+    token: &Token,
+) -> Result<String, AllocError> {
+    let word = short(at.text, token);
+    if at.number == 0 {
+        return String::from_str(alloc, IDENTIFICATION);
+    }
+    if at.is_ahead(Symbol::Semicolon) && wants_text::<G>(alloc, at, token)? {
+        return String::from_str(alloc, "a text belongs here: quotes may be missing");
+    }
+    if let Some(text) = help_of_left_out(word) {
+        return String::from_str(alloc, text);
+    }
+    match what_fits::<G>(alloc, at)? {
+        Some(wanted) => format!(in alloc; "{wanted} fits here, and not {word}"),
+        None => format!(in alloc; "{word} fits nothing here"),
+    }
 }
 
 // What helps where a token does not fit.
-fn help_misfit<G: Grammar>(
-    alloc: Global,
-    at: Misfit<'_>,
-    outline: &Outline,
-    found: &mut Diagnostic,
-) -> Result<(), AllocError> {
-    let Some(token) = at.tokens.get(at.number) else {
-        return Ok(());
-    };
-    if let Some(earlier) = at.earlier() {
-        if let Some(change) = earlier.best_word::<G>(alloc)? {
-            return help_change(alloc, earlier, change, found);
+fn help_misfit<G: Grammar>(at: At<'_>, token: &Token, outline: &Outline, found: &mut Draft) {
+    match change_of::<G>(found.alloc, at, token) {
+        Ok(Some((at, token, change))) => help_change(at, token, change, found),
+        Ok(None) => {
+            found.help(help_of_word::<G>(found.alloc, at, token));
+            if item_kind(token).is_some() {
+                help_open(at, outline, found);
+            }
         }
+        Err(_) => found.refuse(),
     }
-    if let Some(change) = at.best_change::<G>(alloc)? {
-        return help_change(alloc, at, change, found);
-    }
-    let word = short(at.text, token);
-    let text = if at.number == 0 {
-        String::from_str(alloc, IDENTIFICATION)?
-    } else if at.is_last() && at.wants_text::<G>(alloc)? {
-        String::from_str(alloc, "a text belongs here: quotes may be missing")?
-    } else if let Some(text) = help_of_left_out(word) {
-        String::from_str(alloc, text)?
-    } else {
-        match what_fits::<G>(alloc, at)? {
-            Some(wanted) => format!(in alloc; "{wanted} fits here, and not {word}")?,
-            None => format!(in alloc; "{word} fits nothing here")?,
-        }
-    };
-    found.help(text)?;
-    if item_kind(token).is_some() {
-        help_open(alloc, at.tokens, outline, at.number, found)?;
-    }
-    Ok(())
 }
 
 // Whether a token may be one that does not fit since a brace before it is missing or too much.
-fn may_be_braces(at: Misfit<'_>, outline: &Outline) -> bool {
-    let Some(token) = at.tokens.get(at.number) else {
-        return false;
-    };
-    let is_last_brace = token.kind == TokenKind::Symbol(Symbol::CloseBrace)
+fn may_be_braces(at: At<'_>, token: &Token, outline: &Outline) -> bool {
+    let is_last_brace = is_symbol(token, Symbol::CloseBrace)
         && outline.opened(at.tokens, at.number).is_none();
     is_last_brace
         || item_kind(token).is_some()
@@ -220,164 +211,110 @@ fn may_be_braces(at: Misfit<'_>, outline: &Outline) -> bool {
             token.kind,
             TokenKind::Keyword(Keyword::MethodCase | Keyword::MethodDefault)
         )
-        || early_end(at.place(), outline).is_some()
+        || early_end(at, outline).is_some()
 }
 
-fn misfit<G: Grammar>(
-    alloc: Global,
-    at: Misfit<'_>,
-    found: &mut Diagnostic,
-) -> Result<(), AllocError> {
-    let outline = Outline::of(alloc, at.tokens)?;
-    let Some(token) = at.tokens.get(at.number) else {
-        return help_end(alloc, at.text, at.tokens, &outline, found);
+// What is said of a token that is no part of the item around it: a condition or an attribute.
+fn help_in_item(at: At<'_>, token: &Token, kind: Kind, found: &mut Draft) -> bool {
+    if matches!(
+        token.kind,
+        TokenKind::Keyword(Keyword::If | Keyword::Select)
+    ) {
+        help_condition(at, found);
+        return true;
+    }
+    let attr = attribute_of(word_of(at.text, token));
+    attr.is_some_and(|attr| help_attribute(kind, attr, found))
+}
+
+fn misfit<G: Grammar>(at: At<'_>, outline: &Outline, found: &mut Draft) {
+    let Some(token) = at.token() else {
+        return help_end(at, outline, found);
     };
-    found.place = Some(span_of(token));
-    if may_be_braces(at, &outline) && help_braces(alloc, at.text, at.tokens, at.number, found)? {
-        return Ok(());
+    found.show_at(Some(span_of(token)));
+    if may_be_braces(at, token, outline) && help_braces(at, outline, found) {
+        return;
     }
-    if let Some(slip) = slip_at(at.place()) {
-        found.place = Some(slip.place);
-        return found.help(String::from_str(alloc, slip.help)?);
+    if let Some(slip) = slip_at(at) {
+        found.show_at(Some(slip.place));
+        return found.say(slip.help);
     }
-    if let Some(end) = early_end(at.place(), &outline) {
-        return found.help_at(Some(end.place), String::from_str(alloc, end.help)?);
+    if let Some(end) = early_end(at, outline) {
+        return found.say_at(Some(end.place), end.help);
     }
     if let Some(kind) = outline.kind_around(at.tokens, at.number) {
-        if is_condition(token) {
-            return help_condition(alloc, at, found);
-        }
-        if let Some(attr) = attribute_of(word_of(at.text, token)) {
-            if help_attribute(alloc, kind, attr, found)? {
-                return Ok(());
-            }
+        if help_in_item(at, token, kind, found) {
+            return;
         }
     }
-    help_misfit::<G>(alloc, at, &outline, found)
+    help_misfit::<G>(at, token, outline, found);
 }
 
 // Says where a condition stands, or that an attribute has none.
-fn help_condition(alloc: Global, at: Misfit<'_>, found: &mut Diagnostic) -> Result<(), AllocError> {
-    match at.before() {
+fn help_condition(at: At<'_>, found: &mut Draft) {
+    match at.back(1) {
         Some(before) if matches!(before.kind, TokenKind::Keyword(_)) => {
-            let word = word_of(at.text, before);
-            found.help(format!(in alloc; "{word} has no condition")?)
+            let (alloc, word) = (found.alloc, word_of(at.text, before));
+            found.help(format!(in alloc; "{word} has no condition"));
         }
-        _ => found.help(String::from_str(alloc, CONDITION)?),
+        _ => found.say(
+            "a condition stands behind the word of an attribute, as in LABEL IF (..) { ..; }",
+        ),
     }
 }
 
-const CONDITION: &str =
-    "a condition stands behind the word of an attribute, as in LABEL IF (..) { ..; }";
-
 // What helps where the text ends too early.
-fn help_end(
-    alloc: Global,
-    text: &[u8],
-    tokens: &[Token],
-    outline: &Outline,
-    found: &mut Diagnostic,
-) -> Result<(), AllocError> {
-    if help_braces(alloc, text, tokens, tokens.len(), found)? {
-        return Ok(());
+fn help_end(at: At<'_>, outline: &Outline, found: &mut Draft) {
+    if help_braces(at, outline, found) {
+        return;
     }
-    found.place = end_of(tokens);
-    let text = if tokens.is_empty() {
+    found.show_at(at.tokens.last().map(end_of));
+    found.say(if at.tokens.is_empty() {
         IDENTIFICATION
     } else {
         "the text ends here, and something is missing"
-    };
-    found.help(String::from_str(alloc, text)?)?;
-    help_open(alloc, tokens, outline, tokens.len(), found)
+    });
+    help_open(at, outline, found);
 }
+
+/// Words that this profile leaves out, and what is done without them.
+const INSTEAD: &str = "
+LIKE: write the item with all its attributes
+float double: numbers are whole: take int or long
+char short unsigned: take int or long
+goto: take a loop or an if
+IMPORT: copy the items that are needed, or have a preprocessor put them in
+UNIT: write CONSTANT_UNIT of each variable, with IF where the unit changes
+REFRESH: leave the item out: conditions follow the values by themselves
+WRITE_AS_ONE: put the variables into one REQUEST
+SCALING_FACTOR: take a smaller unit in CONSTANT_UNIT
+ROWBREAK COLUMNBREAK: leave it out, or put a text there
+AXIS CHART GRAPH GRID IMAGE SOURCE WAVEFORM: leave the item out, and show its variables in a menu
+LIST RECORD VARIABLE_LIST: take a COLLECTION or an ARRAY OF VARIABLE
+FLOAT DOUBLE: numbers are whole: take INTEGER (4) in a smaller unit
+";
 
 // The word of a kind of item is left out after ARRAY OF alone.
-fn help_left_out(alloc: Global, word: &str, found: &mut Diagnostic) -> Result<(), AllocError> {
+fn help_left_out(word: &str, found: &mut Draft) {
     if is_item_word(word) {
-        let help = "this profile of EDDL has arrays of VARIABLE alone";
-        return found.help(String::from_str(alloc, help)?);
+        return found.say("this profile of EDDL has arrays of VARIABLE alone");
     }
-    let instead = match word {
-        "LIKE" => "write the item with all its attributes",
-        "float" | "double" => "numbers are whole: take int or long",
-        "char" | "short" | "unsigned" => "take int or long",
-        "goto" => "take a loop or an if",
-        "IMPORT" => "copy the items that are needed, or have a preprocessor put them in",
-        "UNIT" => "write CONSTANT_UNIT of each variable, with IF where the unit changes",
-        "REFRESH" => "leave the item out: conditions follow the values by themselves",
-        "WRITE_AS_ONE" => "put the variables into one REQUEST",
-        "SCALING_FACTOR" => "take a smaller unit in CONSTANT_UNIT",
-        "ROWBREAK" | "COLUMNBREAK" => "leave it out, or put a text there",
-        "AXIS" | "CHART" | "GRAPH" | "GRID" | "IMAGE" | "SOURCE" | "WAVEFORM" => {
-            "leave the item out, and show its variables in a menu"
-        }
-        "LIST" | "RECORD" | "VARIABLE_LIST" => "take a COLLECTION or an ARRAY OF VARIABLE",
-        _ if word.starts_with("MIN_VALUE") || word.starts_with("MAX_VALUE") => {
-            "take MIN_VALUE and MAX_VALUE, with IF where they change"
-        }
-        "FLOAT" | "DOUBLE" => "numbers are whole: take INTEGER (4) in a smaller unit",
-        _ => "leave it out",
+    let other = if word.starts_with("MIN_VALUE") || word.starts_with("MAX_VALUE") {
+        "take MIN_VALUE and MAX_VALUE, with IF where they change"
+    } else {
+        "leave it out"
     };
-    let text = format!(in alloc; "this profile of EDDL does not have {word}: {instead}")?;
-    found.help(text)?;
-    Ok(())
+    let (alloc, instead) = (found.alloc, said_of(word, INSTEAD).unwrap_or(other));
+    found.help(format!(in alloc; "this profile of EDDL does not have {word}: {instead}"));
 }
 
-// Where the token of a number begins.
-fn start_of(tokens: &[Token], number: usize) -> Option<usize> {
-    let token = tokens.get(number)?;
-    Some(token.start as usize)
-}
-
-// What is said where a token does not fit.
-fn syntax<G: Grammar>(
-    alloc: Global,
-    text: &[u8],
-    tokens: &[Token],
-    number: usize,
-    found: &mut Diagnostic,
-) -> Result<(), AllocError> {
-    let first = match tokens.get(number) {
-        Some(token) => tokens_before(tokens, token.line),
-        None => tokens.len(),
-    };
-    let at = Misfit {
-        text,
-        tokens,
-        first,
-        number,
-    };
-    misfit::<G>(alloc, at, found)?;
-    let place = start_of(tokens, number).map(|start| Span { start, end: start });
-    help_long_string(alloc, text, place, false, found)
-}
-
-fn too_deep(
-    alloc: Global,
-    tokens: &[Token],
-    number: usize,
-    found: &mut Diagnostic,
-) -> Result<(), AllocError> {
-    found.place = tokens.get(number).map(span_of);
-    let help =
-        "more than 100 levels stand inside one another here: give a part to a name of its own";
-    found.help(String::from_str(alloc, help)?)?;
-    Ok(())
-}
-
-fn unsupported(
-    alloc: Global,
-    text: &[u8],
-    tokens: &[Token],
-    number: usize,
-    word: &str,
-    found: &mut Diagnostic,
-) -> Result<(), AllocError> {
-    found.place = tokens.get(number).map(span_of);
+// What is said where a word stands that this profile leaves out.
+fn unsupported(at: At<'_>, outline: &Outline, word: &str, found: &mut Draft) {
     if word == Keyword::ResponseCodes.spelling() {
-        return help_response_codes(alloc, text, tokens, number, found);
+        help_response_codes(at, outline, found);
+    } else {
+        help_left_out(word, found);
     }
-    help_left_out(alloc, word, found)
 }
 
 /// What is said of tokens that spell no unit.
@@ -388,23 +325,40 @@ pub fn found_in<G: Grammar>(
     fault: &ParseFault,
     refusal: String,
 ) -> Result<Found, AllocError> {
-    let mut diagnostic = Diagnostic::new(alloc, Finding::Refused(refusal));
-    let found = &mut diagnostic;
-    let Some(at) = fault.place() else {
+    let Some(number) = fault.place() else {
         return Err(AllocError);
     };
-    let number = at.0 as usize;
+    let number = number.0 as usize;
+    let token = tokens.get(number);
+    let first = match token {
+        Some(token) => tokens_before(tokens, token.line),
+        None => tokens.len(),
+    };
+    let at = At {
+        text,
+        tokens,
+        number,
+        first,
+    };
+    let outline = Outline::of(alloc, tokens)?;
+    let mut found = Draft::new(alloc, Finding::Refused(refusal));
+    found.show_at(token.map(span_of));
+    let goes_on = token.map(|token| token.start as usize);
     match fault {
-        ParseFault::Syntax { .. } => syntax::<G>(alloc, text, tokens, number, found)?,
-        ParseFault::TooDeep { .. } => too_deep(alloc, tokens, number, found)?,
+        ParseFault::Syntax { .. } => {
+            misfit::<G>(at, &outline, &mut found);
+            help_long_string(text, goes_on, false, &mut found);
+        }
+        ParseFault::TooDeep { .. } => found.say(
+            "more than 100 levels stand inside one another here: give a part to a name of its own",
+        ),
         ParseFault::Unsupported { word, .. } => {
-            unsupported(alloc, text, tokens, number, word.as_str(), found)?
+            unsupported(at, &outline, word.as_str(), &mut found)
         }
         ParseFault::Memory => return Err(AllocError),
     }
-    let goes_on = start_of(tokens, number);
     Ok(Found {
-        diagnostic,
+        diagnostic: found.finish()?,
         goes_on,
     })
 }

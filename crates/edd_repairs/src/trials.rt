@@ -6,8 +6,8 @@ use crate::candidates::{
 use crate::edits::Edit;
 use crate::grammar::{Grammar, TextFault};
 use edd_lexer::token::{Token, TokenKind};
-use edd_method_slips::{At, is_in_body};
-use edd_reports::words::{Span, is_sign, item_kind, word_of};
+use edd_method_slips::{At, is_symbol};
+use edd_reports::words::{is_sign, item_kind, word_of};
 use edd_syntax::operators::{Comparison, Operator};
 use edd_syntax::symbols::{Keyword, Symbol};
 use std::alloc::{AllocError, Global};
@@ -29,22 +29,6 @@ pub enum Change<'a> {
     Renamed,
 }
 
-/// A text, its tokens, the one that does not fit, and the first one of its line.
-#[derive(Clone, Copy)]
-pub struct Misfit<'a> {
-    pub text: &'a [u8],
-    pub tokens: &'a [Token],
-    pub first: usize,
-    pub number: usize,
-}
-
-/// The best change so far, and the token at which the text is refused then.
-#[derive(Clone, Copy)]
-struct Best<'a> {
-    change: Option<Change<'a>>,
-    reached: usize,
-}
-
 fn edit_of<'a>(number: usize, change: Change<'a>) -> Edit<'a> {
     let (before, instead) = match change {
         Change::Behind(sign) | Change::Before(sign) => (sign, None),
@@ -61,318 +45,264 @@ fn edit_of<'a>(number: usize, change: Change<'a>) -> Edit<'a> {
     }
 }
 
-impl<'a> Misfit<'a> {
-    // The token at which a changed text is refused by its grammar, past all where it is not.
-    fn reached<G: Grammar>(&self, alloc: Global, edit: Edit<'_>) -> Result<usize, AllocError> {
-        let text = edit.applied(alloc, self.text, self.tokens)?;
-        match G::text_fault(alloc, &text)? {
-            None => Ok(usize::MAX),
-            Some(TextFault::Lex(_)) => Ok(0),
-            Some(TextFault::Parse(fault)) => match fault.place() {
-                Some(at) => edit.original(alloc, at.0 as usize),
-                None => Err(AllocError),
-            },
+// The token at which the text with a change is refused by its grammar, past all where it is not.
+fn reached<G: Grammar>(alloc: Global, at: At<'_>, change: Change<'_>) -> Result<usize, AllocError> {
+    let edit = edit_of(at.number, change);
+    let text = edit.applied(alloc, at.text, at.tokens)?;
+    match G::text_fault(alloc, &text)? {
+        None => Ok(usize::MAX),
+        Some(TextFault::Lex(_)) => Ok(0),
+        Some(TextFault::Parse(fault)) => match fault.place() {
+            Some(at) => edit.original(alloc, at.0 as usize),
+            None => Err(AllocError),
+        },
+    }
+}
+
+/// Changes of a token that are tried: the best one so far, and the token at which the text is
+/// refused then. Of changes that get as far it is the first one.
+#[derive(Clone, Copy)]
+pub struct Trials<'a> {
+    alloc: Global,
+    at: At<'a>,
+    best: Option<Change<'a>>,
+    reached: usize,
+    /// Whether memory for a trial was refused.
+    is_refused: bool,
+}
+
+// The last token that a change has to lead past: the one after this one, or the text's end,
+// unless that token is on another line.
+fn last_near(at: At<'_>) -> usize {
+    match (at.token(), at.ahead()) {
+        (Some(token), Some(behind)) if token.line != behind.line => at.number,
+        _ => at.number.saturating_add(1),
+    }
+}
+
+// Whether a value has to come after a token of this kind.
+fn is_operator(kind: Option<TokenKind>) -> bool {
+    matches!(
+        kind,
+        Some(TokenKind::Symbol(
+            Symbol::Operator(_)
+                | Symbol::Comparison(_)
+                | Symbol::CompoundAssign(_)
+                | Symbol::Equals
+                | Symbol::LogicalAnd
+                | Symbol::LogicalOr
+                | Symbol::Question,
+        ),)
+    )
+}
+
+// Whether a token is a sign without a value of its own: it may be one too many.
+fn is_idle(at: At<'_>, token: &Token) -> bool {
+    let before = at.kind_back(1);
+    if is_operator(before)
+        || matches!(
+            before,
+            Some(TokenKind::Keyword(Keyword::Int | Keyword::Long))
+        )
+    {
+        return false;
+    }
+    match token.kind {
+        TokenKind::Symbol(
+            Symbol::Semicolon
+            | Symbol::Comma
+            | Symbol::OpenBrace
+            | Symbol::CloseBrace
+            | Symbol::OpenParenthesis
+            | Symbol::CloseParenthesis
+            | Symbol::OpenBracket
+            | Symbol::CloseBracket,
+        ) => true,
+        // As after the word of an attribute, where other languages have them.
+        TokenKind::Symbol(Symbol::Equals | Symbol::Colon) => {
+            matches!(before, Some(TokenKind::Keyword(_)))
+                || at.back(2).is_some_and(|token| item_kind(token).is_some())
+        }
+        _ => false,
+    }
+}
+
+// Whether a token comes after a mask that is not closed, as in `name < 3`.
+fn closes_mask(at: At<'_>) -> bool {
+    matches!(at.kind_back(1), Some(TokenKind::Integer(_)))
+        && is_sign(
+            at.tokens,
+            at.number.saturating_sub(2),
+            Symbol::Comparison(Comparison::Less),
+        )
+        && !at.is_in_body()
+}
+
+// Whether a token is among the words of CLASS or HANDLING, which `&` joins.
+fn is_between_words(at: At<'_>) -> bool {
+    if at.back(1).is_some_and(|before| matches!(word_of(at.text, before), "READ" | "WRITE")) {
+        return true;
+    }
+    for count in 1..=at.number {
+        match at.kind_back(count) {
+            Some(TokenKind::Name | TokenKind::Symbol(Symbol::Operator(Operator::And))) => {}
+            Some(TokenKind::Keyword(Keyword::Class | Keyword::Handling)) => return 1 < count,
+            _ => return false,
+        }
+    }
+    false
+}
+
+impl<'a> Trials<'a> {
+    /// No trials so far. What helps has to lead past a token.
+    pub fn past(alloc: Global, at: At<'a>, number: usize) -> Trials<'a> {
+        Trials {
+            alloc,
+            at,
+            best: None,
+            reached: number,
+            is_refused: false,
         }
     }
 
-    // The last token that a change has to lead past: the one after this one, or the text's end,
-    // unless that token is on another line.
-    fn last_near(&self) -> usize {
-        let next = self.number.saturating_add(1);
-        match (self.tokens.get(self.number), self.tokens.get(next)) {
-            (Some(token), Some(behind)) if token.line != behind.line => self.number,
-            _ => next,
+    // Tries a change, which has to lead past the token after it where the token is left out.
+    fn attempt<G: Grammar>(&mut self, change: Change<'a>) {
+        let Ok(reached) = reached::<G>(self.alloc, self.at, change) else {
+            self.is_refused = true;
+            return;
+        };
+        let next = self.at.number.saturating_add(1);
+        let is_near = matches!(change, Change::LeaveOut) && reached <= next;
+        if self.reached < reached && !is_near {
+            self.reached = reached;
+            self.best = Some(change);
         }
-    }
-
-    // Tries a change, which has to lead past the token after it.
-    fn attempt<G: Grammar>(
-        &self,
-        alloc: Global,
-        best: &mut Best<'a>,
-        change: Change<'a>,
-    ) -> Result<(), AllocError> {
-        let reached = self.reached::<G>(alloc, edit_of(self.number, change))?;
-        let next = self.number.saturating_add(1);
-        if matches!(change, Change::LeaveOut) && reached <= next {
-            return Ok(());
-        }
-        if best.reached < reached {
-            best.reached = reached;
-            best.change = Some(change);
-        }
-        Ok(())
     }
 
     // Tries the words that may be meant by a word.
-    fn attempt_words<G: Grammar>(
-        &self,
-        alloc: Global,
-        best: &mut Best<'a>,
-    ) -> Result<(), AllocError> {
-        let Some(token) = self.tokens.get(self.number) else {
-            return Ok(());
-        };
+    fn attempt_words<G: Grammar>(&mut self, token: &Token) {
         if !matches!(token.kind, TokenKind::Name | TokenKind::Keyword(_)) {
-            return Ok(());
+            return;
         }
-        let word = word_of(self.text, token);
+        let word = word_of(self.at.text, token);
         match word_for(word) {
-            Some("") => self.attempt::<G>(alloc, best, Change::LeaveOut)?,
-            Some(other) => self.attempt::<G>(alloc, best, Change::Instead(other))?,
+            Some("") => self.attempt::<G>(Change::LeaveOut),
+            Some(other) => self.attempt::<G>(Change::Instead(other)),
             None => {}
         }
-        match nearest_word(alloc, word)? {
-            Some(near) => self.attempt::<G>(alloc, best, Change::Instead(near)),
-            None => Ok(()),
+        match nearest_word(self.alloc, word) {
+            Ok(Some(near)) => self.attempt::<G>(Change::Instead(near)),
+            Ok(None) => {}
+            Err(_) => self.is_refused = true,
         }
     }
 
     // Tries the signs that may be meant by a sign.
-    fn attempt_signs<G: Grammar>(
-        &self,
-        alloc: Global,
-        best: &mut Best<'a>,
-    ) -> Result<(), AllocError> {
-        if let Some(token) = self.tokens.get(self.number) {
-            for sign in signs_for(token.kind) {
-                self.attempt::<G>(alloc, best, Change::Instead(*sign))?;
-            }
+    fn attempt_signs<G: Grammar>(&mut self, token: &Token) {
+        for sign in signs_for(token.kind) {
+            self.attempt::<G>(Change::Instead(*sign));
         }
-        Ok(())
-    }
-
-    // Whether a value has to come after the token before.
-    fn is_after_operator(&self) -> bool {
-        matches!(
-            self.kind_before(),
-            Some(TokenKind::Symbol(
-                Symbol::Operator(_)
-                    | Symbol::Comparison(_)
-                    | Symbol::CompoundAssign(_)
-                    | Symbol::Equals
-                    | Symbol::LogicalAnd
-                    | Symbol::LogicalOr
-                    | Symbol::Question
-            ))
-        )
-    }
-
-    // Whether the token is a sign without a value of its own: it may be one too many.
-    fn is_idle(&self) -> bool {
-        let is_declared = matches!(
-            self.kind_before(),
-            Some(TokenKind::Keyword(Keyword::Int | Keyword::Long))
-        );
-        if is_declared || self.is_after_operator() {
-            return false;
-        }
-        let Some(token) = self.tokens.get(self.number) else {
-            return false;
-        };
-        match token.kind {
-            TokenKind::Symbol(
-                Symbol::Semicolon
-                | Symbol::Comma
-                | Symbol::OpenBrace
-                | Symbol::CloseBrace
-                | Symbol::OpenParenthesis
-                | Symbol::CloseParenthesis
-                | Symbol::OpenBracket
-                | Symbol::CloseBracket,
-            ) => true,
-            // As after the word of an attribute, where other languages have them.
-            TokenKind::Symbol(Symbol::Equals | Symbol::Colon) => {
-                let begins = self
-                    .number
-                    .checked_sub(2)
-                    .and_then(|number| self.tokens.get(number));
-                matches!(self.kind_before(), Some(TokenKind::Keyword(_)))
-                    || begins.is_some_and(|token| item_kind(token).is_some())
-            }
-            _ => false,
-        }
-    }
-
-    // Whether the token comes after a mask that is not closed, as in `name < 3`.
-    fn closes_mask(&self) -> bool {
-        let opens = self.number.saturating_sub(2);
-        let is_number = matches!(self.kind_before(), Some(TokenKind::Integer(_)));
-        is_number
-            && is_sign(self.tokens, opens, Symbol::Comparison(Comparison::Less))
-            && !is_in_body(self.place())
-    }
-
-    // Whether the token is among the words of CLASS or HANDLING, which `&` joins.
-    fn is_between_words(&self) -> bool {
-        if let Some(before) = self.before() {
-            if matches!(word_of(self.text, before), "READ" | "WRITE") {
-                return true;
-            }
-        }
-        for count in 1..=self.number {
-            let Some(token) = self.tokens.get(self.number.saturating_sub(count)) else {
-                return false;
-            };
-            match token.kind {
-                TokenKind::Name | TokenKind::Symbol(Symbol::Operator(Operator::And)) => {}
-                TokenKind::Keyword(Keyword::Class | Keyword::Handling) => return 1 < count,
-                _ => return false,
-            }
-        }
-        false
     }
 
     // Tries what may be missing before the token.
-    fn attempt_missing<G: Grammar>(
-        &self,
-        alloc: Global,
-        best: &mut Best<'a>,
-    ) -> Result<(), AllocError> {
-        let Some(token) = self.tokens.get(self.number) else {
-            return Ok(());
-        };
+    fn attempt_missing<G: Grammar>(&mut self, token: &Token) {
+        let before = self.at.kind_back(1);
         // A value that is put before an operator would be its first operand.
         let is_operator = matches!(
             token.kind,
             TokenKind::Symbol(Symbol::Operator(_) | Symbol::Comparison(_))
         );
-        if is_operator && matches!(self.kind_before(), Some(TokenKind::Keyword(_))) {
-            return Ok(());
+        if is_operator && matches!(before, Some(TokenKind::Keyword(_))) {
+            return;
         }
-        let word = word_of(self.text, token);
-        for what in missing_before(self.kind_before(), token.kind, word) {
-            self.attempt::<G>(alloc, best, Change::Missing(*what))?;
+        for what in missing_before(before, token.kind, word_of(self.at.text, token)) {
+            self.attempt::<G>(Change::Missing(*what));
         }
-        Ok(())
     }
 
     // Tries the token as a text, or as a name where it is a reserved word.
-    fn attempt_kinds<G: Grammar>(
-        &self,
-        alloc: Global,
-        best: &mut Best<'a>,
-    ) -> Result<(), AllocError> {
-        let Some(token) = self.tokens.get(self.number) else {
-            return Ok(());
-        };
+    fn attempt_kinds<G: Grammar>(&mut self, token: &Token) {
         match token.kind {
-            TokenKind::Keyword(_) => self.attempt::<G>(alloc, best, Change::Renamed),
-            TokenKind::Name => self.attempt::<G>(alloc, best, Change::Quoted),
-            _ => Ok(()),
+            TokenKind::Keyword(_) => self.attempt::<G>(Change::Renamed),
+            TokenKind::Name => self.attempt::<G>(Change::Quoted),
+            _ => {}
         }
     }
 
-    /// The change with which the text gets farthest, if one leads past the token after it. Of
-    /// changes that get as far it is the first one.
-    pub fn best_change<G: Grammar>(&self, alloc: Global) -> Result<Option<Change<'a>>, AllocError> {
-        let mut best = Best {
-            change: None,
-            reached: self.last_near(),
-        };
-        self.attempt_words::<G>(alloc, &mut best)?;
+    // Tries all changes of a token.
+    fn attempt_all<G: Grammar>(&mut self, token: &Token) {
+        self.attempt_words::<G>(token);
         for sign in BEHIND {
-            self.attempt::<G>(alloc, &mut best, Change::Behind(sign))?;
+            self.attempt::<G>(Change::Behind(sign));
         }
-        if self.closes_mask() {
-            self.attempt::<G>(alloc, &mut best, Change::Behind(">"))?;
+        if closes_mask(self.at) {
+            self.attempt::<G>(Change::Behind(">"));
         }
-        if self.is_between_words() {
-            self.attempt::<G>(alloc, &mut best, Change::Behind("&"))?;
-            self.attempt::<G>(alloc, &mut best, Change::Instead("&"))?;
+        if is_between_words(self.at) {
+            self.attempt::<G>(Change::Behind("&"));
+            self.attempt::<G>(Change::Instead("&"));
         }
         // Of two that lead as far `,` is nearer to `;` than nothing.
-        if is_sign(self.tokens, self.number, Symbol::Semicolon) {
-            self.attempt_signs::<G>(alloc, &mut best)?;
+        if is_symbol(token, Symbol::Semicolon) {
+            self.attempt_signs::<G>(token);
         }
-        if self.is_idle() {
-            self.attempt::<G>(alloc, &mut best, Change::LeaveOut)?;
+        if is_idle(self.at, token) {
+            self.attempt::<G>(Change::LeaveOut);
         }
-        self.attempt_signs::<G>(alloc, &mut best)?;
+        self.attempt_signs::<G>(token);
         for sign in BEFORE {
-            self.attempt::<G>(alloc, &mut best, Change::Before(sign))?;
+            self.attempt::<G>(Change::Before(sign));
         }
-        self.attempt_missing::<G>(alloc, &mut best)?;
-        self.attempt_kinds::<G>(alloc, &mut best)?;
-        Ok(best.change)
+        self.attempt_missing::<G>(token);
+        self.attempt_kinds::<G>(token);
     }
 
-    /// Whether the grammar takes a word or a sign in place of the token.
-    pub fn takes<G: Grammar>(&self, alloc: Global, word: &str) -> Result<bool, AllocError> {
-        let reached = self.reached::<G>(alloc, edit_of(self.number, Change::Instead(word)))?;
-        Ok(self.number < reached)
-    }
-
-    /// Whether a text fits in place of a name that does not.
-    pub fn wants_text<G: Grammar>(&self, alloc: Global) -> Result<bool, AllocError> {
-        let mut best = Best {
-            change: None,
-            reached: self.number,
-        };
-        if self.kind_before() != Some(TokenKind::String) {
-            self.attempt_kinds::<G>(alloc, &mut best)?;
+    fn best(self) -> Result<Option<Change<'a>>, AllocError> {
+        if self.is_refused {
+            return Err(AllocError);
         }
-        Ok(matches!(best.change, Some(Change::Quoted)))
+        Ok(self.best)
     }
+}
 
-    /// The place of the token among the others.
-    pub fn place(&self) -> At<'a> {
-        At {
-            text: self.text,
-            tokens: self.tokens,
-            number: self.number,
-            first: self.first,
-        }
-    }
+/// The change with which the text gets farthest, if one leads past the token after it.
+pub fn best_change<'a, G: Grammar>(
+    alloc: Global,
+    at: At<'a>,
+    token: &Token,
+) -> Result<Option<Change<'a>>, AllocError> {
+    let mut trials = Trials::past(alloc, at, last_near(at));
+    trials.attempt_all::<G>(token);
+    trials.best()
+}
 
-    /// Whether a `;` comes after the token.
-    pub fn is_last(&self) -> bool {
-        is_sign(
-            self.tokens,
-            self.number.saturating_add(1),
-            Symbol::Semicolon,
-        )
-    }
+/// The word or the sign that is meant by a token, if it leads past the two after it.
+pub fn best_word<'a, G: Grammar>(
+    alloc: Global,
+    at: At<'a>,
+    token: &Token,
+) -> Result<Option<Change<'a>>, AllocError> {
+    let number = at.number.saturating_add(1);
+    let mut trials = Trials::past(alloc, at, last_near(At { number, ..at }));
+    trials.attempt_words::<G>(token);
+    trials.attempt_signs::<G>(token);
+    trials.best()
+}
 
-    /// The token before.
-    pub fn before(&self) -> Option<&'a Token> {
-        self.tokens.get(self.number.checked_sub(1)?)
+/// Whether a text fits in place of a name that does not.
+pub fn wants_text<G: Grammar>(
+    alloc: Global,
+    at: At<'_>,
+    token: &Token,
+) -> Result<bool, AllocError> {
+    let mut trials = Trials::past(alloc, at, at.number);
+    if at.kind_back(1) != Some(TokenKind::String) {
+        trials.attempt_kinds::<G>(token);
     }
+    Ok(matches!(trials.best()?, Some(Change::Quoted)))
+}
 
-    fn kind_before(&self) -> Option<TokenKind> {
-        let token = self.before()?;
-        Some(token.kind)
-    }
-
-    /// Where the token before ends.
-    pub fn end_before(&self) -> Option<Span> {
-        let end = self.before()?.end as usize;
-        Some(Span { start: end, end })
-    }
-
-    // The same one token later.
-    fn later(&self) -> Misfit<'a> {
-        let number = self.number.saturating_add(1);
-        Misfit { number, ..*self }
-    }
-
-    /// The same one token earlier, where that is on the same line.
-    pub fn earlier(&self) -> Option<Misfit<'a>> {
-        let number = self.number.checked_sub(1)?;
-        if number < self.first {
-            return None;
-        }
-        Some(Misfit { number, ..*self })
-    }
-
-    /// The word or the sign that is meant by the token, if it leads past the two after it.
-    pub fn best_word<G: Grammar>(&self, alloc: Global) -> Result<Option<Change<'a>>, AllocError> {
-        let mut best = Best {
-            change: None,
-            reached: self.later().last_near(),
-        };
-        self.attempt_words::<G>(alloc, &mut best)?;
-        self.attempt_signs::<G>(alloc, &mut best)?;
-        Ok(best.change)
-    }
+/// Whether the grammar takes a word or a sign in place of a token.
+pub fn takes<G: Grammar>(alloc: Global, at: At<'_>, word: &str) -> Result<bool, AllocError> {
+    Ok(at.number < reached::<G>(alloc, at, Change::Instead(word))?)
 }

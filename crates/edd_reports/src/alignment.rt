@@ -6,19 +6,15 @@
 use crate::words::Span;
 
 /// A part of a line as it was written.
-#[derive(Clone, Copy, PartialEq, Eq, Debug)]
+#[derive(Clone, Copy)]
 pub struct Aligned {
     pub place: Span,
     /// Whether the same stands there as in the line that was made.
     pub is_same: bool,
 }
 
-/// How far two lines are alike, and whether that is all of the second one.
-#[derive(Clone, Copy)]
-struct Reach {
-    at: usize,
-    is_whole: bool,
-}
+/// How far two lines are alike: as far as all of the second one, or up to a place where they differ.
+type Reach = Result<usize, usize>;
 
 fn is_blank(byte: u8) -> bool {
     byte == b' ' || byte == b'\t' || byte == b'\r'
@@ -58,35 +54,31 @@ fn from_front(line: &[u8], text: &[u8]) -> Reach {
         }
         let next = behind_blanks(line, at);
         if line.get(next) != Some(byte) {
-            return Reach {
-                at: next,
-                is_whole: false,
-            };
+            return Err(next);
         }
         at = next.saturating_add(1);
     }
-    Reach { at, is_whole: true }
+    Ok(at)
 }
 
 // From where on the line ends as this text.
 fn from_back(line: &[u8], text: &[u8]) -> Reach {
     let mut at = line.len();
     for behind in 1..=text.len() {
-        let byte = text.get(text.len().saturating_sub(behind));
-        if byte.is_some_and(|byte| is_blank(*byte)) {
+        let Some(byte) = text.get(text.len().saturating_sub(behind)) else {
+            continue;
+        };
+        if is_blank(*byte) {
             continue;
         }
         let end = before_blanks(line, at);
         let next = end.saturating_sub(1);
-        if end == 0 || line.get(next) != byte {
-            return Reach {
-                at: end,
-                is_whole: false,
-            };
+        if end == 0 || line.get(next) != Some(byte) {
+            return Err(end);
         }
         at = next;
     }
-    Reach { at, is_whole: true }
+    Ok(at)
 }
 
 // Where the word begins in which a place is.
@@ -114,53 +106,34 @@ fn piece(text: &[u8], start: usize, end: usize) -> &[u8] {
     text.get(start..end).unwrap_or(&[])
 }
 
-// Where the part begins, or the macro that holds it, and whether it is the part.
+// Where the part begins, or the macro that holds it.
 fn start_of(line: &[u8], made: &[u8], part: Span) -> Reach {
     let is_point = part.end <= part.start;
     let front = from_front(line, piece(made, 0, part.start));
-    if front.is_whole {
-        return Reach {
-            at: if is_point {
-                front.at
-            } else {
-                behind_blanks(line, front.at)
-            },
-            is_whole: true,
-        };
-    }
     let back = from_back(line, piece(made, part.start, made.len()));
-    if back.is_whole {
-        return Reach {
-            at: if is_point {
-                before_blanks(line, back.at)
-            } else {
-                back.at
-            },
-            is_whole: true,
-        };
-    }
-    Reach {
-        at: word_start(line, front.at),
-        is_whole: false,
+    match (front, back) {
+        (Ok(at), _) if is_point => Ok(at),
+        (Ok(at), _) => Ok(behind_blanks(line, at)),
+        (_, Ok(at)) if is_point => Ok(before_blanks(line, at)),
+        (_, Ok(at)) => Ok(at),
+        (Err(at), _) => Err(word_start(line, at)),
     }
 }
 
 // Where it ends.
 fn end_of(line: &[u8], made: &[u8], part: Span) -> Reach {
     let back = from_back(line, piece(made, part.end, made.len()));
-    if back.is_whole {
-        return Reach {
-            at: before_blanks(line, back.at),
-            is_whole: true,
-        };
-    }
     let front = from_front(line, piece(made, 0, part.end));
-    if front.is_whole {
-        return front;
+    match (back, front) {
+        (Ok(at), _) => Ok(before_blanks(line, at)),
+        (_, Ok(at)) => Ok(at),
+        (Err(at), _) => Err(word_end(line, at)),
     }
-    Reach {
-        at: word_end(line, back.at),
-        is_whole: false,
+}
+
+fn place_of(reach: Reach) -> usize {
+    match reach {
+        Ok(at) | Err(at) => at,
     }
 }
 
@@ -174,10 +147,7 @@ fn goes_on(byte: Option<&u8>) -> bool {
 // Whether a word stands at a place of the line, and is no part of a longer one.
 fn is_word_at(line: &[u8], place: usize, word: &[u8]) -> bool {
     let end = place.saturating_add(word.len());
-    let before = match place.checked_sub(1) {
-        Some(before) => line.get(before),
-        None => None,
-    };
+    let before = piece(line, 0, place).last();
     let is_apart = !(goes_on(before) && goes_on(word.first()))
         && !(goes_on(line.get(end)) && goes_on(word.last()));
     piece(line, place, end) == word && is_apart
@@ -201,14 +171,12 @@ fn only_place(line: &[u8], within: Span, word: &[u8]) -> Option<usize> {
 /// become it is looked for as it is.
 pub fn alignment_of(line: &str, made: &str, part: Span) -> Aligned {
     let (line, made) = (line.as_bytes(), made.as_bytes());
-    let start = start_of(line, made, part);
-    let end = end_of(line, made, part);
-    let place = Span {
-        start: start.at,
-        end: end.at.max(start.at),
-    };
+    let reached = (start_of(line, made, part), end_of(line, made, part));
+    let start = place_of(reached.0);
+    let end = place_of(reached.1).max(start);
+    let place = Span { start, end };
     let word = piece(made, part.start, part.end);
-    let is_same = start.is_whole && end.is_whole && piece(line, place.start, place.end) == word;
+    let is_same = matches!(reached, (Ok(_), Ok(_))) && piece(line, start, end) == word;
     match only_place(line, place, word) {
         Some(start) if !is_same && !word.is_empty() => Aligned {
             place: Span {

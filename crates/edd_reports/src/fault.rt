@@ -4,7 +4,7 @@ use std::alloc::{AllocError, AllocFailed};
 use std::fmt;
 
 /// Why not all lines were printed.
-#[derive(Debug, Drop)]
+#[derive(Drop)]
 pub enum ReportFault {
     /// The output could not be written.
     Output,

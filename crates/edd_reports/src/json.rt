@@ -51,27 +51,23 @@ struct MoreLine<'a> {
     more: usize,
 }
 
-/// A place, where there is one.
-#[derive(Clone, Copy)]
-struct Corner {
-    line: Option<usize>,
-    column: Option<usize>,
-}
-
-fn corner_at(lines: &Lines<'_>, byte: Option<usize>) -> Corner {
+// The line and the column of a byte, where there is one.
+fn corner_at(lines: &Lines<'_>, byte: Option<usize>) -> (Option<usize>, Option<usize>) {
     match byte {
         Some(byte) => {
             let at = lines.place(byte);
-            Corner {
-                line: Some(at.line),
-                column: Some(at.column),
-            }
+            (Some(at.line), Some(at.column))
         }
-        None => Corner {
-            line: None,
-            column: None,
-        },
+        None => (None, None),
     }
+}
+
+fn start_of(place: Option<Span>) -> Option<usize> {
+    Some(place?.start)
+}
+
+fn end_of(place: Option<Span>) -> Option<usize> {
+    Some(place?.end)
 }
 
 fn origin_at<'a>(source: Source<'a>, place: Option<Span>) -> Option<OriginLine<'a>> {
@@ -81,20 +77,8 @@ fn origin_at<'a>(source: Source<'a>, place: Option<Span>) -> Option<OriginLine<'
     Some(OriginLine {
         source: origin.file,
         line: origin.line,
-        column: if spot.is_original {
-            Some(spot.column)
-        } else {
-            None
-        },
+        column: spot.is_original.then_some(spot.column),
     })
-}
-
-fn start_of(place: Option<Span>) -> Option<usize> {
-    place.map(|place| place.start)
-}
-
-fn end_of(place: Option<Span>) -> Option<usize> {
-    place.map(|place| place.end)
 }
 
 fn help_lines<'a>(
@@ -104,11 +88,11 @@ fn help_lines<'a>(
 ) -> Result<Vec<HelpLine<'a>>, ReportFault> {
     let mut made = Vec::with_capacity(alloc, helps.len())?;
     for help in helps {
-        let at = corner_at(source.lines, start_of(help.place));
+        let (line, column) = corner_at(source.lines, start_of(help.place));
         made.push(HelpLine {
             text: help.text.as_str(),
-            line: at.line,
-            column: at.column,
+            line,
+            column,
             origin: origin_at(source, help.place),
         })?;
     }
@@ -164,14 +148,14 @@ fn line_of<'a>(
     found: &'a Diagnostic,
 ) -> Result<Line<'a>, ReportFault> {
     let words = words_of(&found.finding);
-    let start = corner_at(source.lines, start_of(found.place));
-    let end = corner_at(source.lines, end_of(found.place));
+    let (line, column) = corner_at(source.lines, start_of(found.place));
+    let (end_line, end_column) = corner_at(source.lines, end_of(found.place));
     Ok(Line {
         source: source.name,
-        line: start.line,
-        column: start.column,
-        end_line: end.line,
-        end_column: end.column,
+        line,
+        column,
+        end_line,
+        end_column,
         origin: origin_at(source, found.place),
         severity: words.severity,
         number: words.number,

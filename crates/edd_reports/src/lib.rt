@@ -13,6 +13,7 @@ pub mod nearest;
 mod originals;
 pub mod outline;
 mod spots;
+pub mod tables;
 mod text;
 mod typing;
 pub mod words;
@@ -28,7 +29,7 @@ use std::alloc::Global;
 use std::io::Write;
 
 /// In which form it is printed.
-#[derive(Clone, Copy, PartialEq, Eq, Debug)]
+#[derive(Clone, Copy)]
 pub enum Format {
     /// Lines for a reader: where it is, the line of the source, and what helps.
     Text,

@@ -30,26 +30,34 @@ pub struct Lines<'a> {
 }
 
 // A line that is short enough to be shown, without the end of a line of another system.
-fn shown(text: &[u8], start: usize, end: usize) -> &str {
-    if LONGEST < end.saturating_sub(start) {
+fn shown(text: &[u8], place: Span) -> &str {
+    if LONGEST < place.end.saturating_sub(place.start) {
         return "";
     }
-    let line = text_in(text, Span { start, end });
+    let line = text_in(text, place);
     if line.contains('\0') {
         return "";
     }
     line.strip_suffix('\r').unwrap_or(line)
 }
 
+/// Where the line that is counted from 0 is, without its LF, by the places where lines begin.
+pub fn span_of_line(text: &[u8], starts: &[usize], line: usize) -> Span {
+    let end = match starts.get(line.saturating_add(1)) {
+        Some(next) => next.saturating_sub(1),
+        None => text.len(),
+    };
+    let start = starts.get(line).copied().unwrap_or(0);
+    Span { start, end }
+}
+
 impl<'a> Lines<'a> {
     pub fn of(alloc: Global, text: &'a [u8]) -> Result<Lines<'a>, AllocError> {
         let mut starts = Vec::new(alloc);
         starts.push(0)?;
-        let mut rest = text;
-        while let [byte, behind @ ..] = rest {
-            rest = behind;
+        for (index, byte) in text.iter().enumerate() {
             if *byte == b'\n' {
-                starts.push(text.len().saturating_sub(behind.len()))?;
+                starts.push(index.saturating_add(1))?;
             }
         }
         let marks = Marks::of(alloc, text, &starts)?;
@@ -68,34 +76,34 @@ impl<'a> Lines<'a> {
         }
     }
 
-    // Where the line that is counted from 0 ends.
-    fn end_of(&self, line: usize) -> usize {
-        match self.starts.get(line.saturating_add(1)) {
-            Some(next) => next.saturating_sub(1),
-            None => self.text.len(),
-        }
+    // Where a line is that is counted from 0.
+    fn span(&self, line: usize) -> Span {
+        span_of_line(self.text, &self.starts, line)
     }
 
     /// How many characters a place has on its first line.
     pub fn width(&self, place: Span) -> usize {
-        let end = place.end.min(self.end_of(self.line_of(place.start)));
+        let end = place.end.min(self.span(self.line_of(place.start)).end);
         let bytes = self.text.get(place.start..end).unwrap_or(b"");
-        match str::from_utf8(bytes) {
-            Ok(text) => text.chars().count(),
-            Err(_) => bytes.iter().filter(|byte| **byte & 0xc0 != 0x80).count(),
+        let mut count: usize = 0;
+        for byte in bytes {
+            if *byte & 0xc0 != 0x80 {
+                count = count.saturating_add(1);
+            }
         }
+        count
     }
 
     /// The place of a byte.
     pub fn place(&self, byte: usize) -> Place<'a> {
         let byte = byte.min(self.text.len());
         let line = self.line_of(byte);
-        let start = self.starts.get(line).copied().unwrap_or(0);
-        let before = text_in(self.text, Span { start, end: byte });
+        let whole = self.span(line);
+        let before = text_in(self.text, Span { end: byte, ..whole });
         Place {
             line: line.saturating_add(1),
             column: before.chars().count().saturating_add(1),
-            text: shown(self.text, start, self.end_of(line)),
+            text: shown(self.text, whole),
             before: before.len(),
             origin: self.marks.origin(line),
         }

@@ -1,6 +1,7 @@
 //! The marks that a preprocessor leaves behind, which say from which file and line the text after
 //! them is: `# 12 "file"` and `#line 12 "file"`.
 
+use crate::lines::span_of_line;
 use crate::words::{Span, text_in};
 use std::alloc::{AllocError, Global};
 
@@ -22,7 +23,7 @@ pub struct Marks<'a> {
 }
 
 /// From where a line of a text is.
-#[derive(Clone, Copy, PartialEq, Eq, Debug)]
+#[derive(Clone, Copy)]
 pub struct Origin<'a> {
     /// Nothing where the marks name no file.
     pub file: Option<&'a str>,
@@ -31,7 +32,7 @@ pub struct Origin<'a> {
 }
 
 /// What a byte of a text is in.
-#[derive(Clone, Copy, PartialEq, Eq)]
+#[derive(Clone, Copy)]
 enum Inside {
     Code,
     LineComment,
@@ -60,11 +61,13 @@ fn mark_on(line: &str) -> Option<(usize, Option<&str>)> {
     let behind = behind.strip_prefix("line").unwrap_or(behind).trim_start();
     let (number, rest) = behind.split_once(' ').unwrap_or((behind, ""));
     let number = number.trim_end().parse::<usize>().ok()?;
-    let file = match rest.trim_start().strip_prefix('"') {
-        Some(named) => named.split_once('"').map(|parts| parts.0),
-        None => None,
-    };
-    Some((number, file))
+    Some((number, quoted(rest.trim_start())))
+}
+
+// What stands in quotes at the beginning of a text.
+fn quoted(text: &str) -> Option<&str> {
+    let (quoted, _) = text.strip_prefix('"')?.split_once('"')?;
+    Some(quoted)
 }
 
 impl<'a> Marks<'a> {
@@ -80,7 +83,7 @@ impl<'a> Marks<'a> {
         let mut before = 0;
         let mut line: usize = 0;
         for (index, byte) in text.iter().enumerate() {
-            if *byte == b'#' && inside == Inside::Code {
+            if *byte == b'#' && matches!(inside, Inside::Code) {
                 marks.look(text, starts, line, index)?;
             }
             inside = after(inside, before, *byte);
@@ -102,27 +105,25 @@ impl<'a> Marks<'a> {
         line: usize,
         place: usize,
     ) -> Result<(), AllocError> {
-        let start = starts.get(line).copied().unwrap_or(0);
-        let end = match starts.get(line.saturating_add(1)) {
-            Some(next) => next.saturating_sub(1),
-            None => text.len(),
-        };
-        let before = text_in(text, Span { start, end: place });
+        let whole = span_of_line(text, starts, line);
+        let before = text_in(
+            text,
+            Span {
+                end: place,
+                ..whole
+            },
+        );
         if !before.trim_start().is_empty() {
             return Ok(());
         }
-        let Some((number, file)) = mark_on(text_in(text, Span { start, end })) else {
+        let Some((number, file)) = mark_on(text_in(text, whole)) else {
             return Ok(());
         };
-        let earlier = match self.marks.last() {
-            Some(mark) => mark.file,
-            None => None,
+        let file = match (file, self.marks.last()) {
+            (None, Some(earlier)) => earlier.file,
+            _ => file,
         };
-        self.marks.push(Mark {
-            line,
-            number,
-            file: file.or(earlier),
-        })?;
+        self.marks.push(Mark { line, number, file })?;
         Ok(())
     }
 

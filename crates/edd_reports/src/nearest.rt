@@ -11,7 +11,7 @@ use strsim::levenshtein;
 const LONGEST: usize = 64;
 
 /// Among what a word is looked for.
-#[derive(Clone, Copy, PartialEq, Eq)]
+#[derive(Clone, Copy)]
 enum Among {
     /// Names that a maker has chosen.
     Names,
@@ -141,12 +141,18 @@ impl<'w, 'a> Nearest<'w, 'a> {
     // By how many edits a word differs, where it may be meant.
     fn distance(&self, alloc: Global, word: &str) -> Result<Option<usize>, AllocError> {
         let edits = levenshtein(alloc, word, self.word)?;
-        Ok(match slips_between(alloc, self.word, word, edits)? {
-            Slips::Swapped => Some(1),
-            Slips::Typed => Some(edits),
-            Slips::Chosen if self.among == Among::Words => Some(edits),
-            Slips::Chosen => None,
+        Ok(match (slips_between(self.word, word, edits), self.among) {
+            (Slips::Swapped, _) => Some(1),
+            (Slips::Typed, _) | (Slips::Chosen, Among::Words) => Some(edits),
+            (Slips::Chosen, Among::Names) => None,
         })
+    }
+
+    // Takes a word as the nearest one so far.
+    fn take(&mut self, word: &'a str, edits: usize) {
+        self.edits = edits;
+        self.found = Some(word);
+        self.other = None;
     }
 
     /// Looks at a further word.
@@ -154,16 +160,15 @@ impl<'w, 'a> Nearest<'w, 'a> {
         let longer = word.len().max(self.word.len());
         let shorter = word.len().min(self.word.len());
         let most = self.edits.max(1).saturating_add(1);
-        if LONGEST < longer || most < longer.saturating_sub(shorter) || word == self.word {
-            return Ok(());
-        }
-        if self.letters.lack(word, self.edits) {
+        if LONGEST < longer
+            || most < longer.saturating_sub(shorter)
+            || word == self.word
+            || self.letters.lack(word, self.edits)
+        {
             return Ok(());
         }
         if word.eq_ignore_ascii_case(self.word) {
-            self.edits = 0;
-            self.found = Some(word);
-            self.other = None;
+            self.take(word, 0);
             return Ok(());
         }
         let Some(edits) = self.distance(alloc, word)? else {
@@ -175,13 +180,8 @@ impl<'w, 'a> Nearest<'w, 'a> {
                     self.other = Some(word);
                 }
             }
-            Some(_) if self.edits < edits => {}
-            None if self.edits < edits => {}
-            _ => {
-                self.edits = edits;
-                self.found = Some(word);
-                self.other = None;
-            }
+            _ if edits <= self.edits => self.take(word, edits),
+            _ => {}
         }
         Ok(())
     }

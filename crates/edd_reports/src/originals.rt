@@ -21,19 +21,11 @@ pub struct Originals<'a> {
 
 // A line, counted from 1, without its end; nothing where it is long, no text or not there.
 fn line_in(text: &[u8], number: usize) -> Option<&str> {
-    for (before, line) in text.split_inclusive(|byte| *byte == b'\n').enumerate() {
-        if before.saturating_add(1) == number {
-            let line = str::from_utf8(line).ok()?;
-            let line = line.strip_suffix('\n').unwrap_or(line);
-            let line = line.strip_suffix('\r').unwrap_or(line);
-            return if LONGEST < line.len() {
-                None
-            } else {
-                Some(line)
-            };
-        }
-    }
-    None
+    let mut lines = text.split_inclusive(|byte| *byte == b'\n');
+    let line = str::from_utf8(lines.nth(number.checked_sub(1)?)?).ok()?;
+    let line = line.strip_suffix('\n').unwrap_or(line);
+    let line = line.strip_suffix('\r').unwrap_or(line);
+    (line.len() <= LONGEST).then_some(line)
 }
 
 impl<'a> Originals<'a> {
@@ -54,7 +46,7 @@ impl<'a> Originals<'a> {
         let name = origin.file?;
         for file in &self.files {
             if file.name == name {
-                return line_in(file.text.as_slice(), origin.line);
+                return line_in(&file.text, origin.line);
             }
         }
         None

@@ -63,16 +63,22 @@ impl Outline {
     pub fn opened(&self, tokens: &[Token], number: usize) -> Option<usize> {
         match self.opened.get(number) {
             Some(opened) => *opened,
-            None => self.open_at_end(tokens),
+            None => self.open_behind(tokens, tokens.len().checked_sub(1)?),
         }
     }
 
-    fn open_at_end(&self, tokens: &[Token]) -> Option<usize> {
-        let last = tokens.len().checked_sub(1)?;
-        if is_sign(tokens, last, Symbol::OpenBrace) {
-            return Some(last);
+    /// The token that opened the innermost braces that are open right behind a token.
+    pub fn open_behind(&self, tokens: &[Token], number: usize) -> Option<usize> {
+        if is_sign(tokens, number, Symbol::OpenBrace) {
+            return Some(number);
         }
-        self.opened.get(last).copied().unwrap_or(None)
+        self.opened.get(number).copied().unwrap_or(None)
+    }
+
+    /// The kind of the last item whose name is before a token.
+    pub fn kind_before(&self, number: usize) -> Option<Kind> {
+        let before = self.items.iter().take_while(|item| item.name < number);
+        Some(before.last()?.kind)
     }
 
     /// The kind of the item in whose braces a token is, and in no inner ones.
@@ -81,9 +87,7 @@ impl Outline {
         if self.opened(tokens, brace).is_some() {
             return None;
         }
-        let before = self.items.iter().take_while(|item| item.name < brace);
-        let last = before.last()?;
-        Some(last.kind)
+        self.kind_before(brace)
     }
 }
 

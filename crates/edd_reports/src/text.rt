@@ -1,7 +1,8 @@
 //! Lines for a reader.
 
 use crate::colours::Colours;
-use crate::diagnostic::{Diagnostic, Finding, Help};
+use crate::diagnostic::{Diagnostic, Help};
+use crate::json::words_of;
 use crate::spots::{Spot, spot_of};
 use crate::words::Span;
 use crate::{Origin, ReportFault, Source, print};
@@ -12,12 +13,42 @@ use std::io::Write;
 /// The most signs below a line.
 const MOST_CARETS: usize = 80;
 
-// As much room as the text takes: a TAB stays, so that the caret is below its place.
-fn push_room(line: &mut String, before: &str) -> Result<(), ReportFault> {
-    for character in before.chars() {
-        line.push(if character == '\t' { '\t' } else { ' ' })?;
+/// A line so far. A part for which memory is refused is left out, and the line is not printed.
+#[derive(Drop)]
+struct Line {
+    text: String,
+    is_refused: bool,
+}
+
+impl Line {
+    fn new(alloc: Global) -> Line {
+        Line {
+            text: String::new(alloc),
+            is_refused: false,
+        }
     }
-    Ok(())
+
+    fn add(&mut self, parts: &[&str]) {
+        for part in parts {
+            if self.text.push_str(part).is_err() {
+                self.is_refused = true;
+            }
+        }
+    }
+
+    fn add_place(&mut self, file: &str, line: usize, column: usize) {
+        if write!(self.text, "{file}:{line}:{column}").is_err() {
+            self.is_refused = true;
+        }
+    }
+
+    fn print<W: Write>(self, out: &mut W) -> Result<(), ReportFault> {
+        let Line { text, is_refused } = self;
+        if is_refused {
+            return Err(ReportFault::Memory);
+        }
+        print(text, out)
+    }
 }
 
 // The line of the source, and carets under the place.
@@ -31,22 +62,17 @@ fn print_line<W: Write>(
         return Ok(());
     }
     print(String::from_str(alloc, spot.text)?, out)?;
-    let mut line = String::new(alloc);
-    push_room(&mut line, spot.before)?;
-    line.push_str(colours.carets)?;
-    for _ in 0..spot.width.max(1).min(MOST_CARETS) {
-        line.push('^')?;
+    let mut line = Line::new(alloc);
+    // As much room as the text takes: a TAB stays, so that the caret is below its place.
+    for character in spot.before.chars() {
+        line.add(&[if character == '\t' { "\t" } else { " " }]);
     }
-    line.push_str(colours.end)?;
-    print(line, out)
-}
-
-// What stands in the text where a macro stands in the file.
-fn print_made<W: Write>(alloc: Global, made: &str, out: &mut W) -> Result<(), ReportFault> {
-    print(
-        format!(in alloc; "help: the preprocessor made `{made}` of it")?,
-        out,
-    )
+    line.add(&[colours.carets]);
+    for _ in 0..spot.width.max(1).min(MOST_CARETS) {
+        line.add(&["^"]);
+    }
+    line.add(&[colours.end]);
+    line.print(out)
 }
 
 fn print_help<W: Write>(
@@ -55,86 +81,50 @@ fn print_help<W: Write>(
     help: &Help,
     out: &mut W,
 ) -> Result<(), ReportFault> {
-    let mut line = String::from_str(alloc, "help: ")?;
-    line.push_str(help.text.as_str())?;
+    let mut line = Line::new(alloc);
+    line.add(&["help: ", help.text.as_str()]);
     if let Some(place) = help.place {
         let spot = spot_of(source, place);
+        line.add(&[" at "]);
         match source.lines.place(place.start).origin {
             Some(
                 Origin {
                     file: Some(file),
                     line: number,
                 },
-            ) => write!(line, " at {file}:{number}:{}", spot.column)?,
-            _ => write!(line, " at {}:{}", spot.line, spot.column)?,
+            ) => line.add_place(file, number, spot.column),
+            _ => write!(line.text, "{}:{}", spot.line, spot.column)?,
         }
     }
-    print(line, out)
+    line.print(out)
 }
 
-// What comes after the place.
-fn push_finding(
-    line: &mut String,
-    finding: &Finding,
-    colours: &Colours,
-) -> Result<(), ReportFault> {
-    let end = colours.end;
-    match finding {
-        Finding::Refused(refusal) => {
-            let begin = colours.refused;
-            write!(line, ": {begin}refused{end} {refusal}")?;
-        }
-        Finding::Warned {
-            lint,
-            message,
-            is_denied,
-        } => {
-            let (begin, word) = if *is_denied {
-                (colours.refused, "denied")
-            } else {
-                (colours.warning, "warning")
-            };
-            write!(line, ": {begin}{word}{end} {lint} {message}")?;
-        }
-    }
-    Ok(())
-}
-
-// The first line, and the line of the source.
-fn print_at<W: Write>(
-    alloc: Global,
-    source: Source<'_>,
-    found: &Diagnostic,
-    place: Span,
-    colours: &Colours,
-    out: &mut W,
-) -> Result<(), ReportFault> {
-    let spot = spot_of(source, place);
-    let (begin, end) = (colours.place, colours.end);
-    let mut line = format!(in alloc; "{begin}{}:{}:{}{end}", spot.file, spot.line, spot.column)?;
-    push_finding(&mut line, &found.finding, colours)?;
-    print(line, out)?;
-    print_line(alloc, spot, colours, out)?;
-    match spot.made {
-        Some(made) => print_made(alloc, made, out),
-        None => Ok(()),
-    }
-}
-
+// The first line, with what is wrong at a place.
 fn print_first<W: Write>(
     alloc: Global,
     source: Source<'_>,
     found: &Diagnostic,
+    spot: Option<Spot<'_>>,
     colours: &Colours,
     out: &mut W,
 ) -> Result<(), ReportFault> {
-    if let Some(place) = found.place {
-        return print_at(alloc, source, found, place, colours, out);
+    let mut line = Line::new(alloc);
+    line.add(&[colours.place]);
+    match spot {
+        Some(spot) => line.add_place(spot.file, spot.line, spot.column),
+        None => line.add(&[source.name]),
     }
-    let (begin, end) = (colours.place, colours.end);
-    let mut line = format!(in alloc; "{begin}{}{end}", source.name)?;
-    push_finding(&mut line, &found.finding, colours)?;
-    print(line, out)
+    let words = words_of(&found.finding);
+    let begin = match words.severity {
+        "warning" => colours.warning,
+        _ => colours.refused,
+    };
+    line.add(&[colours.end, ": ", begin, words.severity, colours.end, " "]);
+    if let Some(lint) = words.lint {
+        line.add(&[lint, " "]);
+    }
+    line.add(&[words.message]);
+    line.print(out)
 }
 
 /// Prints a first line with the source's name, the line of the text with carets, and what helps.
@@ -145,7 +135,21 @@ pub fn print_diagnostic<W: Write>(
     colours: &Colours,
     out: &mut W,
 ) -> Result<(), ReportFault> {
-    print_first(alloc, source, found, colours, out)?;
+    let spot = match found.place {
+        Some(place) => Some(spot_of(source, place)),
+        None => None,
+    };
+    print_first(alloc, source, found, spot, colours, out)?;
+    if let Some(spot) = spot {
+        print_line(alloc, spot, colours, out)?;
+        // What stands in the text where a macro stands in the file.
+        if let Some(made) = spot.made {
+            print(
+                format!(in alloc; "help: the preprocessor made `{made}` of it")?,
+                out,
+            )?;
+        }
+    }
     for help in &found.helps {
         print_help(alloc, source, help, out)?;
     }

@@ -1,7 +1,5 @@
 //! Whether a word comes about by typing another one.
 
-use std::alloc::{AllocError, Global};
-
 /// Parts of a name as short as this one are chosen: `in` and `on`, `min` and `max`.
 const SHORT: usize = 3;
 
@@ -44,60 +42,37 @@ fn places_in(one: &str, other: &str) -> Places {
     found
 }
 
-// The digits of a word alone.
-fn digits(alloc: Global, word: &str) -> Result<String, AllocError> {
-    let mut found = String::new(alloc);
-    for letter in word.chars() {
-        if letter.is_ascii_digit() {
-            found.push(letter)?;
-        }
-    }
-    Ok(found)
+// Whether two words are the same but for `_` and capitals.
+fn have_same_letters(one: &str, other: &str) -> bool {
+    let one = one.bytes().filter(|byte| *byte != b'_');
+    let other = other.bytes().filter(|byte| *byte != b'_');
+    one.map(|byte| byte.to_ascii_lowercase())
+        .eq(other.map(|byte| byte.to_ascii_lowercase()))
 }
 
-// A word without `_`.
-fn letters(alloc: Global, word: &str) -> Result<String, AllocError> {
-    let mut found = String::new(alloc);
-    for letter in word.chars() {
-        if letter != '_' {
-            found.push(letter)?;
-        }
-    }
-    Ok(found)
+fn have_same_digits(one: &str, other: &str) -> bool {
+    let one = one.bytes().filter(|byte| byte.is_ascii_digit());
+    one.eq(other.bytes().filter(|byte| byte.is_ascii_digit()))
 }
 
 // Whether the short parts between `_` are the same.
 fn has_short_parts_of(one: &str, other: &str) -> bool {
-    for (a, b) in one.split('_').zip(other.split('_')) {
-        if (a.len() <= SHORT || b.len() <= SHORT) && !a.eq_ignore_ascii_case(b) {
-            return false;
-        }
-    }
-    true
+    let mut parts = one.split('_').zip(other.split('_'));
+    parts.all(|(a, b)| SHORT < a.len().min(b.len()) || a.eq_ignore_ascii_case(b))
 }
 
 /// How two words differ which so many edits part.
-pub fn slips_between(
-    alloc: Global,
-    one: &str,
-    other: &str,
-    edits: usize,
-) -> Result<Slips, AllocError> {
-    let one_letters = letters(alloc, one)?;
-    let other_letters = letters(alloc, other)?;
-    if one_letters
-        .as_str()
-        .eq_ignore_ascii_case(other_letters.as_str())
-    {
-        return Ok(Slips::Swapped);
+pub fn slips_between(one: &str, other: &str, edits: usize) -> Slips {
+    if have_same_letters(one, other) {
+        return Slips::Swapped;
     }
     if one.len() == other.len() {
         let found = places_in(one, other);
         let is_inside = 0 < found.last && found.last.saturating_add(1) < one.len();
         match found.count {
-            1 if !is_inside => return Ok(Slips::Chosen),
-            2 if found.are_swapped => return Ok(Slips::Swapped),
-            2 => return Ok(Slips::Chosen),
+            1 if !is_inside => return Slips::Chosen,
+            2 if found.are_swapped => return Slips::Swapped,
+            2 => return Slips::Chosen,
             _ => {}
         }
     }
@@ -107,11 +82,9 @@ pub fn slips_between(
     } else {
         edits <= 1
     };
-    let one_digits = digits(alloc, one)?;
-    let other_digits = digits(alloc, other)?;
-    Ok(if are_near && one_digits == other_digits {
+    if are_near && have_same_digits(one, other) {
         Slips::Typed
     } else {
         Slips::Chosen
-    })
+    }
 }

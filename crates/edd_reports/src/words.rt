@@ -32,6 +32,12 @@ pub fn span_of(token: &Token) -> Span
     }
 }
 
+/// The place right behind a token.
+pub fn end_of(token: &Token) -> Span {
+    let end = token.end as usize;
+    Span { start: end, end }
+}
+
 /// A token as it is written.
 pub fn word_of<'a>(text: &'a [u8], token: &Token) -> &'a str {
     text_in(text, span_of(token))
@@ -39,16 +45,17 @@ pub fn word_of<'a>(text: &'a [u8], token: &Token) -> &'a str {
 
 /// Whether the token of a number is this sign.
 pub fn is_sign(tokens: &[Token], number: usize, sign: Symbol) -> bool {
-    match tokens.get(number) {
-        Some(token) => token.kind == TokenKind::Symbol(sign),
-        None => false,
-    }
+    is_kind(tokens, number, TokenKind::Symbol(sign))
 }
 
 /// Whether the token of a number is this reserved word.
 pub fn is_word(tokens: &[Token], number: usize, word: Keyword) -> bool {
+    is_kind(tokens, number, TokenKind::Keyword(word))
+}
+
+fn is_kind(tokens: &[Token], number: usize, kind: TokenKind) -> bool {
     match tokens.get(number) {
-        Some(token) => token.kind == TokenKind::Keyword(word),
+        Some(token) => token.kind == kind,
         None => false,
     }
 }

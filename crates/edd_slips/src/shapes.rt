@@ -1,7 +1,8 @@
 //! Slips in the shape of items, attributes and types.
 
-use edd_lexer::token::TokenKind;
-use edd_method_slips::{Around, Slip, behind, is_joined, is_symbol, on};
+use edd_lexer::token::{Token, TokenKind};
+use edd_method_slips::{Around, Slip, is_integer, is_joined, is_keyword};
+use edd_reports::tables::is_among;
 use edd_reports::words::item_kind;
 use edd_syntax::numbers::{Attr, Kind, ValueKind};
 use edd_syntax::operators::Operator;
@@ -12,9 +13,9 @@ fn kind_named(around: &Around<'_>) -> Option<Kind> {
     if around.before.kind != TokenKind::Name {
         return None;
     }
-    let kind = item_kind(around.back(2)?)?;
-    match around.back(3) {
-        Some(of) if of.kind == TokenKind::Keyword(Keyword::Of) => item_kind(around.back(4)?),
+    let kind = item_kind(around.at.back(2)?)?;
+    match around.at.back(3) {
+        Some(of) if of.kind == TokenKind::Keyword(Keyword::Of) => item_kind(around.at.back(4)?),
         _ => Some(kind),
     }
 }
@@ -39,324 +40,248 @@ fn help_of_item(kind: Kind) -> &'static str {
 
 // OF after the name of an item.
 fn late_of(around: &Around<'_>) -> Option<Slip> {
-    let is_late = around.token.kind == TokenKind::Name
-        && around.ahead()?.kind == TokenKind::Keyword(Keyword::Of);
-    match around.before.kind {
-        TokenKind::Keyword(Keyword::Array) if is_late => {
-            on(
-                around.token,
-                "OF stands before the name: ARRAY OF VARIABLE a { .. }",
-            )
-        }
-        TokenKind::Keyword(Keyword::Collection) if is_late => {
-            on(
-                around.token,
-                "OF stands before the name: COLLECTION OF VARIABLE c { .. }",
-            )
-        }
-        _ => None,
+    if around.token.kind != TokenKind::Name || !is_keyword(around.at.ahead()?, Keyword::Of) {
+        return None;
     }
+    let help = match around.before.kind {
+        TokenKind::Keyword(Keyword::Array) => {
+            "OF stands before the name: ARRAY OF VARIABLE a { .. }"
+        }
+        TokenKind::Keyword(Keyword::Collection) => {
+            "OF stands before the name: COLLECTION OF VARIABLE c { .. }"
+        }
+        _ => return None,
+    };
+    around.here(help)
 }
 
 // An item that ends after its name.
 fn item(around: &Around<'_>) -> Option<Slip> {
     let kind = kind_named(around)?;
     match around.token.kind {
-        TokenKind::Symbol(Symbol::Semicolon | Symbol::Equals) => match around.ahead() {
-            Some(next) if is_symbol(next, Symbol::OpenBrace) => None,
-            _ => on(around.token, help_of_item(kind)),
-        },
+        TokenKind::Symbol(Symbol::Semicolon | Symbol::Equals)
+            if !around.at.is_ahead(Symbol::OpenBrace) => { around.here(help_of_item(kind)) }
         TokenKind::Symbol(Symbol::OpenBracket) if kind == Kind::Array => {
-            on(
-                around.token,
-                "an ARRAY has no size: its elements stand in ELEMENTS { 1, p; }",
-            )
+            around.here("an ARRAY has no size: its elements stand in ELEMENTS { 1, p; }")
         }
         TokenKind::Symbol(Symbol::OpenParenthesis) if kind == Kind::Method => {
-            on(
-                around.token,
+            around.here(
                 "a METHOD takes nothing and has no parentheses: METHOD m { DEFINITION { .. } }",
             )
         }
-        _ if item_kind(around.token).is_some() => behind(around.before, help_of_item(kind)),
+        _ if item_kind(around.token).is_some() => around.behind(help_of_item(kind)),
         _ => None,
     }
 }
 
-// The word of a list alone.
-fn no_list(around: &Around<'_>) -> Option<Slip> {
-    let is_list = matches!(
-        around.before.kind,
-        TokenKind::Keyword(
-            Keyword::Items
-                | Keyword::Elements
-                | Keyword::Members
-                | Keyword::Request
-                | Keyword::Reply
-                | Keyword::ResponseCodes
-                | Keyword::Transaction
-                | Keyword::Definition
-        )
-    );
-    if is_list && is_symbol(around.token, Symbol::Semicolon) {
-        return on(
-            around.token,
-            "braces are missing here, as in REQUEST { }, with what belongs in them",
-        );
-    }
-    None
-}
-
-// A list in other brackets than braces.
-fn list(around: &Around<'_>) -> Option<Slip> {
-    let is_bracket = is_symbol(around.token, Symbol::OpenBracket);
-    if !is_bracket && !is_symbol(around.token, Symbol::OpenParenthesis) {
-        return None;
-    }
-    let help = match around.before.kind {
-        TokenKind::Keyword(Keyword::Items) => "a list stands in braces, as in ITEMS { p, q }",
-        TokenKind::Keyword(Keyword::Elements) => {
-            "a list stands in braces, as in ELEMENTS { 1, p; 2, q; }"
-        }
-        TokenKind::Keyword(Keyword::Members) => {
-            "a list stands in braces, as in MEMBERS { one, p; other, q; }"
-        }
-        TokenKind::Keyword(Keyword::Request) => "a list stands in braces, as in REQUEST { p, q }",
-        TokenKind::Keyword(Keyword::Reply) => "a list stands in braces, as in REPLY { p, q }",
-        TokenKind::Keyword(Keyword::ResponseCodes) => {
+// What is said where the word of a list has other brackets than braces.
+fn help_of_list(word: Keyword) -> Option<&'static str> {
+    let help = match word {
+        Keyword::Items => "a list stands in braces, as in ITEMS { p, q }",
+        Keyword::Elements => "a list stands in braces, as in ELEMENTS { 1, p; 2, q; }",
+        Keyword::Members => "a list stands in braces, as in MEMBERS { one, p; other, q; }",
+        Keyword::Request => "a list stands in braces, as in REQUEST { p, q }",
+        Keyword::Reply => "a list stands in braces, as in REPLY { p, q }",
+        Keyword::ResponseCodes => {
             "a list stands in braces, as in RESPONSE_CODES { 0, SUCCESS, \"OK\"; }"
         }
-        TokenKind::Keyword(Keyword::Transaction)
-            if matches!(around.ahead()?.kind, TokenKind::Integer(_)) => {
-            "the number of a TRANSACTION stands without brackets, as in TRANSACTION 0 { .. }"
-        }
-        TokenKind::Keyword(Keyword::Transaction) => {
+        Keyword::Transaction => {
             "messages stand in braces, as in TRANSACTION { REQUEST { .. } REPLY { .. } }"
         }
-        TokenKind::Keyword(Keyword::Definition) => {
-            "statements stand in braces, as in DEFINITION { .. }"
-        }
-        TokenKind::Name if is_bracket => match around.word(around.before) {
-            "ENUMERATED" | "BIT_ENUMERATED" => {
-                "a list stands in braces, as in ENUMERATED { { 1, \"one\" } }"
-            }
-            "INTEGER" | "UNSIGNED_INTEGER" => "a size stands in parentheses, as in INTEGER (2)",
-            _ => return None,
-        },
+        Keyword::Definition => "statements stand in braces, as in DEFINITION { .. }",
         _ => return None,
     };
-    on(around.token, help)
+    Some(help)
+}
+
+// The word of a list alone, or before other brackets than braces.
+fn no_braces(around: &Around<'_>) -> Option<Slip> {
+    let TokenKind::Keyword(word) = around.before.kind else {
+        return None;
+    };
+    let help = help_of_list(word)?;
+    match around.token.kind {
+        TokenKind::Symbol(Symbol::Semicolon) => {
+            around.here("braces are missing here, as in REQUEST { }, with what belongs in them")
+        }
+        TokenKind::Symbol(Symbol::OpenBracket | Symbol::OpenParenthesis) => {
+            let is_number = word == Keyword::Transaction && is_integer(around.at.ahead()?);
+            around.here(if is_number {
+                "the number of a TRANSACTION stands without brackets, as in TRANSACTION 0 { .. }"
+            } else {
+                help
+            })
+        }
+        _ => None,
+    }
+}
+
+// A bracket after the word of a type.
+fn bracket_of_type(around: &Around<'_>) -> Option<Slip> {
+    if !around.is(Symbol::OpenBracket) || around.before.kind != TokenKind::Name {
+        return None;
+    }
+    match around.word(around.before) {
+        "ENUMERATED" | "BIT_ENUMERATED" => {
+            around.here("a list stands in braces, as in ENUMERATED { { 1, \"one\" } }")
+        }
+        "INTEGER" | "UNSIGNED_INTEGER" => {
+            around.here("a size stands in parentheses, as in INTEGER (2)")
+        }
+        _ => None,
+    }
 }
 
 // Braces around what a CASE gives.
 fn of_case(around: &Around<'_>) -> Option<Slip> {
-    let is_brace = is_symbol(around.token, Symbol::OpenBrace)
-        && is_symbol(around.before, Symbol::Colon);
-    if is_brace && !around.is_in_method() {
-        return on(
-            around.token,
-            "what a CASE gives stands without braces, as in CASE 0: \"..\";",
-        );
+    let is_brace = around.is(Symbol::OpenBrace) && around.follows(Symbol::Colon);
+    if is_brace && !around.at.is_in_body() {
+        return around.here("what a CASE gives stands without braces, as in CASE 0: \"..\";");
     }
     None
 }
 
 // Whether the attribute with this word gives what is of this sort.
 fn gives(word: Keyword, value: ValueKind) -> bool {
-    match Attr::from_word(word) {
-        Some(attr) => attr.shape().value == value,
-        None => false,
-    }
+    Attr::from_word(word).is_some_and(|attr| attr.shape().value == value)
 }
 
 // A single value in brackets.
 fn value(around: &Around<'_>) -> Option<Slip> {
-    let is_brace = is_symbol(around.token, Symbol::OpenBrace);
-    let is_bracket = is_symbol(around.token, Symbol::OpenBracket);
-    if !is_brace && !is_bracket && !is_symbol(around.token, Symbol::OpenParenthesis) {
+    let (TokenKind::Keyword(word), TokenKind::Symbol(sign)) = (
+        around.before.kind,
+        around.token.kind,
+    ) else {
+        return None;
+    };
+    if !matches!(
+        sign,
+        Symbol::OpenBrace | Symbol::OpenBracket | Symbol::OpenParenthesis
+    ) {
         return None;
     }
-    let help = match around.before.kind {
-        TokenKind::Keyword(Keyword::Class) => {
+    let help = match word {
+        Keyword::Class => {
             "classes stand here without brackets, joined by &, as in CLASS DYNAMIC & CORRECTION;"
         }
-        TokenKind::Keyword(Keyword::Handling) => {
-            "READ, WRITE or READ & WRITE stands here without brackets"
+        Keyword::Handling => "READ, WRITE or READ & WRITE stands here without brackets",
+        Keyword::Validity => "TRUE or FALSE stands here without brackets, or IF (..) { TRUE; }",
+        Keyword::Operation => "READ, WRITE or COMMAND stands here without brackets",
+        Keyword::Number => "a number stands here without brackets",
+        _ if sign != Symbol::OpenBracket && gives(word, ValueKind::Text) => {
+            "a text stands here without brackets, as in LABEL \"..\";"
         }
-        TokenKind::Keyword(Keyword::Validity) => {
-            "TRUE or FALSE stands here without brackets, or IF (..) { TRUE; }"
+        _ if sign != Symbol::OpenParenthesis && gives(word, ValueKind::Expression) => {
+            "a value stands here without brackets"
         }
-        TokenKind::Keyword(Keyword::Operation) => {
-            "READ, WRITE or COMMAND stands here without brackets"
-        }
-        TokenKind::Keyword(Keyword::Number) => "a number stands here without brackets",
-        TokenKind::Keyword(word) if !is_bracket && gives(word, ValueKind::Text) =>
-            "a text stands here without brackets, as in LABEL \"..\";",
-        TokenKind::Keyword(word)
-            if (is_brace || is_bracket) && gives(word, ValueKind::Expression) =>
-            "a value stands here without brackets",
         _ => return None,
     };
-    on(around.token, help)
+    around.here(help)
 }
 
 // A type of C where that of a variable is.
 fn type_of_c(around: &Around<'_>) -> Option<Slip> {
-    if around.before.kind != TokenKind::Keyword(Keyword::Type) {
+    let (TokenKind::Keyword(Keyword::Type), TokenKind::Keyword(word)) = (
+        around.before.kind,
+        around.token.kind,
+    ) else {
         return None;
-    }
-    match around.token.kind {
-        TokenKind::Keyword(
-            Keyword::Int
-            | Keyword::Long
-            | Keyword::Char
-            | Keyword::Short
-            | Keyword::Signed
-            | Keyword::Unsigned,
-        ) => {
-            on(
-                around.token,
-                "the type of a variable is INTEGER or UNSIGNED_INTEGER, with a size as in INTEGER (2)",
-            )
+    };
+    let help = match word {
+        Keyword::Int
+        | Keyword::Long
+        | Keyword::Char
+        | Keyword::Short
+        | Keyword::Signed
+        | Keyword::Unsigned => {
+            "the type of a variable is INTEGER or UNSIGNED_INTEGER, with a size as in INTEGER (2)"
         }
-        TokenKind::Keyword(Keyword::Float | Keyword::Double) => {
-            on(
-                around.token,
-                "numbers are whole: take INTEGER (4) in a smaller unit",
-            )
-        }
-        _ => None,
-    }
+        Keyword::Float | Keyword::Double => "numbers are whole: take INTEGER (4) in a smaller unit",
+        _ => return None,
+    };
+    around.here(help)
 }
 
 // A `;` between a type and its braces.
 fn parted_type(around: &Around<'_>) -> Option<Slip> {
-    if !is_symbol(around.token, Symbol::OpenBrace) || !is_symbol(around.before, Symbol::Semicolon) {
+    if !around.is(Symbol::OpenBrace) || !around.follows(Symbol::Semicolon) {
         return None;
     }
-    let is_sized = is_symbol(around.back(2)?, Symbol::CloseParenthesis);
-    let word = if is_sized { 6 } else { 3 };
-    if around.back(word)?.kind == TokenKind::Keyword(Keyword::Type) {
-        return on(around.before, "; may be left out");
+    let is_sized = around.at.is_back(2, Symbol::CloseParenthesis);
+    let word = around.at.back(if is_sized { 6 } else { 3 })?;
+    if is_keyword(word, Keyword::Type) {
+        return around.on_before("; may be left out");
     }
     None
+}
+
+/// Whether the word before the token is that of a type.
+pub fn is_after_type(around: &Around<'_>) -> bool {
+    let types = "INTEGER UNSIGNED_INTEGER ENUMERATED BIT_ENUMERATED";
+    is_among(around.word(around.before), types)
 }
 
 // What goes on after the word of a type.
 fn after_type(around: &Around<'_>) -> Option<Slip> {
-    let is_type = matches!(
-        around.word(around.before),
-        "INTEGER" | "UNSIGNED_INTEGER" | "ENUMERATED" | "BIT_ENUMERATED"
-    );
-    if !is_type || around.back(2)?.kind != TokenKind::Keyword(Keyword::Type) {
+    if !is_after_type(around) || !is_keyword(around.at.back(2)?, Keyword::Type) {
         return None;
     }
-    match around.token.kind {
+    let help = match around.token.kind {
         TokenKind::Symbol(Symbol::Equals) => {
-            on(
-                around.token,
-                "a default stands in braces after the type, as in INTEGER { DEFAULT_VALUE 5; }",
-            )
+            "a default stands in braces after the type, as in INTEGER { DEFAULT_VALUE 5; }"
         }
         TokenKind::Name | TokenKind::Keyword(Keyword::Unsigned | Keyword::Signed | Keyword::Int) =>
-            {
-                on(
-                    around.token,
-                    "a type is one word: INTEGER, UNSIGNED_INTEGER, ENUMERATED or BIT_ENUMERATED",
-                )
-            }
-        _ => None,
-    }
+            { "a type is one word: INTEGER, UNSIGNED_INTEGER, ENUMERATED or BIT_ENUMERATED" }
+        _ => return None,
+    };
+    around.here(help)
+}
+
+fn is_case(token: &Token) -> bool {
+    matches!(
+        token.kind,
+        TokenKind::Keyword(Keyword::Case | Keyword::MethodCase)
+    )
 }
 
 // Something else than an integer for a label.
 fn label(around: &Around<'_>) -> Option<Slip> {
-    let is_case = matches!(
-        around.before.kind,
-        TokenKind::Keyword(Keyword::Case | Keyword::MethodCase)
-    );
-    let is_number = matches!(
-        around.token.kind,
-        TokenKind::Integer(_) | TokenKind::Symbol(Symbol::Operator(Operator::Subtract))
-    );
-    let is_default = matches!(
-        around.token.kind,
-        TokenKind::Keyword(Keyword::Default | Keyword::MethodDefault)
-    );
-    if is_symbol(around.token, Symbol::Comma)
-        && around.back(2)?.kind == TokenKind::Keyword(Keyword::Case)
-    {
-        return on(
-            around.token,
-            "each label has a CASE of its own, with what it gives",
-        );
+    match around.token.kind {
+        TokenKind::Symbol(Symbol::Comma) if is_keyword(around.at.back(2)?, Keyword::Case) => {
+            around.here("each label has a CASE of its own, with what it gives")
+        }
+        TokenKind::Symbol(Symbol::Dot) if is_case(around.at.back(2)?) => {
+            around.here("a label is one number: a range has a case for each")
+        }
+        _ if !is_case(around.before) => None,
+        TokenKind::Integer(_) | TokenKind::Symbol(Symbol::Operator(Operator::Subtract)) => None,
+        TokenKind::Keyword(Keyword::Default | Keyword::MethodDefault) => {
+            around.on_before("this word has no case before it: default:")
+        }
+        _ => around.here("a label of a case is one integer, with or without a sign"),
     }
-    if is_case && is_default {
-        return on(around.before, "this word has no case before it: default:");
-    }
-    let is_range = is_symbol(around.token, Symbol::Dot)
-        && matches!(
-            around.back(2)?.kind,
-            TokenKind::Keyword(Keyword::Case | Keyword::MethodCase)
-        );
-    if is_range {
-        return on(
-            around.token,
-            "a label is one number: a range has a case for each",
-        );
-    }
-    if is_case && !is_number {
-        return on(
-            around.token,
-            "a label of a case is one integer, with or without a sign",
-        );
-    }
-    None
 }
 
 // An element that is written as a member.
 fn element(around: &Around<'_>) -> Option<Slip> {
     let is_first = around.before.kind == TokenKind::Name && is_joined(around.before, around.token);
     if is_first && around.token.kind == TokenKind::Decimal {
-        return on(
-            around.token,
-            "an element of an ARRAY is read as a[1], and a member has a name",
-        );
+        return around.here("an element of an ARRAY is read as a[1], and a member has a name");
     }
     None
 }
 
 /// A slip in the shape of an item, of an attribute or of a type.
 pub fn shape_slip(around: &Around<'_>) -> Option<Slip> {
-    if let Some(slip) = late_of(around) {
-        return Some(slip);
-    }
-    if let Some(slip) = item(around) {
-        return Some(slip);
-    }
-    if let Some(slip) = no_list(around) {
-        return Some(slip);
-    }
-    if let Some(slip) = list(around) {
-        return Some(slip);
-    }
-    if let Some(slip) = of_case(around) {
-        return Some(slip);
-    }
-    if let Some(slip) = value(around) {
-        return Some(slip);
-    }
-    if let Some(slip) = type_of_c(around) {
-        return Some(slip);
-    }
-    if let Some(slip) = parted_type(around) {
-        return Some(slip);
-    }
-    if let Some(slip) = after_type(around) {
-        return Some(slip);
-    }
-    if let Some(slip) = label(around) {
-        return Some(slip);
-    }
-    element(around)
+    late_of(around)
+        .or_else(|| item(around))
+        .or_else(|| no_braces(around))
+        .or_else(|| bracket_of_type(around))
+        .or_else(|| of_case(around))
+        .or_else(|| value(around))
+        .or_else(|| type_of_c(around))
+        .or_else(|| parted_type(around))
+        .or_else(|| after_type(around))
+        .or_else(|| label(around))
+        .or_else(|| element(around))
 }

@@ -10,20 +10,6 @@ pub struct Cursor<'t> {
     passed: usize,
 }
 
-fn is_sign(tokens: &[Token], number: usize, sign: Symbol) -> bool {
-    match tokens.get(number) {
-        Some(token) => token.kind == TokenKind::Symbol(sign),
-        None => false,
-    }
-}
-
-fn is_word(tokens: &[Token], number: usize, word: Keyword) -> bool {
-    match tokens.get(number) {
-        Some(token) => token.kind == TokenKind::Keyword(word),
-        None => false,
-    }
-}
-
 impl<'t> Cursor<'t> {
     /// The tokens from the body of a method on, by its number among the methods.
     pub fn at_body(tokens: &'t [Token], method: usize) -> Cursor<'t> {
@@ -37,23 +23,20 @@ impl<'t> Cursor<'t> {
     fn item(&self, method: usize) -> Option<usize> {
         let mut depth: usize = 0;
         let mut before: usize = 0;
-        for (number, _) in self.tokens.iter().enumerate() {
-            if is_sign(self.tokens, number, Symbol::OpenBrace) {
-                depth = depth.saturating_add(1);
-            }
-            if is_sign(self.tokens, number, Symbol::CloseBrace) {
-                depth = depth.saturating_sub(1);
-            }
-            let is_behind_of = match number.checked_sub(1) {
-                Some(last) => is_word(self.tokens, last, Keyword::Of),
-                None => false,
-            };
-            if depth == 0 && !is_behind_of && is_word(self.tokens, number, Keyword::Method) {
-                if before == method {
-                    return Some(number);
+        let mut is_behind_of = false;
+        for (number, token) in self.tokens.iter().enumerate() {
+            match token.kind {
+                TokenKind::Symbol(Symbol::OpenBrace) => depth = depth.saturating_add(1),
+                TokenKind::Symbol(Symbol::CloseBrace) => depth = depth.saturating_sub(1),
+                TokenKind::Keyword(Keyword::Method) if depth == 0 && !is_behind_of => {
+                    if before == method {
+                        return Some(number);
+                    }
+                    before = before.saturating_add(1);
                 }
-                before = before.saturating_add(1);
+                _ => {}
             }
+            is_behind_of = token.kind == TokenKind::Keyword(Keyword::Of);
         }
         None
     }
@@ -85,9 +68,12 @@ impl<'t> Cursor<'t> {
     /// The name of the next call.
     pub fn call(&mut self) -> usize {
         for (number, token) in self.tokens.iter().enumerate().skip(self.passed) {
-            let next = number.saturating_add(1);
+            let next = self
+                .tokens
+                .get(number.saturating_add(1))
+                .map(|next| next.kind);
             if token.kind == TokenKind::Name
-                && is_sign(self.tokens, next, Symbol::OpenParenthesis)
+                && next == Some(TokenKind::Symbol(Symbol::OpenParenthesis))
             {
                 return self.pass(number);
             }

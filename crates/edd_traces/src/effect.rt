@@ -5,7 +5,7 @@ use edd_syntax::operators::{Builtin, Operator, RequestKind};
 use edd_syntax::reference::Target;
 
 /// What an instruction does that is told of, or why it can trap.
-#[derive(Clone, Copy, PartialEq, Eq, Debug)]
+#[derive(Clone, Copy, PartialEq, Eq)]
 pub enum Effect {
     /// It changes a variable.
     Store(VarNo),

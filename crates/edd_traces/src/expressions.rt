@@ -4,10 +4,9 @@
 use crate::effect::{of_call, of_element, of_operator, of_store};
 use crate::walk::Walk;
 use edd_syntax::expr::{Argument, Expr};
-use edd_syntax::operators::{Builtin, IncrementOperator, Operator, UnaryOperator};
+use edd_syntax::operators::{IncrementOperator, Operator, UnaryOperator};
 use edd_syntax::reference::Target;
 use edd_syntax::symbols::Symbol;
-use std::alloc::AllocError;
 
 fn unary_sign(op: UnaryOperator) -> Symbol {
     match op {
@@ -27,61 +26,61 @@ fn increment_sign(op: IncrementOperator) -> Symbol {
 
 /// The effects of an expression.
 #[cycle(expressions)]
-pub fn walk_expr(e: &Expr<Target>, walk: &mut Walk<'_>) -> Result<(), AllocError> {
+pub fn walk_expr(e: &Expr<Target>, walk: &mut Walk<'_>) {
     match e {
-        Expr::Literal(_) | Expr::Decimal { .. } | Expr::Reference(_) => Ok(()),
+        Expr::Literal(_) | Expr::Decimal { .. } | Expr::Reference(_) => {}
         Expr::Indexed(array, index) => {
             let token = walk.cursor.sign(Symbol::OpenBracket);
-            walk_expr(index, walk)?;
-            walk.note(of_element(*array), token)
+            walk_expr(index, walk);
+            walk.note(of_element(*array), token);
         }
         Expr::Parentheses(inner) => walk_expr(inner, walk),
         Expr::Unary(op, inner) => {
             walk.cursor.sign(unary_sign(*op));
-            walk_expr(inner, walk)
+            walk_expr(inner, walk);
         }
         Expr::Binary(op, left, right) => {
-            walk_expr(left, walk)?;
+            walk_expr(left, walk);
             let token = walk.cursor.sign(Symbol::Operator(*op));
-            walk_expr(right, walk)?;
-            walk.note(of_operator(*op), token)
+            walk_expr(right, walk);
+            walk.note(of_operator(*op), token);
         }
         Expr::Compare(by, left, right) => {
-            walk_expr(left, walk)?;
+            walk_expr(left, walk);
             walk.cursor.sign(Symbol::Comparison(*by));
-            walk_expr(right, walk)
+            walk_expr(right, walk);
         }
         Expr::LogicalAnd(left, right) => {
-            walk_expr(left, walk)?;
+            walk_expr(left, walk);
             walk.cursor.sign(Symbol::LogicalAnd);
-            walk_expr(right, walk)
+            walk_expr(right, walk);
         }
         Expr::LogicalOr(left, right) => {
-            walk_expr(left, walk)?;
+            walk_expr(left, walk);
             walk.cursor.sign(Symbol::LogicalOr);
-            walk_expr(right, walk)
+            walk_expr(right, walk);
         }
         Expr::Conditional(test, first, second) => {
-            walk_expr(test, walk)?;
+            walk_expr(test, walk);
             walk.cursor.sign(Symbol::Question);
-            walk_expr(first, walk)?;
+            walk_expr(first, walk);
             walk.cursor.sign(Symbol::Colon);
-            walk_expr(second, walk)
+            walk_expr(second, walk);
         }
         Expr::Assign(to, value) => {
             let token = walk.cursor.sign(Symbol::Equals);
-            walk_expr(value, walk)?;
-            walk.note(of_store(*to), token)
+            walk_expr(value, walk);
+            walk.note(of_store(*to), token);
         }
         Expr::CompoundAssign(op, to, value) => {
             let token = walk.cursor.sign(Symbol::CompoundAssign(*op));
-            walk_expr(value, walk)?;
-            walk.note(of_operator(*op), token)?;
-            walk.note(of_store(*to), token)
+            walk_expr(value, walk);
+            walk.note(of_operator(*op), token);
+            walk.note(of_store(*to), token);
         }
         Expr::Increment(op, to) => {
             let token = walk.cursor.sign(increment_sign(*op));
-            walk.note(of_store(*to), token)
+            walk.note(of_store(*to), token);
         }
         Expr::Call {
             function,
@@ -99,53 +98,32 @@ fn first_target(arguments: &[Argument<Target>]) -> Option<Target> {
     }
 }
 
-fn note_call(
-    walk: &mut Walk<'_>,
-    function: Target,
-    first: Option<Target>,
-    token: usize,
-) -> Result<(), AllocError> {
-    let called: Option<Builtin> = match function {
-        Target::Function(called) => Some(called),
-        Target::Local(_) | Target::Item(_) => None,
-    };
-    match called {
-        Some(called) => walk.note(of_call(called, first), token),
-        None => Ok(()),
-    }
-}
-
 #[cycle(expressions)]
-fn walk_call(
-    function: Target,
-    arguments: &[Argument<Target>],
-    walk: &mut Walk<'_>,
-) -> Result<(), AllocError> {
+fn walk_call(function: Target, arguments: &[Argument<Target>], walk: &mut Walk<'_>) {
     let token = walk.cursor.call();
-    walk_arguments(arguments, walk)?;
-    note_call(walk, function, first_target(arguments), token)
-}
-
-#[cycle(expressions)]
-fn walk_arguments(arguments: &[Argument<Target>], walk: &mut Walk<'_>) -> Result<(), AllocError> {
-    for argument in arguments {
-        walk_argument(argument, walk)?;
+    walk_arguments(arguments, walk);
+    if let Target::Function(called) = function {
+        walk.note(of_call(called, first_target(arguments)), token);
     }
-    Ok(())
 }
 
 #[cycle(expressions)]
-fn walk_argument(argument: &Argument<Target>, walk: &mut Walk<'_>) -> Result<(), AllocError> {
-    match argument {
-        Argument::Text(_) => Ok(()),
-        Argument::Value(e) => walk_expr(e, walk),
+fn walk_arguments(arguments: &[Argument<Target>], walk: &mut Walk<'_>) {
+    for argument in arguments {
+        walk_argument(argument, walk);
+    }
+}
+
+#[cycle(expressions)]
+fn walk_argument(argument: &Argument<Target>, walk: &mut Walk<'_>) {
+    if let Argument::Value(e) = argument {
+        walk_expr(e, walk);
     }
 }
 
 /// The effects of an expression that may be missing.
-pub fn walk_optional(e: &Option<Expr<Target>>, walk: &mut Walk<'_>) -> Result<(), AllocError> {
-    match e {
-        None => Ok(()),
-        Some(e) => walk_expr(e, walk),
+pub fn walk_optional(e: &Option<Expr<Target>>, walk: &mut Walk<'_>) {
+    if let Some(e) = e {
+        walk_expr(e, walk);
     }
 }

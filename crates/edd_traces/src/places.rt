@@ -28,16 +28,8 @@ pub struct Places {
 
 // The body of a method, by its number among the methods.
 fn body_of(items: &[Item<Target>], method: MethNo) -> Option<&[Part<Target>]> {
-    let mut before: usize = 0;
-    for item in items {
-        if item.sort == ItemKind::Method {
-            if before == usize::from(method.0) {
-                return definition_in(&item.attributes);
-            }
-            before = before.saturating_add(1);
-        }
-    }
-    None
+    let mut methods = items.iter().filter(|item| item.sort == ItemKind::Method);
+    definition_in(&methods.nth(usize::from(method.0))?.attributes)
 }
 
 fn definition_in(attributes: &[Attribute<Target>]) -> Option<&[Part<Target>]> {
@@ -51,15 +43,8 @@ fn definition_in(attributes: &[Attribute<Target>]) -> Option<&[Part<Target>]> {
 
 // Whether both lists have the same effects.
 fn are_alike(marked: &[Marked], placed: &[Placed]) -> bool {
-    if marked.len() != placed.len() {
-        return false;
-    }
-    for (one, other) in marked.iter().zip(placed.iter()) {
-        if one.effect != other.effect {
-            return false;
-        }
-    }
-    true
+    let mut both = marked.iter().zip(placed.iter());
+    marked.len() == placed.len() && both.all(|(one, other)| one.effect == other.effect)
 }
 
 // Both lists as one.
@@ -86,16 +71,13 @@ pub fn places_of(
     method: MethNo,
     code: &[u8],
 ) -> Result<Places, AllocError> {
-    let mut walk = Walk {
-        alloc,
-        cursor: Cursor::at_body(tokens, usize::from(method.0)),
-        found: Vec::new(alloc),
-    };
+    let mut walk = Walk::from(alloc, Cursor::at_body(tokens, usize::from(method.0)));
     if let Some(parts) = body_of(items, method) {
-        walk_parts(parts, &mut walk)?;
+        walk_parts(parts, &mut walk);
     }
+    let marked = walk.finish()?;
     let placed = effects_in(alloc, code)?;
-    joined(alloc, &walk.found, &placed)
+    joined(alloc, &marked, &placed)
 }
 
 impl Places {
@@ -103,10 +85,6 @@ impl Places {
     pub fn at(&self, place: usize) -> Option<(Effect, usize)> {
         let number = self.known.partition_point(|known| known.place < place);
         let known = self.known.get(number)?;
-        if known.place == place {
-            Some((known.effect, known.token))
-        } else {
-            None
-        }
+        (known.place == place).then_some((known.effect, known.token))
     }
 }

@@ -6,47 +6,39 @@ use edd_syntax::expr::Expr;
 use edd_syntax::reference::Target;
 use edd_syntax::stmt::{Declarator, Part, Stmt};
 use edd_syntax::symbols::{Keyword, Symbol};
-use std::alloc::AllocError;
 
 /// The effects of what is between braces.
 #[cycle(statements)]
-pub fn walk_parts(parts: &[Part<Target>], walk: &mut Walk<'_>) -> Result<(), AllocError> {
+pub fn walk_parts(parts: &[Part<Target>], walk: &mut Walk<'_>) {
     for part in parts {
-        walk_part(part, walk)?;
+        walk_part(part, walk);
     }
-    Ok(())
 }
 
 // The sign in a label is none of an expression.
 #[cycle(statements)]
-fn walk_part(part: &Part<Target>, walk: &mut Walk<'_>) -> Result<(), AllocError> {
+fn walk_part(part: &Part<Target>, walk: &mut Walk<'_>) {
     match part {
         Part::Declare(declarators) => walk_declarators(declarators, walk),
         Part::Statement(s) => walk_stmt(s, walk),
         Part::CaseLabel { .. } => {
             walk.cursor.word(Keyword::MethodCase);
             walk.cursor.sign(Symbol::Colon);
-            Ok(())
         }
         Part::DefaultLabel { .. } => {
             walk.cursor.word(Keyword::MethodDefault);
             walk.cursor.sign(Symbol::Colon);
-            Ok(())
         }
     }
 }
 
-fn walk_declarators(
-    declarators: &[Declarator<Target>],
-    walk: &mut Walk<'_>,
-) -> Result<(), AllocError> {
+fn walk_declarators(declarators: &[Declarator<Target>], walk: &mut Walk<'_>) {
     for declarator in declarators {
         if declarator.value.is_some() {
             walk.cursor.sign(Symbol::Equals);
         }
-        walk_optional(&declarator.value, walk)?;
+        walk_optional(&declarator.value, walk);
     }
-    Ok(())
 }
 
 // In the code of `for` what is done after the body comes before the condition.
@@ -55,47 +47,43 @@ fn walk_header(
     condition: &Option<Expr<Target>>,
     update: &Option<Expr<Target>>,
     walk: &mut Walk<'_>,
-) -> Result<(), AllocError> {
-    walk_optional(initial, walk)?;
+) {
+    walk_optional(initial, walk);
     let start = walk.count();
-    walk_optional(condition, walk)?;
+    walk_optional(condition, walk);
     let middle = walk.count();
-    walk_optional(update, walk)?;
-    walk.swap(start, middle)
+    walk_optional(update, walk);
+    walk.swap(start, middle);
 }
 
 // In the code of `do` the condition comes before the body.
 #[cycle(statements)]
-fn walk_do(
-    body: &Stmt<Target>,
-    condition: &Expr<Target>,
-    walk: &mut Walk<'_>,
-) -> Result<(), AllocError> {
+fn walk_do(body: &Stmt<Target>, condition: &Expr<Target>, walk: &mut Walk<'_>) {
     let start = walk.count();
-    walk_stmt(body, walk)?;
+    walk_stmt(body, walk);
     let middle = walk.count();
-    walk_expr(condition, walk)?;
-    walk.swap(start, middle)
+    walk_expr(condition, walk);
+    walk.swap(start, middle);
 }
 
 #[cycle(statements)]
-fn walk_stmt(s: &Stmt<Target>, walk: &mut Walk<'_>) -> Result<(), AllocError> {
+fn walk_stmt(s: &Stmt<Target>, walk: &mut Walk<'_>) {
     match s {
-        Stmt::Empty | Stmt::Return | Stmt::Break { .. } | Stmt::Continue { .. } => Ok(()),
+        Stmt::Empty | Stmt::Return | Stmt::Break { .. } | Stmt::Continue { .. } => {}
         Stmt::Evaluate(e) => walk_expr(e, walk),
         Stmt::Block(parts) => walk_parts(parts, walk),
         Stmt::If(condition, first) => {
-            walk_expr(condition, walk)?;
-            walk_stmt(first, walk)
+            walk_expr(condition, walk);
+            walk_stmt(first, walk);
         }
         Stmt::IfElse(condition, first, otherwise) => {
-            walk_expr(condition, walk)?;
-            walk_stmt(first, walk)?;
-            walk_stmt(otherwise, walk)
+            walk_expr(condition, walk);
+            walk_stmt(first, walk);
+            walk_stmt(otherwise, walk);
         }
         Stmt::While(condition, body) => {
-            walk_expr(condition, walk)?;
-            walk_stmt(body, walk)
+            walk_expr(condition, walk);
+            walk_stmt(body, walk);
         }
         Stmt::Do(body, condition) => walk_do(body, condition, walk),
         Stmt::For {
@@ -104,12 +92,12 @@ fn walk_stmt(s: &Stmt<Target>, walk: &mut Walk<'_>) -> Result<(), AllocError> {
             update,
             body,
         } => {
-            walk_header(initial, condition, update, walk)?;
-            walk_stmt(body, walk)
+            walk_header(initial, condition, update, walk);
+            walk_stmt(body, walk);
         }
         Stmt::Switch(on, parts) => {
-            walk_expr(on, walk)?;
-            walk_parts(parts, walk)
+            walk_expr(on, walk);
+            walk_parts(parts, walk);
         }
     }
 }

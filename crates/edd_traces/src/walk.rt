@@ -11,24 +11,31 @@ pub struct Marked {
     pub token: usize,
 }
 
+/// The walk. An effect for which memory is refused is left out, and so are all in the end.
 #[derive(Drop)]
 pub struct Walk<'t> {
-    pub alloc: Global,
     pub cursor: Cursor<'t>,
-    pub found: Vec<Marked>,
+    found: Vec<Marked>,
+    is_refused: bool,
 }
 
-fn part(found: &[Marked], start: usize, end: usize) -> &[Marked] {
-    found.get(start..end).unwrap_or(&[])
-}
-
-impl Walk<'_> {
-    /// Notes an effect, if there is one.
-    pub fn note(&mut self, effect: Option<Effect>, token: usize) -> Result<(), AllocError> {
-        if let Some(effect) = effect {
-            self.found.push(Marked { effect, token })?;
+impl<'t> Walk<'t> {
+    /// A walk that begins at a token, and has found nothing so far.
+    pub fn from(alloc: Global, cursor: Cursor<'t>) -> Walk<'t> {
+        Walk {
+            cursor,
+            found: Vec::new(alloc),
+            is_refused: false,
         }
-        Ok(())
+    }
+
+    /// Notes an effect, if there is one.
+    pub fn note(&mut self, effect: Option<Effect>, token: usize) {
+        if let Some(effect) = effect {
+            if self.found.push(Marked { effect, token }).is_err() {
+                self.is_refused = true;
+            }
+        }
     }
 
     /// How many effects were found.
@@ -37,13 +44,25 @@ impl Walk<'_> {
     }
 
     /// Puts the effects from `middle` on before those from `start` on: in the code they come first.
-    pub fn swap(&mut self, start: usize, middle: usize) -> Result<(), AllocError> {
-        let found = self.found.as_slice();
-        let mut made = Vec::with_capacity(self.alloc, found.len())?;
-        made.extend_from_slice(part(found, 0, start))?;
-        made.extend_from_slice(part(found, middle, found.len()))?;
-        made.extend_from_slice(part(found, start, middle))?;
-        self.found = made;
-        Ok(())
+    pub fn swap(&mut self, start: usize, middle: usize) {
+        if let Some(part) = self.found.as_mut_slice().get_mut(start..) {
+            let first = middle.saturating_sub(start);
+            if first <= part.len() {
+                part.rotate_left(first);
+            }
+        }
+    }
+
+    /// All effects that were found.
+    pub fn finish(self) -> Result<Vec<Marked>, AllocError> {
+        let Walk {
+            found,
+            is_refused,
+            ..
+        } = self;
+        if is_refused {
+            return Err(AllocError);
+        }
+        Ok(found)
     }
 }
