@@ -20,15 +20,10 @@ pub enum Piece<'c, 'p> {
 // How many lines of a test there are up to the last one that says something: blank lines and
 // comments behind it belong to what follows.
 fn count_said(lines: &[Line<'_>]) -> usize {
-    let mut count = 0;
-    let mut before: usize = 0;
-    for line in lines {
-        before = before.saturating_add(1);
-        if !matches!(line.says, Says::Nothing) {
-            count = before;
-        }
-    }
-    count
+    let last = lines
+        .iter()
+        .rposition(|line| !matches!(line.says, Says::Nothing));
+    last.map_or(0, |last| last.saturating_add(1))
 }
 
 // Adds the lines that were seen up to this turn, and gives the number of all that were added.
