@@ -4,6 +4,7 @@ use crate::fault::{Misread, TestFault};
 use crate::lines::{Line, Says, lines_of};
 use crate::settings::{Description, Form, Held, Kind, Settings, is_for, is_for_all};
 use std::alloc::{AllocError, Global};
+use std::fmt::Write;
 
 /// The most instructions of a method where the test says nothing.
 const STEPS: u64 = 1_000_000;
@@ -74,13 +75,8 @@ fn parted<'a>(alloc: Global, lines: &[Line<'a>]) -> Result<Parts<'a>, AllocError
 
 // What holds after the lines before the first test.
 fn held_at_first<'a>(head: &[Line<'a>]) -> Result<Held<'a>, Misread> {
-    for (before, line) in head.iter().enumerate() {
-        if !is_for_all(line.says) {
-            return Err(Misread {
-                line: before.saturating_add(1),
-                fault: TestFault::BeforeTest,
-            });
-        }
+    if let Some(index) = head.iter().position(|line| !is_for_all(line.says)) {
+        return Err(Misread::behind(1, index, TestFault::BeforeTest));
     }
     let settings = Settings::of(head, 1)?;
     Ok(Held::nothing().with(&settings))
@@ -88,15 +84,10 @@ fn held_at_first<'a>(head: &[Line<'a>]) -> Result<Held<'a>, Misread> {
 
 // The first line that says nothing in a test of this kind.
 fn find_misplaced(kind: Kind<'_>, lines: &[Line<'_>], number: usize) -> Result<(), Misread> {
-    for (index, line) in lines.iter().enumerate() {
-        if !is_for(kind, line.says) {
-            return Err(Misread {
-                line: number.saturating_add(index),
-                fault: TestFault::Misplaced,
-            });
-        }
+    match lines.iter().position(|line| !is_for(kind, line.says)) {
+        Some(index) => Err(Misread::behind(number, index, TestFault::Misplaced)),
+        None => Ok(()),
     }
-    Ok(())
 }
 
 // The test that these lines are, and what holds for it.
@@ -109,16 +100,10 @@ fn case_of<'a>(block: Block<'a>, held: Held<'a>) -> Result<(Case<'a>, Held<'a>),
     let settings = Settings::of(&lines, number)?;
     let held = held.with(&settings);
     let Some(kind) = settings.kind else {
-        return Err(Misread {
-            line: number,
-            fault: TestFault::NothingToRun,
-        });
+        return Err(Misread::behind(number, 0, TestFault::NothingToRun));
     };
     let Some(description) = held.description else {
-        return Err(Misread {
-            line: number,
-            fault: TestFault::NoSource,
-        });
+        return Err(Misread::behind(number, 0, TestFault::NoSource));
     };
     find_misplaced(kind, &lines, number)?;
     let case = Case {
@@ -159,36 +144,32 @@ pub fn read_tests<'a>(alloc: Global, bytes: &'a [u8]) -> Result<Tests<'a>, Misre
     };
     let tests = cases_of(alloc, parts)?;
     if tests.cases.is_empty() {
-        return Err(Misread {
-            line: lines.len().max(1),
-            fault: TestFault::NoTests,
-        });
+        return Err(Misread::behind(lines.len().max(1), 0, TestFault::NoTests));
     }
     Ok(tests)
 }
 
 impl Case<'_> {
-    /// The lines of the script, one after the other.
-    pub fn script(&self, alloc: Global) -> Result<String, AllocError> {
-        let mut script = String::new(alloc);
+    // The lines of the script, or else those that the user types, one after the other.
+    fn given(&self, alloc: Global, is_typed: bool) -> Result<String, AllocError> {
+        let mut given = String::new(alloc);
         for line in &self.lines {
-            if let Says::Script(text) = line.says {
-                script.push_str(text)?;
-                script.push('\n')?;
+            match line.says {
+                Says::Script(text) if !is_typed => write!(given, "{text}\n")?,
+                Says::Typed(text) if is_typed => write!(given, "{text}\n")?,
+                _ => {}
             }
         }
-        Ok(script)
+        Ok(given)
+    }
+
+    /// The lines of the script, one after the other.
+    pub fn script(&self, alloc: Global) -> Result<String, AllocError> {
+        self.given(alloc, false)
     }
 
     /// The lines that the user types.
     pub fn typed(&self, alloc: Global) -> Result<String, AllocError> {
-        let mut typed = String::new(alloc);
-        for line in &self.lines {
-            if let Says::Typed(text) = line.says {
-                typed.push_str(text)?;
-                typed.push('\n')?;
-            }
-        }
-        Ok(typed)
+        self.given(alloc, true)
     }
 }

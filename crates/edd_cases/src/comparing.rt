@@ -6,7 +6,7 @@ ghost use Rattle.edd_cases.specs.Expected.{texts, passes};
 ghost use Rattle.edd_cases.specs.Steps as steps;
 
 use crate::cases::Case;
-use crate::lines::Says;
+use crate::lines::{Line, Says};
 use crate::printed::Seen;
 use crate::settings::Form;
 
@@ -94,15 +94,9 @@ fn unmet<'c, 'p>(line: usize, says: Says<'c>, next: Option<Seen<'p>>) -> Differe
 
 // The number of the last line of a test that says something.
 fn last_of(case: &Case<'_>) -> usize {
-    let mut last = case.number;
-    let mut number = case.number;
-    for line in &case.lines {
-        if !matches!(line.says, Says::Nothing) {
-            last = number;
-        }
-        number = number.saturating_add(1);
-    }
-    last
+    let says = |line: &Line<'_>| !matches!(line.says, Says::Nothing);
+    let last = case.lines.iter().rposition(says).unwrap_or(0);
+    case.number.saturating_add(last)
 }
 
 // What was printed behind all that a test expects.

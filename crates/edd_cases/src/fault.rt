@@ -47,6 +47,14 @@ pub struct Misread {
 }
 
 impl Misread {
+    /// The fault of a line, which comes so many behind another one.
+    pub fn behind(line: usize, index: usize, fault: TestFault) -> Misread {
+        Misread {
+            line: line.saturating_add(index),
+            fault,
+        }
+    }
+
     /// Out of memory, at whatever line.
     pub fn memory() -> Misread {
         Misread {

@@ -59,28 +59,23 @@ pub fn without_end(line: &str) -> &str
     }
 }
 
+// What is there besides blanks, if that is anything.
+fn optional(rest: &str) -> Option<&str> {
+    let name = rest.trim_matches(' ');
+    (!name.is_empty()).then_some(name)
+}
+
 // A name or a code, without the blanks around it.
 fn named(rest: &str) -> Result<&str, TestFault> {
-    let name = rest.trim_matches(' ');
-    if name.is_empty() {
-        Err(TestFault::BadWords)
-    } else {
-        Ok(name)
-    }
+    optional(rest).ok_or(TestFault::BadWords)
 }
 
 // A word that takes nothing.
 fn alone<'a>(rest: &str, says: Says<'a>) -> Result<Says<'a>, TestFault> {
-    if rest.trim_matches(' ').is_empty() {
-        Ok(says)
-    } else {
-        Err(TestFault::BadWords)
+    match optional(rest) {
+        None => Ok(says),
+        Some(_) => Err(TestFault::BadWords),
     }
-}
-
-fn device_named(rest: &str) -> Option<&str> {
-    let name = rest.trim_matches(' ');
-    if name.is_empty() { None } else { Some(name) }
 }
 
 // Digits alone.
@@ -101,7 +96,7 @@ fn setting<'a>(word: &str, rest: &'a str) -> Result<Says<'a>, TestFault> {
         "test" => Ok(Says::Test(named(rest)?)),
         "source" => Ok(Says::Source(named(rest)?)),
         "image" => Ok(Says::Image(named(rest)?)),
-        "device" => Ok(Says::Device(device_named(rest))),
+        "device" => Ok(Says::Device(optional(rest))),
         "language" => Ok(Says::Language(named(rest)?)),
         "method" => Ok(Says::Method(named(rest)?)),
         "show" => alone(rest, Says::Show),

@@ -20,29 +20,26 @@ pub enum Piece<'c, 'p> {
 // How many lines of a test there are up to the last one that says something: blank lines and
 // comments behind it belong to what follows.
 fn count_said(lines: &[Line<'_>]) -> usize {
-    let mut count = 0;
-    let mut before: usize = 0;
-    for line in lines {
-        before = before.saturating_add(1);
-        if !matches!(line.says, Says::Nothing) {
-            count = before;
-        }
-    }
-    count
+    let last = lines
+        .iter()
+        .rposition(|line| !matches!(line.says, Says::Nothing));
+    last.map_or(0, |last| last.saturating_add(1))
 }
 
-// Adds the lines that were seen up to this turn, and gives the number of all that were added.
+// Adds the next lines that were seen up to this turn, at most so many, and gives the number of all
+// that were added.
 #[tactic(auto, using(crate::proofs::Pieces::seen_keeps))]
 fn add_turn<'c, 'p>(
     pieces: &mut Vec<Piece<'c, 'p>>,
     seen: &[Seen<'p>],
     added: usize,
     turn: usize,
+    most: usize,
 ) -> Result<usize, AllocError>
     ensures kept { IfOk result (λ n. kept_of pieces.new.items ≡ kept_of pieces.old.items) }
 {
     let mut count = added;
-    for next in seen.iter().skip(added) {
+    for next in seen.iter().skip(added).take(most) {
         if turn < next.turn {
             return Ok(count);
         }
@@ -50,29 +47,6 @@ fn add_turn<'c, 'p>(
         count = count.saturating_add(1);
     }
     Ok(count)
-}
-
-// Adds the next line that was seen, if it belongs to this turn, and gives the number of all that
-// were added.
-#[tactic(auto, using(crate::proofs::Pieces::seen_keeps))]
-fn add_next<'c, 'p>(
-    pieces: &mut Vec<Piece<'c, 'p>>,
-    seen: &[Seen<'p>],
-    added: usize,
-    turn: usize,
-) -> Result<usize, AllocError>
-    ensures kept { IfOk result (λ n. kept_of pieces.new.items ≡ kept_of pieces.old.items) }
-{
-    match seen.get(added) {
-        Some(next) => {
-            if turn < next.turn {
-                return Ok(added);
-            }
-            pieces.push(Piece::Seen(next.text))?;
-            Ok(added.saturating_add(1))
-        }
-        None => Ok(added),
-    }
 }
 
 // Adds a line that stays, or nothing for one that was expected.
@@ -103,8 +77,8 @@ fn add_line<'c, 'p>(
         ≡ kept_of pieces.old.items ++ staying_of (line.entry ∷ [])) }
 {
     let count = match line.says {
-        Says::Whole(_) => add_next(pieces, seen, added, turn)?,
-        Says::Typed(_) => add_turn(pieces, seen, added, turn)?,
+        Says::Whole(_) => add_turn(pieces, seen, added, turn, 1)?,
+        Says::Typed(_) => add_turn(pieces, seen, added, turn, usize::MAX)?,
         _ => added,
     };
     add_kept(pieces, line)?;
@@ -129,7 +103,7 @@ fn add_said<'c, 'p>(
             turn = turn.saturating_add(1);
         }
     }
-    add_turn(pieces, seen, added, usize::MAX)?;
+    add_turn(pieces, seen, added, usize::MAX, usize::MAX)?;
     Ok(())
 }
 

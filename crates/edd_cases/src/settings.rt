@@ -106,10 +106,8 @@ impl<'a> Settings<'a> {
     pub fn of(lines: &[Line<'a>], number: usize) -> Result<Settings<'a>, Misread> {
         let mut settings = Settings::nothing();
         for (index, line) in lines.iter().enumerate() {
-            if let Err(fault) = settings.take(line.says) {
-                let line = number.saturating_add(index);
-                return Err(Misread { line, fault });
-            }
+            let taken = settings.take(line.says);
+            taken.map_err(|fault| Misread::behind(number, index, fault))?;
         }
         Ok(settings)
     }

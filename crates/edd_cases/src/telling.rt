@@ -3,6 +3,7 @@
 use crate::comparing::Difference;
 use crate::printed::Seen;
 use std::alloc::{AllocError, Global};
+use std::fmt::Write;
 
 const NO_MORE_LINES: &str = "no more lines";
 
@@ -36,19 +37,6 @@ fn told<'c, 'p>(
     }
 }
 
-fn push_difference<'p>(
-    alloc: Global,
-    lines: &mut String,
-    difference: Difference<'_, 'p>,
-    refusal: Option<&'p str>,
-) -> Result<(), AllocError> {
-    let (line, expected, seen) = told(difference, refusal);
-    let expects = format!(in alloc; "  line {line}: expected {expected}\n")?;
-    lines.push_str(&expects)?;
-    let has = format!(in alloc; "  line {line}: seen {seen}\n")?;
-    lines.push_str(&has)
-}
-
 /// The lines that say how a test of a file ended: it has passed where nothing differs. Its run may
 /// have been refused.
 pub fn ending_of<'p>(
@@ -58,12 +46,12 @@ pub fn ending_of<'p>(
     differs: Option<Difference<'_, 'p>>,
     refusal: Option<&'p str>,
 ) -> Result<String, AllocError> {
-    match differs {
-        None => format!(in alloc; "passed {file}: {name}\n"),
-        Some(difference) => {
-            let mut lines = format!(in alloc; "failed {file}: {name}\n")?;
-            push_difference(alloc, &mut lines, difference, refusal)?;
-            Ok(lines)
-        }
-    }
+    let Some(difference) = differs else {
+        return format!(in alloc; "passed {file}: {name}\n");
+    };
+    let (line, expected, seen) = told(difference, refusal);
+    let mut lines = format!(in alloc; "failed {file}: {name}\n")?;
+    write!(lines, "  line {line}: expected {expected}\n")?;
+    write!(lines, "  line {line}: seen {seen}\n")?;
+    Ok(lines)
 }

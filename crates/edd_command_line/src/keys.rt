@@ -1,8 +1,9 @@
 //! The words of `open` that say whether it reads lines or keys.
 
+use crate::arguments::{flag, option};
 use crate::{RawTerminal, Size};
-use clap::{Arg, ArgAction, ArgMatches};
-use std::alloc::Global;
+use clap::{Arg, ArgMatches, Command};
+use std::alloc::{AllocError, Global};
 
 const LINES: &str = "lines";
 
@@ -24,47 +25,23 @@ const USUAL: Size = Size {
     columns: 80,
 };
 
-pub fn lines<'a>(alloc: Global) -> Arg<'a> {
-    Arg::new(alloc, LINES)
-        .long(LINES)
-        .action(ArgAction::SetTrue)
-        .help("Reads lines, also on a terminal")
-}
-
-pub fn keys<'a>(alloc: Global) -> Arg<'a> {
-    Arg::new(alloc, KEYS)
-        .long(KEYS)
-        .action(ArgAction::SetTrue)
-        .help("Reads the keys of a terminal in raw mode, as ./edd gives them, and draws screens")
-}
-
 fn count<'a>(alloc: Global, id: &'a str, usual: &'a str, help: &'a str) -> Arg<'a> {
-    Arg::new(alloc, id)
-        .long(id)
-        .value_name("N")
+    option(alloc, id, "N", help)
         .value_parser(clap::value_parser!(u32).range(..=MOST))
         .default_value(usual)
-        .help(help)
 }
 
-pub fn rows<'a>(alloc: Global) -> Arg<'a> {
-    count(alloc, ROWS, "24", "The rows of the terminal, for --keys")
-}
-
-pub fn columns<'a>(alloc: Global) -> Arg<'a> {
-    count(
-        alloc,
-        COLUMNS,
-        "80",
-        "The columns of the terminal, for --keys",
-    )
-}
-
-pub fn seconds<'a>(alloc: Global) -> Arg<'a> {
-    Arg::new(alloc, SECONDS)
-        .long(SECONDS)
-        .action(ArgAction::SetTrue)
-        .help("A read that gives nothing says that a second has passed, for --keys")
+/// Adds these words to a command.
+pub fn with_terminal<'a>(alloc: Global, command: Command<'a>) -> Result<Command<'a>, AllocError> {
+    let keys = "Reads the keys of a terminal in raw mode, as ./edd gives them, and draws screens";
+    let seconds = "A read that gives nothing says that a second has passed, for --keys";
+    let columns = "The columns of the terminal, for --keys";
+    command
+        .arg(flag(alloc, LINES, "Reads lines, also on a terminal"))?
+        .arg(flag(alloc, KEYS, keys))?
+        .arg(count(alloc, ROWS, "24", "The rows of the terminal, for --keys"))?
+        .arg(count(alloc, COLUMNS, "80", columns))?
+        .arg(flag(alloc, SECONDS, seconds))
 }
 
 // The number of an option, as at least this many; the usual one where it isn't known.

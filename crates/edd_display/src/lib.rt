@@ -2,6 +2,7 @@
 //! a script sets, and what its methods do.
 #![tactic(auto)]
 
+mod drafts;
 mod fault;
 mod gaps;
 mod items;
@@ -14,12 +15,11 @@ mod rows;
 mod words;
 mod written;
 
+pub use drafts::{Draft, Printer};
 pub use fault::ShowFault;
 pub use items::show;
 pub use laws::{entries_stand_once, one_text_is_shown, quoted_texts_are_told_apart};
 pub use lines::{print, print_text};
 pub use page::push_quoted;
 pub use plays::show_play;
-pub use words::{
-    DATA_QUALIFIERS, MENU_QUALIFIERS, class_word, push_qualifiers, trap_word, type_word,
-};
+pub use words::{DATA_QUALIFIERS, MENU_QUALIFIERS, class_word, trap_word, type_word};

@@ -3,7 +3,7 @@
 use crate::stores::{check_assigned, check_stored};
 use crate::walk::Walk;
 use edd_instructions::Sort;
-use edd_lints::constants::{Known, evaluate};
+use edd_lints::constants::evaluate;
 use edd_lints::instrument::variable_of;
 use edd_lints::lint::Lint;
 use edd_lints::tokens_left::Mark;
@@ -20,10 +20,7 @@ pub fn asks(function: Builtin) -> bool {
 // The number that an argument is in a method, where that is known.
 fn number_of_argument(arguments: &[Argument<Target>], place: usize) -> Option<i64> {
     match arguments.get(place)? {
-        Argument::Value(e) => match evaluate(e, Sort::Method) {
-            Known::Number(number) => Some(number),
-            Known::Traps(_) | Known::Nothing => None,
-        },
+        Argument::Value(e) => evaluate(e, Sort::Method).number(),
         Argument::Text(_) => None,
     }
 }
@@ -50,11 +47,9 @@ pub fn check_call(
             check_command(arguments, at, walk, findings)
         }
         Builtin::Ask(RequestKind::GetDevVarValue) => check_entered(arguments, at, walk, findings),
-        Builtin::Abort | Builtin::ProcessAbort => {
-            walk.acts = true;
-        }
+        Builtin::Abort | Builtin::ProcessAbort => walk.act(),
         Builtin::AddAbortMethod => {
-            walk.acts = true;
+            walk.act();
             walk.has_abort_method = true;
         }
         _ => {}
@@ -100,15 +95,20 @@ fn check_command(
     let Some(command) = number_of_argument(arguments, 0) else {
         return;
     };
-    let alloc = findings.alloc;
     if walk.instrument.lacks_command(command) {
-        let message = format!(in alloc; "no command has the number {command}");
-        return findings.add(lint_of_command(command), at, message);
+        return findings.add(
+            lint_of_command(command),
+            at,
+            format_args!("no command has the number {command}"),
+        );
     }
     match number_of_argument(arguments, 1) {
         Some(number) if walk.instrument.lacks_transaction(command, number) => {
-            let message = format!(in alloc; "the command {command} has no transaction {number}");
-            findings.add(Lint::MissingTransaction, at, message)
+            findings.add(
+                Lint::MissingTransaction,
+                at,
+                format_args!("the command {command} has no transaction {number}"),
+            )
         }
         _ => {}
     }
@@ -127,9 +127,11 @@ fn check_entered(
     match walk.instrument.variable(variable) {
         Some(facts) if facts.is_read_only => {
             let name = facts.name;
-            let alloc = findings.alloc;
-            let message = format!(in alloc; "{name} can't be entered: its HANDLING is READ");
-            findings.add(Lint::UnwritableVariable, at, message)
+            findings.add(
+                Lint::UnwritableVariable,
+                at,
+                format_args!("{name} can't be entered: its HANDLING is READ"),
+            )
         }
         _ => {}
     }

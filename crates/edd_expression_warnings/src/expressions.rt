@@ -34,11 +34,8 @@ fn check_late_trap(at: Mark<'_>, walk: &Walk<'_>, findings: &mut Findings) {
     if !walk.has_abort_method {
         return;
     }
-    findings.say(
-        Lint::TrapAfterAbortMethod,
-        at,
-        "this can trap, and a trap runs no abort methods",
-    )
+    let message = "this can trap, and a trap runs no abort methods";
+    findings.add(Lint::TrapAfterAbortMethod, at, message)
 }
 
 // What an operator with this second operand does, which traps where it does not take it.
@@ -55,18 +52,17 @@ fn check_trap(
     let Known::Number(number) = evaluate(second, walk.sort) else {
         return check_late_trap(at, walk, findings);
     };
-    let alloc = findings.alloc;
     match trap_of(walk.sort, operator, number) {
         Some(Trap::DivZero) => {
-            findings.say(
-                Lint::TrappingExpression,
-                at,
-                "this always traps: it divides by 0",
-            )
+            let message = "this always traps: it divides by 0";
+            findings.add(Lint::TrappingExpression, at, message)
         }
         Some(_) => {
-            let message = format!(in alloc; "this always traps: it shifts by {number}");
-            findings.add(Lint::TrappingExpression, at, message)
+            findings.add(
+                Lint::TrappingExpression,
+                at,
+                format_args!("this always traps: it shifts by {number}"),
+            )
         }
         None => {}
     }
@@ -94,9 +90,11 @@ fn check_index(
     };
     match evaluate(index, walk.sort) {
         Known::Number(number) if !walk.instrument.has_element(array.0, number) => {
-            let alloc = findings.alloc;
-            let message = format!(in alloc; "this always traps: the array has no element {number}");
-            findings.add(Lint::MissingElement, at, message)
+            findings.add(
+                Lint::MissingElement,
+                at,
+                format_args!("this always traps: the array has no element {number}"),
+            )
         }
         Known::Nothing => check_late_trap(at, walk, findings),
         _ => {}
@@ -133,19 +131,15 @@ fn check_comparison(
         return;
     };
     if is_statement {
-        findings.say(
-            Lint::DroppedComparison,
-            at,
-            "what this comparison gives is not used: = assigns",
-        );
+        let message = "what this comparison gives is not used: = assigns";
+        findings.add(Lint::DroppedComparison, at, message);
     }
     let is_misread = check_compared(first, second, at, findings);
     if !is_misread && !is_statement {
         check_settled(compared, at, walk, findings);
     }
-    match comparison {
-        Comparison::Equal | Comparison::NotEqual => {}
-        _ => check_wrapped(second, walk, findings),
+    if !matches!(*comparison, Comparison::Equal | Comparison::NotEqual) {
+        check_wrapped(second, walk, findings);
     }
 }
 
@@ -159,9 +153,8 @@ fn check_assignment(
 ) {
     check_assigned(to, value, at, findings);
     check_stored(to, value, at, walk, findings);
-    match to {
-        Target::Local(_) => check_wrapped(value, walk, findings),
-        _ => {}
+    if let Target::Local(_) = to {
+        check_wrapped(value, walk, findings);
     }
 }
 
@@ -183,26 +176,24 @@ pub fn check_expression(
                 IncrementOperator::PreDecrement | IncrementOperator::PostDecrement =>
                     Symbol::Decrement,
             };
-            walk.tokens_left.to(TokenKind::Symbol(sign));
+            walk.tokens_left.to_sign(sign);
             walk.change(*to)
         }
         Expr::Indexed(array, index) => {
-            let sign = TokenKind::Symbol(Symbol::OpenBracket);
-            let at = walk.tokens_left.to(sign);
+            let at = walk.tokens_left.to_sign(Symbol::OpenBracket);
             check_index(*array, index, at, walk, findings);
             walk.read(*array);
             check_expression(index, false, walk, findings)
         }
         Expr::Parentheses(inner) => check_expression(inner, is_statement, walk, findings),
         Expr::Unary(operator, inner) => {
-            walk.tokens_left
-                .to(TokenKind::Symbol(sign_before(*operator)));
+            walk.tokens_left.to_sign(sign_before(*operator));
             check_expression(inner, false, walk, findings)
         }
         Expr::Binary(operator, first, second) => {
             check_expression(first, false, walk, findings);
             let sign = Symbol::Operator(*operator);
-            let at = walk.tokens_left.to(TokenKind::Symbol(sign));
+            let at = walk.tokens_left.to_sign(sign);
             check_bits(*operator, first, second, at, findings);
             check_operands(*operator, first, second, at, findings);
             check_trap(*operator, second, at, walk, findings);
@@ -214,7 +205,7 @@ pub fn check_expression(
             }
             check_expression(first, false, walk, findings);
             let sign = Symbol::Comparison(*comparison);
-            let at = walk.tokens_left.to(TokenKind::Symbol(sign));
+            let at = walk.tokens_left.to_sign(sign);
             check_comparison(e, at, is_statement, walk, findings);
             check_expression(second, false, walk, findings)
         }
@@ -223,21 +214,21 @@ pub fn check_expression(
             let before = walk.ranged;
             walk.ranged = ranged_place(first, second, sign).or(before);
             check_expression(first, false, walk, findings);
-            let at = walk.tokens_left.to(TokenKind::Symbol(sign));
+            let at = walk.tokens_left.to_sign(sign);
             check_logical(first, second, sign, at, walk.sort, findings);
             check_expression(second, false, walk, findings);
             walk.ranged = before;
         }
         Expr::Conditional(test, first, second) => {
             check_expression(test, false, walk, findings);
-            let at = walk.tokens_left.to(TokenKind::Symbol(Symbol::Question));
+            let at = walk.tokens_left.to_sign(Symbol::Question);
             check_chosen(first, second, at, findings);
             check_expression(first, false, walk, findings);
-            walk.tokens_left.to(TokenKind::Symbol(Symbol::Colon));
+            walk.tokens_left.to_sign(Symbol::Colon);
             check_expression(second, false, walk, findings)
         }
         Expr::Assign(to, value) => {
-            let at = walk.tokens_left.to(TokenKind::Symbol(Symbol::Equals));
+            let at = walk.tokens_left.to_sign(Symbol::Equals);
             check_assignment(*to, value, at, walk, findings);
             let before = walk.assigned;
             walk.assigned = Some(*to);
@@ -251,7 +242,7 @@ pub fn check_expression(
         }
         Expr::CompoundAssign(operator, to, value) => {
             let sign = Symbol::CompoundAssign(*operator);
-            let at = walk.tokens_left.to(TokenKind::Symbol(sign));
+            let at = walk.tokens_left.to_sign(sign);
             check_trap(*operator, value, at, walk, findings);
             check_expression(value, false, walk, findings);
             walk.change(*to)
@@ -266,8 +257,9 @@ pub fn check_expression(
             };
             let at = walk.tokens_left.to_text(function.name());
             check_arguments(arguments, walk, findings);
-            walk.asks = walk.asks || asks(function);
-            walk.acts = walk.acts || asks(function);
+            if asks(function) {
+                walk.ask();
+            }
             check_call(function, arguments, at, walk, findings)
         }
     }
@@ -291,8 +283,8 @@ fn check_assigned_condition(
         Expr::Assign(to, value) if !is_itself(*to, value) => {
             // No tokens are passed yet: the next sign is that of this assignment.
             let mut ahead = walk.tokens_left;
-            let at = ahead.to(TokenKind::Symbol(Symbol::Equals));
-            findings.say(Lint::AssignedCondition, at, message)
+            let at = ahead.to_sign(Symbol::Equals);
+            findings.add(Lint::AssignedCondition, at, message)
         }
         _ => {}
     }
@@ -308,13 +300,12 @@ pub fn check_condition(
     findings: &mut Findings,
 ) {
     if let Known::Number(number) = evaluate(e, walk.sort) {
-        let message = format!(in findings.alloc; "this condition is always {number}");
         let lint = if is_literal(e) {
             Lint::LiteralCondition
         } else {
             Lint::ConstantCondition
         };
-        findings.add(lint, at, message);
+        findings.add(lint, at, format_args!("this condition is always {number}"));
     }
     check_tested(e, assigns, walk, findings)
 }

@@ -4,7 +4,7 @@ use crate::stores::{check_listed, without_parentheses};
 use crate::walk::Walk;
 use edd_arithmetic::{holds, wrapped};
 use edd_instructions::Sort;
-use edd_lints::constants::{Known, evaluate};
+use edd_lints::constants::evaluate;
 use edd_lints::instrument::variable_of;
 use edd_lints::lint::Lint;
 use edd_lints::range::Range;
@@ -14,6 +14,9 @@ use edd_syntax::expr::Expr;
 use edd_syntax::operators::{Comparison, Operator, UnaryOperator};
 use edd_syntax::reference::Target;
 use edd_syntax::symbols::Symbol;
+
+/// What is said of equal operands.
+const SAME: &str = "both sides of this sign are the same";
 
 // Whether an expression is a comparison that stands in no parentheses.
 fn is_bare_comparison(e: &Expr<Target>) -> bool {
@@ -34,7 +37,7 @@ pub fn check_bits(
         return;
     }
     let message = "comparisons are evaluated before this sign: parentheses say what is meant";
-    findings.say(Lint::MisreadOperators, at, message)
+    findings.add(Lint::MisreadOperators, at, message)
 }
 
 /// A comparison of what a comparison gives, as in `1 < a < 5`, or of what `!` gives, as in
@@ -53,7 +56,7 @@ pub fn check_compared(
     } else {
         return false;
     };
-    findings.say(Lint::MisreadOperators, at, message);
+    findings.add(Lint::MisreadOperators, at, message);
     true
 }
 
@@ -105,11 +108,7 @@ pub fn check_operands(
     if !is_settled || !are_same(first, second) {
         return;
     }
-    findings.say(
-        Lint::EqualOperands,
-        at,
-        "both sides of this sign are the same",
-    )
+    findings.add(Lint::EqualOperands, at, SAME)
 }
 
 /// `&&` or `||` of the same twice, or of two comparisons of which never both hold, or always one.
@@ -123,34 +122,28 @@ pub fn check_logical(
 ) {
     let last = last_of(first, sign);
     if are_same(last, second) {
-        return findings.say(
-            Lint::EqualOperands,
-            at,
-            "both sides of this sign are the same",
-        );
+        return findings.add(Lint::EqualOperands, at, SAME);
     }
-    let (Some(one), Some(other)) = (compared_with(last, sort), compared_with(second, sort)) else {
-        return;
+    let message = match (compared_with(last, sort), compared_with(second, sort)) {
+        (Some((place, one)), Some((same, other))) if place == same => match sign {
+            Symbol::LogicalAnd if never_both(one, other) => {
+                "the comparisons on both sides of this sign never hold together"
+            }
+            Symbol::LogicalOr if always_one(one, other) => {
+                "one of the comparisons on both sides of this sign always holds"
+            }
+            _ => return,
+        },
+        _ => return,
     };
-    if one.0 != other.0 {
-        return;
-    }
-    let (one, other) = ((one.1, one.2), (other.1, other.2));
-    if sign == Symbol::LogicalAnd && never_both(one, other) {
-        let message = "the comparisons on both sides of this sign never hold together";
-        return findings.say(Lint::SettledComparison, at, message);
-    }
-    if sign == Symbol::LogicalOr && always_one(one, other) {
-        let message = "one of the comparisons on both sides of this sign always holds";
-        return findings.say(Lint::SettledComparison, at, message);
-    }
+    findings.add(Lint::SettledComparison, at, message)
 }
 
 /// A comparison with a number.
 type Bound = (Comparison, i64);
 
 // A place that is compared with a number, as if the place came first.
-fn compared_with(e: &Expr<Target>, sort: Sort) -> Option<(Target, Comparison, i64)> {
+fn compared_with(e: &Expr<Target>, sort: Sort) -> Option<(Target, Bound)> {
     let Expr::Compare(comparison, first, second) = without_parentheses(e) else {
         return None;
     };
@@ -158,10 +151,7 @@ fn compared_with(e: &Expr<Target>, sort: Sort) -> Option<(Target, Comparison, i6
         Some(target) => (target, *comparison, second),
         None => (referred(second)?, turned(*comparison), first),
     };
-    match evaluate(other, sort) {
-        Known::Number(number) => Some((target, comparison, number)),
-        Known::Traps(_) | Known::Nothing => None,
-    }
+    Some((target, (comparison, evaluate(other, sort).number()?)))
 }
 
 // The numbers at which one of two comparisons with numbers may change, and those beside them.
@@ -177,21 +167,13 @@ fn steps(one: Bound, other: Bound) -> [i64; 6] {
 }
 
 fn never_both(one: Bound, other: Bound) -> bool {
-    for number in steps(one, other) {
-        if holds(one.0, number, one.1) && holds(other.0, number, other.1) {
-            return false;
-        }
-    }
-    true
+    !steps(one, other).iter().any(|number| holds(one.0, *number, one.1)
+        && holds(other.0, *number, other.1))
 }
 
 fn always_one(one: Bound, other: Bound) -> bool {
-    for number in steps(one, other) {
-        if !holds(one.0, number, one.1) && !holds(other.0, number, other.1) {
-            return false;
-        }
-    }
-    true
+    steps(one, other).iter().all(|number| holds(one.0, *number, one.1)
+        || holds(other.0, *number, other.1))
 }
 
 /// `? :` that chooses one of the same two.
@@ -201,14 +183,13 @@ pub fn check_chosen(
     at: Mark<'_>,
     findings: &mut Findings,
 ) {
-    if !are_same_values(first, second) {
-        return;
+    if are_same_values(first, second) {
+        findings.add(
+            Lint::EqualBranches,
+            at,
+            "this gives the same in either case",
+        );
     }
-    findings.say(
-        Lint::EqualBranches,
-        at,
-        "this gives the same in either case",
-    )
 }
 
 // The last operand of a chain of `&&` or of `||`.
@@ -223,20 +204,15 @@ fn last_of(e: &Expr<Target>, sign: Symbol) -> &Expr<Target> {
 // What a comparison compares with a number.
 fn compared_place(e: &Expr<Target>) -> Option<Target> {
     match without_parentheses(e) {
-        Expr::Compare(_, first, second) => match referred(first) {
-            Some(target) => Some(target),
-            None => referred(second),
-        },
+        Expr::Compare(_, first, second) => referred(first).or(referred(second)),
         _ => None,
     }
 }
 
 /// What two comparisons that follow each other both compare, as with the ends of a range.
 pub fn ranged_place(first: &Expr<Target>, second: &Expr<Target>, sign: Symbol) -> Option<Target> {
-    match (compared_place(last_of(first, sign)), compared_place(second)) {
-        (Some(one), Some(other)) if one == other => Some(one),
-        _ => None,
-    }
+    let place = compared_place(last_of(first, sign))?;
+    (compared_place(second) == Some(place)).then_some(place)
 }
 
 /// The same comparison with its sides exchanged.
@@ -262,24 +238,16 @@ fn settled(comparison: Comparison, range: Range, number: i64) -> Option<bool> {
         Comparison::Greater => (number < low, high <= number),
         Comparison::GreaterOrEqual => (number <= low, high < number),
     };
-    if holds {
-        Some(true)
-    } else if fails {
-        Some(false)
-    } else {
-        None
-    }
+    (holds || fails).then_some(holds)
 }
 
 // The numbers that a variable is read as. With 32 bits those of four octets have a sign.
-fn read_range(range: Range, sort: Sort) -> Range {
-    if sort == Sort::Method && i64::from(i32::MAX) < range.high {
-        return Range {
-            low: i64::from(i32::MIN),
-            high: i64::from(i32::MAX),
-        };
+fn read_range(variable: u16, walk: &Walk<'_>) -> Option<Range> {
+    let (low, high) = (i64::from(i32::MIN), i64::from(i32::MAX));
+    match walk.instrument.range(variable)? {
+        range if walk.sort == Sort::Method && high < range.high => Some(Range { low, high }),
+        range => Some(range),
     }
-    range
 }
 
 /// A comparison whose type or whose enumerators settle what it gives. Both ends of a range may be
@@ -292,20 +260,18 @@ pub fn check_settled(
 ) {
     if let Expr::Compare(_, first, second) = compared {
         if are_same(first, second) {
-            let message = "both sides of this sign are the same";
-            return findings.say(Lint::EqualOperands, at, message);
+            return findings.add(Lint::EqualOperands, at, SAME);
         }
     }
-    let Some((target, comparison, number)) = compared_with(compared, walk.sort) else {
+    let Some((target, (comparison, number))) = compared_with(compared, walk.sort) else {
         return;
     };
     let Some(variable) = variable_of(target) else {
         return;
     };
-    let Some(range) = walk.instrument.range(variable) else {
+    let Some(range) = read_range(variable, walk) else {
         return;
     };
-    let range = read_range(range, walk.sort);
     let is_equality = matches!(comparison, Comparison::Equal | Comparison::NotEqual);
     match settled(comparison, range, number) {
         Some(_) if !is_equality && walk.ranged == Some(target) => {}
@@ -317,10 +283,11 @@ pub fn check_settled(
 
 fn add_settled(range: Range, gives: bool, at: Mark<'_>, findings: &mut Findings) {
     let Range { low, high } = range;
-    let gives = if gives { "true" } else { "false" };
-    let alloc = findings.alloc;
-    let message = format!(in alloc; "this is always {gives}: the variable holds {low} to {high}");
-    findings.add(Lint::SettledComparison, at, message)
+    findings.add(
+        Lint::SettledComparison,
+        at,
+        format_args!("this is always {gives}: the variable holds {low} to {high}"),
+    )
 }
 
 /// The label of a SELECT or a `switch` over a variable.
@@ -331,20 +298,19 @@ pub fn check_label(
     walk: &Walk<'_>,
     findings: &mut Findings,
 ) {
-    let Some(range) = walk.instrument.range(variable) else {
+    let Some(range) = read_range(variable, walk) else {
         return;
     };
-    let range = read_range(range, walk.sort);
     let label = wrapped(walk.sort, label);
     if range.holds(label) {
         return check_listed(variable, label, "the case ", at, walk, findings);
     }
     let Range { low, high } = range;
-    let alloc = findings.alloc;
-    let message = format!(in alloc;
-        "the case {label} is never taken: the variable holds {low} to {high}"
-    );
-    findings.add(Lint::SettledComparison, at, message)
+    findings.add(
+        Lint::SettledComparison,
+        at,
+        format_args!("the case {label} is never taken: the variable holds {low} to {high}"),
+    )
 }
 
 /// The variable that a SELECT or a `switch` is over.

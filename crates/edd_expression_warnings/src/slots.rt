@@ -24,9 +24,7 @@ impl Slots {
     }
 
     pub fn contains(&self, slot: u8) -> bool {
-        match self.words.get(usize::from(slot / 64)) {
-            Some(word) => *word & bit_of(slot) != 0,
-            None => false,
-        }
+        let word = self.words.get(usize::from(slot / 64));
+        word.is_some_and(|word| *word & bit_of(slot) != 0)
     }
 }

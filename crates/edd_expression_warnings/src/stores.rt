@@ -3,7 +3,7 @@
 use crate::walk::Walk;
 use edd_instructions::Sort;
 use edd_lexer::token::TokenKind;
-use edd_lints::constants::{Known, evaluate};
+use edd_lints::constants::evaluate;
 use edd_lints::instrument::variable_of;
 use edd_lints::lint::Lint;
 use edd_lints::range::Range;
@@ -30,10 +30,7 @@ fn stored_number(value: &Expr<Target>, walk: &Walk<'_>) -> Option<i64> {
     if let Expr::Literal(number) = without_parentheses(value) {
         return Some(i64::from(*number));
     }
-    match evaluate(value, walk.sort) {
-        Known::Number(number) => Some(number),
-        Known::Traps(_) | Known::Nothing => None,
-    }
+    evaluate(value, walk.sort).number()
 }
 
 // Whether all bits of a number that was computed with 32 bits are kept.
@@ -55,14 +52,13 @@ pub fn check_stored(
     walk: &Walk<'_>,
     findings: &mut Findings,
 ) {
-    let Some(variable) = variable_of(to) else {
-        return;
-    };
     if let Expr::Unary(UnaryOperator::Complement, _) = value {
         return;
     }
-    let (Some(range), Some(number)) = (walk.instrument.range(variable), stored_number(value, walk))
-    else {
+    let (Some(variable), Some(number)) = (variable_of(to), stored_number(value, walk)) else {
+        return;
+    };
+    let Some(range) = walk.instrument.range(variable) else {
         return;
     };
     if range.holds(number) {
@@ -72,11 +68,13 @@ pub fn check_stored(
         return;
     }
     let Range { low, high } = range;
-    let alloc = findings.alloc;
-    let message = format!(in alloc;
-        "{number} is outside of the variable's {low} to {high}, so another number is kept"
-    );
-    findings.add(Lint::StoreOutOfRange, at, message)
+    findings.add(
+        Lint::StoreOutOfRange,
+        at,
+        format_args!(
+            "{number} is outside of the variable's {low} to {high}, so another number is kept"
+        ),
+    )
 }
 
 /// A number that is none of a variable's enumerators.
@@ -88,29 +86,26 @@ pub fn check_listed(
     walk: &Walk<'_>,
     findings: &mut Findings,
 ) {
-    if !walk.instrument.is_unlisted(variable, number) {
-        return;
+    if walk.instrument.is_unlisted(variable, number) {
+        let name = walk.instrument.name_of(variable);
+        findings.add(
+            Lint::UnlistedValue,
+            at,
+            format_args!("{what}{number} is no enumerator of {name}"),
+        );
     }
-    let name = walk.instrument.name_of(variable);
-    let alloc = findings.alloc;
-    let message = format!(in alloc; "{what}{number} is no enumerator of {name}");
-    findings.add(Lint::UnlistedValue, at, message)
 }
 
 /// Whether a value is the place that it is assigned to.
 pub fn is_itself(to: Target, value: &Expr<Target>) -> bool {
-    match without_parentheses(value) {
-        Expr::Reference(from) => *from == to,
-        _ => false,
-    }
+    matches!(without_parentheses(value), Expr::Reference(from) if *from == to)
 }
 
 /// An assignment of a variable or a local to itself.
 pub fn check_assigned(to: Target, value: &Expr<Target>, at: Mark<'_>, findings: &mut Findings) {
-    if !is_itself(to, value) {
-        return;
+    if is_itself(to, value) {
+        findings.add(Lint::AssignedToItself, at, "this assigns a value to itself");
     }
-    findings.say(Lint::AssignedToItself, at, "this assigns a value to itself")
 }
 
 /// A plain decimal number of a method that is another one in 32 bits. What is written with `0x`
@@ -128,10 +123,11 @@ pub fn check_wrapped(value: &Expr<Target>, walk: &Walk<'_>, findings: &mut Findi
     if at.word().starts_with('0') {
         return;
     }
-    let Known::Number(kept) = evaluate(value, walk.sort) else {
-        return;
-    };
-    let alloc = findings.alloc;
-    let message = format!(in alloc; "{number} is {kept} here: methods compute with 32 bits");
-    findings.add(Lint::WrappedNumber, at, message)
+    if let Some(kept) = evaluate(value, walk.sort).number() {
+        findings.add(
+            Lint::WrappedNumber,
+            at,
+            format_args!("{number} is {kept} here: methods compute with 32 bits"),
+        );
+    }
 }

@@ -30,10 +30,10 @@ pub struct Walk<'a> {
     pub uses: Vec<Use>,
     /// How many loops are open.
     pub loops: usize,
-    /// Whether the host was asked for something so far.
-    pub asks: bool,
-    /// Whether something was set, asked for or ended so far.
-    pub acts: bool,
+    /// How often the host was asked for something so far.
+    pub asks: usize,
+    /// How often something was set, asked for or ended so far.
+    pub acts: usize,
     /// Whether an abort method was added so far.
     pub has_abort_method: bool,
     /// What is compared twice in one condition, as with both ends of a range.
@@ -62,8 +62,8 @@ impl<'a> Walk<'a> {
             early: Slots::new(),
             uses: Vec::new(alloc),
             loops: 0,
-            asks: false,
-            acts: false,
+            asks: 0,
+            acts: 0,
             has_abort_method: false,
             ranged: None,
             assigned: None,
@@ -87,6 +87,17 @@ impl<'a> Walk<'a> {
         }
     }
 
+    /// Notes that something is set, asked for or ended.
+    pub fn act(&mut self) {
+        self.acts = self.acts.saturating_add(1);
+    }
+
+    /// Notes that the host is asked for something.
+    pub fn ask(&mut self) {
+        self.asks = self.asks.saturating_add(1);
+        self.act();
+    }
+
     /// Notes that a place is read.
     pub fn read(&mut self, target: Target) {
         if let Target::Local(slot) = target {
@@ -104,7 +115,7 @@ impl<'a> Walk<'a> {
         if let Target::Local(slot) = target {
             self.writes.insert(slot);
         }
-        self.acts = true;
+        self.act();
         self.add_use(Use::Write(target));
     }
 

@@ -30,6 +30,16 @@ pub enum Known {
     Nothing,
 }
 
+impl Known {
+    /// The number that it is, if it is known to be one.
+    pub fn number(self) -> Option<i64> {
+        match self {
+            Known::Number(number) => Some(number),
+            Known::Traps(_) | Known::Nothing => None,
+        }
+    }
+}
+
 // What an operator gives of two numbers.
 fn computed(operator: Operator, first: i64, second: i64, sort: Sort) -> Known
     requires left { Fits sort first }

@@ -55,10 +55,12 @@ impl<'i> Facts<'i> {
 
 /// The parts of a variable's type.
 pub fn type_parts(variable: &Item<Target>) -> &[TypePart<Target>] {
-    for attribute in &variable.attributes {
-        if let Attribute::TypeOf { parts, .. } = attribute {
-            return parts;
-        }
-    }
-    &[]
+    let parts = variable
+        .attributes
+        .iter()
+        .find_map(|attribute| match attribute {
+            Attribute::TypeOf { parts, .. } => Some(parts.as_slice()),
+            _ => None,
+        });
+    parts.unwrap_or(&[])
 }

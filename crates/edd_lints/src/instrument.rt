@@ -31,12 +31,10 @@ pub struct Instrument<'i> {
 }
 
 fn command_number(attributes: &[Attribute<Target>]) -> Option<u32> {
-    for attribute in attributes {
-        if let Attribute::Number(_, number) = attribute {
-            return Some(*number);
-        }
-    }
-    None
+    attributes.iter().find_map(|attribute| match attribute {
+        Attribute::Number(_, number) => Some(*number),
+        _ => None,
+    })
 }
 
 /// The variable that a target is.
@@ -66,7 +64,9 @@ impl<'i> Instrument<'i> {
         for item in items {
             known.add_item(alloc, item)?;
         }
-        known.add_elements(elements)?;
+        for element in elements {
+            known.elements.add((element.array.0, element.number));
+        }
         known.sort()?;
         Ok(known)
     }
@@ -83,7 +83,10 @@ impl<'i> Instrument<'i> {
     fn add_item(&mut self, alloc: Global, item: &'i Item<Target>) -> Result<(), AllocError> {
         match item.sort {
             ItemKind::Variable => self.add_variable(alloc, item),
-            ItemKind::Command => self.add_command(&item.attributes),
+            ItemKind::Command => {
+                self.add_command(&item.attributes);
+                Ok(())
+            }
             _ => Ok(()),
         }
     }
@@ -95,41 +98,31 @@ impl<'i> Instrument<'i> {
     ) -> Result<(), AllocError> {
         let number = u16::try_from(self.variables.len()).unwrap_or(u16::MAX);
         for (_, enumerator) in &enumerators_of(alloc, type_parts(variable))? {
-            self.listed.add((number, enumerator.value))?;
+            self.listed.add((number, enumerator.value));
         }
         self.variables.push(Facts::of(variable))?;
         Ok(())
     }
 
-    fn add_elements(&mut self, elements: &[Element]) -> Result<(), AllocError> {
-        for element in elements {
-            self.elements.add((element.array.0, element.number))?;
-        }
-        Ok(())
-    }
-
-    fn add_command(&mut self, attributes: &[Attribute<Target>]) -> Result<(), AllocError> {
+    fn add_command(&mut self, attributes: &[Attribute<Target>]) {
         let Some(command) = command_number(attributes) else {
-            return Ok(());
+            return;
         };
-        self.commands.add(command)?;
+        self.commands.add(command);
         let mut are_numbered = true;
         for attribute in attributes {
             match attribute {
                 Attribute::Transaction {
                     number: Some(number),
                     ..
-                } => {
-                    self.transactions.add((command, *number))?;
-                }
+                } => self.transactions.add((command, *number)),
                 Attribute::Transaction { number: None, .. } => are_numbered = false,
                 _ => {}
             }
         }
         if are_numbered {
-            self.numbered.add(command)?;
+            self.numbered.add(command);
         }
-        Ok(())
     }
 
     /// What is known of the variable of this number.
@@ -139,10 +132,7 @@ impl<'i> Instrument<'i> {
 
     /// What the variable of this number is called.
     pub fn name_of(&self, variable: u16) -> &'i str {
-        match self.variable(variable) {
-            Some(facts) => facts.name,
-            None => "",
-        }
+        self.variable(variable).map_or("", |facts| facts.name)
     }
 
     /// The type of the variable of this number.
@@ -157,14 +147,11 @@ impl<'i> Instrument<'i> {
 
     /// Whether a variable is one of enumerators, of which this number is none.
     pub fn is_unlisted(&self, variable: u16, number: i64) -> bool {
-        match self.variable(variable) {
-            Some(facts) => {
-                facts.kind == Some(VarType::Enumerated)
-                    && facts.has_enumerators
-                    && !self.listed.contains(&(variable, number))
-            }
-            None => false,
-        }
+        self.variable(variable).is_some_and(|facts| {
+            facts.kind == Some(VarType::Enumerated)
+                && facts.has_enumerators
+                && !self.listed.contains(&(variable, number))
+        })
     }
 
     /// Whether an item has this name.
@@ -174,21 +161,13 @@ impl<'i> Instrument<'i> {
 
     /// Whether an array has an element of this number.
     pub fn has_element(&self, array: u16, number: i64) -> bool {
-        match u32::try_from(number) {
-            Ok(number) => self.elements.contains(&(array, number)),
-            Err(_) => false,
-        }
+        u32::try_from(number).is_ok_and(|number| self.elements.contains(&(array, number)))
     }
 
     /// Whether there are commands, of which none has this number.
     pub fn lacks_command(&self, command: i64) -> bool {
-        if self.commands.is_empty() {
-            return false;
-        }
-        match u32::try_from(command) {
-            Ok(command) => !self.commands.contains(&command),
-            Err(_) => true,
-        }
+        let has = u32::try_from(command).is_ok_and(|command| self.commands.contains(&command));
+        !has && !self.commands.is_empty()
     }
 
     /// Whether the command of this number is one of the description, all of whose transactions have
@@ -197,12 +176,9 @@ impl<'i> Instrument<'i> {
         let Ok(command) = u32::try_from(command) else {
             return false;
         };
-        if !self.numbered.contains(&command) {
-            return false;
-        }
-        match u32::try_from(transaction) {
-            Ok(transaction) => !self.transactions.contains(&(command, transaction)),
-            Err(_) => true,
-        }
+        let has = u32::try_from(transaction).is_ok_and(|transaction| self
+            .transactions
+            .contains(&(command, transaction)));
+        !has && self.numbered.contains(&command)
     }
 }

@@ -149,10 +149,8 @@ const ASKED: [Lint; 5] = [
 impl Lint {
     // The name and the meaning.
     fn words(self) -> (&'static str, &'static str) {
-        match WORDS.get(usize::from(self as u8)) {
-            Some(words) => *words,
-            None => ("", ""),
-        }
+        let words = WORDS.get(usize::from(self as u8));
+        words.copied().unwrap_or(("", ""))
     }
 
     /// The name of the lint, in lower-case words with hyphens between.

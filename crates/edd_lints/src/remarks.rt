@@ -26,10 +26,8 @@ pub struct Remarks {
 // Whether a token is at a byte: then it is in no comment.
 fn is_in_token(tokens: &[Token], place: usize) -> bool {
     let number = tokens.partition_point(|token| token.end as usize <= place);
-    match tokens.get(number) {
-        Some(token) => (token.start as usize) <= place,
-        None => false,
-    }
+    let token = tokens.get(number);
+    token.is_some_and(|token| (token.start as usize) <= place)
 }
 
 // What is before and behind the first remark in bytes, if there is one.
@@ -103,13 +101,7 @@ impl Remarks {
     pub fn allow(&self, warning: &Warning) -> bool {
         let first = self.first_from(warning.at.line.saturating_sub(1));
         let behind = self.first_from(warning.at.line.saturating_add(1));
-        for number in first..behind {
-            match self.remarks.get(number) {
-                Some(remark) if remark.lint.is_none() || remark.lint == Some(warning.lint) =>
-                    return true,
-                _ => {}
-            }
-        }
-        false
+        let near = self.remarks.get(first..behind).unwrap_or(&[]);
+        near.iter().any(|remark| remark.lint.is_none_or(|lint| lint == warning.lint))
     }
 }

@@ -8,6 +8,7 @@ pub struct Sorted<T> {
     all: Vec<T>,
     /// Whether each element so far is greater than the one before it, or the same.
     rises: bool,
+    is_refused: bool,
 }
 
 impl<T: Ord + Copy> Sorted<T> {
@@ -15,20 +16,24 @@ impl<T: Ord + Copy> Sorted<T> {
         Sorted {
             all: Vec::new(alloc),
             rises: true,
+            is_refused: false,
         }
     }
 
     /// Adds an element, which is found once they are sorted.
-    pub fn add(&mut self, element: T) -> Result<(), AllocError> {
+    pub fn add(&mut self, element: T) {
         if let Some(last) = self.all.last() {
             self.rises = self.rises && *last <= element;
         }
-        self.all.push(element)?;
-        Ok(())
+        self.is_refused |= self.all.push(element).is_err();
     }
 
-    /// Sorts the elements where they did not come in their order.
+    /// Sorts the elements where they did not come in their order. Where memory for one of them was
+    /// refused, so is this.
     pub fn sort(&mut self) -> Result<(), AllocError> {
+        if self.is_refused {
+            return Err(AllocError);
+        }
         if self.rises {
             return Ok(());
         }

@@ -82,36 +82,31 @@ pub struct TokensLeft<'a> {
 impl<'a> TokensLeft<'a> {
     /// All tokens of an item.
     pub fn new(text: &'a [u8], tokens: &'a [Token]) -> TokensLeft<'a> {
-        let last = match tokens.first() {
-            Some(token) => mark_of(text, token),
-            None => NOWHERE,
-        };
         TokensLeft {
             text,
             rest: tokens,
-            last,
+            last: tokens.first().map_or(NOWHERE, |token| mark_of(text, token)),
         }
     }
 
-    /// Passes the next token of this kind, and gives its place.
-    pub fn to(&mut self, kind: TokenKind) -> Mark<'a> {
-        let rest = self.rest;
-        for (number, token) in rest.iter().enumerate() {
-            if token.kind == kind {
-                self.rest = &rest[number + 1..];
-                self.last = mark_of(self.text, token);
-                return self.last;
-            }
+    // Passes the tokens up to one, if it is there, and gives the place of the one passed last.
+    fn pass(&mut self, number: Option<usize>) -> Mark<'a> {
+        if let Some([token, rest @ ..]) = number.and_then(|number| self.rest.get(number..)) {
+            self.last = mark_of(self.text, token);
+            self.rest = rest;
         }
         self.last
     }
 
+    /// Passes the next token of this kind, and gives its place.
+    pub fn to(&mut self, kind: TokenKind) -> Mark<'a> {
+        self.pass(self.rest.iter().position(|token| token.kind == kind))
+    }
+
     /// The place of the next token, which is not passed.
     pub fn next(&self) -> Mark<'a> {
-        match self.rest.first() {
-            Some(token) => mark_of(self.text, token),
-            None => self.last,
-        }
+        let next = self.rest.first();
+        next.map_or(self.last, |token| mark_of(self.text, token))
     }
 
     /// What is left behind the parenthesis that closes the next one which opens.
@@ -124,11 +119,9 @@ impl<'a> TokensLeft<'a> {
                 TokenKind::Symbol(Symbol::CloseParenthesis) => {
                     depth = depth.saturating_sub(1);
                     if depth == 0 {
-                        return TokensLeft {
-                            text: self.text,
-                            rest: &rest[number + 1..],
-                            last: mark_of(self.text, token),
-                        };
+                        let mut behind = *self;
+                        behind.pass(Some(number));
+                        return behind;
                     }
                 }
                 _ => {}
@@ -139,34 +132,25 @@ impl<'a> TokensLeft<'a> {
 
     /// What is in the text between the last token that was passed and the next one.
     pub fn gap(&self) -> &'a [u8] {
-        match self.rest.first() {
-            Some(next) => self
-                .text
-                .get(self.last.end()..next.start as usize)
-                .unwrap_or(b""),
-            None => b"",
-        }
+        let end = self.rest.first().map_or(0, |next| next.start as usize);
+        self.text.get(self.last.end()..end).unwrap_or(b"")
     }
 
     /// Passes a token with this text that is among the next ones, and gives its place; where there
     /// is none, that of the token that was passed last.
     pub fn to_text(&mut self, word: &str) -> Mark<'a> {
-        let rest = self.rest;
-        for (number, token) in rest.iter().enumerate() {
-            if NEAR <= number {
-                break;
-            }
-            if bytes_of(self.text, token) == word.as_bytes() {
-                self.rest = &rest[number + 1..];
-                self.last = mark_of(self.text, token);
-                return self.last;
-            }
-        }
-        self.last
+        let near = self.rest.get(..NEAR).unwrap_or(self.rest);
+        let is_word = |token: &Token| bytes_of(self.text, token) == word.as_bytes();
+        self.pass(near.iter().position(is_word))
     }
 
-    /// The same of a reserved word.
+    /// Passes the next one of a reserved word, and gives its place.
     pub fn to_word(&mut self, word: Keyword) -> Mark<'a> {
         self.to(TokenKind::Keyword(word))
+    }
+
+    /// Passes the next one of a sign, and gives its place.
+    pub fn to_sign(&mut self, sign: Symbol) -> Mark<'a> {
+        self.to(TokenKind::Symbol(sign))
     }
 }

@@ -5,6 +5,7 @@ use crate::tokens_left::{Mark, NOWHERE, mark_of};
 use edd_lexer::token::Token;
 use edd_syntax::numbers::TokenNo;
 use std::alloc::{AllocError, Global};
+use std::fmt::Display;
 
 /// A token, or a character of a comment: its line, counted from 1, and the bytes from `start` up to
 /// `end`.
@@ -58,10 +59,8 @@ impl<'t> Findings<'t> {
 
     /// The place of the token of a number.
     pub fn mark(&self, at: TokenNo) -> Mark<'t> {
-        match self.tokens.get(at.0 as usize) {
-            Some(token) => mark_of(self.text, token),
-            None => NOWHERE,
-        }
+        let token = self.tokens.get(at.0 as usize);
+        token.map_or(NOWHERE, |token| mark_of(self.text, token))
     }
 
     /// Notes that memory for what warnings need was refused.
@@ -69,47 +68,46 @@ impl<'t> Findings<'t> {
         self.is_refused = true;
     }
 
-    fn push(&mut self, warning: Warning) {
+    /// The list, if it was made; where memory for it was refused, that is noted, and it is empty.
+    pub fn listed<T: Drop>(&mut self, list: Result<Vec<T>, AllocError>) -> Vec<T> {
+        match list {
+            Ok(list) => list,
+            Err(_) => {
+                self.refuse();
+                Vec::new(self.alloc)
+            }
+        }
+    }
+
+    fn push<D: Display + Drop>(&mut self, lint: Lint, at: Mark<'_>, words: D, other: Option<Spot>) {
+        let Ok(message) = words.to_string(self.alloc) else {
+            return self.refuse();
+        };
+        let warning = Warning {
+            lint,
+            at: spot_of(at),
+            message,
+            other,
+        };
         if self.warnings.push(warning).is_err() {
             self.refuse();
         }
     }
 
-    /// Adds a warning, whose message was made if there was memory for it.
-    pub fn add(&mut self, lint: Lint, at: Mark<'_>, message: Result<String, AllocError>) {
-        match message {
-            Ok(message) => self.push(Warning {
-                lint,
-                at: spot_of(at),
-                message,
-                other: None,
-            }),
-            Err(_) => self.refuse(),
-        }
-    }
-
     /// Adds a warning in these words.
-    pub fn say(&mut self, lint: Lint, at: Mark<'_>, words: &str) {
-        self.add(lint, at, String::from_str(self.alloc, words));
+    pub fn add<D: Display + Drop>(&mut self, lint: Lint, at: Mark<'_>, words: D) {
+        self.push(lint, at, words, None)
     }
 
     /// Adds a warning that speaks of two places.
-    pub fn add_beside(
+    pub fn add_beside<D: Display + Drop>(
         &mut self,
         lint: Lint,
         at: Mark<'_>,
-        message: Result<String, AllocError>,
+        words: D,
         other: Mark<'_>,
     ) {
-        match message {
-            Ok(message) => self.push(Warning {
-                lint,
-                at: spot_of(at),
-                message,
-                other: Some(spot_of(other)),
-            }),
-            Err(_) => self.refuse(),
-        }
+        self.push(lint, at, words, Some(spot_of(other)))
     }
 
     /// The warnings by their lines, and on one line in the order of the lints.

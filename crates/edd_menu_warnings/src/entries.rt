@@ -149,10 +149,10 @@ impl<'i, 'a> Shown<'i, 'a> {
         menu: &Item<Target>,
         tokens_left: TokensLeft<'_>,
         findings: &mut Findings<'a>,
-    ) -> Result<(), AllocError> {
+    ) {
         let at = findings.mark(menu.at);
         let is_labelled = has_label(&menu.attributes);
-        let entries = entries_of(findings.alloc, &menu.attributes)?;
+        let entries = findings.listed(entries_of(findings.alloc, &menu.attributes));
         let mut has_twice = false;
         self.menus = self.menus.saturating_add(1);
         for (_, entry) in &entries {
@@ -163,9 +163,8 @@ impl<'i, 'a> Shown<'i, 'a> {
             }
         }
         if has_twice {
-            self.check_repeated(&entries, tokens_left, findings)?;
+            self.check_repeated(&entries, tokens_left, findings);
         }
-        Ok(())
     }
 
     // The entries that one list has twice, with the same qualifiers.
@@ -174,26 +173,31 @@ impl<'i, 'a> Shown<'i, 'a> {
         entries: &[Listed<'_, MenuEntry<Target>>],
         tokens_left: TokensLeft<'_>,
         findings: &mut Findings,
-    ) -> Result<(), AllocError> {
+    ) {
         let mut tokens_left = tokens_left;
         tokens_left.to_word(Keyword::Items);
         let mut seen = BTreeMap::new(findings.alloc);
         for (list, entry) in entries {
             if let Some((item, qualifiers)) = item_shown(entry) {
                 let place = self.places.place_of(item);
-                let name = self.said.get(place).map(|said| said.name).unwrap_or("");
+                let name = self.said.get(place).map_or("", |said| said.name);
                 let at = tokens_left.to_text(name);
                 match seen.get(&(*list, place)).copied() {
                     Some((others, earlier)) if others == qualifiers => {
-                        let message = format!(in findings.alloc; "{name} is in this list already");
-                        findings.add_beside(Lint::RepeatedEntry, at, message, earlier);
+                        findings.add_beside(
+                            Lint::RepeatedEntry,
+                            at,
+                            format_args!("{name} is in this list already"),
+                            earlier,
+                        );
                     }
                     _ => {}
                 }
-                seen.insert((*list, place), (qualifiers, at))?;
+                if seen.insert((*list, place), (qualifiers, at)).is_err() {
+                    findings.refuse();
+                }
             }
         }
-        Ok(())
     }
 
     // An item that a menu shows without a LABEL, or an empty menu. The name of a menu often says
@@ -211,15 +215,20 @@ impl<'i, 'a> Shown<'i, 'a> {
                     return;
                 }
                 let name = item.name();
-                let message = format!(in findings.alloc; "the menu {name} has no entries");
-                findings.add(Lint::EmptyMenu, at, message)
+                findings.add(
+                    Lint::EmptyMenu,
+                    at,
+                    format_args!("the menu {name} has no entries"),
+                )
             }
             (_, Some(menu)) if !said.is_labelled && !has_label(attributes) => {
                 let name = item.name();
-                let message = format!(in findings.alloc;
-                    "{name} has no LABEL, and a menu shows it"
-                );
-                findings.add_beside(Lint::MissingLabel, at, message, menu)
+                findings.add_beside(
+                    Lint::MissingLabel,
+                    at,
+                    format_args!("{name} has no LABEL, and a menu shows it"),
+                    menu,
+                )
             }
             _ => {}
         }
@@ -232,7 +241,7 @@ fn all_shown<'i, 'a>(
     items: &'i [Item<Target>],
     item_tokens: &[&'a [Token]],
     findings: &mut Findings<'a>,
-) -> Result<Shown<'i, 'a>, AllocError> {
+) -> Shown<'i, 'a> {
     let new = Said {
         name: "",
         by: None,
@@ -241,7 +250,7 @@ fn all_shown<'i, 'a>(
     };
     let mut shown = Shown {
         places: Places::of(items),
-        said: Vec::from_elem(findings.alloc, new, items.len())?,
+        said: findings.listed(Vec::from_elem(findings.alloc, new, items.len())),
         menus: 0,
     };
     let mut next = shown.places;
@@ -250,10 +259,10 @@ fn all_shown<'i, 'a>(
     }
     for (item, own) in items.iter().zip(item_tokens) {
         if item.sort == ItemKind::Menu {
-            shown.add_menu(item, TokensLeft::new(text, own), findings)?;
+            shown.add_menu(item, TokensLeft::new(text, own), findings);
         }
     }
-    Ok(shown)
+    shown
 }
 
 /// The entries of all menus, and the items that they show.
@@ -262,11 +271,10 @@ pub fn check_entries<'a>(
     items: &[Item<Target>],
     item_tokens: &[&'a [Token]],
     findings: &mut Findings<'a>,
-) -> Result<(), AllocError> {
-    let shown = all_shown(text, items, item_tokens, findings)?;
+) {
+    let shown = all_shown(text, items, item_tokens, findings);
     let mut next = shown.places;
     for item in items {
         shown.check(item, next.take(item.kind()), findings);
     }
-    Ok(())
 }

@@ -11,7 +11,6 @@ use edd_lints::names::Names;
 use edd_lints::warning::Findings;
 use edd_syntax::item::Item;
 use edd_syntax::reference::Target;
-use std::alloc::AllocError;
 
 /// Finds the warnings on menus and on the uses of items, whose tokens are given one by one.
 pub fn check_uses<'a>(
@@ -21,8 +20,8 @@ pub fn check_uses<'a>(
     item_tokens: &[&'a [Token]],
     names: &Names<'_>,
     findings: &mut Findings<'a>,
-) -> Result<(), AllocError> {
-    menus::check_menus(items, findings)?;
-    entries::check_entries(text, items, item_tokens, findings)?;
+) {
+    menus::check_menus(items, findings);
+    entries::check_entries(text, items, item_tokens, findings);
     unused::check_uses(text, tokens, items, names, findings)
 }

@@ -78,71 +78,62 @@ fn enter(
     from: usize,
     to: usize,
     findings: &mut Findings,
-) -> Result<(), AllocError> {
-    let Some(by) = menus.get(from) else {
-        return Ok(());
+) {
+    let Some(by) = menus.get(from).map(|menu| menu.name) else {
+        return;
     };
-    let by = by.name;
     let Some(menu) = menus.get_mut(to) else {
-        return Ok(());
+        return;
     };
     match menu.state {
         State::New => {
             menu.state = State::Open;
-            open.push(to)?;
+            if open.push(to).is_err() {
+                findings.refuse();
+            }
         }
         State::Open => {
             menu.state = State::Said;
             let name = menu.name.word();
-            let message = format!(in findings.alloc; "the menu {name} contains itself");
             let at = menu.name;
-            findings.add_beside(Lint::CyclicMenu, at, message, by);
+            findings.add_beside(
+                Lint::CyclicMenu,
+                at,
+                format_args!("the menu {name} contains itself"),
+                by,
+            );
         }
         State::Said | State::Done => {}
     }
-    Ok(())
 }
 
 // One step of the walk from the innermost menu that is open. Says whether one was.
-fn step(
-    menus: &mut [Menu<'_>],
-    open: &mut Vec<usize>,
-    findings: &mut Findings,
-) -> Result<bool, AllocError> {
+fn step(menus: &mut [Menu<'_>], open: &mut Vec<usize>, findings: &mut Findings) -> bool {
     let Some(from) = open.last().copied() else {
-        return Ok(false);
+        return false;
     };
-    let next = match menus.get_mut(from) {
-        Some(menu) => next_inner(menu),
-        None => None,
-    };
-    match next {
-        Some(to) => enter(menus, open, from, to, findings)?,
+    match menus.get_mut(from).and_then(next_inner) {
+        Some(to) => enter(menus, open, from, to, findings),
         None => {
             open.pop();
         }
     }
-    Ok(true)
+    true
 }
 
 // The walk from a menu that is new. Each step passes an entry or ends a menu.
-fn walk_from(
-    menus: &mut [Menu<'_>],
-    open: &mut Vec<usize>,
-    steps: usize,
-    findings: &mut Findings,
-) -> Result<(), AllocError> {
+fn walk_from(menus: &mut [Menu<'_>], open: &mut Vec<usize>, steps: usize, findings: &mut Findings) {
     for _ in 0..steps {
-        if !step(menus, open, findings)? {
+        if !step(menus, open, findings) {
             break;
         }
     }
-    Ok(())
 }
 
 /// The menus of a description. Each menu and each entry is passed once.
-pub fn check_menus(items: &[Item<Target>], findings: &mut Findings) -> Result<(), AllocError> {
-    let mut menus = menus_of(items, findings)?;
+pub fn check_menus(items: &[Item<Target>], findings: &mut Findings) {
+    let menus = menus_of(items, findings);
+    let mut menus = findings.listed(menus);
     let mut steps = menus.len();
     for menu in &menus {
         steps = steps.saturating_add(menu.inner.len());
@@ -152,10 +143,11 @@ pub fn check_menus(items: &[Item<Target>], findings: &mut Findings) -> Result<()
         if let Some(menu) = menus.get_mut(number) {
             if menu.state == State::New {
                 menu.state = State::Open;
-                open.push(number)?;
+                if open.push(number).is_err() {
+                    findings.refuse();
+                }
             }
         }
-        walk_from(&mut menus, &mut open, steps, findings)?;
+        walk_from(&mut menus, &mut open, steps, findings);
     }
-    Ok(())
 }

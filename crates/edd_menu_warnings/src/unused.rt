@@ -28,10 +28,7 @@ fn uses_of(
 
 // Notes that the name of a number is used.
 fn add_use(number: Option<usize>, uses: &mut [u32]) {
-    let Some(number) = number else {
-        return;
-    };
-    if let Some(count) = uses.get_mut(number) {
+    if let Some(count) = number.and_then(|number| uses.get_mut(number)) {
         *count = count.saturating_add(1);
     }
 }
@@ -89,9 +86,8 @@ fn lint_of(kind: Kind, number: usize, around: Around) -> Option<(Lint, &'static 
 // What is told of an item to which nothing refers.
 fn add_unused(item: &Item<Target>, lint: (Lint, &'static str), findings: &mut Findings) {
     let (lint, what) = lint;
-    let message = format!(in findings.alloc; "{what} {}", item.name());
     let at = findings.mark(item.at());
-    findings.add(lint, at, message)
+    findings.add(lint, at, format_args!("{what} {}", item.name()))
 }
 
 /// The items whose names are nowhere but at their declarations. Where there are neither menus nor
@@ -102,8 +98,8 @@ pub fn check_uses(
     items: &[Item<Target>],
     names: &Names<'_>,
     findings: &mut Findings,
-) -> Result<(), AllocError> {
-    let uses = uses_of(findings.alloc, text, tokens, names)?;
+) {
+    let uses = findings.listed(uses_of(findings.alloc, text, tokens, names));
     let around = around_items(items);
     for (number, item) in items.iter().enumerate() {
         let used = names.number_of(item.name().as_bytes());
@@ -115,5 +111,4 @@ pub fn check_uses(
             add_unused(item, lint, findings);
         }
     }
-    Ok(())
 }

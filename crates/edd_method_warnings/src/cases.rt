@@ -1,7 +1,6 @@
 //! The labels of a `switch`, and what stands between two statements.
 
 use crate::flow::Flow;
-use crate::said::{pass, say};
 use edd_expression_warnings::operands::check_label;
 use edd_expression_warnings::walk::Walk;
 use edd_lints::lint::Lint;
@@ -34,12 +33,7 @@ pub fn check_fall(
         return;
     }
     let message = "the case before this one goes on here: a break is missing, or a comment";
-    say(
-        Lint::FallThrough,
-        walk.tokens_left.next(),
-        message,
-        findings,
-    )
+    findings.add(Lint::FallThrough, walk.tokens_left.next(), message)
 }
 
 /// A `;` between the head of a loop and the block that looks like its body.
@@ -47,7 +41,7 @@ pub fn check_block_after(head: Option<Mark<'_>>, s: &Stmt<Target>, findings: &mu
     match (head, s) {
         (Some(at), Stmt::Block(_)) => {
             let message = "a ; stands between this and the block after it";
-            say(Lint::EmptyBranch, at, message, findings)
+            findings.add(Lint::EmptyBranch, at, message)
         }
         _ => {}
     }
@@ -56,10 +50,9 @@ pub fn check_block_after(head: Option<Mark<'_>>, s: &Stmt<Target>, findings: &mu
 // The label of a case.
 fn check_case(label: i64, walk: &mut Walk<'_>, findings: &mut Findings) {
     let at = walk.tokens_left.to_word(Keyword::MethodCase);
-    pass(walk, Symbol::Colon);
-    match walk.selected.last().copied().flatten() {
-        Some(variable) => check_label(variable, label, at, walk, findings),
-        None => {}
+    walk.tokens_left.to_sign(Symbol::Colon);
+    if let Some(variable) = walk.selected.last().copied().flatten() {
+        check_label(variable, label, at, walk, findings);
     }
 }
 
@@ -69,7 +62,7 @@ pub fn check_label_part(part: &Part<Target>, walk: &mut Walk<'_>, findings: &mut
         Part::CaseLabel { label, .. } => check_case(*label, walk, findings),
         Part::DefaultLabel { .. } => {
             walk.tokens_left.to_word(Keyword::MethodDefault);
-            pass(walk, Symbol::Colon);
+            walk.tokens_left.to_sign(Symbol::Colon);
         }
         Part::Declare(_) | Part::Statement(_) => {}
     }

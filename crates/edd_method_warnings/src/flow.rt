@@ -51,26 +51,25 @@ pub fn counts(s: &Stmt<Target>) -> bool {
 pub fn joined<'a>(at: Mark<'a>, asks: bool, first: Flow<'a>, second: Flow<'a>) -> Flow<'a> {
     let both = first.ends.is_some() && second.ends.is_some();
     Flow {
-        ends: if both { Some(at) } else { None },
+        ends: both.then_some(at),
         breaks: first.breaks || second.breaks,
         leaves: asks || first.leaves || second.leaves,
         is_remarked: second.is_remarked,
     }
 }
 
-/// What leads on from a loop to another place: its end with `break`, or its next turn.
-pub fn leaving<'a>(at: Mark<'a>, breaks: bool) -> Flow<'a> {
+/// What leads to another place: the end of a loop or of a `switch` with `break`, the next turn of a
+/// loop, or the end of the method, which is left.
+pub fn leading_on<'a>(at: Mark<'a>, breaks: bool, leaves: bool) -> Flow<'a> {
     Flow {
         ends: Some(at),
         breaks,
+        leaves,
         ..GOES_ON
     }
 }
 
 /// Whether a statement is braces with nothing between.
 pub fn is_empty_block(s: &Stmt<Target>) -> bool {
-    match s {
-        Stmt::Block(parts) => parts.is_empty(),
-        _ => false,
-    }
+    matches!(s, Stmt::Block(parts) if parts.is_empty())
 }

@@ -5,7 +5,6 @@ mod cases;
 mod flow;
 mod loops;
 mod methods;
-mod said;
 mod statements;
 
 pub use methods::check_method;

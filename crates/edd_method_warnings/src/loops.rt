@@ -1,7 +1,6 @@
 //! Loops that nothing ends, that never run, or that count away from their limits.
 
 use crate::flow::{Flow, GOES_ON};
-use crate::said::say;
 use edd_arithmetic::holds;
 use edd_expression_warnings::operands::{referred, turned};
 use edd_expression_warnings::walk::{Use, Walk};
@@ -68,15 +67,13 @@ fn places_read(alloc: Global, uses: &[Use]) -> Result<BTreeSet<u32>, AllocError>
 
 // Whether one of the places is set. A variable may be an element.
 fn sets(uses: &[Use], places: &BTreeSet<u32>) -> bool {
-    for one in uses {
-        if let Use::Write(target) = one {
+    uses.iter().any(|one| match one {
+        Use::Write(target) => {
             let place = place_of(*target).unwrap_or(0);
-            if places.contains(&place) || (ELEMENTS < place && places.contains(&ELEMENTS)) {
-                return true;
-            }
+            places.contains(&place) || (ELEMENTS < place && places.contains(&ELEMENTS))
         }
-    }
-    false
+        Use::Read(_) => false,
+    })
 }
 
 // Whether nothing that the condition reads is set in the loop.
@@ -102,8 +99,11 @@ fn known_of(condition: Option<&Expr<Target>>) -> Known {
 fn say_constant(looped: &Loop<'_, '_>, number: i64, findings: &mut Findings) {
     match looped.condition {
         Some(e) if !is_literal(e) => {
-            let message = format!(in findings.alloc; "this condition is always {number}");
-            findings.add(Lint::ConstantCondition, looped.test_at, message)
+            findings.add(
+                Lint::ConstantCondition,
+                looped.test_at,
+                format_args!("this condition is always {number}"),
+            )
         }
         _ => {}
     }
@@ -121,7 +121,7 @@ pub fn check_loop<'a>(
     let mut ends = None;
     match known_of(looped.condition) {
         Known::Number(0) if !looped.is_do => {
-            say(Lint::DeadLoop, looped.at, "this loop never runs", findings);
+            findings.add(Lint::DeadLoop, looped.at, "this loop never runs");
         }
         Known::Number(0) => say_constant(looped, 0, findings),
         Known::Number(number) => {
@@ -130,14 +130,14 @@ pub fn check_loop<'a>(
             }
             if stays {
                 let message = "nothing ends this loop: it has no break, no return and no request";
-                say(Lint::EndlessLoop, looped.at, message, findings);
+                findings.add(Lint::EndlessLoop, looped.at, message);
             } else {
                 say_constant(looped, number, findings);
             }
         }
         Known::Nothing if stays && is_unchanging(looped, walk, findings) => {
             let message = "nothing in this loop changes what its condition reads";
-            say(Lint::EndlessLoop, looped.at, message, findings);
+            findings.add(Lint::EndlessLoop, looped.at, message);
         }
         Known::Traps(_) | Known::Nothing => {}
     }
@@ -151,10 +151,7 @@ pub fn check_loop<'a>(
 // The place that the first part of a `for` sets to a constant.
 fn start_of(initial: &Option<Expr<Target>>) -> Option<(Target, i64)> {
     match initial {
-        Some(Expr::Assign(to, value)) => match evaluate(value, Sort::Method) {
-            Known::Number(number) => Some((*to, number)),
-            Known::Traps(_) | Known::Nothing => None,
-        },
+        Some(Expr::Assign(to, value)) => Some((*to, evaluate(value, Sort::Method).number()?)),
         _ => None,
     }
 }
@@ -172,14 +169,10 @@ fn limit_of(condition: &Option<Expr<Target>>) -> Option<(Target, Comparison, &Ex
 
 // Whether a constant is added or taken away: 1 or -1.
 fn sign_of(operator: Operator, value: &Expr<Target>) -> Option<i64> {
-    let Known::Number(number) = evaluate(value, Sort::Method) else {
-        return None;
-    };
+    let sign = evaluate(value, Sort::Method).number()?.signum();
     match operator {
-        Operator::Add if 0 < number => Some(1),
-        Operator::Add if number < 0 => Some(-1),
-        Operator::Subtract if 0 < number => Some(-1),
-        Operator::Subtract if number < 0 => Some(1),
+        Operator::Add if sign != 0 => Some(sign),
+        Operator::Subtract if sign != 0 => sign.checked_neg(),
         _ => None,
     }
 }
@@ -250,17 +243,13 @@ pub fn has_no_body(s: &Stmt<Target>) -> bool {
 /// body begins.
 pub fn check_head(
     at: Mark<'_>,
-    head: (
-        &Option<Expr<Target>>,
-        &Option<Expr<Target>>,
-        &Option<Expr<Target>>,
-    ),
+    head: [&Option<Expr<Target>>; 3],
     body: usize,
     is_empty: bool,
     walk: &Walk<'_>,
     findings: &mut Findings,
 ) {
-    let (initial, condition, update) = head;
+    let [initial, condition, update] = head;
     let Some((place, comparison, limit)) = limit_of(condition) else {
         return;
     };
@@ -269,9 +258,11 @@ pub fn check_head(
         evaluate(limit, Sort::Method),
     ) {
         if started == place && !holds(comparison, start, end) {
-            let alloc = findings.alloc;
-            let message = format!(in alloc; "this loop never runs: it begins at {start}");
-            return findings.add(Lint::DeadLoop, at, message);
+            return findings.add(
+                Lint::DeadLoop,
+                at,
+                format_args!("this loop never runs: it begins at {start}"),
+            );
         }
     }
     match step_of(update) {
@@ -280,11 +271,11 @@ pub fn check_head(
                 return;
             }
             let message = "this loop counts away from its limit";
-            say(Lint::BackwardLoop, at, message, findings)
+            findings.add(Lint::BackwardLoop, at, message)
         }
         _ if is_empty && only_counts(condition, update) => {
             let message = "this loop only counts: a ; stands right after its head";
-            say(Lint::EmptyBranch, at, message, findings)
+            findings.add(Lint::EmptyBranch, at, message)
         }
         _ => {}
     }

@@ -52,16 +52,24 @@ fn locals_of<'a>(
 // A warning on a local that is not read, or read before anything sets it.
 fn check_use(slot: u8, at: Mark<'_>, walk: &Walk<'_>, findings: &mut Findings) {
     let name = at.word();
-    let alloc = findings.alloc;
     if !walk.reads.contains(slot) {
-        let message = format!(in alloc; "the local {name} is never read");
-        findings.add(Lint::UnreadLocal, at, message);
+        findings.add(
+            Lint::UnreadLocal,
+            at,
+            format_args!("the local {name} is never read"),
+        );
     } else if !walk.writes.contains(slot) {
-        let message = format!(in alloc; "nothing ever sets the local {name}: it is 0");
-        findings.add(Lint::UnsetLocal, at, message);
+        findings.add(
+            Lint::UnsetLocal,
+            at,
+            format_args!("nothing ever sets the local {name}: it is 0"),
+        );
     } else if walk.early.contains(slot) {
-        let message = format!(in alloc; "the local {name} is read before anything sets it");
-        findings.add(Lint::UnsetLocal, at, message);
+        findings.add(
+            Lint::UnsetLocal,
+            at,
+            format_args!("the local {name} is read before anything sets it"),
+        );
     }
 }
 
@@ -69,8 +77,11 @@ fn check_use(slot: u8, at: Mark<'_>, walk: &Walk<'_>, findings: &mut Findings) {
 fn check_name(at: Mark<'_>, walk: &Walk<'_>, findings: &mut Findings) {
     let name = at.word();
     if walk.instrument.has_name(name.as_bytes()) {
-        let message = format!(in findings.alloc; "this local hides the item {name}");
-        findings.add(Lint::HidingLocal, at, message);
+        findings.add(
+            Lint::HidingLocal,
+            at,
+            format_args!("this local hides the item {name}"),
+        );
     }
 }
 
@@ -105,11 +116,8 @@ fn check_added(parts: &[Part<Target>], findings: &mut Findings) {
             added = added.saturating_add(1);
             if MOST < added {
                 let at = findings.mark(at);
-                findings.say(
-                    Lint::AbortMethodLimit,
-                    at,
-                    "this lists nothing: eight are listed",
-                );
+                let message = "this lists nothing: eight are listed";
+                findings.add(Lint::AbortMethodLimit, at, message);
             }
         }
     }
@@ -123,16 +131,13 @@ pub fn check_method(
     instrument: &Instrument,
     findings: &mut Findings,
 ) {
-    let Ok(locals) = locals_of(findings.alloc, text, tokens) else {
-        findings.refuse();
-        return;
-    };
+    let locals = findings.listed(locals_of(findings.alloc, text, tokens));
     let tokens_left = TokensLeft::new(text, tokens);
     let mut walk = Walk::new(findings.alloc, tokens_left, Sort::Method, instrument);
     for attribute in attributes {
         if let Attribute::Definition(_, parts) = attribute {
             walk.tokens_left.to_word(Keyword::Definition);
-            walk.tokens_left.to(TokenKind::Symbol(Symbol::OpenBrace));
+            walk.tokens_left.to_sign(Symbol::OpenBrace);
             check_parts(parts, &mut walk, findings);
             check_added(parts, findings);
         }

@@ -1,9 +1,8 @@
 //! Statements: what is never reached, what does nothing, and cases that go on with the next.
 
 use crate::cases::{check_block_after, check_fall, check_label_part, has_comment};
-use crate::flow::{Flow, GOES_ON, counts, is_abort, is_empty_block, joined, leaving};
+use crate::flow::{Flow, GOES_ON, counts, is_abort, is_empty_block, joined, leading_on};
 use crate::loops::{Loop, check_head, check_loop, has_no_body};
-use crate::said::{pass, say};
 use edd_expression_warnings::expressions::{
     COMPARED, SELECTED, check_condition, check_expression, check_tested,
 };
@@ -27,11 +26,8 @@ fn check_value(
     findings: &mut Findings,
 ) -> bool {
     let before = walk.asks;
-    walk.asks = false;
     check_expression(e, is_statement, walk, findings);
-    let asks = walk.asks;
-    walk.asks = asks || before;
-    asks
+    before != walk.asks
 }
 
 // The condition of an `if` or what a `switch` is over, in parentheses, which are passed. Says
@@ -45,22 +41,16 @@ fn check_test(
 ) -> bool {
     let behind = walk.tokens_left.behind_parentheses();
     let before = walk.asks;
-    walk.asks = false;
     check_condition(e, at, assigns, walk, findings);
-    let asks = walk.asks;
-    walk.asks = asks || before;
     walk.tokens_left = behind;
-    asks
+    before != walk.asks
 }
 
 // The condition of a loop.
 fn check_loop_test(e: &Expr<Target>, walk: &mut Walk<'_>, findings: &mut Findings) -> bool {
     let before = walk.asks;
-    walk.asks = false;
     check_tested(e, COMPARED, walk, findings);
-    let asks = walk.asks;
-    walk.asks = asks || before;
-    asks
+    before != walk.asks
 }
 
 fn check_optional(e: &Option<Expr<Target>>, walk: &mut Walk<'_>, findings: &mut Findings) -> bool {
@@ -78,21 +68,24 @@ fn check_declarators(
     let mut asks = false;
     for declarator in declarators {
         if let Some(e) = &declarator.value {
-            walk.tokens_left.to(TokenKind::Symbol(Symbol::Equals));
+            walk.tokens_left.to_sign(Symbol::Equals);
             check_wrapped(e, walk, findings);
             let here = check_value(e, false, walk, findings);
             asks = asks || here;
             walk.write(declarator.place);
         }
     }
-    pass(walk, Symbol::Semicolon);
+    walk.tokens_left.to_sign(Symbol::Semicolon);
     asks
 }
 
 fn warn_unreached(end: Mark<'_>, findings: &mut Findings) {
     let word = end.word();
-    let message = format!(in findings.alloc; "what stands behind this {word} is never reached");
-    findings.add(Lint::UnreachableStatement, end, message)
+    findings.add(
+        Lint::UnreachableStatement,
+        end,
+        format_args!("what stands behind this {word} is never reached"),
+    )
 }
 
 // A statement of a block, whose flow so far goes on.
@@ -177,14 +170,12 @@ fn is_dropped(e: &Expr<Target>) -> bool {
 fn check_evaluated<'a>(e: &Expr<Target>, walk: &mut Walk<'a>, findings: &mut Findings) -> Flow<'a> {
     let at = walk.tokens_left.next();
     let before = walk.acts;
-    walk.acts = false;
     let asks = check_value(e, true, walk, findings);
-    if !walk.acts && is_dropped(e) {
+    if before == walk.acts && is_dropped(e) {
         let message = "this statement does nothing: its value is not used";
-        say(Lint::DroppedValue, at, message, findings);
+        findings.add(Lint::DroppedValue, at, message);
     }
-    walk.acts = walk.acts || before;
-    pass(walk, Symbol::Semicolon);
+    walk.tokens_left.to_sign(Symbol::Semicolon);
     let aborts = is_abort(e);
     Flow {
         ends: aborts.then_some(at),
@@ -204,12 +195,12 @@ fn check_if<'a>(
     let asks = check_test(condition, at, COMPARED, walk, findings);
     if let Stmt::Empty = first {
         let message = "nothing is done where this condition holds: a ; stands right after it";
-        say(Lint::EmptyBranch, at, message, findings);
+        findings.add(Lint::EmptyBranch, at, message);
     }
     let flow = check_statement(first, walk, findings);
     if is_empty_block(first) && !asks && !flow.is_remarked {
         let message = "nothing is done where this condition holds";
-        say(Lint::EmptyBranch, at, message, findings);
+        findings.add(Lint::EmptyBranch, at, message);
     }
     joined(at, asks, flow, GOES_ON)
 }
@@ -260,7 +251,7 @@ fn check_do<'a>(
     let asks = check_loop_test(condition, walk, findings);
     walk.loops = walk.loops.saturating_sub(1);
     walk.tokens_left = behind;
-    pass(walk, Symbol::Semicolon);
+    walk.tokens_left.to_sign(Symbol::Semicolon);
     let looped = Loop {
         at,
         test_at,
@@ -286,7 +277,7 @@ fn check_for<'a>(
     let at = walk.tokens_left.to_word(Keyword::For);
     let behind = walk.tokens_left.behind_parentheses();
     check_optional(initial, walk, findings);
-    pass(walk, Symbol::Semicolon);
+    walk.tokens_left.to_sign(Symbol::Semicolon);
     walk.loops = walk.loops.saturating_add(1);
     let from = walk.uses.len();
     let tests = match condition {
@@ -294,13 +285,13 @@ fn check_for<'a>(
         None => false,
     };
     let tested = walk.uses.len();
-    pass(walk, Symbol::Semicolon);
+    walk.tokens_left.to_sign(Symbol::Semicolon);
     let updates = check_optional(update, walk, findings);
     walk.tokens_left = behind;
     let begin = walk.uses.len();
     let flow = check_statement(body, walk, findings);
     walk.loops = walk.loops.saturating_sub(1);
-    let head = (initial, condition, update);
+    let head = [initial, condition, update];
     check_head(at, head, begin, matches!(body, Stmt::Empty), walk, findings);
     let looped = Loop {
         at,
@@ -324,17 +315,17 @@ fn check_switch<'a>(
 ) -> Flow<'a> {
     let at = walk.tokens_left.to_word(Keyword::Switch);
     let asks = check_test(on, at, SELECTED, walk, findings);
-    pass(walk, Symbol::OpenBrace);
+    walk.tokens_left.to_sign(Symbol::OpenBrace);
     walk.select(selected_variable(on));
     let flow = check_parts(parts, walk, findings);
     walk.selected.pop();
-    pass(walk, Symbol::CloseBrace);
+    walk.tokens_left.to_sign(Symbol::CloseBrace);
     let has_default = parts
         .iter()
         .any(|part| matches!(part, Part::DefaultLabel { .. }));
     let ends = has_default && !flow.breaks && flow.ends.is_some();
     Flow {
-        ends: if ends { Some(at) } else { None },
+        ends: ends.then_some(at),
         leaves: asks || flow.leaves,
         ..GOES_ON
     }
@@ -346,17 +337,24 @@ fn check_block<'a>(
     walk: &mut Walk<'a>,
     findings: &mut Findings,
 ) -> Flow<'a> {
-    pass(walk, Symbol::OpenBrace);
+    walk.tokens_left.to_sign(Symbol::OpenBrace);
     let flow = check_parts(parts, walk, findings);
-    pass(walk, Symbol::CloseBrace);
+    walk.tokens_left.to_sign(Symbol::CloseBrace);
     flow
+}
+
+// Passes a statement of one word, and gives the place of the word.
+fn pass_word<'a>(word: Keyword, walk: &mut Walk<'a>) -> Mark<'a> {
+    let at = walk.tokens_left.to_word(word);
+    walk.tokens_left.to_sign(Symbol::Semicolon);
+    at
 }
 
 #[cycle(statements)]
 fn check_statement<'a>(s: &Stmt<Target>, walk: &mut Walk<'a>, findings: &mut Findings) -> Flow<'a> {
     match s {
         Stmt::Empty => {
-            pass(walk, Symbol::Semicolon);
+            walk.tokens_left.to_sign(Symbol::Semicolon);
             GOES_ON
         }
         Stmt::Evaluate(e) => check_evaluated(e, walk, findings),
@@ -379,24 +377,8 @@ fn check_statement<'a>(s: &Stmt<Target>, walk: &mut Walk<'a>, findings: &mut Fin
             body,
         } => check_for(initial, condition, update, body, walk, findings),
         Stmt::Switch(on, parts) => check_switch(parts, on, walk, findings),
-        Stmt::Break { .. } => {
-            let at = walk.tokens_left.to_word(Keyword::Break);
-            pass(walk, Symbol::Semicolon);
-            leaving(at, true)
-        }
-        Stmt::Continue { .. } => {
-            let at = walk.tokens_left.to_word(Keyword::Continue);
-            pass(walk, Symbol::Semicolon);
-            leaving(at, false)
-        }
-        Stmt::Return => {
-            let at = walk.tokens_left.to_word(Keyword::Return);
-            pass(walk, Symbol::Semicolon);
-            Flow {
-                ends: Some(at),
-                leaves: true,
-                ..GOES_ON
-            }
-        }
+        Stmt::Break { .. } => leading_on(pass_word(Keyword::Break, walk), true, false),
+        Stmt::Continue { .. } => leading_on(pass_word(Keyword::Continue, walk), false, false),
+        Stmt::Return => leading_on(pass_word(Keyword::Return, walk), false, true),
     }
 }

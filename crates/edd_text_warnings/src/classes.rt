@@ -33,13 +33,15 @@ fn check_class(word: &str, at: Mark<'_>, findings: &mut Findings) {
     if CLASSES.contains(&word) {
         return;
     }
-    let alloc = findings.alloc;
-    let message = match nearest(alloc, word) {
-        Ok(Some(near)) => format!(in alloc; "{word} is no class: {near} may be meant"),
-        Ok(None) => format!(in alloc; "{word} is no class"),
-        Err(refused) => Err(refused),
-    };
-    findings.add(Lint::UnknownClass, at, message)
+    match nearest(findings.alloc, word) {
+        Ok(Some(near)) => findings.add(
+            Lint::UnknownClass,
+            at,
+            format_args!("{word} is no class: {near} may be meant"),
+        ),
+        Ok(None) => findings.add(Lint::UnknownClass, at, format_args!("{word} is no class")),
+        Err(_) => findings.refuse(),
+    }
 }
 
 /// The words of each CLASS.

@@ -1,6 +1,6 @@
 //! The codes of languages, and numbers for each of them.
 
-use std::alloc::{AllocError, Global};
+use edd_lints::warning::Findings;
 
 /// The second letters of the codes of languages with each first letter, as ISO 639-1 has them.
 const SECOND_LETTERS: [&str; 26] = [
@@ -84,10 +84,9 @@ pub fn is_of_number(place: usize) -> bool {
 /// Whether a code is one of a language, or a number.
 pub fn is_language(code: &[u8]) -> bool {
     match code {
-        [first @ b'a'..=b'z', second, ..] => match SECOND_LETTERS.get(before(*first, b'a')) {
-            Some(letters) => letters.as_bytes().contains(second),
-            None => false,
-        },
+        [first @ b'a'..=b'z', second, ..] => SECOND_LETTERS
+            .get(before(*first, b'a'))
+            .is_some_and(|letters| letters.as_bytes().contains(second)),
         _ => is_number(code),
     }
 }
@@ -99,10 +98,10 @@ pub struct Row {
 }
 
 impl Row {
-    pub fn new(alloc: Global) -> Result<Row, AllocError> {
-        Ok(Row {
-            numbers: Vec::from_elem(alloc, 0, PLACES)?,
-        })
+    pub fn new(findings: &mut Findings) -> Row {
+        Row {
+            numbers: findings.listed(Vec::from_elem(findings.alloc, 0, PLACES)),
+        }
     }
 
     pub fn get(&self, place: usize) -> usize {

@@ -23,11 +23,13 @@ fn turn_of(text: &[u8]) -> Option<(&[u8], u16)> {
 }
 
 fn add_turn(at: Mark<'_>, number: u16, findings: &mut Findings) {
-    let alloc = findings.alloc;
-    let message = format!(in alloc;
-        "this comment has a character that turns its direction and is not seen, U+{number:X}"
-    );
-    findings.add(Lint::BidirectionalComment, at, message)
+    findings.add(
+        Lint::BidirectionalComment,
+        at,
+        format_args!(
+            "this comment has a character that turns its direction and is not seen, U+{number:X}"
+        ),
+    )
 }
 
 /// Bytes of a text between two tokens, which are blanks and comments, with a byte before them and its line.

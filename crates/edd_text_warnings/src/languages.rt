@@ -8,7 +8,6 @@ use crate::variants::{Variant, Variants};
 use edd_lints::lint::Lint;
 use edd_lints::tokens_left::Mark;
 use edd_lints::warning::Findings;
-use std::alloc::AllocError;
 
 // The first code of a text that some rule is broken by, where there is one.
 #[derive(Clone, Copy)]
@@ -35,11 +34,11 @@ impl<'r> Wrong<'r> {
             self.repeated = self.repeated.or(code);
             return;
         }
-        if !met.is_known && self.unknown.is_none() {
-            self.unknown = code;
+        if !met.is_known {
+            self.unknown = self.unknown.or(code);
         }
-        if !has_words && self.empty.is_none() {
-            self.empty = code;
+        if !has_words {
+            self.empty = self.empty.or(code);
         }
     }
 }
@@ -49,7 +48,7 @@ fn wrong_in<'r>(
     raw: &'r [u8],
     variants: &mut Variants<'r>,
     languages: &mut Languages<'_, 'r>,
-) -> Result<Wrong<'r>, AllocError> {
+) -> Wrong<'r> {
     let mut wrong = Wrong {
         repeated: None,
         unknown: None,
@@ -60,9 +59,9 @@ fn wrong_in<'r>(
         let Some(variant) = variants.pass() else {
             break;
         };
-        wrong.add(variant, languages.meet(variant.code)?);
+        wrong.add(variant, languages.meet(variant.code));
     }
-    Ok(wrong)
+    wrong
 }
 
 // The languages of a text by themselves.
@@ -71,47 +70,48 @@ fn check_text<'r>(
     at: Mark<'_>,
     languages: &mut Languages<'_, 'r>,
     findings: &mut Findings,
-) -> Result<(), AllocError> {
+) {
     let mut variants = Variants::of(raw);
-    let wrong = wrong_in(raw, &mut variants, languages)?;
+    let wrong = wrong_in(raw, &mut variants, languages);
     if variants.has_stray_bar {
-        findings.say(Lint::StrayBar, at, "a bar in this text opens no language");
+        findings.add(Lint::StrayBar, at, "a bar in this text opens no language");
     }
-    add_wrong(wrong, at, findings);
-    Ok(())
+    add_wrong(wrong, at, findings)
 }
 
 // Tells what is wrong with the languages of a text.
 fn add_wrong(wrong: Wrong<'_>, at: Mark<'_>, findings: &mut Findings) {
-    let alloc = findings.alloc;
     if let Some(code) = wrong.repeated {
         let code = code_text(code);
-        let message = format!(in alloc; "{code} is twice in this text");
-        findings.add(Lint::RepeatedLanguage, at, message);
+        findings.add(
+            Lint::RepeatedLanguage,
+            at,
+            format_args!("{code} is twice in this text"),
+        );
     }
     if let Some(code) = wrong.empty {
         if wrong.has_words {
             let code = code_text(code);
-            let message = format!(in alloc; "this text has no words in {code}");
-            findings.add(Lint::EmptyLanguage, at, message);
+            findings.add(
+                Lint::EmptyLanguage,
+                at,
+                format_args!("this text has no words in {code}"),
+            );
         }
     }
     if let Some(code) = wrong.unknown {
         let code = code_text(code);
-        let message = format!(in alloc; "{code} is no code of a language");
-        findings.add(Lint::UnknownLanguage, at, message);
+        findings.add(
+            Lint::UnknownLanguage,
+            at,
+            format_args!("{code} is no code of a language"),
+        );
     }
 }
 
 // How many choices words have: they are parted by semicolons.
 fn choices_in(words: &[u8]) -> usize {
-    let mut count = 1usize;
-    for byte in words {
-        if *byte == b';' {
-            count = count.saturating_add(1);
-        }
-    }
-    count
+    words.split(|byte| *byte == b';').count()
 }
 
 // A language with another number of choices than the first one.
@@ -128,9 +128,11 @@ fn check_choices(raw: &[u8], at: Mark<'_>, findings: &mut Findings) {
         let other = choices_in(variant.words);
         if other != count {
             let (one, two) = (code_text(first.code), code_text(variant.code));
-            let alloc = findings.alloc;
-            let message = format!(in alloc; "{count} choices in {one}, but {other} in {two}");
-            return findings.add(Lint::UnevenChoices, at, message);
+            return findings.add(
+                Lint::UnevenChoices,
+                at,
+                format_args!("{count} choices in {one}, but {other} in {two}"),
+            );
         }
     }
 }
@@ -138,13 +140,13 @@ fn check_choices(raw: &[u8], at: Mark<'_>, findings: &mut Findings) {
 /// The languages of the texts of a description. Those with codes of three digits are compared
 /// with each other, and those without with each other. A text without bars is in one language,
 /// of which nothing is to be said.
-pub fn check_languages(texts: &[Spoken<'_>], findings: &mut Findings) -> Result<(), AllocError> {
-    let mut languages = Languages::new(findings.alloc)?;
+pub fn check_languages(texts: &[Spoken<'_>], findings: &mut Findings) {
+    let mut languages = Languages::new(findings);
     for spoken in texts {
         let raw = spoken.raw();
         if raw.contains(&b'|') {
-            check_text(raw, spoken.at, &mut languages, findings)?;
-            languages.end(spoken.at)?;
+            check_text(raw, spoken.at, &mut languages, findings);
+            languages.end(spoken.at);
             if spoken.is_choices {
                 check_choices(raw, spoken.at, findings);
             }

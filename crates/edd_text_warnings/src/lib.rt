@@ -15,21 +15,15 @@ mod variants;
 use comments::LEAD;
 use edd_lexer::token::Token;
 use edd_lints::warning::Findings;
-use std::alloc::AllocError;
 
 /// Finds the warnings on all texts, comments and classes.
-pub fn check_texts(
-    text: &[u8],
-    tokens: &[Token],
-    findings: &mut Findings,
-) -> Result<(), AllocError> {
-    let texts = texts::texts_of(findings.alloc, text, tokens)?;
-    languages::check_languages(&texts, findings)?;
+pub fn check_texts(text: &[u8], tokens: &[Token], findings: &mut Findings) {
+    let texts = findings.listed(texts::texts_of(findings.alloc, text, tokens));
+    languages::check_languages(&texts, findings);
     let may_turn = text.contains(&LEAD);
-    signs::check_signs(&texts, may_turn, findings)?;
+    signs::check_signs(&texts, may_turn, findings);
     if may_turn {
         comments::check_comments(text, tokens, findings);
     }
-    classes::check_classes(text, tokens, findings);
-    Ok(())
+    classes::check_classes(text, tokens, findings)
 }

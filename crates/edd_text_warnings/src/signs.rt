@@ -7,18 +7,13 @@ use edd_lints::lint::Lint;
 use edd_lints::tokens_left::Mark;
 use edd_lints::warning::Findings;
 use edd_syntax::symbols::Keyword;
-use std::alloc::AllocError;
 
 // How many of the bytes that come first are digits or points.
 fn width_len(here: &[u8]) -> usize {
-    let mut count = 0usize;
-    for byte in here {
-        if !matches!(*byte, b'0'..=b'9' | b'.' | b'-' | b'+' | b'#') {
-            break;
-        }
-        count = count.saturating_add(1);
-    }
-    count
+    let is_of_width = |byte: &u8| matches!(*byte, b'0'..=b'9' | b'.' | b'-' | b'+' | b'#');
+    here.iter()
+        .position(|byte| !is_of_width(byte))
+        .unwrap_or(here.len())
 }
 
 // Whether what comes behind a letter lets it be that of a placeholder, and not of a word.
@@ -105,45 +100,25 @@ fn is_shown_as_it_is(spoken: &Spoken<'_>) -> bool {
     )
 }
 
-fn check_text(
-    spoken: &Spoken<'_>,
-    may_turn: bool,
-    findings: &mut Findings,
-) -> Result<(), AllocError> {
-    let alloc = findings.alloc;
+fn check_text(spoken: &Spoken<'_>, may_turn: bool, findings: &mut Findings) {
     if is_shown_as_it_is(spoken) && has_placeholder(spoken.raw()) {
-        findings.say(
-            Lint::UnreadPlaceholder,
-            spoken.at,
-            "texts are shown as they are: nothing is put in place of this %",
-        );
+        let message = "texts are shown as they are: nothing is put in place of this %";
+        findings.add(Lint::UnreadPlaceholder, spoken.at, message);
     }
     if let Some(at) = joined_at(spoken) {
-        findings.say(
-            Lint::JoinedTexts,
-            at,
-            "this text and the one before it are one: a comma or a space is missing",
-        );
+        let message = "this text and the one before it are one: a comma or a space is missing";
+        findings.add(Lint::JoinedTexts, at, message);
     }
     if may_turn && has_turn(spoken.raw()) {
-        findings.say(
-            Lint::BidirectionalText,
-            spoken.at,
-            "this text has a character that turns its direction and is not seen",
-        );
+        let message = "this text has a character that turns its direction and is not seen";
+        findings.add(Lint::BidirectionalText, spoken.at, message);
     }
-    Ok(())
 }
 
 /// The signs in the texts of a description. Where no character of it may turn the direction, none is
 /// looked for.
-pub fn check_signs(
-    texts: &[Spoken<'_>],
-    may_turn: bool,
-    findings: &mut Findings,
-) -> Result<(), AllocError> {
+pub fn check_signs(texts: &[Spoken<'_>], may_turn: bool, findings: &mut Findings) {
     for spoken in texts {
-        check_text(spoken, may_turn, findings)?;
+        check_text(spoken, may_turn, findings);
     }
-    Ok(())
 }

@@ -67,6 +67,8 @@ struct Gathering<'a> {
     /// Whether a SELECT_FROM_LIST is open, and whether its first text is passed.
     selects: bool,
     lists: bool,
+    /// Whether memory for a text was refused.
+    is_refused: bool,
 }
 
 // The inside of a string.
@@ -114,8 +116,8 @@ fn meets(before: &[u8], behind: &[u8]) -> bool {
 
 impl<'a> Gathering<'a> {
     // A string that begins a text.
-    fn begin(&mut self, text: &'a [u8], token: &Token) -> Result<(), AllocError> {
-        self.all.push(Spoken {
+    fn begin(&mut self, text: &'a [u8], token: &Token) {
+        let spoken = Spoken {
             at: mark_of(text, token),
             raw: Raw::One(inside(text, token)),
             section: self.section,
@@ -123,20 +125,19 @@ impl<'a> Gathering<'a> {
             is_after_comma: self.is_after_comma,
             is_before_comma: false,
             seam: None,
-        })?;
-        Ok(())
+        };
+        self.is_refused |= self.all.push(spoken).is_err();
     }
 
     // A string that goes on with a text.
-    fn go_on(&mut self, alloc: Global, text: &'a [u8], token: &Token) -> Result<(), AllocError> {
+    fn go_on(&mut self, alloc: Global, text: &'a [u8], token: &Token) {
         let behind = inside(text, token);
         if let Some(last) = self.all.last_mut() {
             if last.seam.is_none() && meets(last.raw(), behind) {
                 last.seam = Some(mark_of(text, token));
             }
-            last.join(alloc, behind)?;
+            self.is_refused |= last.join(alloc, behind).is_err();
         }
-        Ok(())
     }
 
     // What a token that is no string changes.
@@ -164,18 +165,16 @@ impl<'a> Gathering<'a> {
         self.goes_on = false;
     }
 
-    fn add(&mut self, alloc: Global, text: &'a [u8], token: &Token) -> Result<(), AllocError> {
+    fn add(&mut self, alloc: Global, text: &'a [u8], token: &Token) {
         if token.kind != TokenKind::String {
-            self.pass(text, token);
-            return Ok(());
+            return self.pass(text, token);
         }
         if self.goes_on {
-            self.go_on(alloc, text, token)?;
+            self.go_on(alloc, text, token);
         } else {
-            self.begin(text, token)?;
+            self.begin(text, token);
         }
         self.goes_on = true;
-        Ok(())
     }
 }
 
@@ -192,10 +191,15 @@ pub fn texts_of<'a>(
         is_after_comma: false,
         selects: false,
         lists: false,
+        is_refused: false,
     };
     for token in tokens {
-        gathering.add(alloc, text, token)?;
+        gathering.add(alloc, text, token);
     }
-    let Gathering { all, .. } = gathering;
-    Ok(all)
+    let Gathering {
+        all,
+        is_refused,
+        ..
+    } = gathering;
+    if is_refused { Err(AllocError) } else { Ok(all) }
 }

@@ -16,11 +16,11 @@ struct Counts {
 }
 
 impl Counts {
-    fn new(alloc: Global) -> Result<Counts, AllocError> {
-        Ok(Counts {
+    fn new(findings: &mut Findings) -> Counts {
+        Counts {
             texts: 0,
-            of_language: Row::new(alloc)?,
-        })
+            of_language: Row::new(findings),
+        }
     }
 
     // Adds a text with the languages of these places, from a number on.
@@ -115,37 +115,46 @@ pub struct Languages<'a, 'r> {
     from: usize,
     /// Whether one of its codes so far is a number.
     has_number: bool,
+    /// Whether memory for one of the lists was refused.
+    is_refused: bool,
 }
 
 impl<'a, 'r> Languages<'a, 'r> {
-    pub fn new(alloc: Global) -> Result<Languages<'a, 'r>, AllocError> {
-        Ok(Languages {
-            all: Vec::from_elem(alloc, UNMET, PLACES)?,
+    pub fn new(findings: &mut Findings) -> Languages<'a, 'r> {
+        let alloc = findings.alloc;
+        Languages {
+            all: findings.listed(Vec::from_elem(alloc, UNMET, PLACES)),
             countries: BTreeSet::new(alloc),
             texts: Vec::new(alloc),
             places: Vec::new(alloc),
-            lettered: Counts::new(alloc)?,
-            numbered: Counts::new(alloc)?,
+            lettered: Counts::new(findings),
+            numbered: Counts::new(findings),
             text: 1,
             from: 0,
             has_number: false,
-        })
+            is_refused: false,
+        }
     }
 
     // Notes that the text has a code with a country. Says whether it was noted before.
-    fn is_repeated(&mut self, code: &'r [u8]) -> Result<bool, AllocError> {
-        let is_new = self.countries.insert((self.text, code_text(code)))?;
-        Ok(!is_new)
+    fn is_repeated(&mut self, code: &'r [u8]) -> bool {
+        match self.countries.insert((self.text, code_text(code))) {
+            Ok(is_new) => !is_new,
+            Err(_) => {
+                self.is_refused = true;
+                false
+            }
+        }
     }
 
     /// Takes the next code of a text.
     #[inline(always)]
-    pub fn meet(&mut self, code: &'r [u8]) -> Result<Met, AllocError> {
+    pub fn meet(&mut self, code: &'r [u8]) -> Met {
         let text = self.text;
         let place = place_of(code);
         let has_country = 3 < code.len();
         let mut met = Met {
-            is_repeated: has_country && self.is_repeated(code)?,
+            is_repeated: has_country && self.is_repeated(code),
             is_known: true,
         };
         self.has_number = self.has_number || is_of_number(place);
@@ -160,14 +169,15 @@ impl<'a, 'r> Languages<'a, 'r> {
             }
             if language.last != text {
                 language.last = text;
-                self.places.push(place)?;
+                let is_refused = self.places.push(place).is_err();
+                self.is_refused = self.is_refused || is_refused;
             }
         }
-        Ok(met)
+        met
     }
 
     /// Ends a text, all of whose codes were taken.
-    pub fn end(&mut self, at: Mark<'a>) -> Result<(), AllocError> {
+    pub fn end(&mut self, at: Mark<'a>) {
         let text = Manifold {
             at,
             from: self.from,
@@ -178,15 +188,15 @@ impl<'a, 'r> Languages<'a, 'r> {
         self.from = text.to;
         self.has_number = false;
         if text.to.saturating_sub(text.from) < 2 {
-            return Ok(());
+            return;
         }
         if text.has_number {
             self.numbered.add(&self.places, text.from);
         } else {
             self.lettered.add(&self.places, text.from);
         }
-        self.texts.push(text)?;
-        Ok(())
+        let is_refused = self.texts.push(text).is_err();
+        self.is_refused = self.is_refused || is_refused;
     }
 
     // The languages of these places that a text lacks. `here` has the number of the text at the
@@ -198,27 +208,30 @@ impl<'a, 'r> Languages<'a, 'r> {
         here: &Row,
         number: usize,
         findings: &mut Findings,
-    ) -> Result<(), AllocError> {
+    ) {
         for place in usual {
             if here.get(*place) != number {
                 let code = self.all.get(*place).copied().unwrap_or(UNMET).name;
-                let alloc = findings.alloc;
-                let message = format!(in alloc; "this text lacks {code}, which most texts have");
-                findings.add(Lint::MissingLanguage, text.at, message);
+                findings.add(
+                    Lint::MissingLanguage,
+                    text.at,
+                    format_args!("this text lacks {code}, which most texts have"),
+                );
             }
         }
-        Ok(())
     }
 
     /// The texts that lack a language which most texts have.
-    pub fn check_missing(&self, findings: &mut Findings) -> Result<(), AllocError> {
-        let alloc = findings.alloc;
-        let letters = self.lettered.usual(alloc)?;
-        let numbers = self.numbered.usual(alloc)?;
-        if letters.is_empty() && numbers.is_empty() {
-            return Ok(());
+    pub fn check_missing(&self, findings: &mut Findings) {
+        if self.is_refused {
+            return findings.refuse();
         }
-        let mut here = Row::new(alloc)?;
+        let letters = findings.listed(self.lettered.usual(findings.alloc));
+        let numbers = findings.listed(self.numbered.usual(findings.alloc));
+        if letters.is_empty() && numbers.is_empty() {
+            return;
+        }
+        let mut here = Row::new(findings);
         let mut number = 0usize;
         for text in &self.texts {
             number = number.saturating_add(1);
@@ -228,9 +241,8 @@ impl<'a, 'r> Languages<'a, 'r> {
                 &mut here,
             );
             let usual = if text.has_number { &numbers } else { &letters };
-            self.check_text(*text, usual, &here, number, findings)?;
+            self.check_text(*text, usual, &here, number, findings);
         }
-        Ok(())
     }
 }
 

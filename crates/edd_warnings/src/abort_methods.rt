@@ -25,6 +25,8 @@ struct Added<'a> {
     added: BTreeSet<&'a [u8]>,
     /// All names but at declarations and where they are added.
     others: Vec<&'a [u8]>,
+    /// Whether memory for one of these was refused.
+    is_refused: bool,
 }
 
 /// Where in a text the tokens are that are passed.
@@ -46,51 +48,31 @@ fn is_adding(text: &[u8], token: &Token) -> bool {
 
 impl<'a> Added<'a> {
     // A name, where it is not declared.
-    fn add_name(
-        &mut self,
-        text: &'a [u8],
-        token: &Token,
-        passed: &mut Passed<'a>,
-    ) -> Result<(), AllocError> {
+    fn add_name(&mut self, text: &'a [u8], token: &Token, passed: &mut Passed<'a>) {
         let name = bytes_of(text, token);
         if let Some(at) = passed.adds {
             let method = passed.method;
-            self.adding.push(Adding { method, name, at })?;
+            self.is_refused |= self.adding.push(Adding { method, name, at }).is_err();
             if name != method {
-                self.added.insert(name)?;
+                self.is_refused |= self.added.insert(name).is_err();
             }
             passed.adds = None;
         } else if is_adding(text, token) {
             passed.adds = Some(mark_of(text, token));
         } else {
-            self.others.push(name)?;
+            self.is_refused |= self.others.push(name).is_err();
         }
-        Ok(())
     }
 
-    fn add(
-        &mut self,
-        text: &'a [u8],
-        token: &Token,
-        passed: &mut Passed<'a>,
-    ) -> Result<(), AllocError> {
+    fn add(&mut self, text: &'a [u8], token: &Token, passed: &mut Passed<'a>) {
         let declares = passed.declares;
         passed.declares = false;
         match token.kind {
-            TokenKind::Keyword(Keyword::Method) => {
-                passed.declares = true;
-                Ok(())
-            }
-            TokenKind::Name if declares => {
-                passed.method = bytes_of(text, token);
-                Ok(())
-            }
+            TokenKind::Keyword(Keyword::Method) => passed.declares = true,
+            TokenKind::Name if declares => passed.method = bytes_of(text, token),
             TokenKind::Name => self.add_name(text, token, passed),
-            TokenKind::Symbol(Symbol::Semicolon) => {
-                passed.adds = None;
-                Ok(())
-            }
-            _ => Ok(()),
+            TokenKind::Symbol(Symbol::Semicolon) => passed.adds = None,
+            _ => {}
         }
     }
 
@@ -107,12 +89,7 @@ impl<'a> Added<'a> {
 
     // Whether one of these methods adds another one.
     fn has_adding(&self, methods: &BTreeSet<&'a [u8]>) -> bool {
-        for one in &self.adding {
-            if methods.contains(&one.method) {
-                return true;
-            }
-        }
-        false
+        self.adding.iter().any(|one| methods.contains(&one.method))
     }
 
     // Those of these methods whose names are elsewhere too.
@@ -132,11 +109,12 @@ impl<'a> Added<'a> {
 }
 
 // What is added in a text that adds abort methods.
-fn added_in<'a>(alloc: Global, text: &'a [u8], tokens: &[Token]) -> Result<Added<'a>, AllocError> {
+fn added_in<'a>(alloc: Global, text: &'a [u8], tokens: &[Token]) -> Added<'a> {
     let mut all = Added {
         adding: Vec::new(alloc),
         added: BTreeSet::new(alloc),
         others: Vec::new(alloc),
+        is_refused: false,
     };
     let mut passed = Passed {
         declares: false,
@@ -144,9 +122,9 @@ fn added_in<'a>(alloc: Global, text: &'a [u8], tokens: &[Token]) -> Result<Added
         adds: None,
     };
     for token in tokens {
-        all.add(text, token, &mut passed)?;
+        all.add(text, token, &mut passed);
     }
-    Ok(all)
+    all
 }
 
 /// The abort methods of a description.
@@ -159,7 +137,10 @@ pub fn check_abort_methods(
         return Ok(());
     }
     let alloc = findings.alloc;
-    let all = added_in(alloc, text, tokens)?;
+    let all = added_in(alloc, text, tokens);
+    if all.is_refused {
+        return Err(AllocError);
+    }
     let sure = all.surely_added(alloc)?;
     if !all.has_adding(&sure) {
         return Ok(());
@@ -168,10 +149,11 @@ pub fn check_abort_methods(
     for one in &all.adding {
         if sure.contains(&one.method) && !used.contains(&one.method) {
             let method = str::from_utf8(one.method).unwrap_or("");
-            let message = format!(in alloc;
-                "{method} is an abort method, in which this lists nothing"
+            findings.add(
+                Lint::NestedAbortMethod,
+                one.at,
+                format_args!("{method} is an abort method, in which this lists nothing"),
             );
-            findings.add(Lint::NestedAbortMethod, one.at, message);
         }
     }
     Ok(())

@@ -44,10 +44,7 @@ fn closes(kind: TokenKind) -> bool {
 
 // Notes what closes the bracket at a number.
 fn close(closing: &mut [usize], first: Option<usize>, number: usize) {
-    let Some(first) = first else {
-        return;
-    };
-    if let Some(place) = closing.get_mut(first) {
+    if let Some(place) = first.and_then(|first| closing.get_mut(first)) {
         *place = number;
     }
 }
@@ -93,10 +90,7 @@ impl<'a> Brackets<'a> {
     }
 
     fn is_if(&self, number: usize) -> bool {
-        match self.kind(number) {
-            Some(kind) => begins_condition(kind),
-            None => false,
-        }
+        self.kind(number).is_some_and(begins_condition)
     }
 
     fn is_else(&self, number: usize) -> bool {
@@ -168,15 +162,11 @@ impl<'a> Brackets<'a> {
     fn are_alike(&self, first: Extent, second: Extent) -> bool {
         let one = self.tokens.get(first.from..first.to).unwrap_or(&[]);
         let other = self.tokens.get(second.from..second.to).unwrap_or(&[]);
-        if one.is_empty() || one.len() != other.len() {
-            return false;
-        }
-        for (a, b) in one.iter().zip(other) {
-            if a.kind != b.kind || bytes_of(self.text, a) != bytes_of(self.text, b) {
-                return false;
-            }
-        }
-        true
+        !one.is_empty()
+            && one.len() == other.len()
+            && one.iter().zip(other).all(|(a, b)| {
+                a.kind == b.kind && bytes_of(self.text, a) == bytes_of(self.text, b)
+            })
     }
 
     fn mark(&self, number: usize) -> Option<Mark<'a>> {
@@ -194,11 +184,8 @@ impl<'a> Brackets<'a> {
         }
         match (self.branch(other.saturating_add(1)), self.mark(number)) {
             (Some(second), Some(at)) if self.are_alike(first.branch, second) => {
-                findings.say(
-                    Lint::EqualBranches,
-                    at,
-                    "both branches of this condition are the same",
-                )
+                let message = "both branches of this condition are the same";
+                findings.add(Lint::EqualBranches, at, message)
             }
             _ => {}
         }
@@ -216,8 +203,7 @@ impl<'a> Brackets<'a> {
         if self.next(number).is_none() {
             return;
         }
-        let alloc = findings.alloc;
-        let mut seen = BTreeMap::new(alloc);
+        let mut seen = BTreeMap::new(findings.alloc);
         let mut at = Some(number);
         for _ in 0..self.tokens.len() {
             let Some(here) = at else {
@@ -244,12 +230,9 @@ impl<'a> Brackets<'a> {
             Err(_) => return findings.refuse(),
         };
         if let Some(earlier) = seen.get(&written) {
-            let message = String::from_str(
-                findings.alloc,
-                "an earlier condition of this chain is the same, so this branch is never taken",
-            );
-            findings.add_beside(Lint::RepeatedCondition, mark, message, *earlier);
-            return;
+            let message =
+                "an earlier condition of this chain is the same, so this branch is never taken";
+            return findings.add_beside(Lint::RepeatedCondition, mark, message, *earlier);
         }
         if seen.insert(written, mark).is_err() {
             findings.refuse();

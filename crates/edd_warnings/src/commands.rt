@@ -10,7 +10,7 @@ use edd_lints::warning::Findings;
 use edd_syntax::item::{Attribute, ResponseCode};
 use edd_syntax::reference::Target;
 use edd_syntax::symbols::Keyword;
-use std::alloc::{AllocError, Global};
+use std::alloc::Global;
 
 /// The numbers of commands so far.
 pub fn command_numbers<'a>(alloc: Global) -> Numbers<'a> {
@@ -37,13 +37,10 @@ pub fn check_command<'a>(
     instrument: &Instrument,
     commands: &mut Numbers<'a>,
     findings: &mut Findings,
-) -> Result<(), AllocError> {
+) {
     let mut tokens_left = tokens_left;
-    let mut transactions = Numbers::new(
-        findings.alloc,
-        Lint::RepeatedTransactionNumber,
-        "the transaction number",
-    );
+    let lint = Lint::RepeatedTransactionNumber;
+    let mut transactions = Numbers::new(findings.alloc, lint, "the transaction number");
     for attribute in attributes {
         match attribute {
             Attribute::Number(_, number) => {
@@ -52,7 +49,7 @@ pub fn check_command<'a>(
             }
             Attribute::Transaction { number, parts, .. } => {
                 let at = tokens_left.to_word(Keyword::Transaction);
-                check_messages(parts, instrument, findings)?;
+                check_messages(parts, instrument, findings);
                 if let Some(number) = number {
                     transactions.add(i64::from(*number), at, findings);
                 }
@@ -61,5 +58,4 @@ pub fn check_command<'a>(
             _ => {}
         }
     }
-    Ok(())
 }

@@ -94,8 +94,7 @@ fn check_cond<V: LintValue>(c: &Cond<Target, V>, walk: &mut Walk<'_>, findings: 
     }
     let mut steps = Vec::new(findings.alloc);
     if push_cond(c, &mut steps).is_err() {
-        findings.refuse();
-        return;
+        return findings.refuse();
     }
     check_steps(&steps, walk, findings)
 }
@@ -118,18 +117,6 @@ fn check_type_part(part: &TypePart<Target>, walk: &mut Walk<'_>, findings: &mut 
     }
 }
 
-fn check_transaction_part(
-    part: &TransactionPart<Target>,
-    walk: &mut Walk<'_>,
-    findings: &mut Findings,
-) {
-    match part {
-        TransactionPart::Request(_, items) | TransactionPart::Reply(_, items) => {
-            check_conds(items, walk, findings)
-        }
-    }
-}
-
 fn check_attribute(attribute: &Attribute<Target>, walk: &mut Walk<'_>, findings: &mut Findings) {
     match attribute {
         Attribute::OneText(_, _, text) => check_cond(text, walk, findings),
@@ -142,7 +129,8 @@ fn check_attribute(attribute: &Attribute<Target>, walk: &mut Walk<'_>, findings:
         }
         Attribute::Transaction { parts, .. } => {
             for part in parts {
-                check_transaction_part(part, walk, findings);
+                let (TransactionPart::Request(_, items) | TransactionPart::Reply(_, items)) = part;
+                check_conds(items, walk, findings);
             }
         }
         Attribute::Items(_, entries) => check_conds(entries, walk, findings),

@@ -28,31 +28,23 @@ fn check_enumerator<'a>(
     list.add(enumerator.value, at, findings)
 }
 
-// How many bits of a number are set, where it is one of 32 bits.
-fn bits_of(number: i64) -> Option<u32> {
-    Some(u32::try_from(number).ok()?.count_ones())
-}
-
 // An enumerator of a BIT_ENUMERATED, which is the name of one bit.
 fn check_bit(number: i64, kind: VarType, at: Mark<'_>, findings: &mut Findings) {
     if kind != VarType::BitEnumerated {
         return;
     }
-    let alloc = findings.alloc;
-    match bits_of(number) {
-        Some(0) => {
-            findings.say(
+    match u32::try_from(number).map(|bits| bits.count_ones()) {
+        Ok(0) => {
+            let message = "0 has no bit, and each enumerator names one";
+            findings.add(Lint::EnumeratorBits, at, message)
+        }
+        Ok(1) | Err(_) => {}
+        Ok(bits) => {
+            findings.add(
                 Lint::EnumeratorBits,
                 at,
-                "0 has no bit, and each enumerator names one",
+                format_args!("{number} has {bits} bits, and each enumerator names one"),
             )
-        }
-        Some(1) | None => {}
-        Some(bits) => {
-            let message = format!(in alloc;
-                "{number} has {bits} bits, and each enumerator names one"
-            );
-            findings.add(Lint::EnumeratorBits, at, message)
         }
     }
 }
@@ -73,12 +65,8 @@ pub fn check_enumerators(
     findings: &mut Findings,
 ) {
     let alloc = findings.alloc;
-    let Ok(enumerators) = enumerators_of(alloc, parts) else {
-        findings.refuse();
-        return;
-    };
     let mut lists = Vec::new(alloc);
-    for (number, enumerator) in &enumerators {
+    for (number, enumerator) in &findings.listed(enumerators_of(alloc, parts)) {
         if grow(alloc, *number, &mut lists).is_err() {
             findings.refuse();
         }

@@ -47,7 +47,7 @@ fn check_item<'a>(
     instrument: &Instrument,
     gathered: &mut Gathered<'a>,
     findings: &mut Findings,
-) -> Result<(), AllocError> {
+) {
     let tokens_left = TokensLeft::new(text, tokens);
     let attributes = item.attributes();
     check_conditionals(attributes, tokens_left, instrument, findings);
@@ -60,12 +60,11 @@ fn check_item<'a>(
         }
         Kind::Command => {
             let commands = &mut gathered.commands;
-            check_command(attributes, tokens_left, instrument, commands, findings)?;
+            check_command(attributes, tokens_left, instrument, commands, findings);
         }
         Kind::Method => check_method(attributes, text, tokens, instrument, findings),
         Kind::Menu | Kind::Collection | Kind::Array => {}
     }
-    Ok(())
 }
 
 // All items, one by one.
@@ -75,14 +74,14 @@ fn check_items<'a>(
     items: &[Item<Target>],
     instrument: &Instrument,
     findings: &mut Findings<'a>,
-) -> Result<(), AllocError> {
-    let item_tokens = items_of(findings.alloc, tokens)?;
+) {
+    let item_tokens = findings.listed(items_of(findings.alloc, tokens));
     let mut gathered = Gathered {
         variables: 0,
         commands: command_numbers(findings.alloc),
     };
     for (item, own) in items.iter().zip(&item_tokens) {
-        check_item(item, text, own, instrument, &mut gathered, findings)?;
+        check_item(item, text, own, instrument, &mut gathered, findings);
     }
     check_uses(
         text,
@@ -106,8 +105,8 @@ pub fn warnings(
     let mut findings = Findings::new(alloc, &*text, &*tokens);
     let elements = checked.elements(alloc)?;
     let instrument = Instrument::of(alloc, &checked.items, &elements)?;
-    check_items(text, tokens, &checked.items, &instrument, &mut findings)?;
-    check_texts(text, tokens, &mut findings)?;
+    check_items(text, tokens, &checked.items, &instrument, &mut findings);
+    check_texts(text, tokens, &mut findings);
     check_abort_methods(text, tokens, &mut findings)?;
     findings.sorted()
 }

@@ -51,18 +51,14 @@ fn check_text(at: TokenNo, text: &Text, findings: &mut Findings) {
         Text::Quoted(text) if !is_format(text.as_str()) => {
             let at = findings.mark(at);
             let words = "this is no format of a whole number, as 4d or 04x is";
-            findings.say(Lint::MeaninglessFormat, at, words)
+            findings.add(Lint::MeaninglessFormat, at, words)
         }
         _ => {}
     }
 }
 
 fn check_format(at: TokenNo, format: &Cond<Target, Text>, findings: &mut Findings) {
-    let Ok(texts) = values_in(findings.alloc, format) else {
-        findings.refuse();
-        return;
-    };
-    for (_, text) in &texts {
+    for (_, text) in &findings.listed(values_in(findings.alloc, format)) {
         check_text(at, text, findings);
     }
 }

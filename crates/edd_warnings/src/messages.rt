@@ -9,7 +9,6 @@ use edd_syntax::cond::Cond;
 use edd_syntax::item::{DataItem, TransactionPart};
 use edd_syntax::numbers::TokenNo;
 use edd_syntax::reference::Target;
-use std::alloc::AllocError;
 use std::collections::BTreeMap;
 
 /// What a list has of a variable so far.
@@ -35,19 +34,16 @@ struct Message<'i, 'n> {
 
 // A mask of a variable that was there with other masks.
 fn check_mask(mask: u32, bits: u32, most: i64, at: Mark<'_>, findings: &mut Findings) {
-    let alloc = findings.alloc;
     if most < i64::from(mask) {
-        let message = format!(in alloc;
-            "{mask} has bits that its variable, of at most {most}, does not have"
+        findings.add(
+            Lint::WideMask,
+            at,
+            format_args!("{mask} has bits that its variable, of at most {most}, does not have"),
         );
-        findings.add(Lint::WideMask, at, message);
     }
     if mask & bits != 0 {
-        findings.say(
-            Lint::OverlappingMasks,
-            at,
-            "this mask has bits that one before it has, of the same variable",
-        );
+        let message = "this mask has bits that one before it has, of the same variable";
+        findings.add(Lint::OverlappingMasks, at, message);
     }
 }
 
@@ -62,10 +58,10 @@ impl Message<'_, '_> {
         list: usize,
         carried: &mut Lists<'a>,
         findings: &mut Findings<'a>,
-    ) -> Result<(), AllocError> {
+    ) {
         let at = findings.mark(at);
         let before = carried.get(&(list, variable)).copied();
-        let bits = before.map(|carried| carried.bits).unwrap_or(0);
+        let bits = before.map_or(0, |carried| carried.bits);
         if let (Some(mask), Some(range)) = (mask, self.instrument.range(variable)) {
             let most = range.high.saturating_sub(range.low);
             check_mask(mask, bits, most, at, findings);
@@ -79,21 +75,23 @@ impl Message<'_, '_> {
         match before {
             Some(carried) if self.is_reply && is_twice => {
                 let name = self.instrument.name_of(variable);
-                let alloc = findings.alloc;
-                let message = format!(in alloc; "{name} is in this reply already");
-                findings.add_beside(Lint::RepeatedDataItem, at, message, carried.at);
+                findings.add_beside(
+                    Lint::RepeatedDataItem,
+                    at,
+                    format_args!("{name} is in this reply already"),
+                    carried.at,
+                );
             }
             _ => {}
         }
-        carried.insert(
-            (list, variable),
-            Carried {
-                at,
-                bits: bits | mask.unwrap_or(0),
-                is_whole: is_whole || before.map(|carried| carried.is_whole).unwrap_or(false),
-            },
-        )?;
-        Ok(())
+        let now = Carried {
+            at,
+            bits: bits | mask.unwrap_or(0),
+            is_whole: is_whole || before.is_some_and(|carried| carried.is_whole),
+        };
+        if carried.insert((list, variable), now).is_err() {
+            findings.refuse();
+        }
     }
 
     fn check_item<'a>(
@@ -102,7 +100,7 @@ impl Message<'_, '_> {
         list: usize,
         carried: &mut Lists<'a>,
         findings: &mut Findings<'a>,
-    ) -> Result<(), AllocError> {
+    ) {
         let DataItem::Variable {
             at,
             variable,
@@ -110,13 +108,10 @@ impl Message<'_, '_> {
             qualifiers,
         } = item
         else {
-            return Ok(());
+            return;
         };
-        match variable_of(*variable) {
-            Some(number) => {
-                self.check_variable(*at, number, *mask, qualifiers.info, list, carried, findings)
-            }
-            None => Ok(()),
+        if let Some(number) = variable_of(*variable) {
+            self.check_variable(*at, number, *mask, qualifiers.info, list, carried, findings);
         }
     }
 }
@@ -125,13 +120,11 @@ fn check_message(
     items: &[Cond<Target, DataItem<Target>>],
     message: Message<'_, '_>,
     findings: &mut Findings,
-) -> Result<(), AllocError> {
-    let alloc = findings.alloc;
-    let mut carried = BTreeMap::new(alloc);
-    for (list, item) in &values_of(alloc, items)? {
-        message.check_item(item, *list, &mut carried, findings)?;
+) {
+    let mut carried = BTreeMap::new(findings.alloc);
+    for (list, item) in &findings.listed(values_of(findings.alloc, items)) {
+        message.check_item(item, *list, &mut carried, findings);
     }
-    Ok(())
 }
 
 /// The messages of a transaction.
@@ -139,7 +132,7 @@ pub fn check_messages(
     parts: &[TransactionPart<Target>],
     instrument: &Instrument,
     findings: &mut Findings,
-) -> Result<(), AllocError> {
+) {
     for part in parts {
         let (items, is_reply) = match part {
             TransactionPart::Request(_, items) => (items, false),
@@ -149,7 +142,6 @@ pub fn check_messages(
             instrument,
             is_reply,
         };
-        check_message(items, message, findings)?;
+        check_message(items, message, findings);
     }
-    Ok(())
 }

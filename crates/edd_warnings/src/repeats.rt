@@ -32,10 +32,7 @@ impl<'a> Numbers<'a> {
 
     // Whether a number is greater than all before it.
     fn rises(&self, number: i64) -> bool {
-        match self.rising.last() {
-            Some(last) => *last < number,
-            None => true,
-        }
+        self.rising.last().is_none_or(|last| *last < number)
     }
 
     // The place of a number that is there already.
@@ -56,8 +53,12 @@ impl<'a> Numbers<'a> {
         }
         if let Some(earlier) = self.earlier(number) {
             let what = self.what;
-            let message = format!(in findings.alloc; "{what} {number} is there already");
-            findings.add_beside(self.lint, at, message, earlier);
+            findings.add_beside(
+                self.lint,
+                at,
+                format_args!("{what} {number} is there already"),
+                earlier,
+            );
             return;
         }
         if self.others.insert(number, at).is_err() {

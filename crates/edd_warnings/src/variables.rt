@@ -3,7 +3,7 @@
 use crate::enumerators::check_enumerators;
 use crate::formats::check_formats;
 use edd_instructions::Sort;
-use edd_lints::constants::{Known, evaluate};
+use edd_lints::constants::evaluate;
 use edd_lints::instrument::Instrument;
 use edd_lints::lint::Lint;
 use edd_lints::range::Range;
@@ -16,7 +16,6 @@ use edd_syntax::item::{Attribute, TypePart, TypeWord};
 use edd_syntax::numbers::{NumberOption, TokenNo};
 use edd_syntax::reference::Target;
 use edd_syntax::types::VarType;
-use std::alloc::{AllocError, Global};
 
 /// A warning where a number is outside of the range of its variable.
 pub fn check_range(range: Range, what: &str, number: i64, at: Mark<'_>, findings: &mut Findings) {
@@ -24,22 +23,22 @@ pub fn check_range(range: Range, what: &str, number: i64, at: Mark<'_>, findings
         return;
     }
     let Range { low, high } = range;
-    let alloc = findings.alloc;
-    let message = format!(in alloc; "{what} {number} is outside of the type's {low} to {high}");
-    findings.add(Lint::ValueOutOfRange, at, message)
+    findings.add(
+        Lint::ValueOutOfRange,
+        at,
+        format_args!("{what} {number} is outside of the type's {low} to {high}"),
+    )
 }
 
 // The number that an expression of an attribute always is.
 fn number_of(e: &Expr<Target>) -> Option<i64> {
-    match evaluate(e, Sort::Attribute) {
-        Known::Number(number) => Some(number),
-        Known::Traps(_) | Known::Nothing => None,
-    }
+    evaluate(e, Sort::Attribute).number()
 }
 
 // An option that is one constant, with its place.
 #[derive(Clone, Copy)]
 struct Constant {
+    which: NumberOption,
     number: i64,
     at: TokenNo,
 }
@@ -52,12 +51,16 @@ struct Options {
     greatest: Option<Constant>,
 }
 
-fn constant_of(c: &Cond<Target, Expr<Target>>, at: TokenNo) -> Option<Constant> {
+fn constant_of(
+    which: NumberOption,
+    c: &Cond<Target, Expr<Target>>,
+    at: TokenNo,
+) -> Option<Constant> {
     let Cond::Value(e) = c else {
         return None;
     };
     let number = number_of(e)?;
-    Some(Constant { number, at })
+    Some(Constant { which, number, at })
 }
 
 fn options_of(parts: &[TypePart<Target>]) -> Options {
@@ -68,7 +71,7 @@ fn options_of(parts: &[TypePart<Target>]) -> Options {
     };
     for part in parts {
         if let TypePart::OneNumber { at, which, value } = part {
-            let constant = constant_of(value, *at);
+            let constant = constant_of(*which, value, *at);
             match which {
                 NumberOption::DefaultValue => options.default = constant,
                 NumberOption::MinValue => options.least = constant,
@@ -87,33 +90,36 @@ fn crossed(low: Option<Constant>, high: Option<Constant>) -> Option<(Constant, C
     }
 }
 
-fn check_limits(options: Options, findings: &mut Findings) {
-    let Some((least, greatest)) = crossed(options.least, options.greatest) else {
-        return;
-    };
-    let (low, high) = (least.number, greatest.number);
-    let at = findings.mark(least.at);
-    let other = findings.mark(greatest.at);
-    let message = format!(in findings.alloc; "MIN_VALUE {low} is over MAX_VALUE {high}");
-    findings.add_beside(Lint::LimitsCrossed, at, message, other)
+// Says of an option that it is over or below another one.
+fn tell_crossed(lint: Lint, one: Constant, how: &str, other: Constant, findings: &mut Findings) {
+    let (at, beside) = (findings.mark(one.at), findings.mark(other.at));
+    let (word, number) = (one.which.attr().word(), one.number);
+    let (limit, most) = (other.which.attr().word(), other.number);
+    let message = format_args!("{word} {number} is {how} {limit} {most}");
+    findings.add_beside(lint, at, message, beside)
 }
 
-fn check_default(options: Options, findings: &mut Findings) {
+fn check_limits(options: Options, findings: &mut Findings) {
+    if let Some((least, greatest)) = crossed(options.least, options.greatest) {
+        tell_crossed(Lint::LimitsCrossed, least, "over", greatest, findings);
+    }
     if let Some((least, default)) = crossed(options.least, options.default) {
-        let (low, number) = (least.number, default.number);
-        let at = findings.mark(default.at);
-        let other = findings.mark(least.at);
-        let alloc = findings.alloc;
-        let message = format!(in alloc; "DEFAULT_VALUE {number} is below MIN_VALUE {low}");
-        findings.add_beside(Lint::DefaultOutsideLimits, at, message, other);
+        tell_crossed(
+            Lint::DefaultOutsideLimits,
+            default,
+            "below",
+            least,
+            findings,
+        );
     }
     if let Some((default, greatest)) = crossed(options.default, options.greatest) {
-        let (number, high) = (default.number, greatest.number);
-        let at = findings.mark(default.at);
-        let other = findings.mark(greatest.at);
-        let alloc = findings.alloc;
-        let message = format!(in alloc; "DEFAULT_VALUE {number} is over MAX_VALUE {high}");
-        findings.add_beside(Lint::DefaultOutsideLimits, at, message, other);
+        tell_crossed(
+            Lint::DefaultOutsideLimits,
+            default,
+            "over",
+            greatest,
+            findings,
+        );
     }
 }
 
@@ -123,11 +129,7 @@ fn check_option(part: &TypePart<Target>, range: Range, findings: &mut Findings) 
         return;
     };
     let at = findings.mark(*at);
-    let Ok(values) = values_in(findings.alloc, value) else {
-        findings.refuse();
-        return;
-    };
-    for (_, e) in &values {
+    for (_, e) in &findings.listed(values_in(findings.alloc, value)) {
         if let Some(number) = number_of(e) {
             check_range(range, which.attr().word(), number, at, findings);
         }
@@ -135,12 +137,12 @@ fn check_option(part: &TypePart<Target>, range: Range, findings: &mut Findings) 
 }
 
 // All bits of the enumerators of a type; nothing where it has none.
-fn bits_of(alloc: Global, parts: &[TypePart<Target>]) -> Result<Option<i64>, AllocError> {
+fn bits_of(parts: &[TypePart<Target>], findings: &mut Findings) -> Option<i64> {
     let mut bits = None;
-    for (_, enumerator) in &enumerators_of(alloc, parts)? {
+    for (_, enumerator) in &findings.listed(enumerators_of(findings.alloc, parts)) {
         bits = Some(bits.unwrap_or(0) | enumerator.value);
     }
-    Ok(bits)
+    bits
 }
 
 // Says of a default value that no enumerator names it.
@@ -152,16 +154,21 @@ fn check_unnamed(
     instrument: &Instrument,
     findings: &mut Findings,
 ) {
-    let alloc = findings.alloc;
     match bits {
         Some(bits) if number & !bits != 0 => {
-            let message = format!(in alloc; "{number} has bits that no enumerator names");
-            findings.add(Lint::UnlistedValue, at, message)
+            findings.add(
+                Lint::UnlistedValue,
+                at,
+                format_args!("{number} has bits that no enumerator names"),
+            )
         }
         _ if instrument.is_unlisted(variable, number) => {
             let name = instrument.name_of(variable);
-            let message = format!(in alloc; "{number} is no enumerator of {name}");
-            findings.add(Lint::UnlistedValue, at, message)
+            findings.add(
+                Lint::UnlistedValue,
+                at,
+                format_args!("{number} is no enumerator of {name}"),
+            )
         }
         _ => {}
     }
@@ -184,11 +191,7 @@ fn check_named(
         return;
     };
     let at = findings.mark(*at);
-    let Ok(values) = values_in(findings.alloc, value) else {
-        findings.refuse();
-        return;
-    };
-    for (_, e) in &values {
+    for (_, e) in &findings.listed(values_in(findings.alloc, value)) {
         match (number_of(e), instrument.range(variable)) {
             (Some(number), Some(range)) if range.holds(number) => {
                 check_unnamed(number, variable, bits, at, instrument, findings)
@@ -217,13 +220,9 @@ fn check_defaults(
     }
     let is_of_bits = instrument.kind(variable) == Some(VarType::BitEnumerated);
     let bits = if is_of_bits {
-        bits_of(findings.alloc, parts)
+        bits_of(parts, findings)
     } else {
-        Ok(None)
-    };
-    let Ok(bits) = bits else {
-        findings.refuse();
-        return;
+        None
     };
     for part in parts {
         check_named(part, variable, bits, instrument, findings);
@@ -249,7 +248,6 @@ pub fn check_type(
     }
     let options = options_of(parts);
     check_limits(options, findings);
-    check_default(options, findings);
     check_defaults(parts, variable, instrument, findings);
     check_formats(parts, findings);
     check_enumerators(parts, range, *kind, findings)
