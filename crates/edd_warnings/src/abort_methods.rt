@@ -89,7 +89,12 @@ impl<'a> Added<'a> {
 
     // Whether one of these methods adds another one.
     fn has_adding(&self, methods: &BTreeSet<&'a [u8]>) -> bool {
-        self.adding.iter().any(|one| methods.contains(&one.method))
+        for one in &self.adding {
+            if methods.contains(&one.method) {
+                return true;
+            }
+        }
+        false
     }
 
     // Those of these methods whose names are elsewhere too.
