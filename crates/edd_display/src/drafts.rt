@@ -4,7 +4,7 @@
 use crate::fault::ShowFault;
 use crate::lines::{print, print_text};
 use crate::page::push_quoted;
-use crate::words::push_set;
+use crate::words::push_qualifiers;
 use std::alloc::{AllocError, Global};
 use std::fmt::{Display, Write as _};
 use std::io::Write;
@@ -45,7 +45,7 @@ impl Draft {
 
     /// Appends the words of the bits that are set, between parentheses.
     pub fn push_qualifiers(&mut self, bits: u16, words: &[(u16, &'static str)]) {
-        self.is_refused |= push_set(&mut self.text, bits, words).is_err();
+        self.is_refused |= push_qualifiers(&mut self.text, bits, words).is_err();
     }
 
     /// Appends what is printed: `write!` calls it.

@@ -22,4 +22,6 @@ pub use laws::{entries_stand_once, one_text_is_shown, quoted_texts_are_told_apar
 pub use lines::{print, print_text};
 pub use page::push_quoted;
 pub use plays::show_play;
-pub use words::{DATA_QUALIFIERS, MENU_QUALIFIERS, class_word, trap_word, type_word};
+pub use words::{
+    DATA_QUALIFIERS, MENU_QUALIFIERS, class_word, push_qualifiers, trap_word, type_word,
+};

@@ -1,8 +1,10 @@
 //! The words that stand for numbers.
 
-ghost use Rattle.std.specs.Prelude.{◌≡◌, ◌++◌, OnOk, map, string_bytes};
+ghost use Rattle.std.specs.Prelude.{◌≡◌, ◌++◌, IfErr, OnOk, false, map, string_bytes};
+ghost use Rattle.edd_display.specs.Shown.{blames_values};
 ghost use Rattle.edd_display.specs.Words as shown;
 
+use crate::fault::ShowFault;
 use edd_syntax::answer::Trap;
 use edd_syntax::types::VarType;
 use std::alloc::AllocError;
@@ -77,6 +79,20 @@ pub fn push_set(
     if before == ' ' {
         line.push(')')?;
     }
+    Ok(())
+}
+
+/// The words of the bits that are set, between parentheses; nothing where none is.
+pub fn push_qualifiers(
+    line: &mut String,
+    bits: u16,
+    words: &[(u16, &'static str)],
+) -> Result<(), ShowFault>
+    ensures sound { OnOk result (string_bytes line.new ≡ string_bytes line.old
+        ++ shown.qualifiers_shown bits (map (λ w. (w.0, w.1.now)) words.now)) }
+    ensures refused { IfErr result (λ fault. blames_values fault ≡ false) }
+{
+    push_set(line, bits, words)?;
     Ok(())
 }
 
