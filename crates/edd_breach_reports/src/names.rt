@@ -2,8 +2,7 @@
 
 use crate::sources::Source;
 use edd_lexer::token::TokenKind;
-use edd_reports::nearest::Nearest;
-use edd_reports::tables::said_of;
+use edd_near_words::{Nearest, said_of};
 use edd_reports::words::{Span, is_sign, kind_word};
 use edd_slips::help_of_left_out;
 use edd_syntax::item::{Item, ItemKind};

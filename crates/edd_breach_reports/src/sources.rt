@@ -7,7 +7,7 @@ ghost use Rattle.edd_syntax.specs.Places.{name_at};
 
 use edd_lexer::line_of;
 use edd_lexer::token::{Token, TokenKind};
-use edd_reports::nearest::Nearest;
+use edd_near_words::Nearest;
 use edd_reports::outline::{Outline, declares};
 use edd_reports::words::{Span, is_sign, span_of, word_of};
 use edd_syntax::item::{Attribute, Item};

@@ -26,11 +26,6 @@ impl Pairs {
         }
     }
 
-    fn join(&mut self, open: Open, number: usize) {
-        self.set(open.number, number);
-        self.set(number, open.number);
-    }
-
     fn open(&mut self, symbol: Symbol, number: usize) {
         if symbol == Symbol::OpenBrace {
             self.open_braces = self.open_braces.saturating_add(1);
@@ -49,7 +44,8 @@ impl Pairs {
             };
             if open.symbol == Symbol::OpenBrace {
                 self.open_braces = self.open_braces.saturating_sub(1);
-                self.join(open, number);
+                self.set(open.number, number);
+                self.set(number, open.number);
                 return;
             }
         }
@@ -61,7 +57,8 @@ impl Pairs {
             && open.symbol == opener
         {
             let _ = self.open.items.pop();
-            self.join(open, number);
+            self.set(open.number, number);
+            self.set(number, open.number);
         }
     }
 

@@ -45,13 +45,13 @@ fn written(alloc: Global, known: Known<'_>) -> Result<Vec<u8>, AllocError> {
     let count = known.source.tokens.len();
     for number in 0..count {
         writer.put_token(number);
-        if writer.length() > TEXT_LIMIT {
+        if writer.out.items.len() > TEXT_LIMIT {
             break;
         }
     }
     let indent = writer.frames.items.last().map_or(0, |frame| frame.inner());
     writer.put_remarks(count, new_line(indent));
-    if writer.length() != 0 {
+    if !writer.out.items.is_empty() {
         writer.out.push(b'\n');
     }
     writer.frames.check()?;

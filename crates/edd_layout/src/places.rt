@@ -32,18 +32,6 @@ pub fn new_line(indent: usize) -> Place {
     }
 }
 
-fn begins_item(word: Keyword) -> bool {
-    matches!(
-        word,
-        Keyword::Variable
-            | Keyword::Command
-            | Keyword::Menu
-            | Keyword::Collection
-            | Keyword::Method
-            | Keyword::Array
-    )
-}
-
 // Whether a token of the second role begins an element behind one of the first, with nothing
 // between them.
 fn begins_element(before: Role, role: Role, word: Option<Keyword>) -> bool {
@@ -81,7 +69,17 @@ impl Writer<'_> {
         let before = number.saturating_sub(1);
         match kind {
             None => {
-                word.is_some_and(begins_item) && !self.known.source.is_keyword(before, Keyword::Of)
+                matches!(
+                    word,
+                    Some(
+                        Keyword::Variable
+                            | Keyword::Command
+                            | Keyword::Menu
+                            | Keyword::Collection
+                            | Keyword::Method
+                            | Keyword::Array,
+                    )
+                ) && !self.known.source.is_keyword(before, Keyword::Of)
             }
             Some(FrameKind::Item) => word.is_some_and(|word| Attr::begun_by(word).is_some()),
             Some(FrameKind::List) => begins_element(self.role(before), self.role(number), word),

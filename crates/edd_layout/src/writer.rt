@@ -75,13 +75,8 @@ impl Writer<'_> {
         self.column = self.column.saturating_add(count);
     }
 
-    /// How many bytes are written.
-    pub fn length(&self) -> usize {
-        self.out.items.len()
-    }
-
     fn blank(&mut self) {
-        if self.length() != 0 {
+        if !self.out.items.is_empty() {
             self.push_often(b' ', 1);
         }
     }
@@ -89,7 +84,7 @@ impl Writer<'_> {
     // Ends the line, and begins the next one at a column.
     fn end_line(&mut self, with_blank_line: bool, column: usize) {
         self.has_ended = true;
-        if self.length() == 0 || self.length() > TEXT_LIMIT {
+        if self.out.items.is_empty() || self.out.items.len() > TEXT_LIMIT {
             return;
         }
         self.push_bytes(if with_blank_line { b"\n\n" } else { b"\n" });
@@ -134,7 +129,7 @@ impl Writer<'_> {
 
     fn put_remark(&mut self, remark: Remark, column: usize, keeps_blank_line: bool) {
         let is_mark = remark.kind == RemarkKind::Mark;
-        if is_mark || self.must_end || remark.lines > 0 || self.length() == 0 {
+        if is_mark || self.must_end || remark.lines > 0 || self.out.items.is_empty() {
             let column = if is_mark { 0 } else { column };
             self.end_line(keeps_blank_line && remark.lines > 1, column);
         } else {

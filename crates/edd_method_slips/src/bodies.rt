@@ -6,8 +6,8 @@ use crate::around::{
 use crate::branches::{lone_else, no_condition, no_word};
 use crate::values::value_slip;
 use edd_lexer::token::{Token, TokenKind};
+use edd_near_words::said_of;
 use edd_reports::outline::Outline;
-use edd_reports::tables::said_of;
 use edd_reports::words::{is_sign, is_word};
 use edd_syntax::numbers::{Attr, Kind};
 use edd_syntax::operators::Operator;

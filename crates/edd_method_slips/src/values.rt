@@ -2,7 +2,7 @@
 
 use crate::around::{Around, Slip, is_integer, is_symbol, open_parenthesis};
 use edd_lexer::token::TokenKind;
-use edd_reports::tables::is_among;
+use edd_near_words::is_among;
 use edd_syntax::symbols::{Keyword, Symbol};
 
 // Whether a sign stands in the statement before the token.

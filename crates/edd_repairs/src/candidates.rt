@@ -1,8 +1,7 @@
 //! What is tried in place of a token that does not fit, and before it.
 
 use edd_lexer::token::TokenKind;
-use edd_reports::nearest::Nearest;
-use edd_reports::tables::said_of;
+use edd_near_words::{Nearest, said_of};
 use edd_syntax::operators::Comparison;
 use edd_syntax::symbols::{KEYWORDS, Keyword, Symbol};
 use std::alloc::{AllocError, Global};

@@ -9,13 +9,10 @@ mod fault;
 pub mod json;
 pub mod lines;
 mod marks;
-pub mod nearest;
 mod originals;
 pub mod outline;
 mod spots;
-pub mod tables;
 mod text;
-mod typing;
 pub mod words;
 
 use colours::{COLOURED, PLAIN};

@@ -3,7 +3,7 @@
 use edd_display::type_word;
 use edd_image::VarKind;
 use edd_loader::Image;
-use edd_reports::nearest::Nearest;
+use edd_near_words::Nearest;
 use edd_script::{Line, code as code_of, number, parse_line, text_of, variable};
 use edd_syntax::answer::Answer;
 use edd_syntax::numbers::{ItemNo, VarNo};

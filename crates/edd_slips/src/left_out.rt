@@ -1,6 +1,6 @@
 //! Words of EDDL that this profile leaves out and the grammar refuses as words that fit nothing.
 
-use edd_reports::tables::said_of;
+use edd_near_words::said_of;
 
 const WORDS: &str = "
 INITIAL_VALUE: this profile of EDDL does not have INITIAL_VALUE: take DEFAULT_VALUE

@@ -2,7 +2,7 @@
 
 use edd_lexer::token::{Token, TokenKind};
 use edd_method_slips::{Around, Slip, is_integer, is_joined, is_keyword};
-use edd_reports::tables::is_among;
+use edd_near_words::is_among;
 use edd_reports::words::item_kind;
 use edd_syntax::numbers::{Attr, Kind, ValueKind};
 use edd_syntax::operators::Operator;

@@ -1,6 +1,6 @@
 //! Signs of other languages that are two here.
 
-use edd_reports::tables::{is_among, said_of};
+use edd_near_words::{is_among, said_of};
 
 const SIGNS: &str = "
 =<: less or equal is written <=

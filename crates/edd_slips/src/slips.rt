@@ -8,7 +8,7 @@ use edd_lexer::token::{Token, TokenKind};
 use edd_method_slips::{
     Around, At, Slip, is_integer, is_joined, is_keyword, on, open_parenthesis, statement_slip,
 };
-use edd_reports::tables::{is_among, said_of};
+use edd_near_words::{is_among, said_of};
 use edd_reports::words::{Span, is_sign, item_kind, text_in};
 use edd_syntax::operators::Operator;
 use edd_syntax::symbols::{Keyword, Symbol};
