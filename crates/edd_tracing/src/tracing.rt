@@ -104,24 +104,34 @@ fn value_of(session: &Session<'_, '_>, variable: VarNo) -> i64 {
     session.values().get(variable).unwrap_or(0)
 }
 
-// What the device answers, if there is one and it does. Where it has a fault the method is aborted.
-fn reply_of(
+// What a device answers, if it does. Where it has a fault the method is aborted.
+fn ask_device(
     alloc: Global,
     request: Request,
     values: &Values,
-    device: &mut Option<Device<'_, '_>>,
-) -> Result<Option<Answer>, AllocError> {
-    let Some(device) = device else {
-        return Ok(None);
-    };
+    device: &mut Device<'_, '_>,
+) -> Result<Option<Answer>, ShowFault> {
     let instrument = device.instrument();
     if !values.are_of(instrument) {
         return Ok(None);
     }
     match device.reply(alloc, &request, values) {
         Ok(answer) => Ok(answer),
-        Err(DeviceFault::Memory) => Err(AllocError),
+        Err(DeviceFault::Memory) => Err(ShowFault::Memory),
         Err(_) => Ok(Some(Answer::Abort)),
+    }
+}
+
+// What the device answers, if there is one.
+fn reply_of(
+    alloc: Global,
+    request: Request,
+    values: &Values,
+    device: &mut Option<Device<'_, '_>>,
+) -> Result<Option<Answer>, ShowFault> {
+    match device {
+        Some(device) => ask_device(alloc, request, values, device),
+        None => Ok(None),
     }
 }
 
@@ -131,15 +141,16 @@ fn tell_sets<W: Write>(
     session: &Session<'_, '_>,
     place: Option<Span>,
     answer: &Answer,
-) {
+) -> Result<(), ShowFault> {
     let Answer::Go { code: _, sets } = answer else {
-        return;
+        return Ok(());
     };
     for set in sets {
         let (variable, new) = *set;
         let old = value_of(session, variable);
-        telling.change(place, variable, (old, new), ", by the answer");
+        telling.change(place, variable, (old, new), ", by the answer")?;
     }
+    Ok(())
 }
 
 // Warns of what a technician could not have entered.
@@ -149,16 +160,17 @@ fn tell_entered<W: Write>(
     place: Option<Span>,
     request: Request,
     answer: &Answer,
-) {
+) -> Result<(), ShowFault> {
     let (Request::GetDevVarValue(_, asked), Answer::Go { code: _, sets }) = (request, answer) else {
-        return;
+        return Ok(());
     };
     for set in sets {
         let (variable, number) = *set;
         if variable == asked {
-            telling.entered(place, session.values(), variable, number);
+            telling.entered(place, session.values(), variable, number)?;
         }
     }
+    Ok(())
 }
 
 // Meets the pending request, and says whether that could be done.
@@ -168,26 +180,22 @@ fn meet<W: Write>(
     request: Request,
     user: &mut User<'_, '_, '_>,
     progress: &mut Progress,
-) -> bool {
+) -> Result<bool, ShowFault> {
     progress.requests = progress.requests.saturating_add(1);
     let place = progress.place;
-    telling.request(place, request, progress.requests);
-    match reply_of(telling.alloc, request, session.values(), &mut user.device) {
-        Ok(Some(answer)) => {
-            tell_sets(telling, session, place, &answer);
-            return session.answer(&answer).is_ok();
-        }
-        Ok(None) => {}
-        Err(_) => telling.refuse(),
+    telling.request(place, request, progress.requests)?;
+    if let Some(answer) = reply_of(telling.alloc, request, session.values(), &mut user.device)? {
+        tell_sets(telling, session, place, &answer)?;
+        return Ok(session.answer(&answer).is_ok());
     }
     let answers = user.answers;
     let Some(answer) = answers.get(user.next) else {
-        return false;
+        return Ok(false);
     };
     user.next = user.next.saturating_add(1);
-    tell_entered(telling, session, place, request, answer);
-    tell_sets(telling, session, place, answer);
-    session.answer(answer).is_ok()
+    tell_entered(telling, session, place, request, answer)?;
+    tell_sets(telling, session, place, answer)?;
+    Ok(session.answer(answer).is_ok())
 }
 
 // Executes an instruction, and tells what it changed or why it trapped.
@@ -196,7 +204,7 @@ fn step<W: Write>(
     session: &mut Session<'_, '_>,
     here: Option<(Effect, Span)>,
     progress: &mut Progress,
-) {
+) -> Result<(), ShowFault> {
     progress.left = progress.left.saturating_sub(1);
     let place = match here {
         Some((_, span)) => Some(span),
@@ -206,10 +214,12 @@ fn step<W: Write>(
     if let Some((Effect::Store(variable), _)) = here {
         let old = value_of(session, variable);
         session.advance(1);
-        telling.change(place, variable, (old, value_of(session, variable)), "");
-    } else if let Turn::Trapped(why) = session.advance(1) {
-        telling.trap(place, why);
+        return telling.change(place, variable, (old, value_of(session, variable)), "");
     }
+    if let Turn::Trapped(why) = session.advance(1) {
+        telling.trap(place, why)?;
+    }
+    Ok(())
 }
 
 // Lets the session do one thing more. Nothing is left of it where it is over.
@@ -220,24 +230,24 @@ fn go_on<'i, 'b, W: Write>(
     mut session: Session<'i, 'b>,
     user: &mut User<'_, '_, '_>,
     progress: &mut Progress,
-) -> Option<Session<'i, 'b>> {
+) -> Result<Option<Session<'i, 'b>>, ShowFault> {
     match session.turn() {
         Turn::Asks(request) => {
-            if meet(telling, &mut session, request, user, progress) {
-                return Some(session);
+            if meet(telling, &mut session, request, user, progress)? {
+                return Ok(Some(session));
             }
-            None
+            Ok(None)
         }
         Turn::Spent if 0 < progress.left => {
             let suspended = session.suspend();
             let here = methods.at(suspended.machine.unit, suspended.machine.place);
             let Ok(mut resumed) = Session::resume(image, suspended) else {
-                return None;
+                return Ok(None);
             };
-            step(telling, &mut resumed, here, progress);
-            Some(resumed)
+            step(telling, &mut resumed, here, progress)?;
+            Ok(Some(resumed))
         }
-        _ => None,
+        _ => Ok(None),
     }
 }
 
@@ -249,15 +259,15 @@ fn follow<'i, 'b, W: Write>(
     start: Session<'i, 'b>,
     user: &mut User<'_, '_, '_>,
     progress: &mut Progress,
-) {
+) -> Result<(), ShowFault> {
     let mut session = start;
     for _ in 0..MOST {
-        match go_on(telling, methods, image, session, user, progress) {
-            Some(next) if !telling.is_over() => session = next,
-            _ => return,
+        match go_on(telling, methods, image, session, user, progress)? {
+            Some(next) => session = next,
+            None => return Ok(()),
         }
     }
-    telling.cut(MOST);
+    telling.cut(MOST)
 }
 
 /// A run that is told of: the name and the text of its source, its script, read and as it was, its
@@ -293,12 +303,15 @@ impl<'f> Followed<'f> {
 }
 
 // Warns of answers that no request has met.
-fn tell_left<W: Write>(telling: &mut Telling<'_, '_, '_, W>, of: Followed<'_>, met: usize) {
+fn tell_left<W: Write>(
+    telling: &mut Telling<'_, '_, '_, W>,
+    of: Followed<'_>,
+    met: usize,
+) -> Result<(), ShowFault> {
     let count = of.script.answers.len().saturating_sub(met);
-    match answer_line(telling.alloc, telling.image, of.script_text, met) {
-        Ok(Some(line)) if 0 < count => telling.left_over(count, line),
-        Ok(_) => {}
-        Err(_) => telling.refuse(),
+    match answer_line(telling.alloc, telling.image, of.script_text, met)? {
+        Some(line) if 0 < count => telling.left_over(count, line),
+        _ => Ok(()),
     }
 }
 
@@ -339,7 +352,6 @@ pub fn trace<W: Write>(
         session,
         &mut user,
         &mut progress,
-    );
-    tell_left(&mut telling, of, user.next);
-    telling.finish()
+    )?;
+    tell_left(&mut telling, of, user.next)
 }
