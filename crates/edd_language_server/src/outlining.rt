@@ -1,11 +1,12 @@
 //! What a document declares, and which of its lines may be hidden.
 
 use crate::query::{Query, Refusal};
-use edd_editing::{Fold as Braces, folds as folds_of, symbols as symbols_of};
+use edd_editing::{Fold as Braces, Symbol, folds as folds_of, symbols as symbols_of};
 use edd_protocol_shapes::{Fold, Located, Outlined};
 use edd_reports::words::kind_word;
 use edd_sinks::ListSink;
 use edd_syntax::numbers::Kind;
+use std::alloc::AllocError;
 
 /// A kind of item as the protocol counts kinds of symbols.
 fn symbol_kind(kind: Kind) -> u8 {
@@ -19,31 +20,41 @@ fn symbol_kind(kind: Kind) -> u8 {
     }
 }
 
+fn outlined<'a>(query: Query<'_>, symbols: &[Symbol<'a>]) -> Result<Vec<Outlined<'a>>, AllocError> {
+    let mut made = Vec::with_capacity(query.alloc, symbols.len())?;
+    for symbol in symbols {
+        made.push(Outlined {
+            name: symbol.name,
+            detail: kind_word(symbol.kind),
+            kind: symbol_kind(symbol.kind),
+            range: query.range(symbol.place),
+            selection_range: query.range(symbol.name_place),
+        })?;
+    }
+    Ok(made)
+}
+
+fn located<'a>(query: Query<'a>, symbols: &[Symbol<'a>]) -> Result<Vec<Located<'a>>, AllocError> {
+    let mut made = Vec::with_capacity(query.alloc, symbols.len())?;
+    for symbol in symbols {
+        made.push(Located {
+            name: symbol.name,
+            kind: symbol_kind(symbol.kind),
+            location: query.view.location(symbol.place),
+        })?;
+    }
+    Ok(made)
+}
+
 /// Answers with the items of the document, in order.
 pub fn symbols(query: Query<'_>, out: &mut Vec<u8>) -> Result<(), Refusal> {
     let document = query.document()?;
     let symbols = symbols_of(query.alloc, &document)?;
     if query.view.client.has_tree {
-        let answered = query.each(
-            &symbols,
-            |symbol| Outlined {
-                name: symbol.name,
-                detail: kind_word(symbol.kind),
-                kind: symbol_kind(symbol.kind),
-                range: query.range(symbol.place),
-                selection_range: query.range(symbol.name_place),
-            },
-        )?;
+        let answered = outlined(query, symbols.as_slice())?;
         return query.answer(&answered, out);
     }
-    let answered = query.each(
-        &symbols,
-        |symbol| Located {
-            name: symbol.name,
-            kind: symbol_kind(symbol.kind),
-            location: query.view.location(symbol.place),
-        },
-    )?;
+    let answered = located(query, symbols.as_slice())?;
     query.answer(&answered, out)
 }
 

@@ -3,7 +3,9 @@
 use crate::query::{Query, Refusal};
 use edd_editing::{declaration, references as named_at};
 use edd_protocol::flag_at;
-use edd_protocol_shapes::Highlight;
+use edd_protocol_shapes::{Highlight, Location};
+use edd_reports::words::Span;
+use std::alloc::AllocError;
 
 /// Answers with the place of the declaration, or `null`.
 pub fn definition(query: Query<'_>, out: &mut Vec<u8>) -> Result<(), Refusal> {
@@ -15,13 +17,21 @@ pub fn definition(query: Query<'_>, out: &mut Vec<u8>) -> Result<(), Refusal> {
     }
 }
 
+fn locations<'a>(query: Query<'a>, places: &[Span]) -> Result<Vec<Location<'a>>, AllocError> {
+    let mut made = Vec::with_capacity(query.alloc, places.len())?;
+    for place in places {
+        made.push(query.view.location(*place))?;
+    }
+    Ok(made)
+}
+
 /// Answers with all places where it is named.
 pub fn references(query: Query<'_>, out: &mut Vec<u8>) -> Result<(), Refusal> {
     let byte = query.byte()?;
     let declared = flag_at(query.params, "/context/includeDeclaration");
     let document = query.document()?;
     let places = named_at(query.alloc, &document, byte, declared)?;
-    let answered = query.each(&places, |place| query.view.location(*place))?;
+    let answered = locations(query, places.as_slice())?;
     query.answer(&answered, out)
 }
 
@@ -30,11 +40,11 @@ pub fn highlights(query: Query<'_>, out: &mut Vec<u8>) -> Result<(), Refusal> {
     let byte = query.byte()?;
     let document = query.document()?;
     let places = named_at(query.alloc, &document, byte, true)?;
-    let answered = query.each(
-        &places,
-        |place| Highlight {
+    let mut made = Vec::with_capacity(query.alloc, places.len())?;
+    for place in &places {
+        made.push(Highlight {
             range: query.range(*place),
-        },
-    )?;
-    query.answer(&answered, out)
+        })?;
+    }
+    query.answer(&made, out)
 }

@@ -6,7 +6,6 @@ use edd_open_documents::View;
 use edd_protocol::{Call, ErrorCode, Id, Position, Range, answer, position_at, refuse, text_at};
 use edd_protocol_shapes::TextEdit;
 use edd_reports::words::Span;
-use edd_sinks::ListSink;
 use serde::Serialize;
 use serde_json::Value;
 use std::alloc::{AllocError, AllocFailed, Global};
@@ -116,17 +115,6 @@ impl<'a> Query<'a> {
             range: self.range(place),
             new_text,
         }
-    }
-
-    /// What is made of each of some things.
-    pub fn each<T, U: Drop, F: Fn(&T) -> U>(self, all: &[T], of: F) -> Result<Vec<U>, AllocError>
-        requires { F.IsAlwaysCallable of }
-    {
-        let mut made = ListSink::new(self.alloc);
-        for one in all {
-            made.push(of(one));
-        }
-        made.finish()
     }
 
     /// Answers it.

@@ -4,7 +4,7 @@ use crate::query::{Query, Refusal, bad_params};
 use edd_editing::{RenameFault, rename as renamed, renameable};
 use edd_protocol::text_at;
 use edd_protocol_shapes::{Renamed, TextEdit, WorkspaceEdit};
-use edd_reports::words::text_in;
+use edd_reports::words::{Span, text_in};
 use std::alloc::AllocError;
 use std::collections::BTreeMap;
 
@@ -41,6 +41,19 @@ fn refusal_of(query: Query<'_>, name: &str, fault: RenameFault) -> Refusal {
     }
 }
 
+// An edit for each place.
+fn edits<'a>(
+    query: Query<'a>,
+    places: &[Span],
+    name: &'a str,
+) -> Result<Vec<TextEdit<'a>>, AllocError> {
+    let mut made = Vec::with_capacity(query.alloc, places.len())?;
+    for place in places {
+        made.push(query.edit(*place, name))?;
+    }
+    Ok(made)
+}
+
 /// Edits of the document of a query.
 pub fn edit_of<'a>(
     query: Query<'a>,
@@ -62,7 +75,7 @@ pub fn rename(query: Query<'_>, out: &mut Vec<u8>) -> Result<(), Refusal> {
         Ok(places) => places,
         Err(fault) => return Err(refusal_of(query, name, fault)),
     };
-    let edits = query.each(&places, |place| query.edit(*place, name))?;
-    let answered = edit_of(query, edits)?;
+    let made = edits(query, places.as_slice(), name)?;
+    let answered = edit_of(query, made)?;
     query.answer(&answered, out)
 }

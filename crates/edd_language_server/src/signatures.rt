@@ -4,6 +4,7 @@ use crate::query::{Query, Refusal};
 use edd_editing::{Signature as Found, signature as found_at};
 use edd_protocol_shapes::{Label, Parameter, Signature, Signatures};
 use edd_reports::words::{Span, text_in};
+use std::alloc::AllocError;
 
 // How many UTF-16 units come before a byte of a label.
 fn units_before(label: &str, byte: usize) -> usize {
@@ -28,6 +29,14 @@ fn parameter<'a>(query: Query<'_>, found: &'a Found, place: Span) -> Parameter<'
     Parameter { label }
 }
 
+fn parameters<'a>(query: Query<'_>, found: &'a Found) -> Result<Vec<Parameter<'a>>, AllocError> {
+    let mut made = Vec::with_capacity(query.alloc, found.parameters.len())?;
+    for place in &found.parameters {
+        made.push(parameter(query, found, *place))?;
+    }
+    Ok(made)
+}
+
 /// Answers with what it takes, or `null`.
 pub fn signatures(query: Query<'_>, out: &mut Vec<u8>) -> Result<(), Refusal> {
     let byte = query.byte()?;
@@ -35,10 +44,9 @@ pub fn signatures(query: Query<'_>, out: &mut Vec<u8>) -> Result<(), Refusal> {
     let Some(found) = found_at(query.alloc, &document, byte)? else {
         return query.answer(&(), out);
     };
-    let parameters = query.each(&found.parameters, |place| parameter(query, &found, *place))?;
     let signature = Signature {
         label: found.label.as_str(),
-        parameters,
+        parameters: parameters(query, &found)?,
     };
     let answered = Signatures {
         signatures: vec![in query.alloc; signature]?,
