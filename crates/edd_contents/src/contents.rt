@@ -3,7 +3,7 @@
 use crate::reader::{Unread, read};
 use crate::reading::{Given, Reading};
 use crate::records::Words;
-use edd_display::{Draft, ShowFault};
+use edd_display::ShowFault;
 use edd_fault_places::sections::{RowFields, Sections, part};
 use edd_instructions::Instruction;
 use edd_syntax::numbers::{Attr, StrNo, ValueKind};
@@ -51,7 +51,10 @@ pub struct Line {
 impl Line {
     /// By what an entry is found again, whatever its condition is.
     pub fn entry(&self) -> &str {
-        self.key.split_once('\n').map_or("", |parts| parts.1)
+        match self.key.as_str().split_once('\n') {
+            Some((_, entry)) => entry,
+            None => "",
+        }
     }
 }
 
@@ -65,9 +68,10 @@ pub struct Content {
 
 impl Content {
     pub fn condition(&self, line: &Line) -> &str {
-        self.conditions
-            .get(line.condition)
-            .map_or("", |condition| condition.as_str())
+        match self.conditions.get(line.condition) {
+            Some(condition) => condition.as_str(),
+            None => "",
+        }
     }
 
     /// The only line, if there is one and it has no condition.
@@ -79,24 +83,23 @@ impl Content {
     }
 }
 
-// What is given, with its condition as text.
+// A line without its key.
 fn line_of(
     alloc: Global,
     words: Words<'_, '_>,
-    condition: &str,
+    condition: usize,
     given: &Given,
-) -> Result<Line, AllocError> {
-    let mut key = Draft::new(alloc);
-    write!(key, "{condition}\n");
-    words.push_key(&mut key, given);
-    let mut text = Draft::new(alloc);
-    words.push_given(&mut text, given);
-    let constant = given.value.as_ref().and_then(|value| value.constant);
-    let key = key.finish()?;
+) -> Result<Line, ShowFault> {
+    let mut text = String::new(alloc);
+    words.push_given(&mut text, given)?;
+    let constant = match &given.value {
+        Some(value) => value.constant,
+        None => None,
+    };
     Ok(Line {
-        condition: given.condition,
-        key,
-        text: text.finish()?,
+        condition,
+        key: String::new(alloc),
+        text,
         constant,
         is_expression: given.value.is_some() && constant.is_none(),
         string: match given.instruction {
@@ -128,17 +131,20 @@ fn lines_of(
     words: Words<'_, '_>,
     reading: &Reading,
     conditions: &[String],
-) -> Result<Vec<Line>, AllocError> {
+) -> Result<Vec<Line>, ShowFault> {
     let has_nothing = shape_of(words.attribute) == Shape::Value;
     let mut lines = Vec::with_capacity(alloc, reading.given.len())?;
     for given in &reading.given {
         if given.instruction == Instruction::End && !has_nothing {
             continue;
         }
-        let condition = conditions
-            .get(given.condition)
-            .map_or("", |condition| condition.as_str());
-        lines.push(line_of(alloc, words, condition, given)?)?;
+        let mut line = line_of(alloc, words, given.condition, given)?;
+        if let Some(condition) = conditions.get(given.condition) {
+            line.key.push_str(condition)?;
+        }
+        line.key.push('\n')?;
+        words.push_key(&mut line.key, given)?;
+        lines.push(line)?;
     }
     Ok(lines)
 }
@@ -147,7 +153,7 @@ fn content_of(
     alloc: Global,
     words: Words<'_, '_>,
     reading: &Reading,
-) -> Result<Content, AllocError> {
+) -> Result<Content, ShowFault> {
     let conditions = conditions_of(alloc, reading)?;
     let mut lines = lines_of(alloc, words, reading, conditions.as_slice())?;
     // The code of a DEFAULT comes before those of the cases.
@@ -158,7 +164,7 @@ fn content_of(
 }
 
 // What an attribute gives that isn't written.
-fn default_of(alloc: Global, text: &str, number: i64) -> Result<Content, AllocError> {
+fn default_of(alloc: Global, text: &str, number: i64) -> Result<Content, ShowFault> {
     let mut conditions = Vec::new(alloc);
     conditions.push(String::new(alloc))?;
     let mut lines = Vec::new(alloc);

@@ -1,7 +1,6 @@
 //! What the code of an attribute gives, and under which conditions.
 
 use crate::values::Value;
-use edd_display::Draft;
 use edd_instructions::Instruction;
 use std::alloc::{AllocError, Global};
 
@@ -47,30 +46,31 @@ impl Reading {
                 break;
             }
             chain.push(at)?;
-            at = self
-                .conditions
-                .get(at)
-                .map_or(ALWAYS, |condition| condition.around);
+            at = match self.conditions.get(at) {
+                Some(condition) => condition.around,
+                None => ALWAYS,
+            };
         }
         Ok(chain)
     }
 
     /// A condition as an expression, with those around it. The first is empty.
     pub fn condition(&self, alloc: Global, number: usize) -> Result<String, AllocError> {
-        let chain = self.chain(alloc, number)?;
-        let mut text = Draft::new(alloc);
-        for number in chain.iter().rev() {
-            let Some(condition) = self.conditions.get(*number) else {
-                break;
+        let mut chain = self.chain(alloc, number)?;
+        let mut text = String::new(alloc);
+        let is_alone = chain.len() == 1;
+        for _ in 0..chain.len() {
+            let Some(condition) = chain.pop().and_then(|number| self.conditions.get(number)) else {
+                return Ok(text);
             };
             if !text.is_empty() {
-                text.push(" && ");
+                text.push_str(" && ")?;
             }
             match &condition.alone {
-                Some(alone) if chain.len() == 1 => text.push(alone),
-                _ => text.push(&condition.test),
+                Some(alone) if is_alone => text.push_str(alone)?,
+                _ => text.push_str(&condition.test)?,
             }
         }
-        text.finish()
+        Ok(text)
     }
 }

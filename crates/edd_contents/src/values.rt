@@ -1,8 +1,8 @@
 //! The expressions of attributes, as a maker would write them.
 
-use edd_display::Draft;
 use edd_syntax::operators::{Comparison, Operator};
 use std::alloc::{AllocError, Global};
+use std::fmt::Write;
 
 /// The text of an expression, and its value where it is a number.
 #[derive(Drop)]
@@ -39,44 +39,48 @@ pub fn comparison_sign(comparison: Comparison) -> &'static str {
     }
 }
 
-// An expression that is no number.
-fn written(text: Draft, is_operand: bool) -> Result<Value, AllocError> {
-    Ok(Value {
-        text: text.finish()?,
-        constant: None,
-        is_operand,
-    })
-}
-
 pub fn number(alloc: Global, number: i64) -> Result<Value, AllocError> {
+    let mut text = String::new(alloc);
+    if write!(text, "{number}").is_err() {
+        return Err(AllocError);
+    }
     Ok(Value {
-        text: format!(in alloc; "{number}")?,
+        text,
         constant: Some(number),
         is_operand: true,
     })
 }
 
-/// What stands beside an operator without parentheses, as the name of a variable.
-pub fn operand(alloc: Global, of: &str) -> Result<Value, AllocError> {
-    let mut text = Draft::new(alloc);
-    text.push(of);
-    written(text, true)
+/// A variable by its name.
+pub fn named(alloc: Global, name: &str) -> Result<Value, AllocError> {
+    Ok(Value {
+        text: String::from_str(alloc, name)?,
+        constant: None,
+        is_operand: true,
+    })
 }
 
 /// The element of an array.
 pub fn element(alloc: Global, array: &str, index: &Value) -> Result<Value, AllocError> {
-    let mut text = Draft::new(alloc);
-    write!(text, "{array}[{}]", index.text.as_str());
-    written(text, true)
+    let mut text = String::from_str(alloc, array)?;
+    text.push('[')?;
+    text.push_str(&index.text)?;
+    text.push(']')?;
+    Ok(Value {
+        text,
+        constant: None,
+        is_operand: true,
+    })
 }
 
 /// Appends an expression as it stands beside an operator.
-pub fn push_operand(text: &mut Draft, of: &Value) {
+pub fn push_operand(text: &mut String, of: &Value) -> Result<(), AllocError> {
     if of.is_operand {
-        text.push(&of.text);
-    } else {
-        write!(text, "({})", of.text.as_str());
+        return text.push_str(&of.text);
     }
+    text.push('(')?;
+    text.push_str(&of.text)?;
+    text.push(')')
 }
 
 // The value of an operator before a number.
@@ -108,10 +112,14 @@ pub fn unary(alloc: Global, sign: char, of: &Value) -> Result<Value, AllocError>
     if let Some(constant) = of.constant.and_then(|of| value_of_one(sign, of)) {
         return number(alloc, constant);
     }
-    let mut text = Draft::new(alloc);
-    write!(text, "{sign}");
-    push_operand(&mut text, of);
-    written(text, true)
+    let mut text = String::new(alloc);
+    text.push(sign)?;
+    push_operand(&mut text, of)?;
+    Ok(Value {
+        text,
+        constant: None,
+        is_operand: true,
+    })
 }
 
 /// An operator between two operands; of numbers it is a number.
@@ -126,11 +134,17 @@ pub fn binary(
             return number(alloc, constant);
         }
     }
-    let mut text = Draft::new(alloc);
-    push_operand(&mut text, left);
-    write!(text, " {sign} ");
-    push_operand(&mut text, right);
-    written(text, false)
+    let mut text = String::new(alloc);
+    push_operand(&mut text, left)?;
+    text.push(' ')?;
+    text.push_str(sign)?;
+    text.push(' ')?;
+    push_operand(&mut text, right)?;
+    Ok(Value {
+        text,
+        constant: None,
+        is_operand: false,
+    })
 }
 
 /// `test ? first : second`
@@ -140,19 +154,27 @@ pub fn choice(
     first: &Value,
     second: &Value,
 ) -> Result<Value, AllocError> {
-    let mut text = Draft::new(alloc);
-    push_operand(&mut text, test);
-    text.push(" ? ");
-    push_operand(&mut text, first);
-    text.push(" : ");
-    push_operand(&mut text, second);
-    written(text, false)
+    let mut text = String::new(alloc);
+    push_operand(&mut text, test)?;
+    text.push_str(" ? ")?;
+    push_operand(&mut text, first)?;
+    text.push_str(" : ")?;
+    push_operand(&mut text, second)?;
+    Ok(Value {
+        text,
+        constant: None,
+        is_operand: false,
+    })
 }
 
 /// An operand of `&&` or `||`, of which the code makes 0 or 1 by two negations.
 pub fn without_truth(alloc: Global, of: Value) -> Result<Value, AllocError> {
-    match of.text.strip_prefix("!!") {
-        Some(text) => operand(alloc, text),
+    match of.text.as_str().strip_prefix("!!") {
+        Some(text) => Ok(Value {
+            text: String::from_str(alloc, text)?,
+            constant: None,
+            is_operand: true,
+        }),
         None => Ok(of),
     }
 }

@@ -2,7 +2,6 @@
 //! a script sets, and what its methods do.
 #![tactic(auto)]
 
-mod drafts;
 mod fault;
 mod gaps;
 mod items;
@@ -15,7 +14,6 @@ mod rows;
 mod words;
 mod written;
 
-pub use drafts::{Draft, Printer};
 pub use fault::ShowFault;
 pub use items::show;
 pub use laws::{entries_stand_once, one_text_is_shown, quoted_texts_are_told_apart};

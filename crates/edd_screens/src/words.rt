@@ -6,9 +6,9 @@ ghost use Rattle.edd_machine.specs.Types.{types_in};
 use edd_instructions::Record;
 use edd_loader::{Image, Text};
 use edd_machine::Values;
-use edd_panel::{Found, of_variable, read};
+use edd_panel::{Found, read};
 use edd_syntax::answer::Trap;
-use edd_syntax::numbers::{Attr, AttrRef, ItemNo, StrNo, VarNo};
+use edd_syntax::numbers::{Attr, AttrRef, ItemNo, StrNo};
 use std::alloc::{AllocError, Global};
 
 /// Words on a screen.
@@ -34,19 +34,6 @@ impl<'i, 'b> Page<'i, 'b> {
         self.image.text(string, self.language)
     }
 
-    /// What an attribute of a variable gives.
-    pub(crate) fn read(
-        &self,
-        alloc: Global,
-        values: &Values,
-        variable: VarNo,
-        attr: Attr,
-    ) -> Result<Found, AllocError>
-        requires { AreDeviceValues (types_in self.now.image.now) values.now.numbers.items }
-    {
-        read(alloc, self.image, of_variable(variable, attr), values)
-    }
-
     /// The text that an attribute gives.
     pub fn words(
         &self,
@@ -66,14 +53,12 @@ impl<'i, 'b> Page<'i, 'b> {
 
     fn first_words(&self, records: &[Record]) -> Option<Words<'b>> {
         match records {
-            [Record::Words(string), ..] => self.words_of(Some(*string)),
+            [Record::Words(string), ..] => match self.text(*string) {
+                Some(text) => Some(Words::Text(text)),
+                None => None,
+            },
             _ => None,
         }
-    }
-
-    // The words of a string, where there is one.
-    fn words_of(&self, string: Option<StrNo>) -> Option<Words<'b>> {
-        Some(Words::Text(self.text(string?)?))
     }
 
     /// What an item is called: as its collection has it, else by its LABEL, else by its name.
@@ -86,8 +71,10 @@ impl<'i, 'b> Page<'i, 'b> {
     ) -> Result<Words<'b>, AllocError>
         requires { AreDeviceValues (types_in self.now.image.now) values.now.numbers.items }
     {
-        if let Some(words) = self.words_of(own) {
-            return Ok(words);
+        if let Some(string) = own
+            && let Some(text) = self.text(string)
+        {
+            return Ok(Words::Text(text));
         }
         match self.words(alloc, values, item, Attr::Label)? {
             Some(words) => Ok(words),
@@ -105,9 +92,11 @@ impl<'i, 'b> Page<'i, 'b> {
     ) -> Result<Option<Words<'b>>, AllocError>
         requires { AreDeviceValues (types_in self.now.image.now) values.now.numbers.items }
     {
-        match self.words_of(own) {
-            Some(words) => Ok(Some(words)),
-            None => self.words(alloc, values, item, Attr::Help),
+        if let Some(string) = own
+            && let Some(text) = self.text(string)
+        {
+            return Ok(Some(Words::Text(text)));
         }
+        self.words(alloc, values, item, Attr::Help)
     }
 }
