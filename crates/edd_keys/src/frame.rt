@@ -2,7 +2,8 @@
 
 use crate::widths::{columns_of, width_of};
 use crate::window::Window;
-use std::alloc::AllocError;
+use edd_sinks::TextSink;
+use std::alloc::{AllocError, Global};
 
 /// Puts the cursor at the first row.
 const HOME: &str = "\x1b[H";
@@ -30,46 +31,44 @@ pub struct Frame<'a> {
 }
 
 // As much of a text as so many columns take.
-fn push_cut(screen: &mut String, text: &str, columns: usize) -> Result<(), AllocError> {
+fn push_cut(screen: &mut TextSink, text: &str, columns: usize) {
     let mut left = columns;
     for character in text.chars() {
         let Some(rest) = left.checked_sub(width_of(character)) else {
-            return Ok(());
+            return;
         };
         left = rest;
-        screen.push(character)?;
+        screen.push(character);
     }
-    Ok(())
 }
 
 // The end of a text, as much as so many columns take.
-fn push_end(screen: &mut String, text: &str, columns: usize) -> Result<(), AllocError> {
+fn push_end(screen: &mut TextSink, text: &str, columns: usize) {
     let mut over = columns_of(text).saturating_sub(columns);
     for character in text.chars() {
         if over > 0 {
             over = over.saturating_sub(width_of(character));
         } else {
-            screen.push(character)?;
+            screen.push(character);
         }
     }
-    Ok(())
 }
 
-fn push_row(screen: &mut String, text: &str, columns: usize) -> Result<(), AllocError> {
-    screen.push_str(CLEAR_ROW)?;
-    push_cut(screen, text, columns)?;
-    screen.push('\n')
+fn push_row(screen: &mut TextSink, text: &str, columns: usize) {
+    screen.push_str(CLEAR_ROW);
+    push_cut(screen, text, columns);
+    screen.push('\n');
 }
 
-fn push_selected(screen: &mut String, text: &str, columns: usize) -> Result<(), AllocError> {
-    screen.push_str(CLEAR_ROW)?;
-    screen.push_str(REVERSE)?;
-    push_cut(screen, text, columns)?;
-    screen.push_str(PLAIN)?;
-    screen.push('\n')
+fn push_selected(screen: &mut TextSink, text: &str, columns: usize) {
+    screen.push_str(CLEAR_ROW);
+    screen.push_str(REVERSE);
+    push_cut(screen, text, columns);
+    screen.push_str(PLAIN);
+    screen.push('\n');
 }
 
-fn push_window(screen: &mut String, frame: &Frame<'_>) -> Result<(), AllocError> {
+fn push_window(screen: &mut TextSink, frame: &Frame<'_>) {
     let window = frame.window;
     for (place, line) in frame
         .rows
@@ -79,33 +78,34 @@ fn push_window(screen: &mut String, frame: &Frame<'_>) -> Result<(), AllocError>
         .take(window.height)
     {
         if window.selected == Some(place) {
-            push_selected(screen, line, frame.columns)?;
+            push_selected(screen, line, frame.columns);
         } else {
-            push_row(screen, line, frame.columns)?;
+            push_row(screen, line, frame.columns);
         }
     }
-    Ok(())
 }
 
 // The row that asks. Its last column stays free, for the cursor.
-fn push_prompt(screen: &mut String, frame: &Frame<'_>) -> Result<(), AllocError> {
+fn push_prompt(screen: &mut TextSink, frame: &Frame<'_>) {
     let columns = frame.columns.saturating_sub(1);
-    screen.push_str(CLEAR_ROW)?;
-    push_cut(screen, frame.prompt, columns)?;
+    screen.push_str(CLEAR_ROW);
+    push_cut(screen, frame.prompt, columns);
     let left = columns.saturating_sub(columns_of(frame.prompt));
     if left > 0 {
-        screen.push(' ')?;
+        screen.push(' ');
     }
-    push_end(screen, frame.typed, left.saturating_sub(1))
+    push_end(screen, frame.typed, left.saturating_sub(1));
 }
 
-/// Appends what draws a screen over the one that is there.
-pub fn push_frame(screen: &mut String, frame: &Frame<'_>) -> Result<(), AllocError> {
-    screen.push_str(HOME)?;
-    push_window(screen, frame)?;
+/// What draws a screen over the one that is there.
+pub fn drawn(alloc: Global, frame: &Frame<'_>) -> Result<String, AllocError> {
+    let mut screen = TextSink::new(alloc);
+    screen.push_str(HOME);
+    push_window(&mut screen, frame);
     for line in frame.told.lines() {
-        push_row(screen, line, frame.columns)?;
+        push_row(&mut screen, line, frame.columns);
     }
-    push_prompt(screen, frame)?;
-    screen.push_str(CLEAR_BELOW)
+    push_prompt(&mut screen, frame);
+    screen.push_str(CLEAR_BELOW);
+    screen.finish()
 }

@@ -1,6 +1,6 @@
 //! The keys that mean something, and what else a terminal says.
 
-#[derive(Clone, Copy, PartialEq, Eq, Debug)]
+#[derive(Clone, Copy)]
 pub enum Key {
     Up,
     Down,

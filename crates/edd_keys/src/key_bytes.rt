@@ -5,7 +5,7 @@ use crate::key::Key;
 const ESCAPE: u8 = 0x1b;
 
 /// What a byte makes, with those before it.
-#[derive(Clone, Copy, PartialEq, Eq, Debug)]
+#[derive(Clone, Copy)]
 pub enum Taken {
     /// No key, or none yet.
     Nothing,

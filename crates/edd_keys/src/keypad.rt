@@ -51,18 +51,13 @@ fn with_changed(bits: i64, number: i64) -> i64 {
 // The line that is selected where one was: that which is about the same, or else the next one.
 fn select_again(offers: &[Option<Offer>], line: usize, was: Option<Offer>) -> Option<usize> {
     if let Some(was) = was {
-        let is_same = match selected_offer(offers, Some(line)) {
-            Some(offer) => offer.about == was.about,
-            None => false,
-        };
+        let now = selected_offer(offers, Some(line));
+        let is_same = matches!(now, Some(now) if now.about == was.about);
         if !is_same && let Some(line) = with_about(offers, was.about) {
             return Some(line);
         }
     }
-    match at_or_after(offers, line) {
-        Some(line) => Some(line),
-        None => at_or_before(offers, line),
-    }
+    at_or_after(offers, line).or(at_or_before(offers, line))
 }
 
 // The line that is selected of those that can be.

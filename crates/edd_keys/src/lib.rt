@@ -14,7 +14,7 @@ mod widths;
 mod window;
 
 pub use act::Act;
-pub use frame::{Frame, push_frame};
+pub use frame::{Frame, drawn};
 pub use key::Key;
 pub use key_bytes::{KeyBytes, Taken};
 pub use keypad::Keypad;

@@ -54,11 +54,5 @@ pub fn with_about(offers: &[Option<Offer>], about: i64) -> Option<usize> {
 pub fn selected_offer(offers: &[Option<Offer>], selected: Option<usize>) -> Option<Offer>
     ensures { result ≡ offer_at offers.now selected }
 {
-    match selected {
-        Some(line) => match offers.get(line) {
-            Some(offer) => *offer,
-            None => None,
-        },
-        None => None,
-    }
+    *offers.get(selected?)?
 }

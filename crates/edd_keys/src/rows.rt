@@ -2,6 +2,7 @@
 
 use crate::shown::Offer;
 use crate::widths::{columns_of, width_of};
+use edd_sinks::{ListSink, TextSink};
 use std::alloc::{AllocError, Global};
 
 /// Rows, and what each offers, if it offers something.
@@ -14,52 +15,51 @@ pub struct Rows {
 // Rows that are made, and how many columns are left of the last one.
 #[derive(Drop)]
 struct Folding {
-    rows: Rows,
+    text: TextSink,
+    offers: ListSink<Option<Offer>>,
     columns: usize,
     left: usize,
 }
 
 impl Folding {
-    fn end_row(&mut self, offer: Option<Offer>) -> Result<(), AllocError> {
-        self.rows.text.push('\n')?;
-        self.rows.offers.push(offer)?;
+    fn end_row(&mut self, offer: Option<Offer>) {
+        self.text.push('\n');
+        self.offers.push(offer);
         self.left = self.columns;
-        Ok(())
     }
 
     // A word that is longer than a row goes on in the next one.
-    fn add_word(&mut self, word: &str) -> Result<(), AllocError> {
+    fn add_word(&mut self, word: &str) {
         for character in word.chars() {
             let width = width_of(character);
             if width > self.left {
-                self.end_row(None)?;
+                self.end_row(None);
             }
-            self.rows.text.push(character)?;
+            self.text.push(character);
             self.left = self.left.saturating_sub(width);
         }
-        Ok(())
     }
 
     // The space before a word, or the end of the row where the word has no room there.
-    fn add_space(&mut self, word: &str) -> Result<(), AllocError> {
+    fn add_space(&mut self, word: &str) {
         if self.left <= columns_of(word) {
-            return self.end_row(None);
+            self.end_row(None);
+            return;
         }
-        self.rows.text.push(' ')?;
+        self.text.push(' ');
         self.left = self.left.saturating_sub(1);
-        Ok(())
     }
 
-    fn add_line(&mut self, line: &str) -> Result<(), AllocError> {
+    fn add_line(&mut self, line: &str) {
         let mut is_first = true;
         for word in line.split(' ') {
             if !is_first {
-                self.add_space(word)?;
+                self.add_space(word);
             }
             is_first = false;
-            self.add_word(word)?;
+            self.add_word(word);
         }
-        self.end_row(None)
+        self.end_row(None);
     }
 }
 
@@ -71,23 +71,23 @@ pub fn fold(
     offers: &[Option<Offer>],
     columns: usize,
 ) -> Result<Rows, AllocError> {
-    let rows = Rows {
-        text: String::new(alloc),
-        offers: Vec::new(alloc),
-    };
     let mut folding = Folding {
-        rows,
+        text: TextSink::new(alloc),
+        offers: ListSink::new(alloc),
         columns,
         left: columns,
     };
     for (place, line) in lines.lines().enumerate() {
         match offers.get(place) {
             Some(Some(offer)) => {
-                folding.rows.text.push_str(line)?;
-                folding.end_row(Some(*offer))?;
+                folding.text.push_str(line);
+                folding.end_row(Some(*offer));
             }
-            _ => folding.add_line(line)?,
+            _ => folding.add_line(line),
         }
     }
-    Ok(folding.rows)
+    Ok(Rows {
+        text: folding.text.finish()?,
+        offers: folding.offers.finish()?,
+    })
 }

@@ -1,7 +1,7 @@
 //! What is shown, as far as keys are about it.
 
 /// What the keys are for.
-#[derive(Clone, Copy, PartialEq, Eq, Debug)]
+#[derive(Clone, Copy, PartialEq, Eq)]
 pub enum Stage {
     /// An entry is opened.
     Menu,
@@ -16,7 +16,7 @@ pub enum Stage {
 }
 
 /// What a line offers.
-#[derive(Clone, Copy, PartialEq, Eq, Debug)]
+#[derive(Clone, Copy)]
 pub struct Offer {
     /// The number of an entry or of a choice, or a value.
     pub number: i64,

@@ -4,7 +4,7 @@ ghost use Rattle.std.specs.Prelude.{IfSome, ◌<◌};
 ghost use Rattle.edd_keys.specs.Windows.{Holds};
 
 /// The lines that are seen, from the first on, and the one that is selected, if one is.
-#[derive(Clone, Copy, PartialEq, Eq, Debug)]
+#[derive(Clone, Copy)]
 pub struct Window {
     pub first: usize,
     pub height: usize,

@@ -10,6 +10,7 @@ mod sheets;
 mod texts;
 mod views;
 
+pub use edd_sinks::TextSink;
 pub use numbers::{push_content, push_number};
 pub use offers::{Offers, offers_of};
 pub use records::{push_answer, push_done, push_set, push_start};

@@ -3,8 +3,8 @@
 use crate::texts::{push_fault, push_text};
 use edd_loader::Text;
 use edd_screens::{Content, Format, Radix};
-use std::alloc::{AllocError, Global};
-use std::fmt::Write as _;
+use edd_sinks::TextSink;
+use std::alloc::AllocError;
 
 // How many numbers a variable of so many octets tells apart.
 fn modulus(size: u8) -> i64 {
@@ -16,97 +16,76 @@ fn modulus(size: u8) -> i64 {
     }
 }
 
-fn write_digits(digits: &mut String, radix: Radix, number: i64) -> Result<(), AllocError> {
-    let written = match radix {
-        Radix::Decimal | Radix::Unsigned => write!(digits, "{number}"),
-        Radix::Octal => write!(digits, "{number:o}"),
-        Radix::Hexadecimal => write!(digits, "{number:x}"),
-        Radix::UpperHexadecimal => write!(digits, "{number:X}"),
-    };
-    if written.is_err() {
-        return Err(AllocError);
+fn push_digits(line: &mut TextSink, radix: Radix, number: i64) {
+    match radix {
+        Radix::Decimal | Radix::Unsigned => write!(line, "{number}"),
+        Radix::Octal => write!(line, "{number:o}"),
+        Radix::Hexadecimal => write!(line, "{number:x}"),
+        Radix::UpperHexadecimal => write!(line, "{number:X}"),
     }
-    Ok(())
 }
 
-fn fill(line: &mut String, character: char, count: usize) -> Result<(), AllocError> {
+/// Appends a character so often.
+pub fn push_often(line: &mut TextSink, character: char, count: usize) {
     for _ in 0..count {
-        line.push(character)?;
+        line.push(character);
     }
-    Ok(())
 }
 
-/// Appends as many spaces.
-pub fn push_spaces(line: &mut String, count: usize) -> Result<(), AllocError> {
-    fill(line, ' ', count)
+// Appends the digits of a number, filled up as its format says; zeros stand behind its sign.
+fn push_filled(line: &mut TextSink, digits: &str, format: Format) {
+    let missing = usize::from(format.width).saturating_sub(digits.len());
+    if !format.zeros {
+        push_often(line, ' ', missing);
+        line.push_str(digits);
+        return;
+    }
+    let unsigned = digits.strip_prefix('-');
+    if unsigned.is_some() {
+        line.push('-');
+    }
+    push_often(line, '0', missing);
+    line.push_str(unsigned.unwrap_or(digits));
 }
 
 /// Appends a number of a variable of this size in a format.
-pub fn push_number(
-    alloc: Global,
-    line: &mut String,
-    number: i64,
-    size: u8,
-    format: Format,
-) -> Result<(), AllocError> {
+pub fn push_number(line: &mut TextSink, number: i64, size: u8, format: Format) {
     let shown = if number < 0 && !matches!(format.radix, Radix::Decimal) {
         number.wrapping_add(modulus(size))
     } else {
         number
     };
-    let mut digits = String::new(alloc);
-    write_digits(&mut digits, format.radix, shown)?;
-    let missing = usize::from(format.width).saturating_sub(digits.len());
-    if !format.zeros {
-        fill(line, ' ', missing)?;
-        return line.push_str(&digits);
+    let mut digits = TextSink::new(line.alloc);
+    push_digits(&mut digits, format.radix, shown);
+    match digits.finish() {
+        Ok(digits) => push_filled(line, &digits, format),
+        Err(AllocError) => line.refuse(),
     }
-    match digits.as_str().strip_prefix('-') {
-        Some(rest) => {
-            line.push('-')?;
-            fill(line, '0', missing)?;
-            line.push_str(rest)
-        }
-        None => {
-            fill(line, '0', missing)?;
-            line.push_str(&digits)
-        }
-    }
-}
-
-/// Appends a decimal number.
-pub fn push_decimal(line: &mut String, number: i64) -> Result<(), AllocError> {
-    write_digits(line, Radix::Decimal, number)
 }
 
 // The number of the bits, and the labels of those that are set.
-fn push_bits(line: &mut String, number: i64, labels: &[Text<'_>]) -> Result<(), AllocError> {
-    push_decimal(line, number)?;
+fn push_bits(line: &mut TextSink, number: i64, labels: &[Text<'_>]) {
+    write!(line, "{number}");
     let mut between = " ";
     for label in labels {
-        line.push_str(between)?;
-        push_text(line, *label)?;
+        line.push_str(between);
+        push_text(line, *label);
         between = ", ";
     }
-    Ok(())
 }
 
 /// Appends a value.
-pub fn push_content(
-    alloc: Global,
-    line: &mut String,
-    content: &Content<'_>,
-) -> Result<(), AllocError> {
+pub fn push_content(line: &mut TextSink, content: &Content<'_>) {
     match content {
         Content::Nothing => line.push('-'),
         Content::Number {
             number,
             size,
             format,
-        } => push_number(alloc, line, *number, *size, *format),
+        } => push_number(line, *number, *size, *format),
         Content::Named { number, label } => match label {
             Some(label) => push_text(line, *label),
-            None => push_decimal(line, *number),
+            None => write!(line, "{number}"),
         },
         Content::Bits { number, labels } => push_bits(line, *number, labels),
         Content::Fault(trap) => push_fault(line, *trap),

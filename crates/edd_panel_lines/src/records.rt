@@ -1,6 +1,5 @@
 //! What was set and answered, as the lines of a script.
 
-use crate::numbers::push_decimal;
 use edd_loader::Image;
 use edd_machine::Values;
 use edd_panel::Happened;
@@ -8,9 +7,8 @@ use edd_syntax::answer::Answer;
 use edd_syntax::numbers::{ItemNo, VarNo};
 use std::alloc::AllocError;
 
-// The name of a variable.
-fn push_name(script: &mut String, image: &Image<'_>, variable: VarNo) -> Result<(), AllocError> {
-    script.push_str(image.name(ItemNo::Variable(variable)).unwrap_or(""))
+fn name_of<'b>(image: &Image<'b>, variable: VarNo) -> &'b str {
+    image.name(ItemNo::Variable(variable)).unwrap_or("")
 }
 
 /// Appends the line that sets a variable.
@@ -20,25 +18,8 @@ pub fn push_set(
     variable: VarNo,
     number: i64,
 ) -> Result<(), AllocError> {
-    script.push_str("set ")?;
-    push_name(script, image, variable)?;
-    script.push(' ')?;
-    push_decimal(script, number)?;
-    script.push('\n')
-}
-
-fn push_sets(
-    script: &mut String,
-    image: &Image<'_>,
-    sets: &[(VarNo, i64)],
-) -> Result<(), AllocError> {
-    for set in sets {
-        script.push(' ')?;
-        push_name(script, image, set.0)?;
-        script.push('=')?;
-        push_decimal(script, set.1)?;
-    }
-    Ok(())
+    let name = name_of(image, variable);
+    write!(script, "set {name} {number}\n")
 }
 
 /// Appends the line of an answer.
@@ -47,13 +28,13 @@ pub fn push_answer(
     image: &Image<'_>,
     answer: &Answer,
 ) -> Result<(), AllocError> {
-    match answer {
-        Answer::Go { code, sets } => {
-            script.push_str("answer ")?;
-            push_decimal(script, i64::from(*code))?;
-            push_sets(script, image, sets)?;
-        }
-        Answer::Abort => script.push_str("abort")?,
+    let Answer::Go { code, sets } = answer else {
+        return script.push_str("abort\n");
+    };
+    write!(script, "answer {code}")?;
+    for (variable, number) in sets {
+        let name = name_of(image, *variable);
+        write!(script, " {name}={number}")?;
     }
     script.push('\n')
 }

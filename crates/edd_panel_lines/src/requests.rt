@@ -1,77 +1,55 @@
 //! The lines of a method's requests.
 
-use crate::numbers::push_decimal;
 use crate::texts::{push_escaped, push_text};
 use edd_instructions::{Request, RequestArgument, Wanted};
 use edd_panel::text_of_choices;
 use edd_screens::Page;
+use edd_sinks::TextSink;
 use edd_syntax::numbers::StrNo;
-use std::alloc::AllocError;
-
-fn push_string(lines: &mut String, page: &Page<'_, '_>, string: StrNo) -> Result<(), AllocError> {
-    match page.text(string) {
-        Some(text) => push_text(lines, text),
-        None => Ok(()),
-    }
-}
 
 /// Appends the choices, numbered from 1.
-pub fn push_choices(
-    lines: &mut String,
-    page: &Page<'_, '_>,
-    choices: StrNo,
-) -> Result<(), AllocError> {
+pub fn push_choices(lines: &mut TextSink, page: &Page<'_, '_>, choices: StrNo) {
     let mut number = 0i64;
     for choice in text_of_choices(page.image, choices, page.language).split(';') {
         number = number.saturating_add(1);
-        lines.push_str("  ")?;
-        push_decimal(lines, number)?;
-        lines.push(' ')?;
-        push_escaped(lines, choice.trim())?;
-        lines.push('\n')?;
+        write!(lines, "  {number} ");
+        push_escaped(lines, choice.trim());
+        lines.push('\n');
     }
-    Ok(())
 }
 
 // The name of a request, and its numbers.
-fn push_command(lines: &mut String, request: Request) -> Result<(), AllocError> {
-    lines.push_str(request.kind().name())?;
+fn push_command(lines: &mut TextSink, request: Request) {
+    lines.push_str(request.kind().name());
     let arguments = request.arguments();
     for argument in &arguments {
         if let RequestArgument::Number(number) = argument {
-            lines.push(' ')?;
-            push_decimal(lines, i64::from(*number))?;
+            write!(lines, " {number}");
         }
     }
-    lines.push('\n')
+    lines.push('\n');
 }
 
 // What a request shows: its first text, after the time for which it is shown.
-fn push_shown(lines: &mut String, page: &Page<'_, '_>, request: Request) -> Result<(), AllocError> {
+fn push_shown(lines: &mut TextSink, page: &Page<'_, '_>, request: Request) {
     let arguments = request.arguments();
     for argument in &arguments {
         match *argument {
-            RequestArgument::Number(time) => {
-                lines.push_str("wait ")?;
-                push_decimal(lines, i64::from(time))?;
-                lines.push_str(": ")?;
-            }
+            RequestArgument::Number(time) => write!(lines, "wait {time}: "),
             RequestArgument::Text(text) => {
-                push_string(lines, page, text)?;
+                if let Some(text) = page.text(text) {
+                    push_text(lines, text);
+                }
                 break;
             }
             RequestArgument::Variable(_) => {}
         }
     }
-    lines.push('\n')
+    lines.push('\n');
 }
 
 /// Appends the line of a request, without what can be chosen.
-pub fn push_question(
-    lines: &mut String,
-    page: &Page<'_, '_>,
-    request: Request,
-) -> Result<(), AllocError> {
+pub fn push_question(lines: &mut TextSink, page: &Page<'_, '_>, request: Request) {
     match request.wanted() {
         Wanted::Code => push_command(lines, request),
         Wanted::Nothing | Wanted::Value(_) | Wanted::Choice(_) => push_shown(lines, page, request),
@@ -80,15 +58,10 @@ pub fn push_question(
 
 /// Appends the lines of a request. Those of the variable that GET_DEV_VAR_VALUE asks for are not
 /// among them.
-pub fn push_request(
-    lines: &mut String,
-    page: &Page<'_, '_>,
-    request: Request,
-) -> Result<(), AllocError> {
-    push_question(lines, page, request)?;
-    match request.wanted() {
-        Wanted::Choice(choices) => push_choices(lines, page, choices),
-        Wanted::Nothing | Wanted::Value(_) | Wanted::Code => Ok(()),
+pub fn push_request(lines: &mut TextSink, page: &Page<'_, '_>, request: Request) {
+    push_question(lines, page, request);
+    if let Wanted::Choice(choices) = request.wanted() {
+        push_choices(lines, page, choices);
     }
 }
 

@@ -9,7 +9,8 @@ use edd_image::VarKind;
 use edd_instructions::Record;
 use edd_loader::Text;
 use edd_machine::Values;
-use edd_panel::{Found, bits_of, first_number, is_enumerator, of_variable, read, value_of};
+use edd_panel::{Found, bits_of, first_number, is_enumerator, value_of};
+use edd_sinks::ListSink;
 use edd_syntax::answer::Trap;
 use edd_syntax::numbers::{Attr, VarNo};
 use edd_syntax::types::VarType;
@@ -61,16 +62,16 @@ fn labels_of<'b>(
     records: &[Record],
     number: i64,
 ) -> Result<Vec<Text<'b>>, AllocError> {
-    let mut labels = Vec::new(alloc);
+    let mut labels = ListSink::new(alloc);
     for item in records {
         if let Record::Enumerator { value, text, .. } = item
             && bits_of(*value) & bits_of(number) != 0
             && let Some(label) = page.text(*text)
         {
-            labels.push(label)?;
+            labels.push(label);
         }
     }
-    Ok(labels)
+    labels.finish()
 }
 
 fn content_by<'b>(
@@ -98,12 +99,8 @@ fn content_by<'b>(
     }
 }
 
-/// The format that an attribute of a variable says.
-pub fn read_format(page: &Page<'_, '_>, found: &Found) -> Format {
-    let Found::Records(records) = found else {
-        return PLAIN;
-    };
-    match records.as_slice() {
+fn format_by(page: &Page<'_, '_>, records: &[Record]) -> Format {
+    match records {
         [Record::Words(string), ..] => match page.text(*string) {
             Some(Text::Words(text)) => format_of(text),
             _ => PLAIN,
@@ -112,23 +109,20 @@ pub fn read_format(page: &Page<'_, '_>, found: &Found) -> Format {
     }
 }
 
-// The value under a format and enumerators that were read.
-fn content_under<'b>(
+/// The format that an attribute of a variable says, or the trap that is in its place.
+pub fn read_format(
     alloc: Global,
-    page: &Page<'_, 'b>,
-    kind: VarKind,
-    number: i64,
-    format: &Found,
-    enumerators: &Found,
-) -> Result<Content<'b>, AllocError> {
-    if let Found::Trap(trap) = format {
-        return Ok(Content::Fault(*trap));
-    }
-    let format = read_format(page, format);
-    match enumerators {
-        Found::Records(records) => content_by(alloc, page, kind, number, format, records),
-        Found::Trap(trap) => Ok(Content::Fault(*trap)),
-        Found::Nothing => content_by(alloc, page, kind, number, format, &[]),
+    page: &Page<'_, '_>,
+    values: &Values,
+    variable: VarNo,
+    attr: Attr,
+) -> Result<Result<Format, Trap>, AllocError>
+    requires { AreDeviceValues (types_in page.now.image.now) values.now.numbers.items }
+{
+    match page.read(alloc, values, variable, attr)? {
+        Found::Records(records) => Ok(Ok(format_by(page, &records))),
+        Found::Trap(trap) => Ok(Err(trap)),
+        Found::Nothing => Ok(Ok(PLAIN)),
     }
 }
 
@@ -145,12 +139,7 @@ pub fn content_of<'b>(
     let Some(kind) = page.image.variable(variable) else {
         return Ok(Content::Nothing);
     };
-    match read(
-        alloc,
-        page.image,
-        of_variable(variable, Attr::Handling),
-        values,
-    )? {
+    match page.read(alloc, values, variable, Attr::Handling)? {
         Found::Trap(trap) => return Ok(Content::Fault(trap)),
         Found::Records(records) => {
             if first_number(&records) == Some(WRITE) {
@@ -159,13 +148,14 @@ pub fn content_of<'b>(
         }
         Found::Nothing => {}
     }
-    let format = read(alloc, page.image, of_variable(variable, format), values)?;
-    let enumerators = read(
-        alloc,
-        page.image,
-        of_variable(variable, Attr::Enumerators),
-        values,
-    )?;
+    let format = match read_format(alloc, page, values, variable, format)? {
+        Ok(format) => format,
+        Err(trap) => return Ok(Content::Fault(trap)),
+    };
     let number = value_of(values, variable);
-    content_under(alloc, page, kind, number, &format, &enumerators)
+    match page.read(alloc, values, variable, Attr::Enumerators)? {
+        Found::Records(records) => content_by(alloc, page, kind, number, format, &records),
+        Found::Trap(trap) => Ok(Content::Fault(trap)),
+        Found::Nothing => content_by(alloc, page, kind, number, format, &[]),
+    }
 }

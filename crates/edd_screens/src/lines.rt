@@ -5,9 +5,9 @@ ghost use Rattle.edd_machine.specs.Types.{types_in};
 
 use crate::meaning::{choice_meant, decimal, value_meant};
 use crate::words::Page;
-use edd_instructions::Request;
 use edd_machine::Values;
 use edd_panel::{Command, Field};
+use edd_syntax::numbers::StrNo;
 use std::alloc::{AllocError, Global};
 
 /// What a line asks for.
@@ -22,20 +22,14 @@ pub enum Line {
     Unknown,
 }
 
-/// What a number on a line stands for.
+/// What a text on a line stands for that is no word.
 #[derive(Clone, Copy)]
 pub enum Expected {
-    Entry,
+    /// An entry, or a code.
+    Number,
     Value(Field),
-    /// The method that runs asks this, or nothing.
-    Reply(Option<Request>),
-}
-
-fn of_number(number: Option<i64>) -> Line {
-    match number {
-        Some(number) => Line::Command(Command::Number(number)),
-        None => Line::Unknown,
-    }
+    /// One of these choices.
+    Choice(StrNo),
 }
 
 // A text that is no word.
@@ -48,24 +42,14 @@ fn of_text(
 ) -> Result<Line, AllocError>
     requires { AreDeviceValues (types_in page.now.image.now) values.now.numbers.items }
 {
-    match expected {
-        Expected::Entry => Ok(of_number(decimal(text))),
-        Expected::Value(field) => {
-            let number = value_meant(alloc, page, values, field, text)?;
-            Ok(of_number(number))
-        }
-        Expected::Reply(Some(Request::GetDevVarValue(_, variable))) => {
-            let field = Field {
-                variable,
-                read_only: false,
-            };
-            let number = value_meant(alloc, page, values, field, text)?;
-            Ok(of_number(number))
-        }
-        Expected::Reply(Some(Request::SelectFromList(_, choices))) => {
-            Ok(of_number(choice_meant(page, choices, text)))
-        }
-        Expected::Reply(_) => Ok(of_number(decimal(text))),
+    let number = match expected {
+        Expected::Number => decimal(text),
+        Expected::Value(field) => value_meant(alloc, page, values, field, text)?,
+        Expected::Choice(choices) => choice_meant(page, choices, text),
+    };
+    match number {
+        Some(number) => Ok(Line::Command(Command::Number(number))),
+        None => Ok(Line::Unknown),
     }
 }
 
@@ -76,13 +60,10 @@ fn help_of(text: &str) -> Option<Line> {
         return Some(Line::Help(None));
     }
     let number = rest.strip_prefix(' ')?;
-    match decimal(number.trim()) {
-        Some(number) => Some(Line::Help(Some(number))),
-        None => None,
-    }
+    Some(Line::Help(Some(decimal(number.trim())?)))
 }
 
-/// What a line asks for, where a number stands for this.
+/// What a line asks for, where a text stands for this.
 pub fn read_line(
     alloc: Global,
     page: &Page<'_, '_>,

@@ -9,7 +9,7 @@ use crate::sheets::{Choice, choices_of, edit_format};
 use crate::words::Page;
 use edd_loader::Text;
 use edd_machine::Values;
-use edd_panel::{Field, of_variable, read, text_of_choices, value_of};
+use edd_panel::{Field, text_of_choices, value_of};
 use edd_syntax::numbers::{Attr, StrNo};
 use edd_syntax::types::VarType;
 use std::alloc::{AllocError, Global};
@@ -90,10 +90,9 @@ pub fn value_meant(
     let Some(kind) = page.image.variable(field.variable) else {
         return Ok(None);
     };
-    let attr = of_variable(field.variable, Attr::Enumerators);
-    let enumerators = read(alloc, page.image, attr, values)?;
-    let choices = choices_of(alloc, page, &enumerators)?;
     let format = edit_format(alloc, page, values, field)?;
+    let enumerators = page.read(alloc, values, field.variable, Attr::Enumerators)?;
+    let choices = choices_of(alloc, page, &enumerators)?;
     let old = value_of(values, field.variable);
     if kind.var_type == VarType::BitEnumerated {
         return Ok(bits_meant(&choices, format.radix, old, text));

@@ -6,9 +6,8 @@ ghost use Rattle.edd_machine.specs.Types.{types_in};
 use crate::contents::{Content, content_of};
 use crate::words::{Page, Words};
 use edd_machine::Values;
-use edd_panel::{
-    Entry, Level, Listed, Place, handling_fault, list_entries, of_variable, read, shown_place,
-};
+use edd_panel::{Entry, Level, Listed, Place, handling_fault, list_entries, shown_place};
+use edd_sinks::ListSink;
 use edd_syntax::answer::Trap;
 use edd_syntax::numbers::{Attr, ItemNo, VarNo};
 use std::alloc::{AllocError, Global};
@@ -51,51 +50,27 @@ pub struct Screen<'b> {
     pub trap: Option<Trap>,
 }
 
-/// Whether a variable can't be changed through an entry.
-fn is_fixed(
-    alloc: Global,
-    page: &Page<'_, '_>,
-    values: &Values,
-    variable: VarNo,
-    read_only: bool,
-) -> Result<bool, AllocError>
-    requires { AreDeviceValues (types_in page.now.image.now) values.now.numbers.items }
-{
-    if read_only {
-        return Ok(true);
-    }
-    let handling = read(
-        alloc,
-        page.image,
-        of_variable(variable, Attr::Handling),
-        values,
-    )?;
-    Ok(handling_fault(&handling).is_some())
-}
-
-// Where an entry leads that is there.
-fn leads_to<'b>(
+// A variable to which an entry leads.
+fn leads_to_variable<'b>(
     alloc: Global,
     page: &Page<'_, 'b>,
     values: &Values,
-    item: ItemNo,
+    variable: VarNo,
     read_only: bool,
 ) -> Result<Leads<'b>, AllocError>
     requires { AreDeviceValues (types_in page.now.image.now) values.now.numbers.items }
 {
-    let ItemNo::Variable(variable) = item else {
-        return match item {
-            ItemNo::Method(_) => Ok(Leads::Method),
-            _ => Ok(Leads::Menu),
-        };
-    };
-    let content = content_of(alloc, page, values, variable, Attr::DisplayFormat)?;
-    let unit = page.words(alloc, values, item, Attr::ConstantUnit)?;
-    let read_only = is_fixed(alloc, page, values, variable, read_only)?;
+    let unit = page.words(
+        alloc,
+        values,
+        ItemNo::Variable(variable),
+        Attr::ConstantUnit,
+    )?;
+    let handling = page.read(alloc, values, variable, Attr::Handling)?;
     Ok(Leads::Variable {
-        content,
+        read_only: read_only || handling_fault(&handling).is_some(),
+        content: content_of(alloc, page, values, variable, Attr::DisplayFormat)?,
         unit,
-        read_only,
     })
 }
 
@@ -109,12 +84,14 @@ fn row_of<'b>(
     requires { AreDeviceValues (types_in page.now.image.now) values.now.numbers.items }
 {
     let label = page.label(alloc, values, entry.item, entry.label)?;
-    let leads = match entry.trap {
-        Some(trap) => Leads::Fault(trap),
-        None => {
+    let leads = match (entry.trap, entry.item) {
+        (Some(trap), _) => Leads::Fault(trap),
+        (None, ItemNo::Variable(variable)) => {
             let read_only = read_only || entry.is_read_only();
-            leads_to(alloc, page, values, entry.item, read_only)?
+            leads_to_variable(alloc, page, values, variable, read_only)?
         }
+        (None, ItemNo::Method(_)) => Leads::Method,
+        (None, _) => Leads::Menu,
     };
     Ok(Row::Entry {
         item: entry.item,
@@ -132,21 +109,21 @@ fn rows_of<'b>(
 ) -> Result<Vec<Row<'b>>, AllocError>
     requires { AreDeviceValues (types_in page.now.image.now) values.now.numbers.items }
 {
-    let mut rows = Vec::new(alloc);
+    let mut rows = ListSink::new(alloc);
     for line in lines {
         match line {
             Listed::Text(string) => {
                 if let Some(text) = page.text(*string) {
-                    rows.push(Row::Text(Words::Text(text)))?;
+                    rows.push(Row::Text(Words::Text(text)));
                 }
             }
             Listed::Entry(entry) => {
                 let row = row_of(alloc, page, values, *entry, read_only)?;
-                rows.push(row)?;
+                rows.push(row);
             }
         }
     }
-    Ok(rows)
+    rows.finish()
 }
 
 fn title_of<'b>(

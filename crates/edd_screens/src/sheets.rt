@@ -10,10 +10,8 @@ use edd_image::VarKind;
 use edd_instructions::Record;
 use edd_loader::Text;
 use edd_machine::Values;
-use edd_panel::{
-    EditFault, EditRules, Field, Found, bits_of, first_number, handling_fault, of_variable, read,
-    rules_of,
-};
+use edd_panel::{EditFault, Field, Found, bits_of, first_number, handling_fault, rules_of};
+use edd_sinks::ListSink;
 use edd_syntax::answer::Trap;
 use edd_syntax::numbers::{Attr, ItemNo};
 use std::alloc::{AllocError, Global};
@@ -60,14 +58,15 @@ impl Sheet<'_> {
         if !matches!(self.content, Content::Bits { .. }) {
             return Ok(());
         }
-        let mut labels = Vec::new(alloc);
+        let mut labels = ListSink::new(alloc);
         for choice in &self.choices {
             if bits_of(choice.value) & bits_of(number) != 0
                 && let Some(label) = choice.label
             {
-                labels.push(label)?;
+                labels.push(label);
             }
         }
+        let labels = labels.finish()?;
         self.content = Content::Bits { number, labels };
         Ok(())
     }
@@ -90,30 +89,20 @@ pub fn choices_of<'b>(
     page: &Page<'_, 'b>,
     enumerators: &Found,
 ) -> Result<Vec<Choice<'b>>, AllocError> {
-    let mut choices = Vec::new(alloc);
+    let mut choices = ListSink::new(alloc);
     let Found::Records(records) = enumerators else {
-        return Ok(choices);
+        return choices.finish();
     };
     for item in records {
         if let Record::Enumerator { value, text, help } = item {
             choices.push(Choice {
                 value: *value,
                 label: page.text(*text),
-                help: match help {
-                    Some(string) => page.text(*string),
-                    None => None,
-                },
-            })?;
+                help: help.and_then(|string| page.text(string)),
+            });
         }
     }
-    Ok(choices)
-}
-
-fn refusal_of(rules: &EditRules, read_only: bool) -> Option<EditFault> {
-    if read_only {
-        return Some(EditFault::ReadOnly);
-    }
-    handling_fault(&rules.handling)
+    choices.finish()
 }
 
 /// The format in which numbers for a variable are entered.
@@ -125,15 +114,8 @@ pub fn edit_format(
 ) -> Result<Format, AllocError>
     requires { AreDeviceValues (types_in page.now.image.now) values.now.numbers.items }
 {
-    match read(
-        alloc,
-        page.image,
-        of_variable(field.variable, Attr::EditFormat),
-        values,
-    )? {
-        Found::Trap(_) | Found::Nothing => Ok(PLAIN),
-        found => Ok(read_format(page, &found)),
-    }
+    let format = read_format(alloc, page, values, field.variable, Attr::EditFormat)?;
+    Ok(format.unwrap_or(PLAIN))
 }
 
 /// What is shown of a variable where it is edited. A method that asks for a value may set what
@@ -148,17 +130,13 @@ pub fn make_sheet<'b>(
     requires { AreDeviceValues (types_in page.now.image.now) values.now.numbers.items }
 {
     let item = ItemNo::Variable(field.variable);
-    let rules = rules_of(alloc, page.image, values, field.variable)?;
     let label = page.label(alloc, values, item, None)?;
     let help = page.help(alloc, values, item, None)?;
-    let content = content_of(alloc, page, values, field.variable, Attr::EditFormat)?;
     let unit = page.words(alloc, values, item, Attr::ConstantUnit)?;
     let format = edit_format(alloc, page, values, field)?;
+    let content = content_of(alloc, page, values, field.variable, Attr::EditFormat)?;
+    let rules = rules_of(alloc, page.image, values, field.variable)?;
     let choices = choices_of(alloc, page, &rules.enumerators)?;
-    let trap = match &rules.enumerators {
-        Found::Trap(trap) => Some(*trap),
-        _ => None,
-    };
     Ok(Sheet {
         label,
         help,
@@ -169,11 +147,14 @@ pub fn make_sheet<'b>(
         lowest: bound_of(&rules.lowest),
         highest: bound_of(&rules.highest),
         choices,
-        trap,
-        refused: if asked {
-            None
-        } else {
-            refusal_of(&rules, field.read_only)
+        trap: match &rules.enumerators {
+            Found::Trap(trap) => Some(*trap),
+            _ => None,
+        },
+        refused: match (asked, field.read_only) {
+            (true, _) => None,
+            (false, true) => Some(EditFault::ReadOnly),
+            (false, false) => handling_fault(&rules.handling),
         },
     })
 }

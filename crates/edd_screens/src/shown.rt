@@ -6,6 +6,7 @@ use crate::lines::{Expected, Line, read_line};
 use crate::screens::{Screen, make_screen};
 use crate::sheets::{Sheet, make_sheet};
 use crate::words::{Page, Words};
+use edd_instructions::Request;
 use edd_panel::{Field, Panel, list_entries};
 use edd_port::Turn;
 use edd_syntax::numbers::ItemNo;
@@ -39,31 +40,16 @@ pub fn sheet_of<'b>(
 
 /// What a line asks for where the user is.
 pub fn line_of(alloc: Global, panel: &Panel<'_, '_>, line: &str) -> Result<Line, AllocError> {
-    let expected = match panel.turn() {
-        Some(Turn::Asks(request)) => Expected::Reply(Some(request)),
-        Some(_) => Expected::Reply(None),
-        None => match panel.field() {
-            Some(field) => Expected::Value(field),
-            None => Expected::Entry,
-        },
+    let expected = match (panel.turn(), panel.field()) {
+        (Some(Turn::Asks(Request::GetDevVarValue(_, variable))), _) => Expected::Value(Field {
+            variable,
+            read_only: false,
+        }),
+        (Some(Turn::Asks(Request::SelectFromList(_, choices))), _) => Expected::Choice(choices),
+        (None, Some(field)) => Expected::Value(field),
+        _ => Expected::Number,
     };
     read_line(alloc, &page_of(panel), panel.values(), expected, line)
-}
-
-// The help of the variable that is open.
-fn help_of_field<'b>(
-    alloc: Global,
-    panel: &Panel<'_, 'b>,
-) -> Result<Option<Words<'b>>, AllocError> {
-    match panel.field() {
-        Some(field) => page_of(panel).help(
-            alloc,
-            panel.values(),
-            ItemNo::Variable(field.variable),
-            None,
-        ),
-        None => Ok(None),
-    }
 }
 
 /// The help of the entry of a number, or else of the variable that is open.
@@ -72,11 +58,14 @@ pub fn help_of<'b>(
     panel: &Panel<'_, 'b>,
     number: Option<i64>,
 ) -> Result<Option<Words<'b>>, AllocError> {
-    let Some(number) = number else {
-        return help_of_field(alloc, panel);
-    };
     let page = page_of(panel);
     let values = panel.values();
+    let Some(number) = number else {
+        return match panel.field() {
+            Some(field) => page.help(alloc, values, ItemNo::Variable(field.variable), None),
+            None => Ok(None),
+        };
+    };
     let listing = list_entries(alloc, page.image, values, panel.level().place)?;
     match listing.numbered(number) {
         Some(entry) => page.help(alloc, values, entry.item, entry.help),

@@ -6,9 +6,9 @@ ghost use Rattle.edd_machine.specs.Types.{types_in};
 use edd_instructions::Record;
 use edd_loader::{Image, Text};
 use edd_machine::Values;
-use edd_panel::{Found, read};
+use edd_panel::{Found, of_variable, read};
 use edd_syntax::answer::Trap;
-use edd_syntax::numbers::{Attr, AttrRef, ItemNo, StrNo};
+use edd_syntax::numbers::{Attr, AttrRef, ItemNo, StrNo, VarNo};
 use std::alloc::{AllocError, Global};
 
 /// Words on a screen.
@@ -34,6 +34,19 @@ impl<'i, 'b> Page<'i, 'b> {
         self.image.text(string, self.language)
     }
 
+    /// What an attribute of a variable gives.
+    pub(crate) fn read(
+        &self,
+        alloc: Global,
+        values: &Values,
+        variable: VarNo,
+        attr: Attr,
+    ) -> Result<Found, AllocError>
+        requires { AreDeviceValues (types_in self.now.image.now) values.now.numbers.items }
+    {
+        read(alloc, self.image, of_variable(variable, attr), values)
+    }
+
     /// The text that an attribute gives.
     pub fn words(
         &self,
@@ -53,12 +66,14 @@ impl<'i, 'b> Page<'i, 'b> {
 
     fn first_words(&self, records: &[Record]) -> Option<Words<'b>> {
         match records {
-            [Record::Words(string), ..] => match self.text(*string) {
-                Some(text) => Some(Words::Text(text)),
-                None => None,
-            },
+            [Record::Words(string), ..] => self.words_of(Some(*string)),
             _ => None,
         }
+    }
+
+    // The words of a string, where there is one.
+    fn words_of(&self, string: Option<StrNo>) -> Option<Words<'b>> {
+        Some(Words::Text(self.text(string?)?))
     }
 
     /// What an item is called: as its collection has it, else by its LABEL, else by its name.
@@ -71,10 +86,8 @@ impl<'i, 'b> Page<'i, 'b> {
     ) -> Result<Words<'b>, AllocError>
         requires { AreDeviceValues (types_in self.now.image.now) values.now.numbers.items }
     {
-        if let Some(string) = own
-            && let Some(text) = self.text(string)
-        {
-            return Ok(Words::Text(text));
+        if let Some(words) = self.words_of(own) {
+            return Ok(words);
         }
         match self.words(alloc, values, item, Attr::Label)? {
             Some(words) => Ok(words),
@@ -92,11 +105,9 @@ impl<'i, 'b> Page<'i, 'b> {
     ) -> Result<Option<Words<'b>>, AllocError>
         requires { AreDeviceValues (types_in self.now.image.now) values.now.numbers.items }
     {
-        if let Some(string) = own
-            && let Some(text) = self.text(string)
-        {
-            return Ok(Some(Words::Text(text)));
+        match self.words_of(own) {
+            Some(words) => Ok(Some(words)),
+            None => self.words(alloc, values, item, Attr::Help),
         }
-        self.words(alloc, values, item, Attr::Help)
     }
 }

@@ -13,6 +13,7 @@ use edd_panel_lines::{
 };
 use edd_port::Turn;
 use edd_screens::{Line, help_of, line_of};
+use edd_sinks::TextSink;
 use edd_syntax::answer::Answer;
 use std::alloc::Global;
 use std::io::{Read, Write};
@@ -52,12 +53,16 @@ pub enum Next {
     End,
 }
 
+// Prints lines that were gathered.
+fn print<W: Write>(lines: TextSink, out: &mut W) -> Result<(), SittingFault> {
+    print_text(out, &lines.finish()?)?;
+    Ok(())
+}
+
 // The next line, or nothing at the end. A line that is no text is one that means nothing.
 fn next_line<R: Read>(alloc: Global, input: &mut Lines<R>) -> Result<Option<String>, SittingFault> {
-    let line = match input.next(alloc) {
-        Ok(Some(line)) => line,
-        Ok(None) => return Ok(None),
-        Err(fault) => return Err(SittingFault::from(fault)),
+    let Some(line) = input.next(alloc)? else {
+        return Ok(None);
     };
     let text = str::from_utf8(&line).unwrap_or("\0");
     Ok(Some(String::from_str(alloc, text)?))
@@ -112,9 +117,9 @@ fn give<W: Write>(
     out: &mut W,
     noted: &mut String,
 ) -> Result<(), SittingFault> {
-    let mut lines = String::new(alloc);
-    push_asked(alloc, &mut lines, panel, request)?;
-    print_text(out, &lines)?;
+    let mut lines = TextSink::new(alloc);
+    push_asked(&mut lines, panel, request);
+    print(lines, out)?;
     if panel.answer(answer).is_ok() {
         push_answer(noted, panel.image(), answer)?;
     }
@@ -122,10 +127,9 @@ fn give<W: Write>(
 }
 
 fn show_end<W: Write>(alloc: Global, turn: Turn, out: &mut W) -> Result<(), SittingFault> {
-    let mut lines = String::new(alloc);
-    push_end(&mut lines, turn)?;
-    print_text(out, &lines)?;
-    Ok(())
+    let mut lines = TextSink::new(alloc);
+    push_end(&mut lines, turn);
+    print(lines, out)
 }
 
 // Aborts the method, whose device has no answer, and says why.
@@ -138,9 +142,9 @@ fn give_up<W: Write>(
     noted: &mut String,
 ) -> Result<(), SittingFault> {
     give(alloc, panel, request, &Answer::Abort, out, noted)?;
-    let line = format!(in alloc; "refused {why}\n")?;
-    print_text(out, &line)?;
-    Ok(())
+    let mut lines = TextSink::new(alloc);
+    write!(lines, "refused {why}\n");
+    print(lines, out)
 }
 
 /// Gives the pending request its answer, and says whether it needed no user.
@@ -195,13 +199,12 @@ fn show_happened<W: Write>(
     happened: &Happened,
     out: &mut W,
 ) -> Result<(), SittingFault> {
-    let mut lines = String::new(alloc);
+    let mut lines = TextSink::new(alloc);
     if let Happened::Edited(variable, number) = happened {
-        push_set(&mut lines, panel.image(), *variable, *number)?;
+        push_set(&mut lines.text, panel.image(), *variable, *number)?;
     }
-    push_happened(&mut lines, happened)?;
-    print_text(out, &lines)?;
-    Ok(())
+    push_happened(&mut lines, happened);
+    print(lines, out)
 }
 
 fn take<W: Write>(
@@ -235,10 +238,9 @@ fn show_help<W: Write>(
     out: &mut W,
 ) -> Result<(), SittingFault> {
     let help = help_of(alloc, panel, number)?;
-    let mut lines = String::new(alloc);
-    push_help(&mut lines, help)?;
-    print_text(out, &lines)?;
-    Ok(())
+    let mut lines = TextSink::new(alloc);
+    push_help(&mut lines, help);
+    print(lines, out)
 }
 
 /// Does what a line asks for.
@@ -250,40 +252,20 @@ pub fn follow<W: Write>(
     noted: &mut String,
 ) -> Result<Next, SittingFault> {
     match line {
-        Line::Command(command) => take(alloc, panel, command, out, noted),
-        Line::Help(number) => {
-            show_help(alloc, panel, number, out)?;
-            Ok(Next::Prompt)
-        }
-        Line::Commands => {
-            print_text(out, COMMANDS)?;
-            Ok(Next::Prompt)
-        }
-        Line::Quit => Ok(Next::End),
-        Line::Unknown => {
-            show_happened(alloc, panel, &Happened::Unknown, out)?;
-            Ok(Next::Prompt)
-        }
+        Line::Command(command) => return take(alloc, panel, command, out, noted),
+        Line::Help(number) => show_help(alloc, panel, number, out)?,
+        Line::Commands => print_text(out, COMMANDS)?,
+        Line::Quit => return Ok(Next::End),
+        Line::Unknown => show_happened(alloc, panel, &Happened::Unknown, out)?,
     }
-}
-
-fn take_line<W: Write>(
-    alloc: Global,
-    panel: &mut Panel<'_, '_>,
-    line: &str,
-    out: &mut W,
-    noted: &mut String,
-) -> Result<Next, SittingFault> {
-    let line = line_of(alloc, panel, line)?;
-    follow(alloc, panel, line, out, noted)
+    Ok(Next::Prompt)
 }
 
 // Shows where the user is.
 fn show<W: Write>(alloc: Global, panel: &Panel<'_, '_>, out: &mut W) -> Result<(), SittingFault> {
-    let mut lines = String::new(alloc);
-    push_view(alloc, &mut lines, panel)?;
-    print_text(out, &lines)?;
-    Ok(())
+    let mut lines = TextSink::new(alloc);
+    push_view(&mut lines, panel);
+    print(lines, out)
 }
 
 // Asks for a line and reads it.
@@ -292,21 +274,13 @@ fn ask<R: Read, W: Write>(
     panel: &Panel<'_, '_>,
     console: &mut Console<'_, R, W>,
 ) -> Result<Option<String>, SittingFault> {
-    let mut lines = String::from_str(alloc, prompt_of(panel))?;
-    lines.push('\n')?;
-    print_text(console.out, &lines)?;
+    let mut lines = TextSink::new(alloc);
+    write!(lines, "{}\n", prompt_of(panel));
+    print(lines, console.out)?;
     if console.out.flush().is_err() {
         return Err(SittingFault::Output);
     }
     next_line(alloc, &mut console.input)
-}
-
-// Aborts the method that asks.
-fn abort(panel: &mut Panel<'_, '_>, noted: &mut String) -> Result<(), SittingFault> {
-    if panel.answer(&Answer::Abort).is_ok() {
-        push_answer(noted, panel.image(), &Answer::Abort)?;
-    }
-    Ok(())
 }
 
 /// Aborts the method that asks, and each of its abort methods that does.
@@ -321,7 +295,9 @@ pub fn leave<W: Write>(
         if !matches!(panel.turn(), Some(Turn::Asks(_))) {
             return Ok(());
         }
-        abort(panel, noted)?;
+        if panel.answer(&Answer::Abort).is_ok() {
+            push_answer(noted, panel.image(), &Answer::Abort)?;
+        }
         if let Some(Turn::Asks(_)) = settle(alloc, panel, device, false, out, noted)? {
             show(alloc, panel, out)?;
         }
@@ -346,7 +322,10 @@ pub fn converse<R: Read, W: Write>(
             show(alloc, panel, console.out)?;
         }
         next = match ask(alloc, panel, console)? {
-            Some(line) => take_line(alloc, panel, &line, console.out, noted)?,
+            Some(line) => {
+                let line = line_of(alloc, panel, &line)?;
+                follow(alloc, panel, line, console.out, noted)?
+            }
             None => Next::End,
         };
         if matches!(next, Next::End) {

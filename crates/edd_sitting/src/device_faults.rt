@@ -3,11 +3,12 @@
 use edd_device::DeviceFault;
 use edd_display::trap_word;
 use edd_loader::Image;
+use edd_sinks::TextSink;
 use edd_syntax::numbers::ItemNo;
 use std::alloc::{AllocError, Global};
 
-fn name_in<'b>(image: &Image<'b>, item: ItemNo) -> &'b str {
-    image.name(item).unwrap_or("")
+fn push_name(text: &mut TextSink, image: &Image<'_>, item: ItemNo) {
+    write!(text, " {}", image.name(item).unwrap_or(""));
 }
 
 /// A fault of a device, with what it is about: a method of the device, or what the instrument has.
@@ -17,29 +18,26 @@ pub fn fault_text(
     device: &Image<'_>,
     fault: DeviceFault,
 ) -> Result<String, AllocError> {
+    let mut text = TextSink::new(alloc);
+    write!(text, "{fault}");
     match fault {
         DeviceFault::Asks(method) | DeviceFault::Aborts(method) | DeviceFault::RunsOn(method) => {
-            let name = name_in(device, ItemNo::Method(method));
-            format!(in alloc; "{fault} {name}")
+            push_name(&mut text, device, ItemNo::Method(method));
         }
         DeviceFault::Traps(method, why) => {
-            let name = name_in(device, ItemNo::Method(method));
-            let word = trap_word(why);
-            format!(in alloc; "{fault} {name} {word}")
+            push_name(&mut text, device, ItemNo::Method(method));
+            write!(text, " {}", trap_word(why));
         }
-        DeviceFault::NoCommand(number) => format!(in alloc; "{fault} {number}"),
-        DeviceFault::NoTransaction(number, transaction) => {
-            format!(in alloc; "{fault} {number} {transaction}")
-        }
+        DeviceFault::NoCommand(number) => write!(text, " {number}"),
+        DeviceFault::NoTransaction(number, transaction) => write!(text, " {number} {transaction}"),
         DeviceFault::NoMessage(command, why) => {
-            let name = name_in(instrument, ItemNo::Command(command));
-            let word = trap_word(why);
-            format!(in alloc; "{fault} {name} {word}")
+            push_name(&mut text, instrument, ItemNo::Command(command));
+            write!(text, " {}", trap_word(why));
         }
         DeviceFault::OutOfRange(variable) => {
-            let name = name_in(instrument, ItemNo::Variable(variable));
-            format!(in alloc; "{fault} {name}")
+            push_name(&mut text, instrument, ItemNo::Variable(variable));
         }
-        DeviceFault::WrongCode | DeviceFault::Memory => format!(in alloc; "{fault}"),
+        DeviceFault::WrongCode | DeviceFault::Memory => {}
     }
+    text.finish()
 }

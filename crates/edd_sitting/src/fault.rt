@@ -1,9 +1,7 @@
 //! Why a sitting ends before the user ends it.
 
-use crate::input::InputFault;
 use edd_display::ShowFault;
 use std::alloc::{AllocError, AllocFailed};
-use std::fmt;
 
 /// Why a sitting ends before the user ends it.
 #[derive(Clone, Copy)]
@@ -13,15 +11,6 @@ pub enum SittingFault {
     /// The output could not be written.
     Output,
     Memory,
-}
-
-impl From<InputFault> for SittingFault {
-    fn from(fault: InputFault) -> SittingFault {
-        match fault {
-            InputFault::Failed => SittingFault::Input,
-            InputFault::Memory => SittingFault::Memory,
-        }
-    }
 }
 
 impl From<ShowFault> for SittingFault {

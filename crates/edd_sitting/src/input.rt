@@ -1,5 +1,6 @@
 //! What a user types: bytes, and lines of them.
 
+use crate::fault::SittingFault;
 use std::alloc::Global;
 use std::io::Read;
 
@@ -7,14 +8,6 @@ use std::io::Read;
 const LONGEST: u32 = 1_048_576;
 
 const PIECE: usize = 512;
-
-/// Why nothing is read.
-#[derive(Clone, Copy)]
-pub enum InputFault {
-    /// The input could not be read.
-    Failed,
-    Memory,
-}
 
 /// Bytes that are read from their file when they are asked for, and not before.
 #[derive(Drop)]
@@ -43,10 +36,10 @@ impl<R: Read> Bytes<R> {
     }
 
     /// The next byte, or nothing at the end.
-    pub fn next(&mut self) -> Result<Option<u8>, InputFault> {
+    pub fn next(&mut self) -> Result<Option<u8>, SittingFault> {
         if self.next >= self.end {
             let Ok(count) = self.input.read(&mut self.piece) else {
-                return Err(InputFault::Failed);
+                return Err(SittingFault::Input);
             };
             if count == 0 {
                 return Ok(None);
@@ -78,22 +71,16 @@ impl<R: Read> Lines<R> {
     }
 
     /// The next line without its end, or nothing at the end of the file.
-    pub fn next(&mut self, alloc: Global) -> Result<Option<Vec<u8>>, InputFault> {
+    pub fn next(&mut self, alloc: Global) -> Result<Option<Vec<u8>>, SittingFault> {
         let mut line = Vec::new(alloc);
         for _ in 0..LONGEST {
             let Some(byte) = self.bytes.next()? else {
-                return if line.is_empty() {
-                    Ok(None)
-                } else {
-                    Ok(Some(line))
-                };
+                return Ok((!line.is_empty()).then_some(line));
             };
             if byte == b'\n' {
                 return Ok(Some(line));
             }
-            if line.push(byte).is_err() {
-                return Err(InputFault::Memory);
-            }
+            line.push(byte)?;
         }
         Ok(Some(line))
     }

@@ -4,13 +4,13 @@ ghost use Rattle.std.specs.Prelude.{◌≡◌, ℤ, Ok, Some};
 
 use crate::conversation::{Next, follow, leave, meet, settle};
 use crate::fault::SittingFault;
-use crate::input::{Bytes, InputFault};
+use crate::input::Bytes;
 use edd_device::Device;
 use edd_display::print_text;
 use edd_instructions::Request;
 use edd_keys::{
-    Act, Frame, KEYS, Key, KeyBytes, Keypad, Rows, Shown, Stage, Taken, Window, fold,
-    height_beside, push_frame,
+    Act, Frame, KEYS, Key, KeyBytes, Keypad, Rows, Shown, Stage, Taken, Window, drawn, fold,
+    height_beside,
 };
 use edd_panel::{Command, Panel};
 use edd_panel_lines::{offers_of, prompt_of};
@@ -99,7 +99,7 @@ impl<'t, R: Read, W: Write> Terminal<'t, R, W> {
     }
 
     // What comes next; a second counts where one is waited for, and is passed over elsewhere.
-    fn next(&mut self, counts: bool) -> Result<Event, InputFault> {
+    fn next(&mut self, counts: bool) -> Result<Event, SittingFault> {
         for _ in 0..u64::MAX {
             let event = match self.bytes.next()? {
                 Some(byte) => {
@@ -161,14 +161,8 @@ fn seconds_of(panel: &Panel<'_, '_>) -> Option<u32> {
 // How many levels the user is below the top. The variable that is open and the method that runs are
 // levels, and so is a page that is read.
 fn depth_of(panel: &Panel<'_, '_>, stage: Stage) -> usize {
-    let place = match stage_of(panel) {
-        Stage::Menu => 0,
-        _ => 1,
-    };
-    let page = match stage {
-        Stage::Page => 1,
-        _ => 0,
-    };
+    let place = usize::from(stage_of(panel) != Stage::Menu);
+    let page = usize::from(stage == Stage::Page);
     panel.depth().saturating_add(place).saturating_add(page)
 }
 
@@ -237,9 +231,7 @@ fn draw<W: Write>(
         typed,
         columns,
     };
-    let mut text = String::new(alloc);
-    push_frame(&mut text, &frame)?;
-    print_text(out, &text)?;
+    print_text(out, &drawn(alloc, &frame)?)?;
     if out.flush().is_err() {
         return Err(SittingFault::Output);
     }

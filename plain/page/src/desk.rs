@@ -10,7 +10,9 @@ use edd_instructions::Request;
 use edd_loader::{Image, LoadFault, load};
 use edd_machine::{Values, ValuesFault};
 use edd_panel::{Command, Happened, Panel, start_values};
-use edd_panel_lines::{push_answer, push_end, push_happened, push_request, push_start};
+use edd_panel_lines::{
+    TextSink, push_answer, push_end, push_happened, push_request, push_start,
+};
 use edd_port::Turn;
 use edd_screens::{Line, Page, help_of, line_of, page_of};
 use edd_syntax::answer::Answer;
@@ -134,9 +136,9 @@ impl Desk {
     }
 
     fn request_text(&self, request: Request) -> Result<String, Stop> {
-        let mut text = String::new(Global);
-        push_request(&mut text, &page_of(&self.panel), request)?;
-        Ok(text)
+        let mut text = TextSink::new(Global);
+        push_request(&mut text, &page_of(&self.panel), request);
+        Ok(text.finish()?)
     }
 
     fn note(&mut self, request: String, answer: &Answer) -> Result<Step, Stop> {
@@ -163,10 +165,10 @@ impl Desk {
     fn command(&mut self, command: Command) -> Result<Taken, Stop> {
         let request = self.request()?;
         let happened = self.panel.take(Global, command)?;
-        let mut said = String::new(Global);
-        push_happened(&mut said, &happened)?;
+        let mut said = TextSink::new(Global);
+        push_happened(&mut said, &happened);
         let mut taken = Taken {
-            said,
+            said: said.finish()?,
             is_done: true,
             started: None,
             step: None,
@@ -186,10 +188,10 @@ impl Desk {
         match line_of(Global, &self.panel, line)? {
             Line::Command(command) => self.command(command),
             Line::Help(_) | Line::Commands | Line::Quit | Line::Unknown => {
-                let mut said = String::new(Global);
-                push_happened(&mut said, &Happened::Unknown)?;
+                let mut said = TextSink::new(Global);
+                push_happened(&mut said, &Happened::Unknown);
                 Ok(Taken {
-                    said,
+                    said: said.finish()?,
                     is_done: false,
                     started: None,
                     step: None,
@@ -211,13 +213,13 @@ impl Desk {
     pub fn go(&mut self, steps: u32) -> Result<Gone, Stop> {
         let before = Vec::from_slice(Global, self.panel.values().numbers.as_slice())?;
         let turn = self.panel.advance(steps);
-        let mut said = String::new(Global);
+        let mut said = TextSink::new(Global);
         if let Some(turn) = turn {
-            push_end(&mut said, turn)?;
+            push_end(&mut said, turn);
         }
         Ok(Gone {
             turn: turn_word(turn),
-            said,
+            said: said.finish()?,
             changes: self.changes(&before)?,
         })
     }

@@ -4,7 +4,7 @@ use edd_explanations::Explanation;
 use edd_image::VarKind;
 use edd_instructions::Request;
 use edd_panel::{Field, Panel, text_of_choices};
-use edd_panel_lines::{push_kind, push_number, push_text};
+use edd_panel_lines::{TextSink, push_kind, push_number, push_text};
 use edd_port::Turn;
 use edd_screens::{
     Bound, Choice, Content, Leads, Row, Screen, Sheet, page_of, screen_of, sheet_of,
@@ -202,9 +202,9 @@ fn form_of(sheet: &Sheet<'_>) -> &'static str {
 fn bound_text(sheet: &Sheet<'_>, bound: Bound) -> Result<Option<String>, AllocError> {
     match (bound, sheet.kind) {
         (Bound::Number(number), Some(kind)) => {
-            let mut text = String::new(Global);
-            push_number(Global, &mut text, number, kind.size, sheet.format)?;
-            Ok(Some(text))
+            let mut text = TextSink::new(Global);
+            push_number(&mut text, number, kind.size, sheet.format);
+            Ok(Some(text.finish()?))
         }
         (Bound::Fault(trap), _) => Ok(Some(trap_text(trap)?)),
         _ => Ok(None),
@@ -214,9 +214,9 @@ fn bound_text(sheet: &Sheet<'_>, bound: Bound) -> Result<Option<String>, AllocEr
 fn label_text(label: Option<edd_loader::Text<'_>>) -> Result<Option<String>, AllocError> {
     match label {
         Some(label) => {
-            let mut text = String::new(Global);
-            push_text(&mut text, label)?;
-            Ok(Some(text))
+            let mut text = TextSink::new(Global);
+            push_text(&mut text, label);
+            Ok(Some(text.finish()?))
         }
         None => Ok(None),
     }
@@ -250,9 +250,9 @@ fn entered_text(content: &Content<'_>) -> Result<String, AllocError> {
 }
 
 fn kind_text(kind: VarKind) -> Result<String, AllocError> {
-    let mut text = String::new(Global);
-    push_kind(&mut text, kind)?;
-    Ok(text)
+    let mut text = TextSink::new(Global);
+    push_kind(&mut text, kind);
+    text.finish()
 }
 
 fn sheet_text(sheet: &Sheet<'_>) -> Result<SheetText, AllocError> {
@@ -323,9 +323,9 @@ fn asked(panel: &Panel<'_, '_>, request: Request) -> Result<Asked, AllocError> {
             asked.choices = choices_text(panel, choices)?;
         }
         _ => {
-            let mut text = String::new(Global);
-            edd_panel_lines::push_request(&mut text, &page_of(panel), request)?;
-            asked.text = Some(text);
+            let mut text = TextSink::new(Global);
+            edd_panel_lines::push_request(&mut text, &page_of(panel), request);
+            asked.text = Some(text.finish()?);
         }
     }
     Ok(asked)

@@ -1,7 +1,7 @@
 //! Texts of the communicator, as `edd open` prints them.
 use edd_device::{Device, DeviceFault};
 use edd_loader::Image;
-use edd_panel_lines::{push_content, push_trap, push_words};
+use edd_panel_lines::{TextSink, push_content, push_trap, push_words};
 use edd_screens::{Content, Words};
 use edd_syntax::answer::Trap;
 use edd_syntax::numbers::ItemNo;
@@ -9,9 +9,9 @@ use std::alloc::{AllocError, Global};
 use std::string::String;
 
 pub fn words_text(words: Words<'_>) -> Result<String, AllocError> {
-    let mut text = String::new(Global);
-    push_words(&mut text, words)?;
-    Ok(text)
+    let mut text = TextSink::new(Global);
+    push_words(&mut text, words);
+    text.finish()
 }
 
 pub fn optional_text(words: Option<Words<'_>>) -> Result<Option<String>, AllocError> {
@@ -19,15 +19,15 @@ pub fn optional_text(words: Option<Words<'_>>) -> Result<Option<String>, AllocEr
 }
 
 pub fn content_text(content: &Content<'_>) -> Result<String, AllocError> {
-    let mut text = String::new(Global);
-    push_content(Global, &mut text, content)?;
-    Ok(text)
+    let mut text = TextSink::new(Global);
+    push_content(&mut text, content);
+    text.finish()
 }
 
 pub fn trap_text(trap: Trap) -> Result<String, AllocError> {
-    let mut text = String::new(Global);
-    push_trap(&mut text, trap)?;
-    Ok(text)
+    let mut text = TextSink::new(Global);
+    push_trap(&mut text, trap);
+    text.finish()
 }
 
 /// The name of an item.
