@@ -1,11 +1,9 @@
 //! What is said of a name that means nothing where it is, or something of another kind.
 
-ghost use Rattle.std.specs.Prelude.{◌≡◌};
-
 use crate::sources::Source;
-use edd_near_words::Nearest;
-use edd_reports::diagnostic::Diagnostic;
-use edd_reports::words::{is_sign, kind_word};
+use edd_lexer::token::TokenKind;
+use edd_near_words::{Nearest, said_of};
+use edd_reports::words::{Span, is_sign, kind_word};
 use edd_slips::help_of_left_out;
 use edd_syntax::item::{Item, ItemKind};
 use edd_syntax::numbers::Kind;
@@ -14,43 +12,27 @@ use edd_syntax::reference::Path;
 use edd_syntax::symbols::Symbol;
 use std::alloc::{AllocError, Global};
 
-// What is said of a word that other languages have, or EDDL elsewhere.
-fn foreign_help(word: &str) -> Option<&'static str> {
-    match word {
-        "TRUE" | "true" => Some("an expression has numbers alone: write 1"),
-        "FALSE" | "false" | "NULL" | "null" => Some("an expression has numbers alone: write 0"),
-        "METHODID" | "VARID" | "ITEM_ID" | "MEMBER_ID" => {
-            Some("an item is named by itself, without a function round it")
-        }
-        "fgetval"
-        | "igetval"
-        | "lgetval"
-        | "vassign"
-        | "fassign"
-        | "fvar_value"
-        | "dassign"
-        | "float_value" => {
-            Some("a variable is read by its name and set by =, or by ivar_value and iassign")
-        }
-        "acknowledge" => Some("ACKNOWLEDGE(text) asks the user to go on"),
-        "put_message" | "display" => Some("PUT_MESSAGE(text) shows a text"),
-        "delay" => Some("DELAY(seconds, text) waits"),
-        "get_dev_var_value" => Some("GET_DEV_VAR_VALUE(text, variable) asks for a value"),
-        "select_from_list" => Some("SELECT_FROM_LIST(text, \"a;b\") asks for a choice"),
-        "printf" | "print" => Some("PUT_MESSAGE(text) shows a text"),
-        "READ_ONLY" | "HIDDEN" | "REVIEW" | "DISPLAY_VALUE" => {
-            Some("a qualifier stands in parentheses, as in p (READ_ONLY)")
-        }
-        "INFO" | "INDEX" => Some("a qualifier stands in parentheses, as in p (INDEX)"),
-        "SUCCESS" | "BI_SUCCESS" | "BLTIN_SUCCESS" => {
-            Some("a code is compared with its number: 0 is that of success")
-        }
-        "exit" | "quit" | "stop" | "throw" => Some("abort() ends a method"),
-        "sleep" | "wait" => Some("DELAY(seconds, text) waits"),
-        "sizeof" => Some("a size is a number that is written out"),
-        _ => None,
-    }
-}
+/// A help, if there was memory for its words, and the other place that it speaks of.
+pub type Said = (Option<Span>, Result<String, AllocError>);
+
+/// Words that other languages have, or EDDL elsewhere, and what is said of them.
+const FOREIGN: &str = "
+TRUE true: an expression has numbers alone: write 1
+FALSE false NULL null: an expression has numbers alone: write 0
+METHODID VARID ITEM_ID MEMBER_ID: an item is named by itself, without a function round it
+fgetval igetval lgetval vassign fassign fvar_value dassign float_value: \
+a variable is read by its name and set by =, or by ivar_value and iassign
+acknowledge: ACKNOWLEDGE(text) asks the user to go on
+put_message display printf print: PUT_MESSAGE(text) shows a text
+delay sleep wait: DELAY(seconds, text) waits
+get_dev_var_value: GET_DEV_VAR_VALUE(text, variable) asks for a value
+select_from_list: SELECT_FROM_LIST(text, \"a;b\") asks for a choice
+READ_ONLY HIDDEN REVIEW DISPLAY_VALUE: a qualifier stands in parentheses, as in p (READ_ONLY)
+INFO INDEX: a qualifier stands in parentheses, as in p (INDEX)
+SUCCESS BI_SUCCESS BLTIN_SUCCESS: a code is compared with its number: 0 is that of success
+exit quit stop throw: abort() ends a method
+sizeof: a size is a number that is written out
+";
 
 /// An item of a kind, with its article.
 pub fn named_kind(kind: Kind) -> &'static str {
@@ -138,11 +120,18 @@ fn statement_meant(
     number: usize,
 ) -> Result<Option<&'static str>, AllocError> {
     let is_alone = is_sign(source.tokens(), number.saturating_add(1), Symbol::Semicolon);
-    let before = number.saturating_sub(1);
-    let begins = is_sign(source.tokens(), before, Symbol::Semicolon)
-        || is_sign(source.tokens(), before, Symbol::OpenBrace)
-        || is_sign(source.tokens(), before, Symbol::CloseBrace)
-        || is_sign(source.tokens(), before, Symbol::CloseParenthesis);
+    let begins = match source.tokens().get(number.saturating_sub(1)) {
+        Some(before) => matches!(
+            before.kind,
+            TokenKind::Symbol(
+                Symbol::Semicolon
+                    | Symbol::OpenBrace
+                    | Symbol::CloseBrace
+                    | Symbol::CloseParenthesis
+            )
+        ),
+        None => false,
+    };
     if !is_alone || !begins || !source.is_in_body(number) {
         return Ok(None);
     }
@@ -195,15 +184,17 @@ fn item_help(
         Kind::Method => format!(in alloc;
             "{name} is a METHOD, which no method calls; it is declared"
         ),
-        Kind::Array if is_called => format!(in alloc;
-            "an element of an ARRAY is read as {name}[..]; {name} is declared"
-        ),
+        Kind::Array if is_called => element_help(alloc, name),
         kind if is_called => {
             let kind = named_kind(kind);
             format!(in alloc; "{name} is {kind} and no function; it is declared")
         }
         _ => format!(in alloc; "{name} means nothing here, but is declared"),
     }
+}
+
+fn element_help(alloc: Global, name: &str) -> Result<String, AllocError> {
+    format!(in alloc; "an element of an ARRAY is read as {name}[..]; {name} is declared")
 }
 
 // How a function is called.
@@ -217,107 +208,85 @@ fn function_help(alloc: Global, function: Builtin) -> Result<String, AllocError>
 }
 
 // What helps where a name is one of a method, of a function or of something elsewhere.
-fn help_known(
+fn help_known(alloc: Global, source: &Source<'_>, name: &str, number: usize) -> Option<Said> {
+    if let Some(item) = source.item(name) {
+        let place = source.span(item.at().0 as usize);
+        return Some((place, item_help(alloc, source, item, number)));
+    }
+    if let Some(declared) = source.declared(name) {
+        let text = format!(in alloc; "{name} means nothing here, but is declared");
+        return Some((source.span(declared), text));
+    }
+    if let Some(text) = said_of(name, FOREIGN).or(help_of_left_out(name)) {
+        return Some((None, String::from_str(alloc, text)));
+    }
+    let function = Builtin::named(name)?;
+    Some((None, function_help(alloc, function)))
+}
+
+// What helps where nothing has a name: the nearest one, or how it is declared.
+fn help_new(
     alloc: Global,
     source: &Source<'_>,
     name: &str,
     number: usize,
-    found: &mut Diagnostic,
-) -> Result<bool, AllocError>
-    ensures kept { found.new.finding ≡ found.old.finding }
-{
-    if let Some(item) = source.item(name) {
-        let place = source.span(item.at().0 as usize);
-        found.help_at(place, item_help(alloc, source, item, number)?)?;
-        return Ok(true);
+    is_member: bool,
+) -> Result<String, AllocError> {
+    let nearest = source.nearest(alloc, name, is_member)?;
+    let statement = statement_meant(alloc, source, name, number)?;
+    match (nearest.found.or(statement), nearest.other) {
+        (Some(near), None) => format!(in alloc; "{near} may be meant"),
+        (Some(near), Some(other)) => format!(in alloc; "{near} or {other} may be meant"),
+        (None, _) if is_member => format!(in alloc; "the collection has no member {name}"),
+        (None, _) => help_declare(alloc, source, name, number),
     }
-    if let Some(declared) = source.declared(name) {
-        let text = format!(in alloc; "{name} means nothing here, but is declared")?;
-        found.help_at(source.span(declared), text)?;
-        return Ok(true);
-    }
-    if let Some(text) = foreign_help(name).or(help_of_left_out(name)) {
-        found.help(String::from_str(alloc, text)?)?;
-        return Ok(true);
-    }
-    let Some(function) = Builtin::named(name) else {
-        return Ok(false);
-    };
-    found.help(function_help(alloc, function)?)?;
-    Ok(true)
 }
 
 /// What helps where a name means nothing: where it does, the nearest one, or how it is declared.
-pub fn help_unknown(
+pub fn help_unknown(alloc: Global, source: &Source<'_>, name: &str, number: usize) -> Said {
+    let is_member = is_sign(source.tokens(), number.saturating_sub(1), Symbol::Dot);
+    if !is_member {
+        if let Some(said) = help_known(alloc, source, name, number) {
+            return said;
+        }
+    }
+    (None, help_new(alloc, source, name, number, is_member))
+}
+
+// What helps where a member is of another kind.
+fn member_help(
     alloc: Global,
     source: &Source<'_>,
     name: &str,
     number: usize,
-    found: &mut Diagnostic,
-) -> Result<(), AllocError>
-    ensures kept { found.new.finding ≡ found.old.finding }
-{
-    let is_member = is_sign(source.tokens(), number.saturating_sub(1), Symbol::Dot);
-    if !is_member && help_known(alloc, source, name, number, found)? {
-        return Ok(());
-    }
-    let nearest = if is_member {
-        source.nearest_member(alloc, name)?
+) -> Result<String, AllocError> {
+    if is_sign(source.tokens(), number.saturating_add(1), Symbol::Dot) {
+        format!(in alloc; "{name} has no members: only those of a COLLECTION OF COLLECTION have")
     } else {
-        source.nearest(alloc, name)?
-    };
-    let statement = statement_meant(alloc, source, name, number)?;
-    let text = match (nearest.found, nearest.other) {
-        (Some(near), None) => format!(in alloc; "{near} may be meant")?,
-        (Some(near), Some(other)) => format!(in alloc; "{near} or {other} may be meant")?,
-        (None, None) if statement.is_some() => {
-            format!(in alloc; "{} may be meant", statement.unwrap_or(""))?
-        }
-        (None, _) if is_member => format!(in alloc; "the collection has no member {name}")?,
-        (None, _) => help_declare(alloc, source, name, number)?,
-    };
-    found.help(text)
+        format!(in alloc; "the member {name} is of another kind than fits here")
+    }
 }
 
 /// What helps where a name means something of another kind.
-pub fn help_kind(
-    alloc: Global,
-    source: &Source<'_>,
-    name: &str,
-    number: usize,
-    found: &mut Diagnostic,
-) -> Result<(), AllocError>
-    ensures kept { found.new.finding ≡ found.old.finding }
-{
-    let tokens = source.tokens();
-    if is_sign(tokens, number.saturating_sub(1), Symbol::Dot) {
-        let text = if is_sign(tokens, number.saturating_add(1), Symbol::Dot) {
-            format!(in alloc;
-                "{name} has no members: only those of a COLLECTION OF COLLECTION have"
-            )?
-        } else {
-            format!(in alloc; "the member {name} is of another kind than fits here")?
-        };
-        return found.help(text);
+pub fn help_kind(alloc: Global, source: &Source<'_>, name: &str, number: usize) -> Option<Said> {
+    if is_sign(source.tokens(), number.saturating_sub(1), Symbol::Dot) {
+        return Some((None, member_help(alloc, source, name, number)));
     }
-    let Some(item) = source.item(name) else {
-        return Ok(());
-    };
-    let is_read = source.is_in_body(number) && parameter_at(source, number).is_none();
+    let item = source.item(name)?;
+    let is_in_body = source.is_in_body(number);
+    let is_read = is_in_body && parameter_at(source, number).is_none();
     let text = match item.kind() {
-        Kind::Array if is_read => format!(in alloc;
-            "an element of an ARRAY is read as {name}[..]; {name} is declared"
-        )?,
+        Kind::Array if is_read => element_help(alloc, name),
         Kind::Collection if is_read => format!(in alloc;
             "a member of a COLLECTION is read as {name}.member; {name} is declared"
-        )?,
-        Kind::Command if source.is_in_body(number) => format!(in alloc;
+        ),
+        Kind::Command if is_in_body => format!(in alloc;
             "a command is sent by its NUMBER, as in send_command(1); {name} is declared"
-        )?,
+        ),
         kind => {
             let kind = named_kind(kind);
-            format!(in alloc; "{name} is {kind}, which is declared")?
+            format!(in alloc; "{name} is {kind}, which is declared")
         }
     };
-    found.help_at(source.span(item.at().0 as usize), text)
+    Some((source.span(item.at().0 as usize), text))
 }

@@ -5,11 +5,11 @@ ghost use Rattle.edd_breaches.specs.Told.{told_of};
 ghost use Rattle.edd_breach_reports.specs.Places.{IsShownAt};
 ghost use Rattle.edd_breach_reports.specs.Refusals.{IsRefusal, text_of, words_in};
 
-use crate::names::{help_kind, help_unknown, named_kind};
+use crate::names::{Said, help_kind, help_unknown, named_kind};
 use crate::places::shown_at;
 use crate::sources::Source;
 use edd_breaches::{Breach, Rule, RuleFault};
-use edd_near_words::Nearest;
+use edd_near_words::{Nearest, said_of};
 use edd_reports::diagnostic::{Diagnostic, Finding};
 use edd_reports::words::kind_word;
 use edd_syntax::limits::Limit;
@@ -103,29 +103,21 @@ fn limit_help(limit: Limit) -> &'static str {
     }
 }
 
-// What is said of a type that other languages have, or full EDDL.
-fn help_of_type(word: &str) -> Option<&'static str> {
-    match word {
-        "SIGNED_INTEGER" | "SIGNED" | "INT" | "LONG" | "SHORT" | "INT8" | "INT16" | "INT32" => {
-            Some("INTEGER may be meant")
-        }
-        "UNSIGNED" | "UINT" | "UINT8" | "UINT16" | "UINT32" | "BYTE" | "WORD" | "DWORD" | "OCTET" =>
-            Some("UNSIGNED_INTEGER may be meant"),
-        "ENUM" | "ENUMERATION" | "BOOL" | "BOOLEAN" => Some("ENUMERATED may be meant"),
-        "BIT_ENUM" | "BITFIELD" | "BIT_FIELD" | "BITS" => Some("BIT_ENUMERATED may be meant"),
-        "ASCII" | "PACKED_ASCII" | "PASSWORD" | "VISIBLE" | "EUC" | "BITSTRING" => {
-            Some("no variable of this profile of EDDL holds a text: leave it out")
-        }
-        "DATE" | "TIME" | "TIME_VALUE" | "DATE_AND_TIME" | "DURATION" => {
-            Some("this profile of EDDL has no dates and times: take UNSIGNED_INTEGER (4)")
-        }
-        _ => None,
-    }
-}
+/// Types that other languages have, or full EDDL, and what is said of them.
+const OTHER_TYPES: &str = "
+SIGNED_INTEGER SIGNED INT LONG SHORT INT8 INT16 INT32: INTEGER may be meant
+UNSIGNED UINT UINT8 UINT16 UINT32 BYTE WORD DWORD OCTET: UNSIGNED_INTEGER may be meant
+ENUM ENUMERATION BOOL BOOLEAN: ENUMERATED may be meant
+BIT_ENUM BITFIELD BIT_FIELD BITS: BIT_ENUMERATED may be meant
+ASCII PACKED_ASCII PASSWORD VISIBLE EUC BITSTRING: \
+no variable of this profile of EDDL holds a text: leave it out
+DATE TIME TIME_VALUE DATE_AND_TIME DURATION: \
+this profile of EDDL has no dates and times: take UNSIGNED_INTEGER (4)
+";
 
 // The type that is nearest to a word.
 fn type_help(alloc: Global, word: &str) -> Result<String, AllocError> {
-    if let Some(help) = help_of_type(word) {
+    if let Some(help) = said_of(word, OTHER_TYPES) {
         return String::from_str(alloc, help);
     }
     let mut nearest = Nearest::to_word(word);
@@ -159,44 +151,22 @@ fn excess_help(
     }
 }
 
-// The helps that speak of a second place.
-fn help_beside(
-    alloc: Global,
-    source: &Source<'_>,
-    breach: &Breach<'_>,
-    found: &mut Diagnostic,
-) -> Result<(), AllocError>
-    ensures kept { found.new.finding ≡ found.old.finding }
-{
-    if let Some(earlier) = breach.earlier_token() {
-        let text = match breach.rule {
-            Rule::DuplicateCase => String::from_str(alloc, "this case is there already")?,
-            Rule::DuplicateElement => String::from_str(alloc, "this number is there already")?,
-            Rule::WrongKind(name) => format!(in alloc; "{name} is a local, which is declared")?,
-            Rule::TooMany(limit) => excess_help(alloc, source, limit, earlier)?,
-            _ => format!(in alloc; "{} is there already", source.word(earlier))?,
+// The help that speaks of a second place.
+fn help_beside(alloc: Global, source: &Source<'_>, breach: &Breach<'_>) -> Option<Said> {
+    let Some(earlier) = breach.earlier_token() else {
+        return match breach.rule {
+            Rule::WrongKind(name) => help_kind(alloc, source, name, breach.token()?),
+            _ => None,
         };
-        return found.help_at(source.span(earlier), text);
-    }
-    match (breach.rule, breach.token()) {
-        (Rule::WrongKind(name), Some(number)) => help_kind(alloc, source, name, number, found),
-        _ => Ok(()),
-    }
-}
-
-fn missing_help(
-    alloc: Global,
-    source: &Source<'_>,
-    breach: &Breach<'_>,
-    word: &str,
-) -> Result<Option<String>, AllocError> {
-    let Some(name) = breach.token() else {
-        return Ok(None);
     };
-    match source.item_at(name) {
-        Some(item) => Ok(Some(format!(in alloc; "{} needs {word}", named_kind(item.kind()))?)),
-        None => Ok(None),
-    }
+    let text = match breach.rule {
+        Rule::DuplicateCase => String::from_str(alloc, "this case is there already"),
+        Rule::DuplicateElement => String::from_str(alloc, "this number is there already"),
+        Rule::WrongKind(name) => format!(in alloc; "{name} is a local, which is declared"),
+        Rule::TooMany(limit) => excess_help(alloc, source, limit, earlier),
+        _ => format!(in alloc; "{} is there already", source.word(earlier)),
+    };
+    Some((source.span(earlier), text))
 }
 
 // A help that is the same for each breach of a rule.
@@ -222,21 +192,19 @@ fn word_there<'a>(source: &Source<'a>, breach: &Breach<'_>) -> &'a str {
 }
 
 // A help that depends on what is there.
-fn own_help(
-    alloc: Global,
-    source: &Source<'_>,
-    breach: &Breach<'_>,
-) -> Result<Option<String>, AllocError> {
-    match breach.rule {
-        Rule::MissingAttribute { word, .. } => missing_help(alloc, source, breach, word),
-        Rule::OtherType { word, .. } => Ok(Some(type_help(alloc, word)?)),
-        Rule::Mismatch => Ok(Some(mismatch_help(alloc, word_there(source, breach))?)),
-        Rule::BreakOutside => {
-            let help = break_help(word_there(source, breach));
-            Ok(Some(String::from_str(alloc, help)?))
+fn own_help(alloc: Global, source: &Source<'_>, breach: &Breach<'_>) -> Option<Said> {
+    let text = match breach.rule {
+        Rule::MissingAttribute { word, .. } => {
+            let kind = named_kind(source.item_at(breach.token()?)?.kind());
+            format!(in alloc; "{kind} needs {word}")
         }
-        _ => Ok(None),
-    }
+        Rule::OtherType { word, .. } => type_help(alloc, word),
+        Rule::Mismatch => mismatch_help(alloc, word_there(source, breach)),
+        Rule::BreakOutside => String::from_str(alloc, break_help(word_there(source, breach))),
+        Rule::UnknownName(name) => return Some(help_unknown(alloc, source, name, breach.token()?)),
+        _ => String::from_str(alloc, plain_help(&breach.rule)?),
+    };
+    Some((None, text))
 }
 
 /// What is said of a breach.
@@ -252,16 +220,12 @@ pub fn diagnostic(
 {
     let refusal = refusal_of(alloc, source, breach)?;
     let mut found = Diagnostic::new(alloc, Finding::Refused(refusal));
-    if let Some(text) = plain_help(&breach.rule) {
-        found.help(String::from_str(alloc, text)?)?;
+    if let Some((place, text)) = own_help(alloc, source, breach) {
+        found.help_at(place, text?)?;
     }
-    if let Some(text) = own_help(alloc, source, breach)? {
-        found.help(text)?;
+    if let Some((place, text)) = help_beside(alloc, source, breach) {
+        found.help_at(place, text?)?;
     }
-    if let (Rule::UnknownName(name), Some(number)) = (breach.rule, breach.token()) {
-        help_unknown(alloc, source, name, number, &mut found)?;
-    }
-    help_beside(alloc, source, breach, &mut found)?;
     found.place = shown_at(source, breach);
     Ok(found)
 }

@@ -232,27 +232,22 @@ impl<'a> Source<'a> {
         begins && is_sign(self.tokens, number.saturating_add(1), Symbol::Comma)
     }
 
-    /// The member whose name is nearest to this one.
-    pub fn nearest_member<'w>(
+    /// The name that is nearest to this one: of members, or of items, of functions and of what else
+    /// is declared.
+    pub fn nearest<'w>(
         &self,
         alloc: Global,
         name: &'w str,
+        is_member: bool,
     ) -> Result<Nearest<'w, 'a>, AllocError> {
         let mut nearest = Nearest::to(name);
+        if !is_member {
+            look_at_functions(alloc, &mut nearest)?;
+        }
         for (other, number) in self.names.iter().take(MOST_NAMES) {
-            if self.is_member(*number) {
+            if !is_member || self.is_member(*number) {
                 nearest.look(alloc, *other)?;
             }
-        }
-        Ok(nearest)
-    }
-
-    /// The name that is nearest to this one, of items, of functions, or of what else is declared.
-    pub fn nearest<'w>(&self, alloc: Global, name: &'w str) -> Result<Nearest<'w, 'a>, AllocError> {
-        let mut nearest = Nearest::to(name);
-        look_at_functions(alloc, &mut nearest)?;
-        for other in self.names.keys().take(MOST_NAMES) {
-            nearest.look(alloc, *other)?;
         }
         Ok(nearest)
     }

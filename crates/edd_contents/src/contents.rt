@@ -6,6 +6,7 @@ use crate::records::Words;
 use edd_display::ShowFault;
 use edd_fault_places::sections::{RowFields, Sections, part};
 use edd_instructions::Instruction;
+use edd_sinks::TextSink;
 use edd_syntax::numbers::{Attr, StrNo, ValueKind};
 use std::alloc::{AllocError, Global};
 
@@ -51,10 +52,7 @@ pub struct Line {
 impl Line {
     /// By what an entry is found again, whatever its condition is.
     pub fn entry(&self) -> &str {
-        match self.key.as_str().split_once('\n') {
-            Some((_, entry)) => entry,
-            None => "",
-        }
+        self.key.split_once('\n').map_or("", |parts| parts.1)
     }
 }
 
@@ -68,10 +66,9 @@ pub struct Content {
 
 impl Content {
     pub fn condition(&self, line: &Line) -> &str {
-        match self.conditions.get(line.condition) {
-            Some(condition) => condition.as_str(),
-            None => "",
-        }
+        self.conditions
+            .get(line.condition)
+            .map_or("", |condition| condition.as_str())
     }
 
     /// The only line, if there is one and it has no condition.
@@ -83,23 +80,24 @@ impl Content {
     }
 }
 
-// A line without its key.
+// What is given, with its condition as text.
 fn line_of(
     alloc: Global,
     words: Words<'_, '_>,
-    condition: usize,
+    condition: &str,
     given: &Given,
-) -> Result<Line, ShowFault> {
-    let mut text = String::new(alloc);
-    words.push_given(&mut text, given)?;
-    let constant = match &given.value {
-        Some(value) => value.constant,
-        None => None,
-    };
+) -> Result<Line, AllocError> {
+    let mut key = TextSink::new(alloc);
+    write!(key, "{condition}\n");
+    words.push_key(&mut key, given);
+    let mut text = TextSink::new(alloc);
+    words.push_given(&mut text, given);
+    let constant = given.value.as_ref().and_then(|value| value.constant);
+    let key = key.finish()?;
     Ok(Line {
-        condition,
-        key: String::new(alloc),
-        text,
+        condition: given.condition,
+        key,
+        text: text.finish()?,
         constant,
         is_expression: given.value.is_some() && constant.is_none(),
         string: match given.instruction {
@@ -131,20 +129,17 @@ fn lines_of(
     words: Words<'_, '_>,
     reading: &Reading,
     conditions: &[String],
-) -> Result<Vec<Line>, ShowFault> {
+) -> Result<Vec<Line>, AllocError> {
     let has_nothing = shape_of(words.attribute) == Shape::Value;
     let mut lines = Vec::with_capacity(alloc, reading.given.len())?;
     for given in &reading.given {
         if given.instruction == Instruction::End && !has_nothing {
             continue;
         }
-        let mut line = line_of(alloc, words, given.condition, given)?;
-        if let Some(condition) = conditions.get(given.condition) {
-            line.key.push_str(condition)?;
-        }
-        line.key.push('\n')?;
-        words.push_key(&mut line.key, given)?;
-        lines.push(line)?;
+        let condition = conditions
+            .get(given.condition)
+            .map_or("", |condition| condition.as_str());
+        lines.push(line_of(alloc, words, condition, given)?)?;
     }
     Ok(lines)
 }
@@ -153,7 +148,7 @@ fn content_of(
     alloc: Global,
     words: Words<'_, '_>,
     reading: &Reading,
-) -> Result<Content, ShowFault> {
+) -> Result<Content, AllocError> {
     let conditions = conditions_of(alloc, reading)?;
     let mut lines = lines_of(alloc, words, reading, conditions.as_slice())?;
     // The code of a DEFAULT comes before those of the cases.
@@ -164,7 +159,7 @@ fn content_of(
 }
 
 // What an attribute gives that isn't written.
-fn default_of(alloc: Global, text: &str, number: i64) -> Result<Content, ShowFault> {
+fn default_of(alloc: Global, text: &str, number: i64) -> Result<Content, AllocError> {
     let mut conditions = Vec::new(alloc);
     conditions.push(String::new(alloc))?;
     let mut lines = Vec::new(alloc);

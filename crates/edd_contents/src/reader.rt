@@ -6,11 +6,12 @@
 
 use crate::reading::{ALWAYS, Condition, Given, Reading};
 use crate::values::{
-    Value, binary, choice, comparison_sign, element, named, number, operator_sign, push_operand,
+    Value, binary, choice, comparison_sign, element, number, operand, operator_sign, push_operand,
     unary, without_truth,
 };
 use edd_fault_places::sections::Sections;
 use edd_instructions::{Instruction, decode};
+use edd_sinks::TextSink;
 use edd_syntax::numbers::ItemNo;
 use std::alloc::{AllocError, AllocFailed, Global};
 
@@ -79,32 +80,24 @@ struct Reader<'s, 'a> {
 
 impl Reader<'_, '_> {
     fn pop(&mut self) -> Result<Value, Unread> {
-        match self.stack.pop() {
-            Some(value) => Ok(value),
-            None => Err(Unread::Strange),
-        }
+        self.stack.pop().ok_or(Unread::Strange)
     }
 
     fn push(&mut self, value: Value) -> Result<(), Unread> {
-        self.stack.push(value)?;
-        Ok(())
+        Ok(self.stack.push(value)?)
     }
 
     // The name of an item; a valid image has one for each item that it names.
     fn name(&self, item: ItemNo) -> Result<Value, Unread> {
-        match self.sections.name(item) {
-            Some(name) => Ok(named(self.alloc, name)?),
-            None => Err(Unread::Strange),
-        }
+        let name = self.sections.name(item).ok_or(Unread::Strange)?;
+        Ok(operand(self.alloc, name)?)
     }
 
     // The number of a new condition inside of another one.
     fn under(&mut self, around: usize, test: &Value, is_negated: bool) -> Result<usize, Unread> {
-        let mut text = String::new(self.alloc);
-        if is_negated {
-            text.push('!')?;
-        }
-        push_operand(&mut text, test)?;
+        let mut text = TextSink::new(self.alloc);
+        text.push_str(if is_negated { "!" } else { "" });
+        push_operand(&mut text, test);
         let alone = if is_negated {
             None
         } else {
@@ -113,7 +106,7 @@ impl Reader<'_, '_> {
         let number = self.reading.conditions.len();
         self.reading.conditions.push(Condition {
             around,
-            test: text,
+            test: text.finish()?,
             alone,
         })?;
         Ok(number)
@@ -175,9 +168,13 @@ impl Reader<'_, '_> {
         self.push(on)
     }
 
-    // The value that a part of a conditional left, if it left one.
-    fn value_above(&mut self, height: usize) -> Result<Option<Value>, Unread> {
+    // The value that a part of a conditional left, if it left one. Where it gave nothing either,
+    // that is noted.
+    fn end_part(&mut self, height: usize, given: usize) -> Result<Option<Value>, Unread> {
         if self.stack.len() == height {
+            if self.reading.given.len() == given {
+                self.give(Instruction::End, None)?;
+            }
             return Ok(None);
         }
         let value = self.pop()?;
@@ -186,14 +183,6 @@ impl Reader<'_, '_> {
         } else {
             Err(Unread::Strange)
         }
-    }
-
-    // At the end of a part that gives nothing and leaves no value, that is noted.
-    fn note_nothing(&mut self, given: usize) -> Result<(), Unread> {
-        if self.reading.given.len() == given {
-            return self.give(Instruction::End, None);
-        }
-        Ok(())
     }
 
     // A jump ends the first part of a region, and the other begins behind it.
@@ -213,10 +202,7 @@ impl Reader<'_, '_> {
         if end != behind {
             return Err(Unread::Strange);
         }
-        let first = self.value_above(height)?;
-        if first.is_none() {
-            self.note_nothing(given)?;
-        }
+        let first = self.end_part(height, given)?;
         match region {
             Region::Then { test } => {
                 self.condition = self.under(around, &test, true)?;
@@ -237,18 +223,13 @@ impl Reader<'_, '_> {
         first: Option<Value>,
         second: Option<Value>,
     ) -> Result<(), Unread> {
-        let Some(first) = first else {
-            return if second.is_none() {
-                Ok(())
-            } else {
-                Err(Unread::Strange)
-            };
-        };
-        let Some(second) = second else {
-            return Err(Unread::Strange);
-        };
-        let chosen = choice(self.alloc, &test, &first, &second)?;
-        self.push(chosen)
+        match (first, second) {
+            (Some(first), Some(second)) => {
+                self.push(choice(self.alloc, &test, &first, &second)?)
+            }
+            (None, None) => Ok(()),
+            _ => Err(Unread::Strange),
+        }
     }
 
     fn close_right(
@@ -257,12 +238,8 @@ impl Reader<'_, '_> {
         sign: &'static str,
         right: Option<Value>,
     ) -> Result<(), Unread> {
-        let Some(right) = right else {
-            return Err(Unread::Strange);
-        };
-        let right = without_truth(self.alloc, right)?;
-        let both = binary(self.alloc, sign, &left, &right)?;
-        self.push(both)
+        let right = without_truth(self.alloc, right.ok_or(Unread::Strange)?)?;
+        self.push(binary(self.alloc, sign, &left, &right)?)
     }
 
     fn close(&mut self, of: Open) -> Result<(), Unread> {
@@ -273,10 +250,7 @@ impl Reader<'_, '_> {
             around,
             ..
         } = of;
-        let last = self.value_above(height)?;
-        if last.is_none() {
-            self.note_nothing(given)?;
-        }
+        let last = self.end_part(height, given)?;
         self.condition = around;
         match region {
             Region::Right { left, sign } => self.close_right(left, sign, last),
@@ -287,10 +261,7 @@ impl Reader<'_, '_> {
     }
 
     fn ends_at(&self, place: usize) -> bool {
-        match self.open.last() {
-            Some(of) => of.end == place,
-            None => false,
-        }
+        self.open.last().is_some_and(|of| of.end == place)
     }
 
     // Closes the regions that end at a place.
@@ -307,26 +278,24 @@ impl Reader<'_, '_> {
     }
 
     fn give(&mut self, instruction: Instruction, value: Option<Value>) -> Result<(), Unread> {
-        let condition = self.condition;
-        self.reading.given.push(Given {
-            condition,
-            instruction,
-            value,
-        })?;
-        Ok(())
+        Ok(
+            self.reading.given.push(Given {
+                condition: self.condition,
+                instruction,
+                value,
+            })?,
+        )
     }
 
     fn operate(&mut self, sign: &'static str) -> Result<(), Unread> {
         let right = self.pop()?;
         let left = self.pop()?;
-        let both = binary(self.alloc, sign, &left, &right)?;
-        self.push(both)
+        self.push(binary(self.alloc, sign, &left, &right)?)
     }
 
     fn operate_alone(&mut self, sign: char) -> Result<(), Unread> {
         let of = self.pop()?;
-        let done = unary(self.alloc, sign, &of)?;
-        self.push(done)
+        self.push(unary(self.alloc, sign, &of)?)
     }
 
     fn drop_top(&mut self) -> Result<(), Unread> {
@@ -341,19 +310,12 @@ impl Reader<'_, '_> {
     // An instruction of an expression.
     fn evaluate(&mut self, instruction: Instruction) -> Result<(), Unread> {
         match instruction {
-            Instruction::Push(value) => {
-                let value = number(self.alloc, i64::from(value))?;
-                self.push(value)
-            }
-            Instruction::Variable(variable) => {
-                let value = self.name(ItemNo::Variable(variable))?;
-                self.push(value)
-            }
+            Instruction::Push(value) => self.push(number(self.alloc, i64::from(value))?),
+            Instruction::Variable(variable) => self.push(self.name(ItemNo::Variable(variable))?),
             Instruction::ReadElement(array) => {
                 let index = self.pop()?;
                 let array = self.name(ItemNo::Array(array))?;
-                let value = element(self.alloc, &array.text, &index)?;
-                self.push(value)
+                self.push(element(self.alloc, &array.text, &index)?)
             }
             Instruction::Operate(operator) => self.operate(operator_sign(operator)),
             Instruction::Compare(comparison) => self.operate(comparison_sign(comparison)),

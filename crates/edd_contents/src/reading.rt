@@ -2,6 +2,7 @@
 
 use crate::values::Value;
 use edd_instructions::Instruction;
+use edd_sinks::TextSink;
 use std::alloc::{AllocError, Global};
 
 /// What an instruction gives, and under which condition, by its number among the conditions. `End`
@@ -46,31 +47,30 @@ impl Reading {
                 break;
             }
             chain.push(at)?;
-            at = match self.conditions.get(at) {
-                Some(condition) => condition.around,
-                None => ALWAYS,
-            };
+            at = self
+                .conditions
+                .get(at)
+                .map_or(ALWAYS, |condition| condition.around);
         }
         Ok(chain)
     }
 
     /// A condition as an expression, with those around it. The first is empty.
     pub fn condition(&self, alloc: Global, number: usize) -> Result<String, AllocError> {
-        let mut chain = self.chain(alloc, number)?;
-        let mut text = String::new(alloc);
-        let is_alone = chain.len() == 1;
-        for _ in 0..chain.len() {
-            let Some(condition) = chain.pop().and_then(|number| self.conditions.get(number)) else {
-                return Ok(text);
+        let chain = self.chain(alloc, number)?;
+        let mut text = TextSink::new(alloc);
+        for number in chain.iter().rev() {
+            let Some(condition) = self.conditions.get(*number) else {
+                break;
             };
-            if !text.is_empty() {
-                text.push_str(" && ")?;
+            if !text.text.is_empty() {
+                text.push_str(" && ");
             }
             match &condition.alone {
-                Some(alone) if is_alone => text.push_str(alone)?,
-                _ => text.push_str(&condition.test)?,
+                Some(alone) if chain.len() == 1 => text.push_str(alone),
+                _ => text.push_str(&condition.test),
             }
         }
-        Ok(text)
+        text.finish()
     }
 }

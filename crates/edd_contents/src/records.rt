@@ -1,14 +1,15 @@
 //! The words of what an attribute gives, with its texts in all languages.
 
 use crate::reading::Given;
-use edd_display::{DATA_QUALIFIERS, MENU_QUALIFIERS, ShowFault, class_word, push_qualifiers};
+use crate::values::Value;
+use edd_display::{DATA_QUALIFIERS, MENU_QUALIFIERS, add_qualifiers, class_word};
 use edd_dump::push_string;
 use edd_fault_places::sections::Sections;
 use edd_fault_places::variants::first_variant;
 use edd_instructions::Instruction;
-use edd_syntax::numbers::{Attr, ItemNo, StrNo, VarNo};
+use edd_sinks::TextSink;
+use edd_syntax::numbers::{Attr, ItemNo, StrNo};
 use std::alloc::Global;
-use std::fmt::Write;
 
 /// The words of an image.
 #[derive(Clone, Copy)]
@@ -34,105 +35,95 @@ fn word_of_number(attribute: Attr, number: i64) -> Option<&'static str> {
 /// Whether a string has but one text, in English.
 pub fn is_plain(bytes: &[u8]) -> bool {
     match bytes {
-        [0, rest @ ..] => match first_variant(rest) {
-            Some(variant) => variant.code == "en" && variant.behind.is_empty(),
-            None => false,
-        },
+        [0, rest @ ..] => {
+            first_variant(rest).is_some_and(|it| it.code == "en" && it.behind.is_empty())
+        }
         _ => false,
     }
 }
 
 impl Words<'_, '_> {
-    fn push_name(&self, line: &mut String, item: ItemNo) -> Result<(), ShowFault> {
-        line.push_str(self.sections.name(item).unwrap_or(""))?;
-        Ok(())
+    fn push_name(&self, line: &mut TextSink, item: ItemNo) {
+        line.push_str(self.sections.name(item).unwrap_or(""))
+    }
+
+    fn bytes(&self, string: StrNo) -> &[u8] {
+        match self.sections.string(usize::from(string.0)) {
+            Some(bytes) => bytes,
+            None => b"",
+        }
     }
 
     // A text in English alone stands without its language.
-    fn push_text(&self, line: &mut String, string: StrNo) -> Result<(), ShowFault> {
-        let Some(bytes) = self.sections.string(usize::from(string.0)) else {
-            return Ok(());
-        };
-        let mut text = String::new(self.alloc);
-        push_string(&mut text, bytes)?;
-        let text = text.as_str();
+    fn push_text(&self, line: &mut TextSink, string: StrNo) {
+        let bytes = self.bytes(string);
+        let mut draft = TextSink::new(self.alloc);
+        push_string(&mut draft, bytes);
         let front = if is_plain(bytes) { " en " } else { " " };
-        line.push_str(text.strip_prefix(front).unwrap_or(text))?;
-        Ok(())
+        match draft.finish() {
+            Ok(text) => line.push_str(text.as_str().strip_prefix(front).unwrap_or(text.as_str())),
+            Err(_) => line.refuse(),
+        }
     }
 
-    fn push_texts(&self, line: &mut String, texts: [Option<StrNo>; 2]) -> Result<(), ShowFault> {
+    fn push_texts(&self, line: &mut TextSink, texts: [Option<StrNo>; 2]) {
         for text in texts {
             if let Some(text) = text {
-                line.push(' ')?;
-                self.push_text(line, text)?;
+                line.push_str(" ");
+                self.push_text(line, text);
             }
         }
-        Ok(())
     }
 
     // The name of a member, which stands without quotes.
-    fn push_member_name(&self, line: &mut String, string: StrNo) -> Result<(), ShowFault> {
-        if let Some([0, rest @ ..]) = self.sections.string(usize::from(string.0)) {
+    fn push_member_name(&self, line: &mut TextSink, string: StrNo) {
+        if let [0, rest @ ..] = self.bytes(string) {
             if let Some(variant) = first_variant(rest) {
-                line.push_str(variant.text)?;
+                line.push_str(variant.text);
             }
         }
-        Ok(())
     }
 
-    fn push_data(
-        &self,
-        line: &mut String,
-        variable: VarNo,
-        mask: u32,
-        bits: u8,
-    ) -> Result<(), ShowFault> {
-        self.push_name(line, ItemNo::Variable(variable))?;
-        if mask != 0 {
-            write!(line, "<{mask}>")?;
-        }
-        push_qualifiers(line, u16::from(bits), &DATA_QUALIFIERS)
-    }
-
-    fn push_number(&self, line: &mut String, given: &Given) -> Result<(), ShowFault> {
-        let Some(value) = &given.value else {
-            return Ok(());
-        };
-        let word = match value.constant {
-            Some(constant) => word_of_number(self.attribute, constant),
-            None => None,
-        };
-        match word {
-            Some(word) => line.push_str(word)?,
-            None => line.push_str(&value.text)?,
-        }
-        Ok(())
+    fn push_number(&self, line: &mut TextSink, value: &Value) {
+        let word = value
+            .constant
+            .and_then(|constant| word_of_number(self.attribute, constant));
+        line.push_str(word.unwrap_or(value.text.as_str()))
     }
 
     // What has no braces.
-    fn push_plain(&self, line: &mut String, given: &Given) -> Result<(), ShowFault> {
+    fn push_plain(&self, line: &mut TextSink, given: &Given) {
         match given.instruction {
             Instruction::Text(text) => self.push_text(line, text),
-            Instruction::Number => self.push_number(line, given),
-            Instruction::Item { item, quals } => {
-                self.push_name(line, item)?;
-                push_qualifiers(line, quals, &MENU_QUALIFIERS)
+            Instruction::Number => {
+                if let Some(value) = &given.value {
+                    self.push_number(line, value);
+                }
             }
-            Instruction::DataConst(number) => Ok(write!(line, "{number}")?),
-            Instruction::DataVar { var, mask, quals } => self.push_data(line, var, mask, quals),
-            Instruction::End => Ok(line.push_str("nothing")?),
-            _ => Ok(()),
+            Instruction::Item { item, quals } => {
+                self.push_name(line, item);
+                add_qualifiers(line, quals, &MENU_QUALIFIERS)
+            }
+            Instruction::DataConst(number) => write!(line, "{number}"),
+            Instruction::DataVar { var, mask, quals } => {
+                self.push_name(line, ItemNo::Variable(var));
+                if mask != 0 {
+                    write!(line, "<{mask}>");
+                }
+                add_qualifiers(line, u16::from(quals), &DATA_QUALIFIERS)
+            }
+            Instruction::End => line.push_str("nothing"),
+            _ => {}
         }
     }
 
     /// Appends by what an entry of a list is found again, as the value of an enumerator or the name
     /// of a member; what has no such key is its own.
-    pub fn push_key(&self, line: &mut String, given: &Given) -> Result<(), ShowFault> {
+    pub fn push_key(&self, line: &mut TextSink, given: &Given) {
         match given.instruction {
-            Instruction::Enumerator { value, .. } => Ok(write!(line, "{value}")?),
-            Instruction::Response { number, .. } => Ok(write!(line, "{number}")?),
-            Instruction::Element { number, .. } => Ok(write!(line, "{number}")?),
+            Instruction::Enumerator { value, .. } => write!(line, "{value}"),
+            Instruction::Response { number, .. } => write!(line, "{number}"),
+            Instruction::Element { number, .. } => write!(line, "{number}"),
             Instruction::Member { name, .. } => self.push_member_name(line, name),
             Instruction::Item { item, .. } => self.push_name(line, item),
             _ => self.push_plain(line, given),
@@ -140,12 +131,11 @@ impl Words<'_, '_> {
     }
 
     // What an entry says of its key.
-    fn push_rest(&self, line: &mut String, given: &Given) -> Result<(), ShowFault> {
-        match given.instruction {
+    fn push_rest(&self, line: &mut TextSink, instruction: Instruction) {
+        match instruction {
             Instruction::Enumerator { text, help, .. } => self.push_texts(line, [Some(text), help]),
             Instruction::Response { class, text, .. } => {
-                line.push(' ')?;
-                line.push_str(class_word(class))?;
+                write!(line, " {}", class_word(class));
                 self.push_texts(line, [Some(text), None])
             }
             Instruction::Element {
@@ -154,8 +144,8 @@ impl Words<'_, '_> {
                 help,
                 ..
             } => {
-                line.push(' ')?;
-                self.push_name(line, ItemNo::Variable(var))?;
+                line.push_str(" ");
+                self.push_name(line, ItemNo::Variable(var));
                 self.push_texts(line, [label, help])
             }
             Instruction::Member {
@@ -164,26 +154,25 @@ impl Words<'_, '_> {
                 help,
                 ..
             } => {
-                line.push(' ')?;
-                self.push_name(line, item)?;
+                line.push_str(" ");
+                self.push_name(line, item);
                 self.push_texts(line, [label, help])
             }
-            _ => Ok(()),
+            _ => {}
         }
     }
 
     /// Appends what is given; an entry that has a key is between braces.
-    pub fn push_given(&self, line: &mut String, given: &Given) -> Result<(), ShowFault> {
+    pub fn push_given(&self, line: &mut TextSink, given: &Given) {
         match given.instruction {
             Instruction::Enumerator { .. }
             | Instruction::Response { .. }
             | Instruction::Element { .. }
             | Instruction::Member { .. } => {
-                line.push('{')?;
-                self.push_key(line, given)?;
-                self.push_rest(line, given)?;
-                line.push('}')?;
-                Ok(())
+                line.push_str("{");
+                self.push_key(line, given);
+                self.push_rest(line, given.instruction);
+                line.push_str("}")
             }
             _ => self.push_plain(line, given),
         }

@@ -1,8 +1,8 @@
 //! The expressions of attributes, as a maker would write them.
 
+use edd_sinks::TextSink;
 use edd_syntax::operators::{Comparison, Operator};
 use std::alloc::{AllocError, Global};
-use std::fmt::Write;
 
 /// The text of an expression, and its value where it is a number.
 #[derive(Drop)]
@@ -39,48 +39,44 @@ pub fn comparison_sign(comparison: Comparison) -> &'static str {
     }
 }
 
-pub fn number(alloc: Global, number: i64) -> Result<Value, AllocError> {
-    let mut text = String::new(alloc);
-    if write!(text, "{number}").is_err() {
-        return Err(AllocError);
-    }
+// An expression that is no number.
+fn written(text: TextSink, is_operand: bool) -> Result<Value, AllocError> {
     Ok(Value {
-        text,
+        text: text.finish()?,
+        constant: None,
+        is_operand,
+    })
+}
+
+pub fn number(alloc: Global, number: i64) -> Result<Value, AllocError> {
+    Ok(Value {
+        text: format!(in alloc; "{number}")?,
         constant: Some(number),
         is_operand: true,
     })
 }
 
-/// A variable by its name.
-pub fn named(alloc: Global, name: &str) -> Result<Value, AllocError> {
-    Ok(Value {
-        text: String::from_str(alloc, name)?,
-        constant: None,
-        is_operand: true,
-    })
+/// What stands beside an operator without parentheses, as the name of a variable.
+pub fn operand(alloc: Global, of: &str) -> Result<Value, AllocError> {
+    let mut text = TextSink::new(alloc);
+    text.push_str(of);
+    written(text, true)
 }
 
 /// The element of an array.
 pub fn element(alloc: Global, array: &str, index: &Value) -> Result<Value, AllocError> {
-    let mut text = String::from_str(alloc, array)?;
-    text.push('[')?;
-    text.push_str(&index.text)?;
-    text.push(']')?;
-    Ok(Value {
-        text,
-        constant: None,
-        is_operand: true,
-    })
+    let mut text = TextSink::new(alloc);
+    write!(text, "{array}[{}]", index.text.as_str());
+    written(text, true)
 }
 
 /// Appends an expression as it stands beside an operator.
-pub fn push_operand(text: &mut String, of: &Value) -> Result<(), AllocError> {
+pub fn push_operand(text: &mut TextSink, of: &Value) {
     if of.is_operand {
-        return text.push_str(&of.text);
+        text.push_str(&of.text);
+    } else {
+        write!(text, "({})", of.text.as_str());
     }
-    text.push('(')?;
-    text.push_str(&of.text)?;
-    text.push(')')
 }
 
 // The value of an operator before a number.
@@ -112,14 +108,10 @@ pub fn unary(alloc: Global, sign: char, of: &Value) -> Result<Value, AllocError>
     if let Some(constant) = of.constant.and_then(|of| value_of_one(sign, of)) {
         return number(alloc, constant);
     }
-    let mut text = String::new(alloc);
-    text.push(sign)?;
-    push_operand(&mut text, of)?;
-    Ok(Value {
-        text,
-        constant: None,
-        is_operand: true,
-    })
+    let mut text = TextSink::new(alloc);
+    write!(text, "{sign}");
+    push_operand(&mut text, of);
+    written(text, true)
 }
 
 /// An operator between two operands; of numbers it is a number.
@@ -134,17 +126,11 @@ pub fn binary(
             return number(alloc, constant);
         }
     }
-    let mut text = String::new(alloc);
-    push_operand(&mut text, left)?;
-    text.push(' ')?;
-    text.push_str(sign)?;
-    text.push(' ')?;
-    push_operand(&mut text, right)?;
-    Ok(Value {
-        text,
-        constant: None,
-        is_operand: false,
-    })
+    let mut text = TextSink::new(alloc);
+    push_operand(&mut text, left);
+    write!(text, " {sign} ");
+    push_operand(&mut text, right);
+    written(text, false)
 }
 
 /// `test ? first : second`
@@ -154,27 +140,19 @@ pub fn choice(
     first: &Value,
     second: &Value,
 ) -> Result<Value, AllocError> {
-    let mut text = String::new(alloc);
-    push_operand(&mut text, test)?;
-    text.push_str(" ? ")?;
-    push_operand(&mut text, first)?;
-    text.push_str(" : ")?;
-    push_operand(&mut text, second)?;
-    Ok(Value {
-        text,
-        constant: None,
-        is_operand: false,
-    })
+    let mut text = TextSink::new(alloc);
+    push_operand(&mut text, test);
+    text.push_str(" ? ");
+    push_operand(&mut text, first);
+    text.push_str(" : ");
+    push_operand(&mut text, second);
+    written(text, false)
 }
 
 /// An operand of `&&` or `||`, of which the code makes 0 or 1 by two negations.
 pub fn without_truth(alloc: Global, of: Value) -> Result<Value, AllocError> {
-    match of.text.as_str().strip_prefix("!!") {
-        Some(text) => Ok(Value {
-            text: String::from_str(alloc, text)?,
-            constant: None,
-            is_operand: true,
-        }),
+    match of.text.strip_prefix("!!") {
+        Some(text) => operand(alloc, text),
         None => Ok(of),
     }
 }

@@ -2,7 +2,7 @@
 
 use edd_fault_places::sections::Sections;
 use edd_instructions::{Ask, Instruction, RequestArgument, RequestArguments, decode};
-use edd_syntax::numbers::{ArrNo, ItemNo, MethNo, StrNo, VarNo};
+use edd_syntax::numbers::{ItemNo, StrNo, VarNo};
 use std::alloc::{AllocError, Global};
 
 /// Two images.
@@ -22,51 +22,33 @@ impl Pair<'_, '_> {
         self.is_same_item(ItemNo::Variable(old), ItemNo::Variable(new))
     }
 
-    fn is_same_array(&self, old: ArrNo, new: ArrNo) -> bool {
-        self.is_same_item(ItemNo::Array(old), ItemNo::Array(new))
-    }
-
-    fn is_same_method(&self, old: MethNo, new: MethNo) -> bool {
-        self.is_same_item(ItemNo::Method(old), ItemNo::Method(new))
-    }
-
     fn is_same_string(&self, old: StrNo, new: StrNo) -> bool {
         self.old.string(usize::from(old.0)) == self.new.string(usize::from(new.0))
     }
 
-    // Whether two arguments in the same place name the same; texts may differ.
-    fn is_same_form_of_argument(&self, old: RequestArgument, new: RequestArgument) -> bool {
+    // Whether two arguments are the same. Where texts don't count they may differ.
+    fn is_same_argument(
+        &self,
+        old: RequestArgument,
+        new: RequestArgument,
+        with_texts: bool,
+    ) -> bool {
         match (old, new) {
             (RequestArgument::Variable(old), RequestArgument::Variable(new)) => {
                 self.is_same_variable(old, new)
+            }
+            (RequestArgument::Text(old), RequestArgument::Text(new)) if with_texts => {
+                self.is_same_string(old, new)
             }
             _ => true,
         }
     }
 
-    fn is_same_argument(&self, old: RequestArgument, new: RequestArgument) -> bool {
-        match (old, new) {
-            (RequestArgument::Text(old), RequestArgument::Text(new)) => {
-                self.is_same_string(old, new)
-            }
-            (old, new) => self.is_same_form_of_argument(old, new),
-        }
-    }
-
-    fn is_same_request(&self, old: Ask, new: Ask) -> bool {
+    fn is_same_request(&self, old: Ask, new: Ask, with_texts: bool) -> bool {
         old.kind == new.kind
             && (named(old).iter().zip(named(new).iter())).all(|(old, new)| self.is_same_argument(
-                *old, *new,
+                *old, *new, with_texts,
             ))
-    }
-
-    // Whether two requests differ in their texts alone.
-    fn is_same_form_of_request(&self, old: Ask, new: Ask) -> bool {
-        old.kind == new.kind
-            && (named(old).iter().zip(named(new).iter())).all(|(
-                old,
-                new,
-            )| self.is_same_form_of_argument(*old, *new))
     }
 
     // Whether two instructions of methods do the same.
@@ -75,12 +57,12 @@ impl Pair<'_, '_> {
             (Instruction::Variable(old), Instruction::Variable(new))
             | (Instruction::Store(old), Instruction::Store(new)) => self.is_same_variable(old, new),
             (Instruction::ReadElement(old), Instruction::ReadElement(new)) => {
-                self.is_same_array(old, new)
+                self.is_same_item(ItemNo::Array(old), ItemNo::Array(new))
             }
             (Instruction::AddAbortMethod(old), Instruction::AddAbortMethod(new)) => {
-                self.is_same_method(old, new)
+                self.is_same_item(ItemNo::Method(old), ItemNo::Method(new))
             }
-            (Instruction::Ask(old), Instruction::Ask(new)) => self.is_same_request(old, new),
+            (Instruction::Ask(old), Instruction::Ask(new)) => self.is_same_request(old, new, true),
             (old, new) => old == new,
         }
     }
@@ -90,7 +72,7 @@ impl Pair<'_, '_> {
         match (old, new) {
             (Instruction::Push(_), Instruction::Push(_)) => true,
             (Instruction::Ask(old), Instruction::Ask(new)) => {
-                self.is_same_form_of_request(old, new)
+                self.is_same_request(old, new, false)
             }
             (old, new) => self.is_same_instruction(old, new),
         }

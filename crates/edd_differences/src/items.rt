@@ -1,17 +1,17 @@
 //! The items of two images, found again by their kinds and names.
 
-use crate::attributes::Comparison;
+use crate::attributes::{Comparison, sides};
 use crate::code::Pair;
-use crate::difference::{Difference, Item, Note, What};
-use edd_contents::{Content, code_of, unwritten, written};
-use edd_display::{ShowFault, type_word};
+use crate::difference::{Difference, Found, Item, Note, What};
+use edd_contents::{code_of, unwritten, written};
+use edd_display::{ShowFault, printed, type_word};
 use edd_fault_places::sections::{RowFields, Sections};
 use edd_image::VarKind;
 use edd_loader::Image;
+use edd_sinks::TextSink;
 use edd_syntax::numbers::{Attr, KINDS, Kind};
 use indexmap::IndexMap;
 use std::alloc::{AllocError, Global};
-use std::fmt::Write;
 
 /// The items of one kind in an image.
 #[derive(Drop)]
@@ -70,19 +70,17 @@ impl<'a> Items<'a> {
     }
 
     fn rows_of(&self, number: u16) -> &[RowFields] {
-        match self.rows.get(usize::from(number)) {
-            Some(rows) => rows.as_slice(),
-            None => &[],
-        }
+        self.rows
+            .get(usize::from(number))
+            .map_or(&[], |rows| rows.as_slice())
     }
 }
 
 /// Where the differences of two images are noted.
 #[derive(Drop)]
 struct Comparing<'c, 'a> {
-    alloc: Global,
     images: Pair<'c, 'a>,
-    found: Vec<Difference<'a>>,
+    found: Found<'a>,
 }
 
 /// The items of a kind that moved together, each by as much.
@@ -94,20 +92,29 @@ struct Run<'a> {
     new: (u16, u16),
 }
 
-fn numbers_text(alloc: Global, numbers: (u16, u16)) -> Result<String, ShowFault> {
-    let mut text = String::new(alloc);
+fn numbers_text(alloc: Global, numbers: (u16, u16)) -> TextSink {
     let (first, last) = numbers;
-    write!(text, "{first}")?;
+    let mut text = printed(alloc, first);
     if first != last {
-        write!(text, " to {last}")?;
+        write!(text, " to {last}");
     }
-    Ok(text)
+    text
 }
 
-fn type_text(alloc: Global, of: VarKind) -> Result<String, ShowFault> {
-    let mut text = String::from_str(alloc, type_word(of.var_type))?;
-    write!(text, " {}", of.size)?;
-    Ok(text)
+fn type_text(alloc: Global, of: VarKind) -> TextSink {
+    printed(
+        alloc,
+        format_args!("{} {}", type_word(of.var_type), of.size),
+    )
+}
+
+// One item.
+fn item_of<'a>(kind: Kind, name: &'a str) -> Item<'a> {
+    Item {
+        kind,
+        name,
+        last: None,
+    }
 }
 
 fn is_next(before: u16, number: u16) -> bool {
@@ -121,114 +128,67 @@ fn rank(row: &RowFields) -> (u8, u16) {
 }
 
 impl<'c, 'a> Comparing<'c, 'a> {
+    // Tells of two contents, or of one that came or went. Nothing breaks by one that came.
     fn tell(
         &mut self,
-        item: Option<Item<'a>>,
+        item: Item<'a>,
         what: What<'a>,
-        old: Option<String>,
-        new: Option<String>,
-        is_breaking: bool,
-    ) -> Result<(), ShowFault> {
-        self.found.push(Difference {
-            item,
-            what,
-            condition: String::new(self.alloc),
-            old,
-            new,
-            note: Note::Nothing,
-            is_breaking,
-        })?;
-        Ok(())
+        contents: (Option<TextSink>, Option<TextSink>),
+    ) {
+        let is_breaking = contents.0.is_some();
+        self.found
+            .add(Some(item), what, "", contents, Note::Nothing, is_breaking)
     }
 
-    fn tell_identification(
-        &mut self,
-        word: &'static str,
-        old: u32,
-        new: u32,
-    ) -> Result<(), ShowFault> {
-        if old == new {
-            return Ok(());
+    fn tell_identification(&mut self, word: &'static str, old: u32, new: u32) {
+        if old != new {
+            let alloc = self.found.alloc;
+            let contents = (Some(printed(alloc, old)), Some(printed(alloc, new)));
+            self.found.add(
+                None,
+                What::Identification(word),
+                "",
+                contents,
+                Note::Nothing,
+                false,
+            );
         }
-        let mut first = String::new(self.alloc);
-        write!(first, "{old}")?;
-        let mut second = String::new(self.alloc);
-        write!(second, "{new}")?;
-        self.tell(
-            None,
-            What::Identification(word),
-            Some(first),
-            Some(second),
-            false,
-        )
     }
 
-    fn compare_identification(&mut self) -> Result<(), ShowFault> {
+    fn compare_identification(&mut self) {
         let (old, new) = (self.images.old.counts, self.images.new.counts);
-        self.tell_identification("MANUFACTURER", old.manufacturer, new.manufacturer)?;
-        self.tell_identification("DEVICE_TYPE", old.device_type, new.device_type)?;
-        self.tell_identification("DEVICE_REVISION", old.device_revision, new.device_revision)?;
+        self.tell_identification("MANUFACTURER", old.manufacturer, new.manufacturer);
+        self.tell_identification("DEVICE_TYPE", old.device_type, new.device_type);
+        self.tell_identification("DEVICE_REVISION", old.device_revision, new.device_revision);
         self.tell_identification("DD_REVISION", old.dd_revision, new.dd_revision)
     }
 
-    fn tell_existence(
-        &mut self,
-        kind: Kind,
-        name: &'a str,
-        number: u16,
-        is_new: bool,
-    ) -> Result<(), ShowFault> {
-        let item = Item {
-            kind,
-            name,
-            last: None,
-        };
-        let text = Some(numbers_text(self.alloc, (number, number))?);
-        if is_new {
-            self.tell(Some(item), What::Existence, None, text, false)
-        } else {
-            self.tell(Some(item), What::Existence, text, None, true)
-        }
-    }
-
     // Items that only one of the images has.
-    fn compare_existence(
-        &mut self,
-        kind: Kind,
-        of: &Items<'a>,
-        others: &Items<'a>,
-        is_new: bool,
-    ) -> Result<(), ShowFault> {
+    fn compare_existence(&mut self, kind: Kind, of: &Items<'a>, others: &Items<'a>, is_new: bool) {
         for (name, number) in of.names.iter() {
             if others.names.get(*name).is_none() {
-                self.tell_existence(kind, *name, *number, is_new)?;
+                let text = printed(self.found.alloc, *number);
+                self.tell(item_of(kind, *name), What::Existence, sides(text, is_new));
             }
         }
-        Ok(())
     }
 
-    fn tell_run(&mut self, kind: Kind, run: Option<Run<'a>>) -> Result<(), ShowFault> {
+    fn tell_run(&mut self, kind: Kind, run: Option<Run<'a>>) {
         let Some(run) = run else {
-            return Ok(());
+            return;
         };
-        let is_alone = run.old.0 == run.old.1;
         let item = Item {
             kind,
             name: run.name,
-            last: if is_alone { None } else { Some(run.last_name) },
+            last: (run.old.0 != run.old.1).then_some(run.last_name),
         };
-        let old = numbers_text(self.alloc, run.old)?;
-        let new = numbers_text(self.alloc, run.new)?;
-        self.tell(Some(item), What::Number, Some(old), Some(new), true)
+        let alloc = self.found.alloc;
+        let (old, new) = (numbers_text(alloc, run.old), numbers_text(alloc, run.new));
+        self.tell(item, What::Number, (Some(old), Some(new)))
     }
 
     // Items whose number is another one, those beside each other together.
-    fn compare_numbers(
-        &mut self,
-        kind: Kind,
-        old: &Items<'a>,
-        new: &Items<'a>,
-    ) -> Result<(), ShowFault> {
+    fn compare_numbers(&mut self, kind: Kind, old: &Items<'a>, new: &Items<'a>) {
         let mut run: Option<Run<'a>> = None;
         for (name, number) in old.names.iter() {
             let (name, before) = (*name, *number);
@@ -244,7 +204,7 @@ impl<'c, 'a> Comparing<'c, 'a> {
                     ..run
                 }),
                 other => {
-                    self.tell_run(kind, other)?;
+                    self.tell_run(kind, other);
                     Some(Run {
                         name,
                         last_name: name,
@@ -257,19 +217,19 @@ impl<'c, 'a> Comparing<'c, 'a> {
         self.tell_run(kind, run)
     }
 
-    fn compare_types(&mut self, item: Item<'a>, old: u16, new: u16) -> Result<(), ShowFault> {
+    fn compare_types(&mut self, item: Item<'a>, old: u16, new: u16) {
         if item.kind != Kind::Variable {
-            return Ok(());
+            return;
         }
         let first = self.images.old.variable(usize::from(old));
         let second = self.images.new.variable(usize::from(new));
         match (first, second) {
             (Some(first), Some(second)) if first != second => {
-                let old = type_text(self.alloc, first)?;
-                let new = type_text(self.alloc, second)?;
-                self.tell(Some(item), What::Type, Some(old), Some(new), true)
+                let alloc = self.found.alloc;
+                let (old, new) = (type_text(alloc, first), type_text(alloc, second));
+                self.tell(item, What::Type, (Some(old), Some(new)))
             }
-            _ => Ok(()),
+            _ => {}
         }
     }
 
@@ -281,7 +241,6 @@ impl<'c, 'a> Comparing<'c, 'a> {
             What::Attribute(attribute)
         };
         Some(Comparison {
-            alloc: self.alloc,
             images: self.images,
             item,
             attribute,
@@ -291,131 +250,115 @@ impl<'c, 'a> Comparing<'c, 'a> {
     }
 
     // An attribute that both images have.
-    fn compare_rows(
-        &mut self,
-        item: Item<'a>,
-        old: &RowFields,
-        new: &RowFields,
-    ) -> Result<(), ShowFault> {
-        let (alloc, images) = (self.alloc, self.images);
+    fn compare_rows(&mut self, item: Item<'a>, old: &RowFields, new: &RowFields) {
+        let (alloc, images) = (self.found.alloc, self.images);
         let Some(mut comparison) = self.comparison(item, new) else {
-            return Ok(());
+            return;
         };
         let attribute = comparison.attribute;
         let (first, second) = (code_of(images.old, *old), code_of(images.new, *new));
         if attribute == Attr::Definition {
-            return match images.changes(alloc, first, second)? {
-                Some(changes) if old.sub == new.sub => comparison.tell_changes(&changes),
-                _ => comparison.tell_code(),
+            return match images.changes(alloc, first, second) {
+                Ok(Some(changes)) if old.sub == new.sub => comparison.tell_changes(&changes),
+                Ok(_) => comparison.tell_note(Note::Code),
+                Err(_) => comparison.found.refuse(),
             };
         }
-        let old = written(alloc, images.old, attribute, *old)?;
-        let new = written(alloc, images.new, attribute, *new)?;
+        let old = written(alloc, images.old, attribute, *old);
+        let new = written(alloc, images.new, attribute, *new);
         match (old, new) {
-            (Some(old), Some(new)) => comparison.compare(&old, &new),
-            _ if images.is_same_code(first, second) => Ok(()),
-            _ => comparison.tell_may_differ(),
+            (Ok(Some(old)), Ok(Some(new))) => comparison.compare(&old, &new),
+            (Err(_), _) | (_, Err(_)) => comparison.found.refuse(),
+            _ if images.is_same_code(first, second) => {}
+            _ => comparison.tell_note(Note::MayDiffer),
         }
     }
 
     // An attribute that only one of the images has.
-    fn tell_row(&mut self, item: Item<'a>, row: &RowFields, is_new: bool) -> Result<(), ShowFault> {
-        let (alloc, images) = (self.alloc, self.images);
+    fn tell_row(&mut self, item: Item<'a>, row: &RowFields, is_new: bool) {
+        let (alloc, images) = (self.found.alloc, self.images);
         let Some(mut comparison) = self.comparison(item, row) else {
-            return Ok(());
+            return;
         };
         let attribute = comparison.attribute;
         if attribute == Attr::Definition {
-            return comparison.tell_code();
+            return comparison.tell_note(Note::Code);
         }
         let sections = if is_new { images.new } else { images.old };
-        let content: Option<Content> = written(alloc, sections, attribute, *row)?;
-        match (content, unwritten(alloc, attribute)?) {
-            (Some(content), None) => comparison.tell_all(&content, is_new),
-            (Some(content), Some(other)) if is_new => comparison.compare(&other, &content),
-            (Some(content), Some(other)) => comparison.compare(&content, &other),
-            (None, _) => comparison.tell_may_differ(),
+        match (
+            written(alloc, sections, attribute, *row),
+            unwritten(alloc, attribute),
+        ) {
+            (Ok(Some(content)), Ok(None)) => comparison.tell_all(&content, is_new),
+            (Ok(Some(content)), Ok(Some(other))) if is_new => comparison.compare(&other, &content),
+            (Ok(Some(content)), Ok(Some(other))) => comparison.compare(&content, &other),
+            (Ok(None), Ok(_)) => comparison.tell_note(Note::MayDiffer),
+            _ => comparison.found.refuse(),
         }
     }
 
     // The attributes of an item, in the order of their numbers.
-    fn compare_attributes(
-        &mut self,
-        item: Item<'a>,
-        old: &[RowFields],
-        new: &[RowFields],
-    ) -> Result<(), ShowFault> {
+    fn compare_attributes(&mut self, item: Item<'a>, old: &[RowFields], new: &[RowFields]) {
         let (mut old, mut new) = (old, new);
         for _ in 0..old.len().saturating_add(new.len()) {
             match (old, new) {
                 ([first, more @ ..], [second, others @ ..]) if rank(first) == rank(second) => {
-                    self.compare_rows(item, first, second)?;
+                    self.compare_rows(item, first, second);
                     (old, new) = (more, others);
                 }
                 ([first, more @ ..], [second, ..]) if rank(first) < rank(second) => {
-                    self.tell_row(item, first, false)?;
+                    self.tell_row(item, first, false);
                     old = more;
                 }
                 (_, [second, others @ ..]) => {
-                    self.tell_row(item, second, true)?;
+                    self.tell_row(item, second, true);
                     new = others;
                 }
                 ([first, more @ ..], []) => {
-                    self.tell_row(item, first, false)?;
+                    self.tell_row(item, first, false);
                     old = more;
                 }
-                ([], []) => return Ok(()),
+                ([], []) => return,
             }
         }
-        Ok(())
     }
 
-    fn compare_items(
-        &mut self,
-        kind: Kind,
-        old: &Items<'a>,
-        new: &Items<'a>,
-    ) -> Result<(), ShowFault> {
+    fn compare_items(&mut self, kind: Kind, old: &Items<'a>, new: &Items<'a>) {
         for (name, number) in new.names.iter() {
             let (name, now) = (*name, *number);
             if let Some(before) = old.names.get(name).copied() {
-                let item = Item {
-                    kind,
-                    name,
-                    last: None,
-                };
-                self.compare_types(item, before, now)?;
-                self.compare_attributes(item, old.rows_of(before), new.rows_of(now))?;
+                let item = item_of(kind, name);
+                self.compare_types(item, before, now);
+                self.compare_attributes(item, old.rows_of(before), new.rows_of(now));
             }
         }
-        Ok(())
     }
 
-    fn compare_kind(&mut self, kind: Kind) -> Result<(), ShowFault> {
-        let old = Items::of(self.alloc, self.images.old, kind)?;
-        let new = Items::of(self.alloc, self.images.new, kind)?;
-        self.compare_existence(kind, &old, &new, false)?;
-        self.compare_existence(kind, &new, &old, true)?;
-        self.compare_numbers(kind, &old, &new)?;
+    fn compare_kind(&mut self, kind: Kind) {
+        let alloc = self.found.alloc;
+        let old = Items::of(alloc, self.images.old, kind);
+        let new = Items::of(alloc, self.images.new, kind);
+        let (Ok(old), Ok(new)) = (old, new) else {
+            return self.found.refuse();
+        };
+        self.compare_existence(kind, &old, &new, false);
+        self.compare_existence(kind, &new, &old, true);
+        self.compare_numbers(kind, &old, &new);
         self.compare_items(kind, &old, &new)
     }
 }
 
-fn compared<'a>(
-    alloc: Global,
-    old: &Sections<'a>,
-    new: &Sections<'a>,
-) -> Result<Vec<Difference<'a>>, ShowFault> {
+fn compared<'a>(alloc: Global, old: &Sections<'a>, new: &Sections<'a>) -> Found<'a> {
     let mut comparing = Comparing {
-        alloc,
         images: Pair { old, new },
-        found: Vec::new(alloc),
+        found: Found::new(alloc),
     };
-    comparing.compare_identification()?;
+    comparing.compare_identification();
     for kind in KINDS {
-        comparing.compare_kind(kind)?;
+        comparing.compare_kind(kind);
     }
-    Ok(comparing.found)
+    let Comparing { found, .. } = comparing;
+    found
 }
 
 /// The differences of two images: of the identification, then by kind those of items that went,
@@ -426,7 +369,7 @@ pub fn differences<'a>(
     new: &Image<'a>,
 ) -> Result<Vec<Difference<'a>>, ShowFault> {
     match (Sections::of(old.bytes()), Sections::of(new.bytes())) {
-        (Some(old), Some(new)) => compared(alloc, &old, &new),
+        (Some(old), Some(new)) => Ok(compared(alloc, &old, &new).finish()?),
         _ => Ok(Vec::new(alloc)),
     }
 }

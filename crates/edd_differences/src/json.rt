@@ -3,7 +3,6 @@
 use crate::difference::{Difference, Item, What};
 use crate::lines::note_word;
 use edd_display::{ShowFault, print};
-use edd_syntax::numbers::Attr;
 use serde::Serialize;
 use std::alloc::Global;
 use std::io::Write;
@@ -30,9 +29,8 @@ fn word_of(what: What<'_>) -> &'static str {
         What::Existence => "item",
         What::Number => "number",
         What::Type => "TYPE",
-        What::Attribute(attribute) => Attr::word(attribute),
-        What::Transaction(attribute, _) => Attr::word(attribute),
-        What::Text(attribute, _) => Attr::word(attribute),
+        What::Attribute(attribute) | What::Transaction(attribute, _) | What::Text(attribute, _) =>
+            attribute.word(),
     }
 }
 
@@ -52,11 +50,7 @@ fn object_of<'d>(of: &'d Difference<'_>) -> Object<'d> {
             What::Text(_, code) => Some(code),
             _ => None,
         },
-        condition: if condition.is_empty() {
-            None
-        } else {
-            Some(condition)
-        },
+        condition: (!condition.is_empty()).then_some(condition),
         old: of.old.as_ref().map(|text| text.as_str()),
         new: of.new.as_ref().map(|text| text.as_str()),
         note: note_word(of.note),
@@ -71,10 +65,9 @@ pub fn print_objects<W: Write>(
     out: &mut W,
 ) -> Result<(), ShowFault> {
     for difference in differences {
-        match serde_json::to_string(alloc, &object_of(difference)) {
-            Ok(line) => print(alloc, out, line.as_str())?,
-            Err(_) => return Err(ShowFault::Memory),
-        }
+        let line = serde_json::to_string(alloc, &object_of(difference));
+        let line = line.map_err(|_| ShowFault::Memory)?;
+        print(alloc, out, line.as_str())?;
     }
     Ok(())
 }

@@ -1,23 +1,22 @@
 //! Lines for a reader.
 
 use crate::difference::{Difference, Item, Note, What};
-use edd_display::{ShowFault, print, push_quoted};
+use edd_display::{Printer, ShowFault, add_quoted};
+use edd_sinks::TextSink;
 use std::alloc::Global;
-use std::fmt::Write as _;
 use std::io::Write;
 
-/// Appends what is not the same, in the words of the language where it has some.
-pub fn push_what(line: &mut String, what: What<'_>) -> Result<(), ShowFault> {
+// What is not the same, in the words of the language where it has some.
+fn push_what(line: &mut TextSink, what: What<'_>) {
     match what {
-        What::Identification(word) => line.push_str(word)?,
-        What::Existence => line.push_str("item")?,
-        What::Number => line.push_str("number")?,
-        What::Type => line.push_str("TYPE")?,
-        What::Attribute(attribute) => line.push_str(attribute.word())?,
-        What::Transaction(attribute, position) => write!(line, "{}[{position}]", attribute.word())?,
-        What::Text(attribute, code) => write!(line, "{} {code}", attribute.word())?,
+        What::Identification(word) => line.push_str(word),
+        What::Existence => line.push_str("item"),
+        What::Number => line.push_str("number"),
+        What::Type => line.push_str("TYPE"),
+        What::Attribute(attribute) => line.push_str(attribute.word()),
+        What::Transaction(attribute, position) => write!(line, "{}[{position}]", attribute.word()),
+        What::Text(attribute, code) => write!(line, "{} {code}", attribute.word()),
     }
-    Ok(())
 }
 
 /// The word of a note, where there is one.
@@ -32,113 +31,48 @@ pub fn note_word(note: Note) -> Option<&'static str> {
     }
 }
 
-fn push_content(line: &mut String, what: What<'_>, text: &str) -> Result<(), ShowFault> {
+fn push_content(line: &mut TextSink, before: &str, what: What<'_>, text: &str) {
+    line.push_str(before);
     match what {
-        What::Text(_, _) => push_quoted(line, text)?,
-        _ => line.push_str(text)?,
+        What::Text(_, _) => add_quoted(line, text),
+        _ => line.push_str(text),
     }
-    Ok(())
 }
 
 // The two contents: one alone came or went.
-fn push_contents(line: &mut String, of: &Difference<'_>) -> Result<(), ShowFault> {
-    let old = of.old.as_ref();
-    let new = of.new.as_ref();
-    match (old, new) {
+fn push_contents(line: &mut TextSink, of: &Difference<'_>) {
+    match (&of.old, &of.new) {
         (Some(old), Some(new)) => {
-            line.push(' ')?;
-            push_content(line, of.what, old.as_str())?;
-            line.push_str(" -> ")?;
-            push_content(line, of.what, new.as_str())
+            push_content(line, " ", of.what, old);
+            push_content(line, " -> ", of.what, new)
         }
-        (Some(old), None) => {
-            line.push_str(" gone: ")?;
-            push_content(line, of.what, old.as_str())
-        }
-        (None, Some(new)) => {
-            line.push_str(" new: ")?;
-            push_content(line, of.what, new.as_str())
-        }
-        (None, None) => Ok(()),
+        (Some(old), None) => push_content(line, " gone: ", of.what, old),
+        (None, Some(new)) => push_content(line, " new: ", of.what, new),
+        (None, None) => {}
     }
 }
 
-fn push_difference(line: &mut String, of: &Difference<'_>) -> Result<(), ShowFault> {
-    line.push_str(if of.is_breaking { "! " } else { "  " })?;
-    push_what(line, of.what)?;
-    push_contents(line, of)?;
+fn push_difference(line: &mut TextSink, of: &Difference<'_>) {
+    line.push_str(if of.is_breaking { "! " } else { "  " });
+    push_what(line, of.what);
+    push_contents(line, of);
     if !of.condition.is_empty() {
-        write!(line, ", where {}", of.condition.as_str())?;
+        write!(line, ", where {}", of.condition.as_str());
     }
     if let Some(word) = note_word(of.note) {
-        write!(line, ", {word}")?;
+        write!(line, ", {word}");
     }
-    Ok(())
 }
 
 // The item that differences belong to.
-fn push_item(line: &mut String, item: Option<Item<'_>>) -> Result<(), ShowFault> {
+fn push_item(line: &mut TextSink, item: Option<Item<'_>>) {
     let Some(item) = item else {
-        line.push_str("identification")?;
-        return Ok(());
+        return line.push_str("identification");
     };
-    write!(line, "{} {}", item.kind.word(), item.name)?;
+    write!(line, "{} {}", item.kind.word(), item.name);
     if let Some(last) = item.last {
-        write!(line, " to {last}")?;
+        write!(line, " to {last}");
     }
-    Ok(())
-}
-
-fn is_same_item(one: Option<Item<'_>>, other: Option<Item<'_>>) -> bool {
-    match (one, other) {
-        (None, None) => true,
-        (Some(one), Some(other)) => {
-            one.kind == other.kind && one.name == other.name && one.last == other.last
-        }
-        _ => false,
-    }
-}
-
-fn print_item<W: Write>(
-    alloc: Global,
-    item: Option<Item<'_>>,
-    out: &mut W,
-) -> Result<(), ShowFault> {
-    let mut line = String::new(alloc);
-    push_item(&mut line, item)?;
-    print(alloc, out, line.as_str())
-}
-
-fn print_all<W: Write>(
-    alloc: Global,
-    differences: &[Difference<'_>],
-    out: &mut W,
-) -> Result<(), ShowFault> {
-    let mut before: Option<Option<Item<'_>>> = None;
-    for difference in differences {
-        let is_told = match before {
-            Some(item) => is_same_item(item, difference.item),
-            None => false,
-        };
-        if !is_told {
-            print_item(alloc, difference.item, out)?;
-        }
-        before = Some(difference.item);
-        let mut line = String::new(alloc);
-        push_difference(&mut line, difference)?;
-        print(alloc, out, line.as_str())?;
-    }
-    Ok(())
-}
-
-fn breaking_count(differences: &[Difference<'_>]) -> usize {
-    let mut count: usize = 0;
-    for difference in differences {
-        if difference.is_breaking {
-            count = count.saturating_add(1);
-        }
-    }
-    count
 }
 
 /// Prints the differences below their items, and last how many there are. Those that make an older
@@ -148,11 +82,21 @@ pub fn print_lines<W: Write>(
     differences: &[Difference<'_>],
     out: &mut W,
 ) -> Result<(), ShowFault> {
-    print_all(alloc, differences, out)?;
-    let (all, breaking) = (differences.len(), breaking_count(differences));
-    print(
-        alloc,
-        out,
-        format_args!("differences {all}, breaking {breaking}"),
-    )
+    let mut printer = Printer::new(alloc, out);
+    let mut before: Option<Option<Item<'_>>> = None;
+    for difference in differences {
+        if before != Some(difference.item) {
+            let mut line = TextSink::new(alloc);
+            push_item(&mut line, difference.item);
+            printer.print_sink(line);
+        }
+        before = Some(difference.item);
+        let mut line = TextSink::new(alloc);
+        push_difference(&mut line, difference);
+        printer.print_sink(line);
+    }
+    let breaking = differences.iter().filter(|it| it.is_breaking).count();
+    let all = differences.len();
+    printer.print(format_args!("differences {all}, breaking {breaking}"));
+    printer.finish()
 }

@@ -1,8 +1,10 @@
 //! The entries of two lists, found again by their keys.
 
+use crate::difference::Found;
 use edd_contents::{Content, Line};
+use edd_sinks::TextSink;
 use indexmap::IndexMap;
-use std::alloc::{AllocError, Global};
+use std::alloc::Global;
 
 /// The lines of a list by their keys. Lines of one key are found one after the other.
 #[derive(Drop)]
@@ -35,43 +37,42 @@ impl By {
 
 impl<'c> Chain<'c> {
     // From the last line on, so that what a key led to is the line after this one.
-    pub fn of(alloc: Global, lines: &'c [Line], by: By) -> Result<Chain<'c>, AllocError> {
+    pub fn of(lines: &'c [Line], by: By, differences: &mut Found<'_>) -> Chain<'c> {
+        let alloc = differences.alloc;
         let count = lines.len();
-        let found = Vec::from_elem(alloc, false, count)?;
         let mut chain = Chain {
             first: IndexMap::new(alloc),
-            next: Vec::from_elem(alloc, count, count)?,
-            found,
+            next: differences.listed(Vec::from_elem(alloc, count, count)),
+            found: differences.listed(Vec::from_elem(alloc, false, count)),
         };
-        for number in (0..count).rev() {
-            if let Some(line) = lines.get(number) {
-                chain.put(by.key(line), number)?;
+        for (number, line) in lines.iter().enumerate().rev() {
+            let later = chain.put(by.key(line), number, differences);
+            if let (Some(later), Some(next)) = (later, chain.next.get_mut(number)) {
+                *next = later;
             }
         }
-        Ok(chain)
+        chain
     }
 
-    // Puts a line before the others of its key.
-    fn put(&mut self, key: &'c str, number: usize) -> Result<(), AllocError> {
-        let later = self.first.insert(key, number)?;
-        if let (Some(later), Some(next)) = (later, self.next.get_mut(number)) {
-            *next = later;
+    // Has a key lead to a line. Gives that to which it led before.
+    fn put(&mut self, key: &'c str, number: usize, differences: &mut Found<'_>) -> Option<usize> {
+        match self.first.insert(key, number) {
+            Ok(before) => before,
+            Err(_) => {
+                differences.refuse();
+                None
+            }
         }
-        Ok(())
     }
 
     /// The first line of a key that was not found yet.
-    pub fn take(&mut self, key: &'c str) -> Result<Option<usize>, AllocError> {
-        let Some(number) = self.first.get(key).copied() else {
-            return Ok(None);
-        };
-        let Some(found) = self.found.get_mut(number) else {
-            return Ok(None);
-        };
+    pub fn take(&mut self, key: &'c str, differences: &mut Found<'_>) -> Option<usize> {
+        let number = self.first.get(key).copied()?;
+        let found = self.found.get_mut(number)?;
         *found = true;
         let next = self.next.get(number).copied().unwrap_or(number);
-        self.first.insert(key, next)?;
-        Ok(Some(number))
+        self.put(key, next, differences);
+        Some(number)
     }
 
     /// The first line of a key that was found neither here nor by the other chain, over the same
@@ -80,19 +81,18 @@ impl<'c> Chain<'c> {
         &mut self,
         key: &'c str,
         other: &mut Chain<'_>,
-    ) -> Result<Option<usize>, AllocError> {
+        differences: &mut Found<'_>,
+    ) -> Option<usize> {
         for _ in 0..self.found.len() {
-            let Some(number) = self.take(key)? else {
-                return Ok(None);
-            };
+            let number = self.take(key, differences)?;
             if !other.was_found(number) {
                 if let Some(found) = other.found.get_mut(number) {
                     *found = true;
                 }
-                return Ok(Some(number));
+                return Some(number);
             }
         }
-        Ok(None)
+        None
     }
 
     pub fn was_found(&self, number: usize) -> bool {
@@ -101,40 +101,37 @@ impl<'c> Chain<'c> {
 }
 
 /// All that a list gives, in one text.
-pub fn joined(alloc: Global, content: &Content) -> Result<String, AllocError> {
-    let mut text = String::new(alloc);
+pub fn joined(alloc: Global, content: &Content) -> TextSink {
+    let mut text = TextSink::new(alloc);
     for line in &content.lines {
-        if !text.is_empty() {
-            text.push_str(", ")?;
+        if !text.text.is_empty() {
+            text.push_str(", ");
         }
-        push_line(&mut text, content, line)?;
+        push_line(&mut text, content, line);
     }
-    if text.is_empty() {
-        text.push_str("nothing")?;
+    if text.text.is_empty() {
+        text.push_str("nothing");
     }
-    Ok(text)
+    text
 }
 
-/// A line with its condition, where it has one.
-pub fn push_line(text: &mut String, content: &Content, line: &Line) -> Result<(), AllocError> {
-    text.push_str(&line.text)?;
+/// Appends a line with its condition, where it has one.
+pub fn push_line(text: &mut TextSink, content: &Content, line: &Line) {
+    text.push_str(&line.text);
     let condition = content.condition(line);
     if !condition.is_empty() {
-        text.push_str(" where ")?;
-        text.push_str(condition)?;
+        write!(text, " where {condition}");
     }
-    Ok(())
+}
+
+/// The line of a number. An only one, which has no condition, stands for each.
+pub fn line_for(content: &Content, number: usize) -> Option<&Line> {
+    content.only().or(content.lines.get(number))
 }
 
 /// Whether the lines of both stand under the same conditions, one by one.
 pub fn have_same_conditions(old: &Content, new: &Content) -> bool {
-    if old.lines.len() != new.lines.len() {
-        return false;
-    }
-    for (line, other) in old.lines.iter().zip(new.lines.iter()) {
-        if old.condition(line) != new.condition(other) {
-            return false;
-        }
-    }
-    true
+    old.lines.len() == new.lines.len()
+        && (old.lines.iter().zip(new.lines.iter())).all(|(line, other)| old.condition(line)
+            == new.condition(other))
 }

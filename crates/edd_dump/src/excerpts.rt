@@ -1,11 +1,11 @@
 //! The beginnings of the strings, which are shown where an instruction names one.
 
-use edd_display::{ShowFault, push_quoted};
+use edd_display::add_quoted;
 use edd_fault_places::sections::Sections;
 use edd_fault_places::variants::first_variant;
+use edd_sinks::TextSink;
 use edd_syntax::numbers::StrNo;
 use std::alloc::{AllocError, Global};
-use std::fmt::Write as _;
 
 /// How many bytes of a text are shown beside an instruction, at most. Code can name one string
 /// millions of times.
@@ -70,31 +70,26 @@ impl<'a> Excerpts<'a> {
     pub fn of(alloc: Global, sections: &Sections<'a>) -> Result<Excerpts<'a>, AllocError> {
         let mut of = Vec::with_capacity(alloc, sections.string_count())?;
         for number in 0..sections.string_count() {
-            let found = match sections.string(number) {
-                Some(bytes) => excerpt_of(bytes),
-                None => Excerpt::Nothing,
-            };
-            of.push(found)?;
+            of.push(excerpt_of(sections.string(number).unwrap_or(b"")))?;
         }
         Ok(Excerpts { of })
     }
 
     /// Appends a blank, the string's number and what it says.
-    pub fn push(&self, line: &mut String, string: StrNo) -> Result<(), ShowFault> {
-        write!(line, " {}", string.0)?;
+    pub fn push(&self, line: &mut TextSink, string: StrNo) {
+        write!(line, " {}", string.0);
         match self.of.get(usize::from(string.0)).copied() {
             Some(Excerpt::Whole(text)) => {
-                line.push(' ')?;
-                push_quoted(line, text)?;
+                line.push_str(" ");
+                add_quoted(line, text)
             }
             Some(Excerpt::Beginning(text)) => {
-                line.push(' ')?;
-                push_quoted(line, text)?;
-                line.push_str("..")?;
+                line.push_str(" ");
+                add_quoted(line, text);
+                line.push_str("..")
             }
-            Some(Excerpt::Key(key)) => write!(line, " [{key}]")?,
+            Some(Excerpt::Key(key)) => write!(line, " [{key}]"),
             Some(Excerpt::Nothing) | None => {}
         }
-        Ok(())
     }
 }

@@ -1,10 +1,9 @@
 //! The lines of the header and of the sections.
 
-use edd_display::{ShowFault, print};
+use edd_display::Printer;
 use edd_fault_places::fields::{
     FIELDS, Field, Section, bounds, field_count, is_second, number_in_field,
 };
-use std::alloc::Global;
 use std::io::Write;
 
 const SECTIONS: [(Section, &str); 8] = [
@@ -19,37 +18,22 @@ const SECTIONS: [(Section, &str); 8] = [
 ];
 
 // The first field has characters, and is shown as its bytes.
-fn print_field<W: Write>(
-    alloc: Global,
-    field: Field,
-    number: u32,
-    out: &mut W,
-) -> Result<(), ShowFault> {
+fn print_field<W: Write>(field: Field, number: u32, printer: &mut Printer<'_, W>) {
     let (name, place, _) = field;
     if place == 0 {
         let [a, b, c, d] = number.to_be_bytes();
-        return print(
-            alloc,
-            out,
-            format_args!("header {name} {a:02X} {b:02X} {c:02X} {d:02X}"),
-        );
+        return printer.print(format_args!("header {name} {a:02X} {b:02X} {c:02X} {d:02X}"));
     }
-    print(alloc, out, format_args!("header {name} {number}"))
+    printer.print(format_args!("header {name} {number}"))
 }
 
 /// Prints the first fields of the header, as many as are asked for and are there.
-pub fn print_header<W: Write>(
-    alloc: Global,
-    bytes: &[u8],
-    count: usize,
-    out: &mut W,
-) -> Result<(), ShowFault> {
+pub fn print_header<W: Write>(bytes: &[u8], count: usize, printer: &mut Printer<'_, W>) {
     for field in FIELDS.iter().take(count.min(field_count(bytes))) {
         if let Some(number) = number_in_field(bytes, *field) {
-            print_field(alloc, *field, number, out)?;
+            print_field(*field, number, printer);
         }
     }
-    Ok(())
 }
 
 // The first version has no element rows.
@@ -58,14 +42,13 @@ fn has_section(bytes: &[u8], section: Section) -> bool {
 }
 
 /// Prints where each section starts and how many bytes it has.
-pub fn print_sections<W: Write>(alloc: Global, bytes: &[u8], out: &mut W) -> Result<(), ShowFault> {
+pub fn print_sections<W: Write>(bytes: &[u8], printer: &mut Printer<'_, W>) {
     for (section, name) in SECTIONS {
         if !has_section(bytes, section) {
             continue;
         }
         let (start, end) = bounds(bytes, section);
         let length = end.saturating_sub(start);
-        print(alloc, out, format_args!("section {name} {start} {length}"))?;
+        printer.print(format_args!("section {name} {start} {length}"));
     }
-    Ok(())
 }

@@ -1,12 +1,13 @@
 //! The words of an instruction.
 
+use crate::elements::{push_item, push_number};
 use crate::excerpts::Excerpts;
-use edd_display::{DATA_QUALIFIERS, MENU_QUALIFIERS, ShowFault, class_word, push_qualifiers};
+use edd_display::{DATA_QUALIFIERS, MENU_QUALIFIERS, add_qualifiers, class_word};
 use edd_fault_places::sections::Sections;
 use edd_instructions::{Ask, Instruction, RequestArgument};
+use edd_sinks::TextSink;
 use edd_syntax::numbers::{ItemNo, StrNo, VarNo};
 use edd_syntax::operators::{Comparison, Operator};
-use std::fmt::Write as _;
 
 /// An image's sections, and what its strings say.
 #[derive(Clone, Copy)]
@@ -77,78 +78,74 @@ fn word_of(instruction: Instruction) -> &'static str {
 }
 
 impl Page<'_, '_> {
-    // A blank, the number of an item and its name, where there is such an item.
-    fn push_number(&self, line: &mut String, item: ItemNo) -> Result<(), ShowFault> {
-        write!(line, " {}", item.index())?;
-        if let Some(name) = self.sections.name(item) {
-            write!(line, " {name}")?;
+    fn push_variable(&self, line: &mut TextSink, variable: VarNo) {
+        push_number(self.sections, line, ItemNo::Variable(variable))
+    }
+
+    // A text that may be missing, behind its word.
+    fn push_text(&self, line: &mut TextSink, word: &str, text: Option<StrNo>) {
+        if let Some(text) = text {
+            line.push_str(word);
+            self.excerpts.push(line, text);
         }
-        Ok(())
     }
 
-    fn push_variable(&self, line: &mut String, variable: VarNo) -> Result<(), ShowFault> {
-        self.push_number(line, ItemNo::Variable(variable))
+    fn push_texts(&self, line: &mut TextSink, label: Option<StrNo>, help: Option<StrNo>) {
+        self.push_text(line, " label", label);
+        self.push_text(line, " help", help)
     }
 
-    // A blank, the kind of an item, its number and its name.
-    fn push_item(&self, line: &mut String, item: ItemNo) -> Result<(), ShowFault> {
-        write!(line, " {}", item.kind().word())?;
-        self.push_number(line, item)
-    }
-
-    fn push_texts(
-        &self,
-        line: &mut String,
-        texts: [(&'static str, Option<StrNo>); 2],
-    ) -> Result<(), ShowFault> {
-        for (word, text) in texts {
-            if let Some(text) = text {
-                line.push_str(word)?;
-                self.excerpts.push(line, text)?;
-            }
-        }
-        Ok(())
-    }
-
-    fn push_data(
-        &self,
-        line: &mut String,
-        variable: VarNo,
-        mask: u32,
-        quals: u8,
-    ) -> Result<(), ShowFault> {
-        self.push_variable(line, variable)?;
+    fn push_data(&self, line: &mut TextSink, variable: VarNo, mask: u32, quals: u8) {
+        self.push_variable(line, variable);
         if mask != 0 {
-            write!(line, "<{mask}>")?;
+            write!(line, "<{mask}>");
         }
-        push_qualifiers(line, u16::from(quals), &DATA_QUALIFIERS)
+        add_qualifiers(line, u16::from(quals), &DATA_QUALIFIERS)
     }
 
-    fn push_ask(&self, line: &mut String, ask: Ask) -> Result<(), ShowFault> {
-        write!(line, " {}", ask.kind.name())?;
-        let arguments = ask.request(0, 0).arguments();
-        for argument in &arguments {
+    fn push_ask(&self, line: &mut TextSink, ask: Ask) {
+        write!(line, " {}", ask.kind.name());
+        for argument in &ask.request(0, 0).arguments() {
             match *argument {
-                RequestArgument::Text(text) => self.excerpts.push(line, text)?,
-                RequestArgument::Variable(variable) => self.push_variable(line, variable)?,
+                RequestArgument::Text(text) => self.excerpts.push(line, text),
+                RequestArgument::Variable(variable) => self.push_variable(line, variable),
                 RequestArgument::Number(_) => {}
             }
         }
-        Ok(())
     }
 
-    // The operands of a member or an element.
-    fn push_member(&self, line: &mut String, instruction: Instruction) -> Result<(), ShowFault> {
+    // The operands of an instruction that gives a record.
+    fn push_record(&self, line: &mut TextSink, instruction: Instruction) {
         match instruction {
+            Instruction::Text(text) => self.excerpts.push(line, text),
+            Instruction::Item { item, quals } => {
+                push_item(self.sections, line, item);
+                add_qualifiers(line, quals, &MENU_QUALIFIERS)
+            }
+            Instruction::DataConst(number) => write!(line, " {number}"),
+            Instruction::DataVar { var, mask, quals } => self.push_data(line, var, mask, quals),
+            Instruction::Enumerator { value, text, help } => {
+                write!(line, " {value}");
+                self.excerpts.push(line, text);
+                self.push_text(line, " help", help)
+            }
+            Instruction::Response {
+                number,
+                class,
+                text,
+            } => {
+                write!(line, " {number} {}", class_word(class));
+                self.excerpts.push(line, text)
+            }
             Instruction::Member {
                 name,
                 item,
                 label,
                 help,
             } => {
-                self.excerpts.push(line, name)?;
-                self.push_item(line, item)?;
-                self.push_texts(line, [(" label", label), (" help", help)])
+                self.excerpts.push(line, name);
+                push_item(self.sections, line, item);
+                self.push_texts(line, label, help)
             }
             Instruction::Element {
                 number,
@@ -156,62 +153,34 @@ impl Page<'_, '_> {
                 label,
                 help,
             } => {
-                write!(line, " {number}")?;
-                self.push_item(line, ItemNo::Variable(var))?;
-                self.push_texts(line, [(" label", label), (" help", help)])
+                write!(line, " {number}");
+                push_item(self.sections, line, ItemNo::Variable(var));
+                self.push_texts(line, label, help)
             }
-            _ => Ok(()),
-        }
-    }
-
-    fn push_record(&self, line: &mut String, instruction: Instruction) -> Result<(), ShowFault> {
-        match instruction {
-            Instruction::Text(text) => self.excerpts.push(line, text),
-            Instruction::Item { item, quals } => {
-                self.push_item(line, item)?;
-                push_qualifiers(line, quals, &MENU_QUALIFIERS)
-            }
-            Instruction::DataConst(number) => Ok(write!(line, " {number}")?),
-            Instruction::DataVar { var, mask, quals } => self.push_data(line, var, mask, quals),
-            Instruction::Enumerator { value, text, help } => {
-                write!(line, " {value}")?;
-                self.excerpts.push(line, text)?;
-                self.push_texts(line, [(" help", help), ("", None)])
-            }
-            Instruction::Response {
-                number,
-                class,
-                text,
-            } => {
-                write!(line, " {number} {}", class_word(class))?;
-                self.excerpts.push(line, text)
-            }
-            other => self.push_member(line, other),
+            _ => {}
         }
     }
 
     /// Appends the word of an instruction and its operands.
-    pub fn push_instruction(
-        &self,
-        line: &mut String,
-        instruction: Instruction,
-    ) -> Result<(), ShowFault> {
-        line.push_str(word_of(instruction))?;
+    pub fn push_instruction(&self, line: &mut TextSink, instruction: Instruction) {
+        line.push_str(word_of(instruction));
         match instruction {
-            Instruction::Push(number) => Ok(write!(line, " {number}")?),
+            Instruction::Push(number) => write!(line, " {number}"),
             Instruction::Variable(variable) | Instruction::Store(variable) => {
                 self.push_variable(line, variable)
             }
-            Instruction::ReadElement(array) => self.push_number(line, ItemNo::Array(array)),
-            Instruction::GetLocal(slot) | Instruction::SetLocal(slot) => {
-                Ok(write!(line, " {slot}")?)
+            Instruction::ReadElement(array) => {
+                push_number(self.sections, line, ItemNo::Array(array))
             }
+            Instruction::GetLocal(slot) | Instruction::SetLocal(slot) => write!(line, " {slot}"),
             Instruction::Jump(target)
             | Instruction::JumpIfZero(target)
-            | Instruction::JumpIfNotZero(target) => Ok(write!(line, " to {target}")?),
-            Instruction::Case { label, target } => Ok(write!(line, " {label} to {target}")?),
+            | Instruction::JumpIfNotZero(target) => write!(line, " to {target}"),
+            Instruction::Case { label, target } => write!(line, " {label} to {target}"),
             Instruction::Ask(ask) => self.push_ask(line, ask),
-            Instruction::AddAbortMethod(method) => self.push_number(line, ItemNo::Method(method)),
+            Instruction::AddAbortMethod(method) => {
+                push_number(self.sections, line, ItemNo::Method(method))
+            }
             other => self.push_record(line, other),
         }
     }

@@ -17,7 +17,7 @@ ghost use Rattle.std.specs.Prelude.{IfOk, MatchOption, IfSome};
 ghost use Rattle.edd_instructions.specs.Validity.{BreaksFirst, IsValid};
 ghost use Rattle.edd_loader.specs.Faults.{rule_of};
 
-use edd_display::ShowFault;
+use edd_display::{Printer, ShowFault};
 use edd_loader::{LoadFault, fault_in};
 use pages::{print_refused, print_whole};
 use std::alloc::Global;
@@ -33,14 +33,15 @@ pub fn dump<W: Write>(
     ensures sound { IfOk result (λ fault. MatchOption fault (IsValid bytes.now)
         (λ why. IfSome (rule_of why) (BreaksFirst bytes.now))) }
 {
-    match fault_in(alloc, bytes)? {
-        Some((fault, spot)) => {
-            print_refused(alloc, bytes, fault, spot, out)?;
-            Ok(Some(fault))
-        }
-        None => {
-            print_whole(alloc, bytes, out)?;
-            Ok(None)
-        }
+    let found = fault_in(alloc, bytes)?;
+    let mut printer = Printer::new(alloc, out);
+    match found {
+        Some((fault, spot)) => print_refused(bytes, fault, spot, &mut printer),
+        None => print_whole(bytes, &mut printer),
+    }
+    printer.finish()?;
+    match found {
+        Some((fault, _)) => Ok(Some(fault)),
+        None => Ok(None),
     }
 }

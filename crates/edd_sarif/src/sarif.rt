@@ -3,7 +3,7 @@
 use edd_reports::diagnostic::{Diagnostic, Help};
 use edd_reports::json::{print_value, words_of};
 use edd_reports::words::Span;
-use edd_reports::{ReportFault, Source, spot_of};
+use edd_reports::{ReportFault, Source, Spot, spot_of};
 use serde::Serialize;
 use std::alloc::{AllocError, Global};
 use std::io::Write;
@@ -166,22 +166,14 @@ fn region_in_text(source: Source<'_>, place: Span) -> Region {
 }
 
 // The place in the file that a mark names. Its columns are known where the file was read.
-fn location_in_origin(
-    alloc: Global,
-    source: Source<'_>,
-    place: Span,
-    message: Option<Text>,
-) -> Result<Location, AllocError> {
-    let spot = spot_of(source, place);
-    let region = Region {
+fn region_in_origin(spot: Spot<'_>) -> Region {
+    let end = spot.column.saturating_add(spot.width);
+    Region {
         start_line: spot.line,
         start_column: spot.is_original.then_some(spot.column),
         end_line: None,
-        end_column: spot
-            .is_original
-            .then_some(spot.column.saturating_add(spot.width)),
-    };
-    location_of(alloc, spot.file, Some(region), message)
+        end_column: spot.is_original.then_some(end),
+    }
 }
 
 fn is_marked(source: Source<'_>, place: Span) -> bool {
@@ -191,32 +183,32 @@ fn is_marked(source: Source<'_>, place: Span) -> bool {
     }
 }
 
+// Where a place is: in the file that a mark names, or in the text.
 fn location_at(
     alloc: Global,
     source: Source<'_>,
     place: Span,
     message: Option<Text>,
 ) -> Result<Location, AllocError> {
-    if is_marked(source, place) {
-        return location_in_origin(alloc, source, place, message);
-    }
-    let region = region_in_text(source, place);
-    location_of(alloc, source.name, Some(region), message)
+    let spot = spot_of(source, place);
+    let (file, region) = if is_marked(source, place) {
+        (spot.file, region_in_origin(spot))
+    } else {
+        (source.name, region_in_text(source, place))
+    };
+    location_of(alloc, file, Some(region), message)
 }
 
-// Where it is: without a place, in the source.
-fn locations_of(
+// Where a finding is: without a place, in the source.
+fn first_location(
     alloc: Global,
     source: Source<'_>,
     found: &Diagnostic,
-) -> Result<Vec<Location>, ReportFault> {
-    let mut made = Vec::new(alloc);
-    let at = match found.place {
-        Some(place) => location_at(alloc, source, place, None)?,
-        None => location_of(alloc, source.name, None, None)?,
-    };
-    made.push(at)?;
-    Ok(made)
+) -> Result<Location, AllocError> {
+    match found.place {
+        Some(place) => location_at(alloc, source, place, None),
+        None => location_of(alloc, source.name, None, None),
+    }
 }
 
 // The place in the text, where the location is one in another file, and those of helps.
@@ -261,10 +253,8 @@ fn rule_index<'a>(
     id: &'a str,
     name: &'a str,
 ) -> Result<usize, ReportFault> {
-    for (index, rule) in rules.iter().enumerate() {
-        if rule.id == id {
-            return Ok(index);
-        }
+    if let Some(index) = rules.iter().position(|rule| rule.id == id) {
+        return Ok(index);
     }
     let text = format!(in alloc; "`edd explain {id}` says what it means")?;
     let index = rules.len();
@@ -294,7 +284,7 @@ fn outcome_of<'a>(
         rule_index,
         level,
         message: message_of(alloc, words.message, &found.helps)?,
-        locations: locations_of(alloc, source, found)?,
+        locations: vec![in alloc; first_location(alloc, source, found)?]?,
         related_locations: related_of(alloc, source, found)?,
     })
 }
@@ -344,21 +334,17 @@ pub fn print_sarif<W: Write>(
         execution_successful: true,
         tool_execution_notifications: notices_of(alloc, all)?,
     };
-    let mut invocations = Vec::new(alloc);
-    invocations.push(invocation)?;
     let driver = Driver { name: "edd", rules };
     let run = Run {
         tool: Tool { driver },
         column_kind: "unicodeCodePoints",
-        invocations,
+        invocations: vec![in alloc; invocation]?,
         results,
     };
-    let mut runs = Vec::new(alloc);
-    runs.push(run)?;
     let document = Document {
         schema: SCHEMA,
         version: "2.1.0",
-        runs,
+        runs: vec![in alloc; run]?,
     };
     print_value(alloc, &document, out)
 }

@@ -11,7 +11,7 @@ use edd_syntax::types::VarType;
 use std::alloc::{AllocError, Global};
 
 /// How a script is wrong.
-#[derive(Clone, Copy, PartialEq, Eq)]
+#[derive(Clone, Copy)]
 pub enum Wrong {
     /// A line can't be read.
     Line,
@@ -36,25 +36,15 @@ struct Word<'a> {
     start: usize,
 }
 
-const BEGIN: &str = "a line of a script begins with set, answer or abort";
-
-const COMMENT: &str = "a script has no comments";
-
-const TAB: &str = "words are parted by spaces, and a TAB is none";
-
-const NAME_MISSING: &str = "the variable and its value are missing: `set NAME N`";
-
-const VALUE_MISSING: &str = "the value is missing: `set NAME N`";
-
-const NO_EQUALS: &str = "a space parts the variable and its value: `set NAME N`";
-
-const SET_ENDS: &str = "nothing stands behind the value: `set NAME N`";
-
-const CODE_MISSING: &str = "the code is missing: `answer CODE NAME=N ..`";
-
-const SETTING: &str = "a setting is NAME=N, without spaces: `answer CODE NAME=N ..`";
-
-const ABORT_ENDS: &str = "nothing stands behind `abort`";
+/// Why a word is wrong.
+#[derive(Clone, Copy)]
+enum Why {
+    As(&'static str),
+    NoVariable,
+    NoNumber,
+    NoCode,
+    NoBeginning,
+}
 
 // The words of a line, and at its end one of no width.
 fn words_of<'a>(alloc: Global, line: &'a str) -> Result<Vec<Word<'a>>, AllocError> {
@@ -89,27 +79,24 @@ fn range_of(kind: VarKind) -> (i64, i64) {
     }
 }
 
-fn is_out_of_range(image: &Image<'_>, variable: VarNo, value: i64) -> bool {
-    match image.variable(variable) {
-        Some(kind) => {
-            let (least, greatest) = range_of(kind);
-            value < least || greatest < value
-        }
-        None => false,
+// What is said of a value that a variable does not hold; nothing where it is in its range.
+fn range_reason(
+    alloc: Global,
+    image: &Image<'_>,
+    variable: VarNo,
+    value: i64,
+) -> Result<Option<String>, AllocError> {
+    let Some(kind) = image.variable(variable) else {
+        return Ok(None);
+    };
+    let (least, greatest) = range_of(kind);
+    if least <= value && value <= greatest {
+        return Ok(None);
     }
-}
-
-fn range_reason(alloc: Global, image: &Image<'_>, variable: VarNo) -> Result<String, AllocError> {
     let name = image.name(ItemNo::Variable(variable)).unwrap_or("");
-    match image.variable(variable) {
-        Some(kind) => {
-            let (least, greatest) = range_of(kind);
-            let word = type_word(kind.var_type);
-            let size = kind.size;
-            format!(in alloc; "{name} is {word} ({size}), which holds {least} to {greatest}")
-        }
-        None => Ok(String::new(alloc)),
-    }
+    let (word, size) = (type_word(kind.var_type), kind.size);
+    let reason = format!(in alloc; "{name} is {word} ({size}), which holds {least} to {greatest}")?;
+    Ok(Some(reason))
 }
 
 // The variable whose name is nearest to a word.
@@ -139,6 +126,27 @@ fn name_reason(alloc: Global, image: &Image<'_>, word: &str) -> Result<String, A
     }
 }
 
+// What is said of a word with which no line begins.
+fn beginning_reason(alloc: Global, word: &str) -> Result<String, AllocError> {
+    let is_known = ["set", "answer", "abort"]
+        .iter()
+        .any(|known| word.eq_ignore_ascii_case(known));
+    let more = if is_known { ", in small letters" } else { "" };
+    format!(in alloc; "a line of a script begins with set, answer or abort{more}")
+}
+
+fn reason_of(alloc: Global, image: &Image<'_>, word: &str, why: Why) -> Result<String, AllocError> {
+    match why {
+        Why::As(words) => String::from_str(alloc, words),
+        Why::NoVariable => name_reason(alloc, image, word),
+        Why::NoNumber => format!(in alloc; "`{word}` is no decimal number of 64 bits"),
+        Why::NoCode => format!(in alloc;
+            "`{word}` is no code, a decimal number of 32 bits: `answer CODE NAME=N ..`"
+        ),
+        Why::NoBeginning => beginning_reason(alloc, word),
+    }
+}
+
 fn slip_of(word: Word<'_>, reason: String) -> Slip {
     Slip {
         start: word.start,
@@ -147,148 +155,103 @@ fn slip_of(word: Word<'_>, reason: String) -> Slip {
     }
 }
 
-fn slip_as(alloc: Global, word: Word<'_>, reason: &str) -> Result<Slip, AllocError> {
-    Ok(slip_of(word, String::from_str(alloc, reason)?))
-}
-
 fn word_at<'a>(words: &[Word<'a>], place: usize) -> Word<'a> {
     let end = Word { text: "", start: 0 };
-    match words.get(place) {
-        Some(word) => *word,
-        None => words.last().copied().unwrap_or(end),
-    }
-}
-
-fn number_reason(alloc: Global, word: &str) -> Result<String, AllocError> {
-    format!(in alloc; "`{word}` is no decimal number of 64 bits")
+    words.get(place).or(words.last()).copied().unwrap_or(end)
 }
 
 // What is wrong with a line that begins with `set`.
-fn slip_of_set(alloc: Global, image: &Image<'_>, words: &[Word<'_>]) -> Result<Slip, AllocError> {
+fn wrong_in_set<'a>(image: &Image<'_>, words: &[Word<'a>]) -> (Word<'a>, Why) {
     let (name, value) = (word_at(words, 1), word_at(words, 2));
     if name.text.is_empty() {
-        return slip_as(alloc, name, NAME_MISSING);
+        (
+            name,
+            Why::As("the variable and its value are missing: `set NAME N`"),
+        )
+    } else if name.text.contains('=') {
+        (
+            name,
+            Why::As("a space parts the variable and its value: `set NAME N`"),
+        )
+    } else if variable(image, name.text).is_none() {
+        (name, Why::NoVariable)
+    } else if value.text.is_empty() {
+        (value, Why::As("the value is missing: `set NAME N`"))
+    } else if number(value.text).is_none() {
+        (value, Why::NoNumber)
+    } else {
+        (
+            word_at(words, 3),
+            Why::As("nothing stands behind the value: `set NAME N`"),
+        )
     }
-    if name.text.contains('=') {
-        return slip_as(alloc, name, NO_EQUALS);
-    }
-    if variable(image, name.text).is_none() {
-        return Ok(slip_of(name, name_reason(alloc, image, name.text)?));
-    }
-    if value.text.is_empty() {
-        return slip_as(alloc, value, VALUE_MISSING);
-    }
-    if number(value.text).is_none() {
-        return Ok(slip_of(value, number_reason(alloc, value.text)?));
-    }
-    slip_as(alloc, word_at(words, 3), SET_ENDS)
 }
 
 // What is wrong with a setting of an answer, if it is.
-fn slip_of_setting(
-    alloc: Global,
-    image: &Image<'_>,
-    word: Word<'_>,
-) -> Result<Option<Slip>, AllocError> {
+fn wrong_in_setting<'a>(image: &Image<'_>, word: Word<'a>) -> Option<(Word<'a>, Why)> {
     if word.text.is_empty() {
-        return Ok(None);
+        return None;
     }
-    let Some((name, value)) = word.text.split_once('=') else {
-        return Ok(Some(slip_as(alloc, word, SETTING)?));
-    };
+    let (name, value) = word.text.split_once('=').unwrap_or(("", ""));
     if name.is_empty() || value.is_empty() {
-        return Ok(Some(slip_as(alloc, word, SETTING)?));
+        let setting = "a setting is NAME=N, without spaces: `answer CODE NAME=N ..`";
+        return Some((word, Why::As(setting)));
     }
-    let named = Word {
-        text: name,
-        start: word.start,
-    };
     if variable(image, name).is_none() {
-        return Ok(Some(slip_of(named, name_reason(alloc, image, name)?)));
+        return Some((Word { text: name, ..word }, Why::NoVariable));
     }
-    let valued = Word {
-        text: value,
-        start: word.start.saturating_add(name.len()).saturating_add(1),
-    };
-    match number(value) {
-        Some(_) => Ok(None),
-        None => Ok(Some(slip_of(valued, number_reason(alloc, value)?))),
+    if number(value).is_some() {
+        return None;
     }
-}
-
-// What is wrong with the code of an answer.
-fn slip_of_code(alloc: Global, word: Word<'_>) -> Result<Slip, AllocError> {
-    if word.text.is_empty() {
-        return slip_as(alloc, word, CODE_MISSING);
-    }
-    let text = word.text;
-    let reason = format!(in alloc;
-        "`{text}` is no code, a decimal number of 32 bits: `answer CODE NAME=N ..`"
-    )?;
-    Ok(slip_of(word, reason))
+    let start = word.start.saturating_add(name.len()).saturating_add(1);
+    Some((Word { text: value, start }, Why::NoNumber))
 }
 
 // What is wrong with a line that begins with `answer`: its code, or the first setting that can't be
 // read.
-fn slip_of_answer(
-    alloc: Global,
-    image: &Image<'_>,
-    words: &[Word<'_>],
-) -> Result<Slip, AllocError> {
+fn wrong_in_answer<'a>(image: &Image<'_>, words: &[Word<'a>]) -> (Word<'a>, Why) {
     let code = word_at(words, 1);
-    if code_of(code.text).is_none() {
-        return slip_of_code(alloc, code);
-    }
-    for word in words.iter().skip(2) {
-        if let Some(found) = slip_of_setting(alloc, image, *word)? {
-            return Ok(found);
+    if code_of(code.text).is_some() {
+        for word in words.iter().skip(2) {
+            if let Some(found) = wrong_in_setting(image, *word) {
+                return found;
+            }
         }
     }
-    slip_of_code(alloc, code)
+    if code.text.is_empty() {
+        return (
+            code,
+            Why::As("the code is missing: `answer CODE NAME=N ..`"),
+        );
+    }
+    (code, Why::NoCode)
 }
 
 // What is wrong with the first word of a line.
-fn slip_of_first(alloc: Global, word: Word<'_>) -> Result<Slip, AllocError> {
-    let text = word.text;
+fn wrong_in_first(text: &str) -> Why {
     if text.contains('\t') {
-        return slip_as(alloc, word, TAB);
+        return Why::As("words are parted by spaces, and a TAB is none");
     }
     if text.starts_with('#') || text.starts_with("//") || text.starts_with(';') {
-        return slip_as(alloc, word, COMMENT);
+        return Why::As("a script has no comments");
     }
-    let mut reason = String::from_str(alloc, BEGIN)?;
-    for known in ["set", "answer", "abort"] {
-        if text.eq_ignore_ascii_case(known) {
-            reason.push_str(", in small letters")?;
-        }
-    }
-    Ok(slip_of(word, reason))
+    Why::NoBeginning
 }
 
 // What is wrong with a line that can't be read.
 fn slip_of_line(alloc: Global, image: &Image<'_>, line: &str) -> Result<Slip, AllocError> {
     let words = words_of(alloc, line)?;
     let first = word_at(&words, 0);
-    match first.text {
-        "set" => slip_of_set(alloc, image, &words),
-        "answer" => slip_of_answer(alloc, image, &words),
-        "abort" => slip_as(alloc, word_at(&words, 1), ABORT_ENDS),
-        _ => slip_of_first(alloc, first),
-    }
+    let (word, why) = match first.text {
+        "set" => wrong_in_set(image, &words),
+        "answer" => wrong_in_answer(image, &words),
+        "abort" => (word_at(&words, 1), Why::As("nothing stands behind `abort`")),
+        text => (first, wrong_in_first(text)),
+    };
+    Ok(slip_of(word, reason_of(alloc, image, word.text, why)?))
 }
 
-// The value of a line that sets a variable out of its range.
-fn slip_of_value(
-    alloc: Global,
-    image: &Image<'_>,
-    line: &str,
-    variable: VarNo,
-) -> Result<Slip, AllocError> {
-    let words = words_of(alloc, line)?;
-    Ok(slip_of(word_at(&words, 2), range_reason(alloc, image, variable)?))
-}
-
-// The first setting of an answer that is out of the range of its variable.
+// The first value of a line that is out of the range of its variable.
 fn slip_of_sets(
     alloc: Global,
     image: &Image<'_>,
@@ -297,9 +260,8 @@ fn slip_of_sets(
 ) -> Result<Option<Slip>, AllocError> {
     let words = words_of(alloc, line)?;
     for (word, set) in words.iter().skip(2).zip(sets.iter()) {
-        let (variable, value) = *set;
-        if is_out_of_range(image, variable, value) {
-            return Ok(Some(slip_of(*word, range_reason(alloc, image, variable)?)));
+        if let Some(reason) = range_reason(alloc, image, set.0, set.1)? {
+            return Ok(Some(slip_of(*word, reason)));
         }
     }
     Ok(None)
@@ -316,10 +278,7 @@ fn slip_on(
     match (parse_line(alloc, image, bytes)?, wrong) {
         (None, Wrong::Line) => Ok(Some(slip_of_line(alloc, image, line)?)),
         (Some(Line::Set(variable, value)), Wrong::Range) => {
-            if is_out_of_range(image, variable, value) {
-                return Ok(Some(slip_of_value(alloc, image, line, variable)?));
-            }
-            Ok(None)
+            slip_of_sets(alloc, image, line, &[(variable, value)])
         }
         (Some(Line::Answer(Answer::Go { code: _, sets })), Wrong::Answer) => {
             slip_of_sets(alloc, image, line, &sets)

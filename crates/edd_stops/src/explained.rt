@@ -6,12 +6,13 @@ ghost use Rattle.edd_compiler.specs.Images.{IsImageOf};
 use crate::reports::report;
 use edd_check::{Choices, Diagnostic, Finding, Format, Look, Reports, Span};
 use edd_compiler::{Fault, compile};
-use edd_display::print;
+use edd_display::{Printer, print, printed};
 use edd_files::{FileFault, Files, Stop, read_marked};
 use edd_loader::{LoadFault, load};
 use edd_machine::ValuesFault;
 use edd_port::PlayFault;
 use edd_script_slips::{Wrong, slip_in};
+use edd_sinks::TextSink;
 use std::alloc::Global;
 use std::io::Write;
 
@@ -124,12 +125,17 @@ pub fn with_device_shown<'a, F: Files, W: Write>(
     Err(Stop::Shown)
 }
 
-// What is wrong with a script for an end of the program that it has brought about.
-fn wrong_of(stop: &Stop<'_>) -> Option<Wrong> {
+// What is wrong with a script for an end of the program that it has brought about, and the refusal
+// without its first word.
+fn wrong_of(alloc: Global, stop: &Stop<'_>) -> Option<(Wrong, TextSink)> {
     match stop {
-        Stop::Script(_) => Some(Wrong::Line),
-        Stop::Values(ValuesFault::Range) => Some(Wrong::Range),
-        Stop::Play(PlayFault::OutOfRange) => Some(Wrong::Answer),
+        Stop::Script(fault) => Some((Wrong::Line, printed(alloc, fault))),
+        Stop::Values(ValuesFault::Range) => {
+            Some((Wrong::Range, printed(alloc, ValuesFault::Range)))
+        }
+        Stop::Play(PlayFault::OutOfRange) => {
+            Some((Wrong::Answer, printed(alloc, PlayFault::OutOfRange)))
+        }
         _ => None,
     }
 }
@@ -161,16 +167,6 @@ fn explain_script<'a, W: Write>(
     Ok(())
 }
 
-// The refusal that an end of the program is, without its first word.
-fn refusal_of<'a>(alloc: Global, stop: &Stop<'_>) -> Result<String, Stop<'a>> {
-    match stop {
-        Stop::Script(fault) => Ok(format!(in alloc; "{fault}")?),
-        Stop::Values(fault) => Ok(format!(in alloc; "{fault}")?),
-        Stop::Play(fault) => Ok(format!(in alloc; "{fault}")?),
-        _ => Ok(String::new(alloc)),
-    }
-}
-
 /// What was done with an image under a script. Where the script is refused and that is to be
 /// explained, its word is shown.
 pub fn with_script_shown<'a, W: Write>(
@@ -185,21 +181,21 @@ pub fn with_script_shown<'a, W: Write>(
         Err(stop) if is_explained => stop,
         other => return other,
     };
-    let (Some(name), Some(wrong)) = (script.0, wrong_of(&stop)) else {
+    let Some(name) = script.0 else {
+        return Err(stop);
+    };
+    let Some((wrong, refusal)) = wrong_of(alloc, &stop) else {
         return Err(stop);
     };
     report(alloc, &stop, out)?;
-    let refusal = refusal_of(alloc, &stop)?;
-    explain_script(alloc, bytes, name, script.1, wrong, refusal, out)?;
+    explain_script(alloc, bytes, name, script.1, wrong, refusal.finish()?, out)?;
     Err(Stop::Shown)
 }
 
 // Whether the bytes are a text, as no image is.
 fn is_text(bytes: &[u8]) -> bool {
-    let Ok(text) = str::from_utf8(bytes) else {
-        return false;
-    };
-    text.chars().all(|sign| !sign.is_ascii_control() || sign.is_ascii_whitespace())
+    let is_sign = |sign: char| !sign.is_ascii_control() || sign.is_ascii_whitespace();
+    str::from_utf8(bytes).is_ok_and(|text| text.chars().all(is_sign))
 }
 
 /// What was done with an image. Where it is none but a text, the command for a source is named.
@@ -214,19 +210,14 @@ pub fn with_command_named<'a, W: Write>(
     if !matches!(answer, Err(Stop::NotLoaded(LoadFault::Magic))) || !is_text(bytes) {
         return answer;
     }
-    let fault = LoadFault::Magic;
-    print(alloc, out, format_args!("refused {fault}"))?;
-    match instead {
-        Instead::View => print(
-            alloc,
-            out,
-            format_args!("help: this is a text and no image: `edd view {name}` shows a source"),
-        )?,
-        Instead::Try => print(
-            alloc,
-            out,
-            format_args!("help: this is a text and no image: `edd try {name}` runs a source"),
-        )?,
-    }
+    let (word, does) = match instead {
+        Instead::View => ("view", "shows"),
+        Instead::Try => ("try", "runs"),
+    };
+    let mut printer = Printer::new(alloc, out);
+    printer.print(format_args!("refused {}", LoadFault::Magic));
+    let help = "help: this is a text and no image:";
+    printer.print(format_args!("{help} `edd {word} {name}` {does} a source"));
+    printer.finish()?;
     Err(Stop::Shown)
 }

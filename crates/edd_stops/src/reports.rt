@@ -4,9 +4,9 @@ ghost use Rattle.std.specs.Prelude.{◌≤◌};
 
 use crate::reasons::reason_of;
 use edd_check::LINTS;
-use edd_display::{ShowFault, print, print_text};
-use edd_files::{FileFault, Stop};
-use std::alloc::{AllocError, Global};
+use edd_display::{ShowFault, print, print_text, printed};
+use edd_files::Stop;
+use std::alloc::Global;
 use std::fmt::Display;
 use std::io::Write;
 
@@ -23,6 +23,30 @@ pub const FILE: u8 = 3;
 /// The exit status where there is no memory.
 pub const MEMORY: u8 = 4;
 
+// Prints that no refusal has a number or a name.
+fn no_refusal<W: Write>(alloc: Global, what: &str, out: &mut W) -> Result<(), ShowFault> {
+    let is_number = what.parse::<u32>().is_ok();
+    let kind = if is_number { "number" } else { "name" };
+    print(
+        alloc,
+        out,
+        format_args!("error: nothing is refused with the {kind} {what}"),
+    )
+}
+
+// Prints that no lint has a name, and the names that there are.
+fn no_lint<W: Write>(alloc: Global, name: &str, out: &mut W) -> Result<(), ShowFault> {
+    let mut line = printed(alloc, "error: no lint has the name ");
+    write!(line, "{name}: the lints are");
+    let mut between = " ";
+    for lint in LINTS {
+        line.push_str(between);
+        line.push_str(lint.name());
+        between = ", ";
+    }
+    print(alloc, out, line.finish()?.as_str())
+}
+
 // Prints that something is refused.
 fn refused<W: Write, T: Display>(alloc: Global, fault: &T, out: &mut W) -> Result<(), ShowFault> {
     print(alloc, out, format_args!("refused {fault}"))
@@ -38,61 +62,17 @@ fn refused_of<W: Write, T: Display>(
     print(alloc, out, format_args!("refused {fault} of {name}"))
 }
 
-// Prints that a file could not be read or written.
-fn no_file<W: Write>(alloc: Global, name: &str, out: &mut W) -> Result<(), ShowFault> {
-    print(alloc, out, format_args!("file {name}"))
-}
-
-// The same with the reason.
-fn no_file_and_why<W: Write>(
-    alloc: Global,
-    name: &str,
-    fault: FileFault,
-    out: &mut W,
-) -> Result<(), ShowFault> {
-    no_file(alloc, name, out)?;
-    print(alloc, out, reason_of(fault))
-}
-
-// Prints that no refusal has a number or a name.
-fn no_refusal<W: Write>(alloc: Global, what: &str, out: &mut W) -> Result<(), ShowFault> {
-    let kind = match what.parse::<u32>() {
-        Ok(_) => "number",
-        Err(_) => "name",
-    };
-    print(
-        alloc,
-        out,
-        format_args!("error: nothing is refused with the {kind} {what}"),
-    )
-}
-
-// Adds the names of all lints to a line.
-fn push_lints(line: &mut String) -> Result<(), AllocError> {
-    let mut between = " ";
-    for lint in LINTS {
-        line.push_str(between)?;
-        line.push_str(lint.name())?;
-        between = ", ";
-    }
-    Ok(())
-}
-
-// Prints that no lint has a name.
-fn no_lint<W: Write>(alloc: Global, name: &str, out: &mut W) -> Result<(), ShowFault> {
-    let mut line = format!(in alloc; "error: no lint has the name {name}: the lints are")?;
-    push_lints(&mut line)?;
-    print(alloc, out, line.as_str())
-}
-
 /// Prints why the program stops.
 pub fn report<W: Write>(alloc: Global, stop: &Stop<'_>, out: &mut W) -> Result<(), ShowFault> {
     match stop {
         Stop::Help(text) | Stop::CommandLine(text) => print_text(out, text),
         Stop::Shown => Ok(()),
-        Stop::File(name, _) => no_file(alloc, *name, out),
-        Stop::FileAndWhy(name, fault) => no_file_and_why(alloc, *name, *fault, out),
-        Stop::Named(name) => no_file(alloc, name, out),
+        Stop::File(name, _) => print(alloc, out, format_args!("file {name}")),
+        Stop::FileAndWhy(name, fault) => {
+            print(alloc, out, format_args!("file {name}"))?;
+            print(alloc, out, reason_of(*fault))
+        }
+        Stop::Named(name) => print(alloc, out, format_args!("file {name}")),
         Stop::NotCompiled(fault) | Stop::Device(fault) => refused(alloc, fault, out),
         Stop::NotLoaded(fault) => refused(alloc, fault, out),
         Stop::Script(fault) => refused(alloc, fault, out),

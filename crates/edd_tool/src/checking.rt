@@ -9,48 +9,37 @@ use edd_stops::add_originals;
 use std::alloc::Global;
 use std::io::Write;
 
-fn lint_of<'a>(name: &'a str) -> Result<Lint, Stop<'a>> {
-    match Lint::from_name(name) {
-        Some(lint) => Ok(lint),
-        None => Err(Stop::NoLint(name)),
-    }
-}
-
 /// It stands for every lint.
 const ALL: &str = "all";
 
-fn allow<'a>(choices: &mut Choices, name: &'a str) -> Result<(), Stop<'a>> {
-    if name != ALL {
-        let lint = lint_of(name)?;
-        choices.allow(lint)?;
-        return Ok(());
-    }
-    for lint in LINTS {
-        choices.allow(lint)?;
-    }
-    Ok(())
+// Whether a lint is one of these.
+fn names(named: &[&str], lint: Lint) -> bool {
+    named
+        .iter()
+        .any(|name| *name == ALL || *name == lint.name())
 }
 
-fn deny<'a>(choices: &mut Choices, name: &'a str) -> Result<(), Stop<'a>> {
-    if name != ALL {
-        let lint = lint_of(name)?;
-        choices.deny(lint)?;
-        return Ok(());
-    }
-    for lint in LINTS {
-        choices.deny(lint)?;
+fn find_unknown<'a>(named: &[&'a str]) -> Result<(), Stop<'a>> {
+    for name in named {
+        if *name != ALL && Lint::from_name(*name).is_none() {
+            return Err(Stop::NoLint(*name));
+        }
     }
     Ok(())
 }
 
 // What is to be done where lints find something.
 fn choices_of<'a>(alloc: Global, lints: &Lints<'a>) -> Result<Choices, Stop<'a>> {
+    find_unknown(&lints.allowed)?;
+    find_unknown(&lints.denied)?;
     let mut choices = Choices::new(alloc);
-    for name in &lints.allowed {
-        allow(&mut choices, *name)?;
-    }
-    for name in &lints.denied {
-        deny(&mut choices, *name)?;
+    for lint in LINTS {
+        if names(&lints.allowed, lint) {
+            choices.allow(lint)?;
+        }
+        if names(&lints.denied, lint) {
+            choices.deny(lint)?;
+        }
     }
     Ok(choices)
 }
@@ -74,18 +63,6 @@ fn looks_at<'t, 'n, 'a, F: Files>(
 }
 
 // Prints what is said of each source.
-fn print_each<'a, W: Write>(
-    alloc: Global,
-    looks: &[Look<'_>],
-    format: Format,
-    out: &mut W,
-) -> Result<(), Stop<'a>> {
-    for look in looks {
-        look.print(alloc, format, out)?;
-    }
-    Ok(())
-}
-
 fn print_looks<'a, W: Write>(
     alloc: Global,
     looks: &[Look<'_>],
@@ -93,12 +70,16 @@ fn print_looks<'a, W: Write>(
     is_coloured: bool,
     out: &mut W,
 ) -> Result<(), Stop<'a>> {
-    match form {
-        Form::Text if is_coloured => print_each(alloc, looks, Format::Colours, out),
-        Form::Text => print_each(alloc, looks, Format::Text, out),
-        Form::Json => print_each(alloc, looks, Format::Json, out),
-        Form::Sarif => Ok(print_document(alloc, looks, out)?),
+    let format = match form {
+        Form::Text if is_coloured => Format::Colours,
+        Form::Text => Format::Text,
+        Form::Json => Format::Json,
+        Form::Sarif => return Ok(print_document(alloc, looks, out)?),
+    };
+    for look in looks {
+        look.print(alloc, format, out)?;
     }
+    Ok(())
 }
 
 /// Prints what is said of sources, one after the other. All are read first.

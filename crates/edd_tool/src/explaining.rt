@@ -1,7 +1,7 @@
 //! What `edd explain` prints of refusals and lints.
 
 use edd_check::{LINTS, Lint};
-use edd_display::{print, print_text};
+use edd_display::Printer;
 use edd_explanations::{Explanation, explain, explain_name};
 use edd_files::Stop;
 use std::alloc::Global;
@@ -10,38 +10,29 @@ use std::io::Write;
 /// No refusal has a greater number.
 const LAST: u32 = 399;
 
-fn print_refusal<'a, W: Write>(
-    alloc: Global,
-    explanation: &Explanation,
-    out: &mut W,
-) -> Result<(), Stop<'a>> {
+fn print_refusal<W: Write>(explanation: &Explanation, printer: &mut Printer<'_, W>) {
     let (number, name) = (explanation.number, explanation.name);
-    print(alloc, out, format_args!("{number} {name}\n"))?;
-    print_text(out, explanation.text)?;
-    Ok(())
+    printer.print(format_args!("{number} {name}\n"));
+    printer.print_text(explanation.text)
 }
 
-fn print_lint<'a, W: Write>(alloc: Global, lint: Lint, out: &mut W) -> Result<(), Stop<'a>> {
-    let (name, meaning) = (lint.name(), lint.meaning());
-    print(alloc, out, format_args!("{name}: {meaning}"))?;
-    Ok(())
+fn print_lint<W: Write>(lint: Lint, printer: &mut Printer<'_, W>) {
+    printer.print(format_args!("{}: {}", lint.name(), lint.meaning()))
 }
 
-fn print_lints<'a, W: Write>(alloc: Global, out: &mut W) -> Result<(), Stop<'a>> {
+fn print_lints<W: Write>(printer: &mut Printer<'_, W>) {
     for lint in LINTS {
-        print_lint(alloc, lint, out)?;
+        print_lint(lint, printer);
     }
-    Ok(())
 }
 
-// The numbers and names of all refusals, and all lints.
-fn print_all<'a, W: Write>(alloc: Global, out: &mut W) -> Result<(), Stop<'a>> {
+// The numbers and names of all refusals.
+fn print_refusals<W: Write>(printer: &mut Printer<'_, W>) {
     for number in 1..=LAST {
         if let Some(one) = explain(number) {
-            print(alloc, out, format_args!("{number} {}", one.name))?;
+            printer.print(format_args!("{number} {}", one.name));
         }
     }
-    print_lints(alloc, out)
 }
 
 // The refusal with a number or a name.
@@ -52,22 +43,6 @@ fn refusal_of(what: &str) -> Option<&'static Explanation> {
     }
 }
 
-// What a refusal means, or what a lint finds; without one, all there are.
-fn print_explanation<'a, W: Write>(
-    alloc: Global,
-    what: Option<&'a str>,
-    out: &mut W,
-) -> Result<(), Stop<'a>> {
-    let Some(what) = what else {
-        return print_all(alloc, out);
-    };
-    match (refusal_of(what), Lint::from_name(what)) {
-        (Some(explanation), _) => print_refusal(alloc, explanation, out),
-        (None, Some(lint)) => print_lint(alloc, lint, out),
-        (None, None) => Err(Stop::NoRefusal(what)),
-    }
-}
-
 /// Prints what a refusal means, or what a lint finds; without one, all there are, or the lints alone.
 pub fn print_asked<'a, W: Write>(
     alloc: Global,
@@ -75,8 +50,19 @@ pub fn print_asked<'a, W: Write>(
     is_of_lints: bool,
     out: &mut W,
 ) -> Result<(), Stop<'a>> {
-    if is_of_lints && what.is_none() {
-        return print_lints(alloc, out);
+    let mut printer = Printer::new(alloc, out);
+    match what {
+        Some(what) => match (refusal_of(what), Lint::from_name(what)) {
+            (Some(explanation), _) => print_refusal(explanation, &mut printer),
+            (None, Some(lint)) => print_lint(lint, &mut printer),
+            (None, None) => return Err(Stop::NoRefusal(what)),
+        },
+        None => {
+            if !is_of_lints {
+                print_refusals(&mut printer);
+            }
+            print_lints(&mut printer)
+        }
     }
-    print_explanation(alloc, what, out)
+    Ok(printer.finish()?)
 }

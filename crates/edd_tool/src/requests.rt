@@ -56,17 +56,19 @@ fn view<'a, F: Files, W: Write>(
 ) -> Result<(), Stop<'a>>
     ensures kept { F.account files.new ≡ F.account files.old }
 {
-    let Showing {
-        file,
-        script: name,
-        language,
-        is_explained,
-    } = showing;
-    let taken = take(alloc, file, None, name, files)?;
+    let (file, is_explained) = (showing.file, showing.is_explained);
+    let taken = take(alloc, file, None, showing.script, files)?;
     let (text, script) = (taken.description.as_slice(), taken.script.as_slice());
     let bytes = image_of_source(alloc, file, text, is_explained, files, out)?;
-    let answer = show_bytes(alloc, &bytes, script, language, out);
-    with_script_shown(alloc, answer, &bytes, (name, script), is_explained, out)
+    let answer = show_bytes(alloc, &bytes, script, showing.language, out);
+    with_script_shown(
+        alloc,
+        answer,
+        &bytes,
+        (showing.script, script),
+        is_explained,
+        out,
+    )
 }
 
 fn show_file<'a, F: Files, W: Write>(
@@ -77,17 +79,13 @@ fn show_file<'a, F: Files, W: Write>(
 ) -> Result<(), Stop<'a>>
     ensures kept { F.account files.new ≡ F.account files.old }
 {
-    let Showing {
-        file,
-        script: name,
-        language,
-        is_explained,
-    } = showing;
-    let taken = take(alloc, file, None, name, files)?;
+    let file = showing.file;
+    let taken = take(alloc, file, None, showing.script, files)?;
     let (bytes, script) = (taken.description.as_slice(), taken.script.as_slice());
-    let answer = show_bytes(alloc, bytes, script, language, out);
+    let answer = show_bytes(alloc, bytes, script, showing.language, out);
     let answer = with_command_named(alloc, answer, file, bytes, Instead::View, out);
-    with_script_shown(alloc, answer, bytes, (name, script), is_explained, out)
+    let script = (showing.script, script);
+    with_script_shown(alloc, answer, bytes, script, showing.is_explained, out)
 }
 
 fn dump_file<'a, F: Files, W: Write>(

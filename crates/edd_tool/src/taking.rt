@@ -51,9 +51,7 @@ pub fn take<'a, F: Files>(
 impl<'a> Taken<'a> {
     /// The source of the device for one use.
     pub fn device(&self) -> Option<(&'a str, &[u8])> {
-        match &self.device {
-            Some((name, text)) => Some((*name, text.as_slice())),
-            None => None,
-        }
+        let device = self.device.as_ref();
+        device.map(|device| (device.0, device.1.as_slice()))
     }
 }

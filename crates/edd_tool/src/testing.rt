@@ -40,13 +40,10 @@ fn read_beside<'a, F: Files>(
     ensures kept { F.account files.new ≡ F.account files.old }
 {
     let path = beside(alloc, given.name, name)?;
-    let fault = match read_bytes(alloc, files, &path) {
-        Ok(bytes) => return Ok(bytes),
-        Err(fault) => fault,
-    };
-    match fault {
-        FileFault::Memory => Err(Stop::Memory),
-        _ => Err(Stop::Named(path)),
+    match read_bytes(alloc, files, &path) {
+        Ok(bytes) => Ok(bytes),
+        Err(FileFault::Memory) => Err(Stop::Memory),
+        Err(_) => Err(Stop::Named(path)),
     }
 }
 
@@ -84,26 +81,6 @@ fn take_case<'a, F: Files>(
     })
 }
 
-// Runs a method of an image.
-fn run_method_of<'a>(
-    alloc: Global,
-    image: &[u8],
-    method: &'a str,
-    case: &Case<'a>,
-    taken: &Taken<'a>,
-    out: &mut Printed,
-) -> Result<(), Stop<'a>> {
-    let run = Run {
-        method,
-        device: None,
-        script: None,
-        language: case.language,
-        steps: case.steps,
-        is_explained: false,
-    };
-    run_method(alloc, image, taken, run, out)
-}
-
 // Opens an image.
 fn open_image<'a>(
     alloc: Global,
@@ -131,7 +108,17 @@ fn run_image<'a>(
     out: &mut Printed,
 ) -> Result<(), Stop<'a>> {
     match case.kind {
-        Kind::Method(method) => run_method_of(alloc, image, method, case, taken, out),
+        Kind::Method(method) => {
+            let run = Run {
+                method,
+                device: None,
+                script: None,
+                language: case.language,
+                steps: case.steps,
+                is_explained: false,
+            };
+            run_method(alloc, image, taken, run, out)
+        }
         Kind::Show => show_bytes(alloc, image, &taken.script, case.language, out),
         Kind::Open => open_image(alloc, image, case, taken, out),
     }
