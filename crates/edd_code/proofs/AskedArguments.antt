@@ -105,13 +105,12 @@ unfolding emitted bytes_of
 nothing_written code = sym (append-nil code)
 
 module _ {old new : List Words} (code : List ℕ) (p : Parameter) where
-  pub text_part : (a : code_argument.Argument Target) (t : code_text.Text) (n : StrNo)
-      → a ≡ variant.Text t → GrowsBy old (words_of (text_of t) ∷ []) new
-      → Keeps new (words_of (text_of t)) n
-      → WritesPart old code (argument_texts (Cons (numbered_argument a) Nil))
+  pub text_part : {a : code_argument.Argument Target} {t : code_text.Text} (n : StrNo)
+      → a ≡ variant.Text t → GrowsBy old (words_of (text_of t) ∷ []) new → Keeps new (words_of
+      (text_of t)) n → WritesPart old code (argument_texts (Cons (numbered_argument a) Nil))
       (λ number. number_block p (argument_block number (numbered_argument a))) new code
   unfolding argument_block
-  text_part a t n is table keeps =
+  text_part {t} n is table keeps =
       subst (λ (x : code_argument.Argument Target). WritesPart old code
       (argument_texts (Cons (numbered_argument x) Nil))
       (λ number. number_block p (argument_block number (numbered_argument x))) new code) (sym is)
@@ -120,23 +119,21 @@ module _ {old new : List Words} (code : List ℕ) (p : Parameter) where
       (held_part code code (text_of t ∷ []) Nothing (one_held old new (text_of t) table n keeps)
       (nothing_written code)))
 
-  pub text_named : (a : code_argument.Argument Target) (t : code_text.Text) (n : StrNo)
+  pub text_named : {a : code_argument.Argument Target} {t : code_text.Text} (n : StrNo)
       → a ≡ variant.Text t → GrowsBy old (words_of (text_of t) ∷ []) new
       → Keeps new (words_of (text_of t)) n
       → ByNumber old new (λ number. named_one number (numbered_argument a) p) (n.0 ∷ [])
-  text_named a t n is table keeps d later =
-      text_known old new (words_of (text_of t)) n table keeps d later
-      ∙ ap (λ (x : code_argument.Argument Target). named_one (number_in (new ++ later))
-      (numbered_argument x) p) (sym is)
+  text_named {t} n is table keeps d later =
+      text_known old new n table keeps d later ∙ ap (λ (x : code_argument.Argument
+      Target). named_one (number_in (new ++ later)) (numbered_argument x) p) (sym is)
 
-  pub value_part : (after : List ℕ) (a : code_argument.Argument Target) (e : code_expr.Expr Target)
-      → a ≡ variant.Value e → p ≡ parameter.Number
-      → WritesPart old code (expr_texts (numbered_expr e))
-      (λ number. method_block number (numbered_expr e)) new after
+  pub value_part : (after : List ℕ) {a : code_argument.Argument Target} (e : code_expr.Expr Target)
+      → a ≡ variant.Value e → p ≡ parameter.Number → WritesPart old code
+      (expr_texts (numbered_expr e)) (λ number. method_block number (numbered_expr e)) new after
       → WritesPart old code (argument_texts (Cons (numbered_argument a) Nil))
       (λ number. number_block p (argument_block number (numbered_argument a))) new after
   unfolding argument_block
-  value_part after a e is number w =
+  value_part after e is number w =
       subst (λ (x : code_argument.Argument Target). WritesPart old code
       (argument_texts (Cons (numbered_argument x) Nil))
       (λ n. number_block p (argument_block n (numbered_argument x))) new after) (sym is)
@@ -160,13 +157,12 @@ module _ (table : List Words) (code : List ℕ) where
   other_block parameter.Number b other = absurd (other refl)
   other_block _ b other = refl
 
-  pub other_part : (p : Parameter) (a : code_argument.Argument Target) (e : code_expr.Expr Target)
-      → a ≡ variant.Value e → p ≢ parameter.Number
-      → fits p (numbered_argument a) ≡ true
+  pub other_part : (p : Parameter) {a : code_argument.Argument Target} (e : code_expr.Expr Target)
+      → a ≡ variant.Value e → p ≢ parameter.Number → fits p (numbered_argument a) ≡ true
       → WritesPart table code (argument_texts (Cons (numbered_argument a) Nil))
       (λ number. number_block p (argument_block number (numbered_argument a))) table code
   unfolding argument_block
-  other_part p a e is other fit =
+  other_part p e is other fit =
       let here : fits p (Value (numbered_expr e)) ≡ true =
       subst (λ (x : code_argument.Argument Target). fits p (numbered_argument x) ≡ true) is fit in
       subst (λ (x : code_argument.Argument Target). WritesPart table code
@@ -180,12 +176,11 @@ module _ (table : List Words) (code : List ℕ) where
       (λ n. other_block p (method_block n (numbered_expr e)) other)
       (plain_part table code code Nothing (nothing_written code))))
 
-  pub other_named : (p : Parameter) (a : code_argument.Argument Target) (e : code_expr.Expr Target)
-      (name : Option ℕ) → a ≡ variant.Value e → p ≢ parameter.Number
-      → name ≡ option_map (λ v. v.0) (as_variable (numbered_argument a))
-      → ByNumber table table (λ number. named_one number (numbered_argument a) p)
-      (option_to_list name)
-  other_named p a e name is other named d later =
+  pub other_named : (p : Parameter) {a : code_argument.Argument Target} (e : code_expr.Expr Target)
+      {name : Option ℕ} → a ≡ variant.Value e → p ≢ parameter.Number
+      → name ≡ option_map (λ v. v.0) (as_variable (numbered_argument a)) → ByNumber table table
+      (λ number. named_one number (numbered_argument a) p) (option_to_list name)
+  other_named p e is other named d later =
       ap option_to_list named
       ∙ ap (λ (x : code_argument.Argument Target).
       option_to_list (option_map (λ v. v.0) (as_variable (numbered_argument x)))) is
@@ -237,10 +232,10 @@ module _ {X : Type 0} (view : X → Argument Target) (xs : List X) (x : X) (some
       ≡ arguments_from (map view xs)
   all_are_by ys behind = ap (λ zs. Cons (view x) (arguments_from (map view zs))) behind ∙ all_are
 
-  pub first_overflows : (old : List Words)
+  pub first_overflows : {old : List Words}
       → Overflows old (strings_of_texts (argument_texts (Cons (view x) Nil)))
       → Overflows old (strings_of_texts (argument_texts (arguments_from (map view xs))))
-  first_overflows old over =
+  first_overflows {old} over =
       subst (λ a. Overflows old (strings_of_texts (argument_texts a))) all_are
       (subst (λ ts. Overflows old (strings_of_texts ts))
       (one_and_rest (view x) (arguments_from (map view (drop 1 xs))))

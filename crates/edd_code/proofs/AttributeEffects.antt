@@ -27,11 +27,11 @@ both given (attribute.Goes records operands) next then same = same operands (giv
 both given _ next then same = refl
 
 tested : (b : Bool) (given : List Record) (o p : attribute.Outcome)
-    (x y : Outcome (List Record) Trap) → x ≡ after_records given o → y ≡ after_records given p
+    {x y : Outcome (List Record) Trap} → x ≡ after_records given o → y ≡ after_records given p
     → (elim b as (λ _. Outcome (List Record) Trap) [ true ↦ x | false ↦ y ])
     ≡ after_records given (elim b as (λ _. attribute.Outcome) [ true ↦ o | false ↦ p ])
-tested true given o p x y one two = one
-tested false given o p x y one two = two
+tested true given o p one two = one
+tested false given o p one two = two
 
 module _ (env : Environment) (values : List ℤ) where
   pub same_in_attributes : (b : Block) (operands : List ℤ) (given : List Record)
@@ -48,21 +48,21 @@ module _ (env : Environment) (values : List ℤ) where
       (does env values second) (same_in_attributes second)
   same_in_attributes (WhenNotZero body) [] given = refl
   same_in_attributes (WhenNotZero body) (a ∷ below) given =
-      tested (is_zero a) given (attribute.Goes [] below) (attribute.does env values body below) _ _
+      tested (is_zero a) given (attribute.Goes [] below) (attribute.does env values body below)
       (ap (λ (rs : List Record). Goes below rs) (sym (append-nil given)))
       (same_in_attributes body below given)
   same_in_attributes (WhenZero body) [] given = refl
   same_in_attributes (WhenZero body) (a ∷ below) given =
-      tested (is_zero a) given (attribute.does env values body below) (attribute.Goes [] below) _ _
+      tested (is_zero a) given (attribute.does env values body below) (attribute.Goes [] below)
       (same_in_attributes body below given)
       (ap (λ (rs : List Record). Goes below rs) (sym (append-nil given)))
   same_in_attributes (Either first otherwise) [] given = refl
   same_in_attributes (Either first otherwise) (a ∷ below) given =
       tested (is_zero a) given (attribute.does env values otherwise below)
-      (attribute.does env values first below) _ _ (same_in_attributes otherwise below given)
+      (attribute.does env values first below) (same_in_attributes otherwise below given)
       (same_in_attributes first below given)
   same_in_attributes (Match label body rest) [] given = refl
   same_in_attributes (Match label body rest) (a ∷ below) given =
       tested (int_eq a label) given (attribute.does env values body below)
-      (attribute.does env values rest (a ∷ below)) _ _ (same_in_attributes body below given)
+      (attribute.does env values rest (a ∷ below)) (same_in_attributes body below given)
       (same_in_attributes rest (a ∷ below) given)

@@ -41,9 +41,9 @@ then_runs a b d n m p q = record {
   after = ap (depth_after b) p.after ∙ q.after;
 }
 
-when_not_zero_runs : (body : Block) (d n : ℕ) → d ≡ suc n → d ≤ 128 → Runs body n n
+when_not_zero_runs : {body : Block} (d n : ℕ) → d ≡ suc n → d ≤ 128 → Runs body n n
     → Runs (WhenNotZero body) d n
-when_not_zero_runs body d n at few p =
+when_not_zero_runs {body} d n at few p =
     let less : n ≡ d - 1 = omega arith in
     record {
       flows = (
@@ -55,9 +55,9 @@ when_not_zero_runs body d n at few p =
       after = sym less;
     }
 
-when_zero_runs : (body : Block) (d n : ℕ) → d ≡ suc n → d ≤ 128 → Runs body n n
+when_zero_runs : {body : Block} (d n : ℕ) → d ≡ suc n → d ≤ 128 → Runs body n n
     → Runs (WhenZero body) d n
-when_zero_runs body d n at few p =
+when_zero_runs {body} d n at few p =
     let less : n ≡ d - 1 = omega arith in
     record {
       flows = (
@@ -69,9 +69,9 @@ when_zero_runs body d n at few p =
       after = sym less;
     }
 
-pub either_runs : (first otherwise : Block) (d n m : ℕ) → d ≡ suc n → d ≤ 128 → m ≤ 128
+pub either_runs : {first otherwise : Block} (d n m : ℕ) → d ≡ suc n → d ≤ 128 → m ≤ 128
     → Runs first n m → Runs otherwise n m → Runs (Either first otherwise) d m
-either_runs first otherwise d n m at few short p q =
+either_runs {first} {otherwise} d n m at few short p q =
     let less : n ≡ d - 1 = omega arith in
     let one : depth_after first (d - 1) ≡ m = ap (depth_after first) (sym less) ∙ p.after in
     let other : depth_after otherwise (d - 1) ≡ m = ap (depth_after otherwise) (sym less)
@@ -161,10 +161,9 @@ pub operate_runs : (op : Operator) (d : ℕ) → suc (suc d) ≤ 128
     → Runs (Straight (instruction.Operate op)) (suc (suc d)) (suc d)
 operate_runs op d few = join_runs (instruction.Operate op) d refl refl refl few
 
-pub two_run : (left right last : Block) (d : ℕ) → Runs left d (suc d)
-    → Runs right (suc d) (suc (suc d)) → Runs last (suc (suc d)) (suc d)
-    → Runs (Then left (Then right last)) d (suc d)
-two_run left right last d p q r = then_runs left (Then right last) d (suc d) (suc d) p
+pub two_run : {left right last : Block} (d : ℕ) → Runs left d (suc d) → Runs right (suc d)
+    (suc (suc d)) → Runs last (suc (suc d)) (suc d) → Runs (Then left (Then right last)) d (suc d)
+two_run {left} {right} {last} d p q r = then_runs left (Then right last) d (suc d) (suc d) p
     (then_runs right last (suc d) (suc (suc d)) (suc d) q r)
 
 -- ---- `++` and `--`
@@ -209,9 +208,9 @@ truth_runs d few = then_runs (Straight instruction.Not) (Straight instruction.No
     (suc d) (unary_runs unary_operator.Not d few) (unary_runs unary_operator.Not d few)
 
 -- a test of the topmost operand, which is as before after it
-test_runs : (next : Block) (d : ℕ) → suc d ≤ 128 → Runs next (suc (suc d)) (suc d)
+test_runs : {next : Block} (d : ℕ) → suc d ≤ 128 → Runs next (suc (suc d)) (suc d)
     → Runs (then_test next) (suc d) (suc d)
-test_runs next d few p = then_runs (Straight instruction.Duplicate) next (suc d) (suc (suc d))
+test_runs {next} d few p = then_runs (Straight instruction.Duplicate) next (suc d) (suc (suc d))
     (suc d) (duplicate_runs d few) p
 
 instead_runs : (right : Block) (d : ℕ) → suc d ≤ 128 → Runs right d (suc d)
@@ -220,17 +219,14 @@ instead_runs right d few p =
     then_runs (Straight instruction.Pop) (Then right truth_block) (suc d) d (suc d) (pop_runs d few)
     (then_runs right truth_block d (suc d) (suc d) p (truth_runs d few))
 
-pub and_runs : (right : Block) (d : ℕ) → suc (suc d) ≤ 128 → Runs right d (suc d)
+pub and_runs : {right : Block} (d : ℕ) → suc (suc d) ≤ 128 → Runs right d (suc d)
     → Runs (then_test (WhenNotZero (instead right))) (suc d) (suc d)
-and_runs right d few p = test_runs (WhenNotZero (instead right)) d (omega arith)
-    (when_not_zero_runs (instead right) (suc (suc d)) (suc d) refl few
-    (instead_runs right d (omega arith) p))
+and_runs {right} d few p = test_runs d (omega arith)
+    (when_not_zero_runs (suc (suc d)) (suc d) refl few (instead_runs right d (omega arith) p))
 
-pub or_runs : (right : Block) (d : ℕ) → suc (suc d) ≤ 128 → Runs right d (suc d)
+pub or_runs : {right : Block} (d : ℕ) → suc (suc d) ≤ 128 → Runs right d (suc d)
     → Runs (Then truth_block (then_test (WhenZero (instead right)))) (suc d) (suc d)
-or_runs right d few p =
+or_runs {right} d few p =
     then_runs truth_block (then_test (WhenZero (instead right))) (suc d) (suc d) (suc d)
-    (truth_runs d (omega arith))
-    (test_runs (WhenZero (instead right)) d (omega arith)
-    (when_zero_runs (instead right) (suc (suc d)) (suc d) refl few
-    (instead_runs right d (omega arith) p)))
+    (truth_runs d (omega arith)) (test_runs d (omega arith)
+    (when_zero_runs (suc (suc d)) (suc d) refl few (instead_runs right d (omega arith) p)))

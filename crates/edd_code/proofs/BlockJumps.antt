@@ -37,9 +37,9 @@ is_nothing : (o : Option Way) → is_none o ≡ true → o ≡ None
 is_nothing None h = refl
 is_nothing (Some w) h = absurd (cc h)
 
-one_way : (x : Placed) (n : ℕ) → leaves x.instruction ≡ Some n → jump x.instruction ≡ None
+one_way : (x : Placed) {n : ℕ} → leaves x.instruction ≡ Some n → jump x.instruction ≡ None
     → ways x ≡ record { to = x.next; leaves = n } ∷ []
-one_way x n l j = rw (l, j) refl
+one_way x l j = rw (l, j) refl
 
 -- the ways of a test, and of a jump
 pub leads_on : (a b : ℕ) → ((a == a) || ((b == a) || false)) ≡ true
@@ -71,7 +71,7 @@ module _ (version : Version) (sort : Sort) where
       → leads_to (stand p i q) q ≡ true
   straight_leads p i q h =
       let parts = straight_parts i h in
-      ap (list_any (λ w. w.to == q)) (one_way (stand p i q) (left_of (leaves i)) parts.0 parts.1)
+      ap (list_any (λ w. w.to == q)) (one_way (stand p i q) parts.0 parts.1)
       ∙ ap (λ b. b || false) (same_place q)
 
 -- ---- ways that lead forward
@@ -224,7 +224,7 @@ module _ (version : Version) (sort : Sort) (xs : List Placed) where
         → is_start xs q ≡ true → (IsFresh xs p → d ≡ 0) → IsSound xs depth (stand p i q)
     sound_straight p d q i straight enough bounded here there start entry =
         let parts = straight_parts version sort i straight in
-        let way = one_way (stand p i q) (left_of (leaves i)) parts.0 parts.1 in
+        let way = one_way (stand p i q) parts.0 parts.1 in
         record {
           lands = ap (list_all (λ w. is_start xs w.to)) way ∙ ap (λ b. b && true) start;
           enough = omega (arith, enough, here);

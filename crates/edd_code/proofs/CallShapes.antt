@@ -20,24 +20,24 @@ value_is : (x : Argument Target) (e : Expr Target) → as_value x ≡ Some e →
 value_is (Text u) e h = absurd cc
 value_is (Value f) e h = cc
 
-target_is : (x : Argument Target) (to : Target) → as_target x ≡ Some to → x ≡ Value (Reference to)
-target_is (Text t) to h = absurd cc
-target_is (Value (Reference from)) to h = cc
-target_is (Value _) to h = absurd cc
+target_is : (x : Argument Target) {to : Target} → as_target x ≡ Some to → x ≡ Value (Reference to)
+target_is (Text t) h = absurd cc
+target_is (Value (Reference from)) h = cc
+target_is (Value _) h = absurd cc
 
-method_is : (x : Argument Target) (m : MethNo) → as_method x ≡ Some m
+method_is : (x : Argument Target) {m : MethNo} → as_method x ≡ Some m
     → x ≡ Value (Reference (Item (item_no.Method m)))
-method_is (Text t) m h = absurd cc
-method_is (Value (Reference (Item (item_no.Method n)))) m h = cc
-method_is (Value (Reference (Item (item_no.Variable n)))) m h = absurd cc
-method_is (Value (Reference (Item (item_no.Command n)))) m h = absurd cc
-method_is (Value (Reference (Item (item_no.Menu n)))) m h = absurd cc
-method_is (Value (Reference (Item (item_no.Collection n)))) m h = absurd cc
-method_is (Value (Reference (Item (item_no.Array n)))) m h = absurd cc
-method_is (Value (Reference (Local slot))) m h = absurd cc
-method_is (Value (Reference (Function f))) m h = absurd cc
-method_is (Value (Literal value)) m h = absurd cc
-method_is (Value _) m h = absurd cc
+method_is (Text t) h = absurd cc
+method_is (Value (Reference (Item (item_no.Method n)))) h = cc
+method_is (Value (Reference (Item (item_no.Variable n)))) h = absurd cc
+method_is (Value (Reference (Item (item_no.Command n)))) h = absurd cc
+method_is (Value (Reference (Item (item_no.Menu n)))) h = absurd cc
+method_is (Value (Reference (Item (item_no.Collection n)))) h = absurd cc
+method_is (Value (Reference (Item (item_no.Array n)))) h = absurd cc
+method_is (Value (Reference (Local slot))) h = absurd cc
+method_is (Value (Reference (Function f))) h = absurd cc
+method_is (Value (Literal value)) h = absurd cc
+method_is (Value _) h = absurd cc
 
 -- ---- all arguments
 
@@ -66,26 +66,25 @@ module _ {A B : Type 0} (kind : Argument Target → Option A) (other : Argument 
         pair_is (kind x) (other w) y z h in (x, w, refl, parts.0, parts.1)
     both_are (Cons x (Cons w (Cons v rest))) y z h = absurd cc
 
-pub only_value_is : (a : Arguments Target) (e : Expr Target) → Some e ≡ only as_value a
+pub only_value_is : (a : Arguments Target) {e : Expr Target} → Some e ≡ only as_value a
     → a ≡ Cons (Value e) Nil
-only_value_is a e h = let all = only_is as_value a e h in all.1
+only_value_is a {e} h = let all = only_is as_value a e h in all.1
     ∙ ap (λ (x : Argument Target). Cons x Nil) (value_is all.0 e all.2)
 
-pub only_method_is : (a : Arguments Target) (m : MethNo) → Some m ≡ only as_method a
+pub only_method_is : (a : Arguments Target) {m : MethNo} → Some m ≡ only as_method a
     → a ≡ Cons (Value (Reference (Item (item_no.Method m)))) Nil
-only_method_is a m h = let all = only_is as_method a m h in all.1
-    ∙ ap (λ (x : Argument Target). Cons x Nil) (method_is all.0 m all.2)
+only_method_is a {m} h = let all = only_is as_method a m h in all.1
+    ∙ ap (λ (x : Argument Target). Cons x Nil) (method_is all.0 all.2)
 
-two_are : (a : Arguments Target) (x y z w : Argument Target) → a ≡ Cons x (Cons y Nil) → x ≡ z
-    → y ≡ w → a ≡ Cons z (Cons w Nil)
-two_are a x y z w is one other = cc
+two_are : (a : Arguments Target) (x y : Argument Target) {z w : Argument Target}
+    → a ≡ Cons x (Cons y Nil) → x ≡ z → y ≡ w → a ≡ Cons z (Cons w Nil)
+two_are a x y is one other = cc
 
-pub target_and_value_are : (a : Arguments Target) (to : Target) (e : Expr Target)
-    → Some (to, e) ≡ both as_target as_value a
-    → a ≡ Cons (Value (Reference to)) (Cons (Value e) Nil)
-target_and_value_are a to e h =
-    let all = both_are as_target as_value a to e h in two_are a all.0 all.1 (Value (Reference to))
-    (Value e) all.2 (target_is all.0 to all.3) (value_is all.1 e all.4)
+pub target_and_value_are : (a : Arguments Target) {to : Target} {e : Expr Target} → Some (to, e)
+    ≡ both as_target as_value a → a ≡ Cons (Value (Reference to)) (Cons (Value e) Nil)
+target_and_value_are a {to} {e} h =
+    let all = both_are as_target as_value a to e h in
+    two_are a all.0 all.1 all.2 (target_is all.0 all.3) (value_is all.1 e all.4)
 
 -- ---- calls that don't fit
 

@@ -77,10 +77,10 @@ part_closed front c1 c2 part op one two =
     (omega (arith, length-append front (op ∷ []))) refl
     ∙ append_assoc front (op ∷ []) (u32 (target (length c2)) ++ part)
 
-pub when_not_zero_closed : (before c1 c2 : List ℕ) (body : Block)
+pub when_not_zero_closed : (before : List ℕ) {c1 c2 : List ℕ} (body : Block)
     → c1 ≡ before ++ spelling (instruction.JumpIfZero 0) → c2 ≡ c1 ++ bytes_at (length c1) body
     → closed c2 (length before + 1) ≡ before ++ bytes_at (length before) (WhenNotZero body)
-when_not_zero_closed before c1 c2 body one two =
+when_not_zero_closed before {c1} {c2} body one two =
     let l1 : length c1 ≡ length before + 5 = ap length one
     ∙ length-append before (spelling (instruction.JumpIfZero 0)) in
     let l2 : length c2 ≡ length before + (5 + size body) = ap length two
@@ -93,10 +93,10 @@ when_not_zero_closed before c1 c2 body one two =
     l1
     ∙ ap (λ bytes. before ++ bytes) (sym (bytes_of_when_not_zero (length before) body))
 
-pub when_zero_closed : (before c1 c2 : List ℕ) (body : Block)
+pub when_zero_closed : (before : List ℕ) {c1 c2 : List ℕ} (body : Block)
     → c1 ≡ before ++ spelling (instruction.JumpIfNotZero 0) → c2 ≡ c1 ++ bytes_at (length c1) body
     → closed c2 (length before + 1) ≡ before ++ bytes_at (length before) (WhenZero body)
-when_zero_closed before c1 c2 body one two =
+when_zero_closed before {c1} {c2} body one two =
     let l1 : length c1 ≡ length before + 5 = ap length one
     ∙ length-append before (spelling (instruction.JumpIfNotZero 0)) in
     let l2 : length c2 ≡ length before + (5 + size body) = ap length two

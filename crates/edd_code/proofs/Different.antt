@@ -47,9 +47,9 @@ words_refl (Key a) = same_bytes a
 abbrev pub has : Words → List Words → Bool
 has w ws = list_any (same_words w) ws
 
-or_right : (a b : Bool) → b ≡ true → (a || b) ≡ true
-or_right true b h = refl
-or_right false b h = h
+or_right : (a : Bool) {b : Bool} → b ≡ true → (a || b) ≡ true
+or_right true h = refl
+or_right false h = h
 
 or_cases : (a b : Bool) → (a || b) ≡ true → (a ≡ true) ⊎ (b ≡ true)
 or_cases true b h = inl refl
@@ -58,8 +58,8 @@ or_cases false b h = inr h
 pub Contains-has : (ws : List Words) (w : Words) → Contains ws w → has w ws ≡ true
 Contains-has [] w held = absurd (omega (arith, held.1))
 Contains-has (x ∷ ws) w (zero, below, is) = rw (ap (same_words w) is ∙ words_refl w) refl
-Contains-has (x ∷ ws) w (suc k, below, is) = or_right (same_words w x) (has w ws)
-    (Contains-has ws w (k, omega arith, is))
+Contains-has (x ∷ ws) w (suc k, below, is) =
+    or_right (same_words w x) (Contains-has ws w (k, omega arith, is))
 
 pub has-Contains : (ws : List Words) (w : Words) → has w ws ≡ true → Contains ws w
 has-Contains [] w h = absurd cc
@@ -94,10 +94,10 @@ out_keeps w v (x ∷ xs) h = here (same_words w x) (out_keeps w v xs) h
   where
     here : (b : Bool) → (has v (out w xs) ≡ true → has v xs ≡ true)
         → has v (cond b xs (x ∷ out w xs)) ≡ true → has v (x ∷ xs) ≡ true
-    here true keeps h = or_right (same_words v x) (has v xs) h
+    here true keeps h = or_right (same_words v x) h
     here false keeps h = elim (or_cases (same_words v x) (has v (out w xs)) h) [
       | inl e ↦ rw e refl
-      | inr e ↦ or_right (same_words v x) (has v xs) (keeps e)
+      | inr e ↦ or_right (same_words v x) (keeps e)
     ]
 
 not_true : {b : Bool} → ¬ (b ≡ true) → b ≡ false

@@ -57,10 +57,10 @@ module _ (text : StrNo → Option Words) (around : device.Environment) where
   -- ---- one after the other
 
   -- where a block goes on, the next one finds what it leaves
-  then_does : (a b : Block) (operands left : List ℤ) (s t : State) → runs a operands s ≡ Goes left t
-      → runs (Then a b) operands s ≡ runs b left t
+  then_does : (a b : Block) (operands : List ℤ) {left : List ℤ} (s : State) {t : State}
+      → runs a operands s ≡ Goes left t → runs (Then a b) operands s ≡ runs b left t
   unfolding blocks.does
-  then_does a b operands left s t goes = ap (λ (o : Outcome State Halted). and_then o (runs b)) goes
+  then_does a b operands s goes = ap (λ (o : Outcome State Halted). and_then o (runs b)) goes
 
   then_value : (a b : Block) (operands base under : List ℤ) (s : State) (o : source.Outcome ℤ)
       (f : ℤ → Action ℤ) → runs a operands s ≡ pushed base o
@@ -124,8 +124,8 @@ module _ (text : StrNo → Option Words) (around : device.Environment) where
   no_element_means : (a : ℤ) (operands : List ℤ) (s : State)
       → runs no_element (a ∷ operands) s ≡ pushed operands (source.number (Ok (pos 0)) s)
   no_element_means a operands s =
-      then_does (Straight instruction.Pop) no_value (a ∷ operands) operands s s
-      (pop_does a operands s) ∙ no_value_means operands s
+      then_does (Straight instruction.Pop) no_value (a ∷ operands) s (pop_does a operands s)
+      ∙ no_value_means operands s
 
   item_element_means : (i : ItemNo) (a : ℤ) (operands : List ℤ) (s : State)
       → runs (item_element_block i) (a ∷ operands) s
@@ -152,8 +152,8 @@ module _ (text : StrNo → Option Words) (around : device.Environment) where
   store_means_zero to a operands s =
       then_value (store_block to) (Then (Straight instruction.Pop) no_value) (a ∷ operands) operands
       operands s (assign around to a s) (λ z. pure (pos 0)) (store_means to a operands s)
-      (λ z t. then_does (Straight instruction.Pop) no_value (z ∷ operands) operands t t
-      (pop_does z operands t) ∙ no_value_means operands t)
+      (λ z t. then_does (Straight instruction.Pop) no_value (z ∷ operands) t (pop_does z operands t)
+      ∙ no_value_means operands t)
 
   -- ---- operators
 
@@ -199,8 +199,7 @@ module _ (text : StrNo → Option Words) (around : device.Environment) where
       >>= assign around to)
   store_next_means op to old operands s =
       then_does (Straight (instruction.Push 1))
-      (Then (Straight (instruction.Operate op)) (store_block to)) (old ∷ operands)
-      (pos 1 ∷ old ∷ operands) s s
+      (Then (Straight (instruction.Operate op)) (store_block to)) (old ∷ operands) s
       (push_means 1 (old ∷ operands) s ∙ ap (λ (z : ℤ). Goes (z ∷ old ∷ operands) s) one_is)
       ∙ operate_then op (store_block to) (assign around to) (store_means to) old (pos 1) operands s
 
@@ -213,12 +212,11 @@ module _ (text : StrNo → Option Words) (around : device.Environment) where
       → MeansOfOne (store_behind_block op to)
       (λ old. (source.number (operate 32 op old (pos 1)) >>= assign around to) >> pure old)
   store_behind_means op to old operands s =
-      then_does (Straight instruction.Duplicate)
-      (Then (store_next_block op to) (Straight instruction.Pop)) (old ∷ operands)
-      (old ∷ old ∷ operands) s s (duplicate_does old operands s)
-      ∙ then_value (store_next_block op to) (Straight instruction.Pop) (old ∷ old ∷ operands)
-      (old ∷ operands) operands s _ (λ z. pure old)
-      (store_next_means op to old (old ∷ operands) s) (λ z t. pop_does z (old ∷ operands) t)
+      then_does (Straight instruction.Duplicate) (Then (store_next_block op to)
+      (Straight instruction.Pop)) (old ∷ operands) s (duplicate_does old operands s)
+      ∙ then_value (store_next_block op to) (Straight instruction.Pop) (old ∷ old ∷ operands) (old
+      ∷ operands) operands s _ (λ z. pure old) (store_next_means op to old (old ∷ operands) s)
+      (λ z t. pop_does z (old ∷ operands) t)
 
   pub increment_means : (op : IncrementOperator) (to : Target)
       → Means (increment_block op to) (increment around op to)
@@ -248,9 +246,8 @@ module _ (text : StrNo → Option Words) (around : device.Environment) where
   truth_does : (a : ℤ) (operands : List ℤ) (s : State) → runs truth_block (a ∷ operands) s
       ≡ Goes (truth (not (is_zero a)) ∷ operands) s
   truth_does a operands s =
-      then_does (Straight instruction.Not) (Straight instruction.Not) (a ∷ operands)
-      (truth (is_zero a) ∷ operands) s s (not_does a operands s)
-      ∙ not_does (truth (is_zero a)) operands s
+      then_does (Straight instruction.Not) (Straight instruction.Not) (a
+      ∷ operands) s (not_does a operands s) ∙ not_does (truth (is_zero a)) operands s
       ∙ ap (λ (z : ℤ). Goes (z ∷ operands) s) (not_again (is_zero a))
 
   -- the truth of an action's value
@@ -261,10 +258,9 @@ module _ (text : StrNo → Option Words) (around : device.Environment) where
     instead_means : (a : ℤ) (operands : List ℤ) (s : State) → runs (instead right) (a ∷ operands) s
         ≡ pushed operands (truth_of m s)
     instead_means a operands s =
-        then_does (Straight instruction.Pop) (Then right truth_block) (a ∷ operands) operands s s
-        (pop_does a operands s)
-        ∙ one_means right truth_block m (λ b. pure (truth (not (is_zero b)))) is truth_does operands
-        s
+        then_does (Straight instruction.Pop) (Then right truth_block) (a
+        ∷ operands) s (pop_does a operands s) ∙ one_means right truth_block m
+        (λ b. pure (truth (not (is_zero b)))) is truth_does operands s
 
     and_choice : (a : ℤ) (b : Bool) → is_zero a ≡ b → (operands : List ℤ) (s : State)
         → (elim b as (λ _. Outcome State Halted) [
@@ -280,9 +276,8 @@ module _ (text : StrNo → Option Words) (around : device.Environment) where
         (λ a. elim (is_zero a) [ true ↦ pure (pos 0) | false ↦ truth_of m ])
     unfolding blocks.does
     and_means a operands s =
-        then_does (Straight instruction.Duplicate) (WhenNotZero (instead right)) (a ∷ operands)
-        (a ∷ a ∷ operands) s s (duplicate_does a operands s)
-        ∙ and_choice a (is_zero a) refl operands s
+        then_does (Straight instruction.Duplicate) (WhenNotZero (instead right)) (a
+        ∷ operands) s (duplicate_does a operands s) ∙ and_choice a (is_zero a) refl operands s
 
     -- 1 or 0, in front of the test
     or_test : (b : Bool) (operands : List ℤ) (s : State)
@@ -299,11 +294,9 @@ module _ (text : StrNo → Option Words) (around : device.Environment) where
         (λ a. elim (is_zero a) [ true ↦ truth_of m | false ↦ pure (pos 1) ])
     or_means a operands s =
         let z = truth (not (is_zero a)) in
-        then_does truth_block (then_test (WhenZero (instead right))) (a ∷ operands) (z ∷ operands) s
-        s (truth_does a operands s)
-        ∙ then_does (Straight instruction.Duplicate) (WhenZero (instead right)) (z ∷ operands)
-        (z ∷ z ∷ operands) s s (duplicate_does z operands s)
-        ∙ or_test (is_zero a) operands s
+        then_does truth_block (then_test (WhenZero (instead right))) (a ∷ operands) s (truth_does a
+        operands s) ∙ then_does (Straight instruction.Duplicate) (WhenZero (instead right)) (z
+        ∷ operands) s (duplicate_does z operands s) ∙ or_test (is_zero a) operands s
 
   either_choice : (b : Bool) (o u : Outcome State Halted) (m n : Action ℤ) (operands : List ℤ)
       (s : State) → o ≡ pushed operands (m s) → u ≡ pushed operands (n s)

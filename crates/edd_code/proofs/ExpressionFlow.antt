@@ -30,8 +30,8 @@ straight_runs : (i : Instruction) (d n : ℕ) → IsTrue (is_straight i) → tak
     → d - takes i + left_of (leaves i) ≡ n → Runs (Straight i) d n
 straight_runs i d n is enough few at = record { flows = (is, enough, few); after = at }
 
-then_runs : (a b : Block) (d n m : ℕ) → Runs a d n → Runs b n m → Runs (Then a b) d m
-then_runs a b d n m p q = record {
+then_runs : {a b : Block} {d n m : ℕ} → Runs a d n → Runs b n m → Runs (Then a b) d m
+then_runs {b} p q = record {
   flows = (p.flows, subst (λ (x : ℕ). Flows b x) (sym p.after) q.flows);
   after = ap (depth_after b) p.after ∙ q.after;
 }
@@ -64,9 +64,9 @@ when_zero_runs body d n at few p =
       after = sym less;
     }
 
-either_runs : (first otherwise : Block) (d n m : ℕ) → d ≡ suc n → d ≤ 128 → m ≤ 128 → Runs first n m
+either_runs : {first otherwise : Block} (d n m : ℕ) → d ≡ suc n → d ≤ 128 → m ≤ 128 → Runs first n m
     → Runs otherwise n m → Runs (Either first otherwise) d m
-either_runs first otherwise d n m at few short p q =
+either_runs {first} {otherwise} d n m at few short p q =
     let less : n ≡ d - 1 = omega arith in
     let one : depth_after first (d - 1) ≡ m = ap (depth_after first) (sym less) ∙ p.after in
     let other : depth_after otherwise (d - 1) ≡ m = ap (depth_after otherwise) (sym less)
@@ -99,9 +99,8 @@ read_runs (Item i) d few = item_runs i d few
 read_runs _ d few = no_value_runs d few
 
 no_element_runs : (d : ℕ) → suc d ≤ 128 → Runs no_element (suc d) (suc d)
-no_element_runs d few = then_runs (Straight instruction.Pop) no_value (suc d) d (suc d)
-    (straight_runs instruction.Pop (suc d) d refl (omega arith) few (omega arith))
-    (no_value_runs d (omega arith))
+no_element_runs d few = then_runs (straight_runs instruction.Pop (suc d) d refl (omega arith) few
+    (omega arith)) (no_value_runs d (omega arith))
 
 item_element_runs : (i : ItemNo) (d : ℕ) → suc d ≤ 128
     → Runs (item_element_block i) (suc d) (suc d)
@@ -123,28 +122,25 @@ unary_runs unary_operator.Complement d few = straight_runs instruction.Complemen
     refl (omega arith) few (omega arith)
 
 truth_runs : (d : ℕ) → suc d ≤ 128 → Runs truth_block (suc d) (suc d)
-truth_runs d few = then_runs (Straight instruction.Not) (Straight instruction.Not) (suc d) (suc d)
-    (suc d) (unary_runs unary_operator.Not d few) (unary_runs unary_operator.Not d few)
+truth_runs d few =
+    then_runs (unary_runs unary_operator.Not d few) (unary_runs unary_operator.Not d few)
 
 -- a test of the topmost operand, which is as before after it
-test_runs : (next : Block) (d : ℕ) → suc d ≤ 128 → Runs next (suc (suc d)) (suc d)
+test_runs : {next : Block} (d : ℕ) → suc d ≤ 128 → Runs next (suc (suc d)) (suc d)
     → Runs (then_test next) (suc d) (suc d)
-test_runs next d few p = then_runs (Straight instruction.Duplicate) next (suc d) (suc (suc d))
-    (suc d) (straight_runs instruction.Duplicate (suc d) (suc (suc d)) refl (omega arith) few
-    (omega arith)) p
+test_runs {next} d few p = then_runs (straight_runs instruction.Duplicate (suc d) (suc (suc d)) refl
+    (omega arith) few (omega arith)) p
 
-instead_runs : (right : Block) (d : ℕ) → suc d ≤ 128 → Runs right d (suc d)
+instead_runs : {right : Block} (d : ℕ) → suc d ≤ 128 → Runs right d (suc d)
     → Runs (instead right) (suc d) (suc d)
-instead_runs right d few p =
-    then_runs (Straight instruction.Pop) (Then right truth_block) (suc d) d (suc d)
-    (straight_runs instruction.Pop (suc d) d refl (omega arith) few (omega arith))
-    (then_runs right truth_block d (suc d) (suc d) p (truth_runs d few))
+instead_runs {right} d few p =
+    then_runs (straight_runs instruction.Pop (suc d) d refl (omega arith) few (omega arith))
+    (then_runs p (truth_runs d few))
 
-two_run : (left right : Block) (i : Instruction) (d : ℕ) → Runs left d (suc d)
+two_run : {left right : Block} {i : Instruction} (d : ℕ) → Runs left d (suc d)
     → Runs right (suc d) (suc (suc d)) → Runs (Straight i) (suc (suc d)) (suc d)
     → Runs (Then left (Then right (Straight i))) d (suc d)
-two_run left right i d p q r = then_runs left (Then right (Straight i)) d (suc d) (suc d) p
-    (then_runs right (Straight i) (suc d) (suc (suc d)) (suc d) q r)
+two_run {left} {right} {i} d p q r = then_runs p (then_runs q r)
 
 -- ---- expressions
 
@@ -158,47 +154,35 @@ unfolding expression_block
 expression_runs (Literal value) d h = straight_runs (instruction.Push value) d (suc d) refl
     (omega arith) (omega arith) (omega arith)
 expression_runs (Reference from) d h = read_runs from d (omega arith)
-expression_runs (Indexed array index) d h = then_runs (expression_block index) (element_block array)
-    d (suc d) (suc d) (expression_runs index d (omega arith)) (element_runs array d (omega arith))
+expression_runs (Indexed array index) d h =
+    then_runs (expression_runs index d (omega arith)) (element_runs array d (omega arith))
 expression_runs (Parentheses inner) d h = expression_runs inner d (omega arith)
-expression_runs (Unary op operand) d h = then_runs (expression_block operand) (unary_block op) d
-    (suc d) (suc d) (expression_runs operand d (omega arith)) (unary_runs op d (omega arith))
+expression_runs (Unary op operand) d h =
+    then_runs (expression_runs operand d (omega arith)) (unary_runs op d (omega arith))
 expression_runs (Binary op left right) d h =
     let few = high right in
-    two_run (expression_block left) (expression_block right) (instruction.Operate op) d
-    (expression_runs left d (omega arith)) (expression_runs right (suc d) (omega arith))
+    two_run d (expression_runs left d (omega arith)) (expression_runs right (suc d) (omega arith))
     (straight_runs (instruction.Operate op) (suc (suc d)) (suc d) refl (omega arith) (omega arith)
     (omega arith))
 expression_runs (Compare by left right) d h =
     let few = high right in
-    two_run (expression_block left) (expression_block right) (instruction.Compare by) d
-    (expression_runs left d (omega arith)) (expression_runs right (suc d) (omega arith))
+    two_run d (expression_runs left d (omega arith)) (expression_runs right (suc d) (omega arith))
     (straight_runs (instruction.Compare by) (suc (suc d)) (suc d) refl (omega arith) (omega arith)
     (omega arith))
 expression_runs (LogicalAnd left right) d h =
     let few = high right in
     let body = instead (expression_block right) in
-    then_runs (expression_block left) (then_test (WhenNotZero body)) d (suc d) (suc d)
-    (expression_runs left d (omega arith))
-    (test_runs (WhenNotZero body) d (omega arith)
-    (when_not_zero_runs body (suc (suc d)) (suc d) refl (omega arith)
-    (instead_runs (expression_block right) d (omega arith)
-    (expression_runs right d (omega arith)))))
+    then_runs (expression_runs left d (omega arith))
+    (test_runs d (omega arith) (when_not_zero_runs body (suc (suc d)) (suc d) refl (omega arith)
+    (instead_runs d (omega arith) (expression_runs right d (omega arith)))))
 expression_runs (LogicalOr left right) d h =
     let few = high right in
     let body = instead (expression_block right) in
-    then_runs (expression_block left) (Then truth_block (then_test (WhenZero body))) d (suc d)
-    (suc d) (expression_runs left d (omega arith))
-    (then_runs truth_block (then_test (WhenZero body)) (suc d) (suc d) (suc d)
-    (truth_runs d (omega arith))
-    (test_runs (WhenZero body) d (omega arith)
-    (when_zero_runs body (suc (suc d)) (suc d) refl (omega arith)
-    (instead_runs (expression_block right) d (omega arith)
-    (expression_runs right d (omega arith))))))
+    then_runs (expression_runs left d (omega arith)) (then_runs (truth_runs d (omega arith))
+    (test_runs d (omega arith) (when_zero_runs body (suc (suc d)) (suc d) refl (omega arith)
+    (instead_runs d (omega arith) (expression_runs right d (omega arith))))))
 expression_runs (Conditional test first second) d h =
-    then_runs (expression_block test) (Either (expression_block first) (expression_block second)) d
-    (suc d) (suc d) (expression_runs test d (omega arith))
-    (either_runs (expression_block first) (expression_block second) (suc d) d (suc d) refl
-    (omega arith) (omega arith) (expression_runs first d (omega arith))
-    (expression_runs second d (omega arith)))
+    then_runs (expression_runs test d (omega arith))
+    (either_runs (suc d) d (suc d) refl (omega arith) (omega arith)
+    (expression_runs first d (omega arith)) (expression_runs second d (omega arith)))
 expression_runs _ d h = no_value_runs d (omega arith)

@@ -35,10 +35,10 @@ zero_is z is = (Decides-int_eq z (pos 0)).0 is
 
 module _ (machine : Environment) (d : List ℤ) where
   -- where a block goes on, the next one finds what it leaves
-  then_does : (a b : Block) (operands left : List ℤ) → does machine d a operands ≡ Goes [] left
-      → does machine d (Then a b) operands ≡ does machine d b left
+  then_does : (a b : Block) (operands : List ℤ) {left : List ℤ} → does machine d a operands
+      ≡ Goes [] left → does machine d (Then a b) operands ≡ does machine d b left
   unfolding does
-  then_does a b operands left goes = ap (λ o. and_then o (does machine d b)) goes
+  then_does a b operands {left} goes = ap (λ o. and_then o (does machine d b)) goes
       ∙ nothing_in_front (does machine d b left)
 
   -- a block that results in a value, and one that goes on with it
@@ -47,8 +47,7 @@ module _ (machine : Environment) (d : List ℤ) where
       → ((z : ℤ) → does machine d b (z ∷ operands) ≡ of_value (f z) under)
       → does machine d (Then a b) operands ≡ of_value (r >>= f) under
   unfolding does
-  with_value a b operands under (Ok z) f first second = then_does a b operands (z ∷ operands) first
-      ∙ second z
+  with_value a b operands under (Ok z) f first second = then_does a b operands first ∙ second z
   with_value a b operands under (Err why) f first second = ap (λ o. and_then o (does machine d b))
       first
 
@@ -123,9 +122,8 @@ module _ (machine : Environment) (d : List ℤ) where
   truth_does : (a : ℤ) (operands : List ℤ) → does machine d truth_block (a ∷ operands)
       ≡ Goes [] (truth (not (is_zero a)) ∷ operands)
   truth_does a operands =
-      then_does (Straight instruction.Not) (Straight instruction.Not) (a ∷ operands)
-      (truth (is_zero a) ∷ operands) (not_does a operands)
-      ∙ not_does (truth (is_zero a)) operands
+      then_does (Straight instruction.Not) (Straight instruction.Not) (a
+      ∷ operands) (not_does a operands) ∙ not_does (truth (is_zero a)) operands
       ∙ ap (λ z. Goes [] (z ∷ operands)) (not_again (is_zero a))
 
   duplicate_does : (a : ℤ) (operands : List ℤ)
@@ -144,10 +142,9 @@ module _ (machine : Environment) (d : List ℤ) where
       → does machine d (instead right) (a ∷ operands)
       ≡ of_value (r >>= λ b. Ok (truth (not (is_zero b)))) operands
   instead_does right r a operands is =
-      then_does (Straight instruction.Pop) (Then right truth_block) (a ∷ operands) operands
-      (pop_does a operands)
-      ∙ with_value right truth_block operands operands r (λ b. Ok (truth (not (is_zero b)))) is
-      (λ b. truth_does b operands)
+      then_does (Straight instruction.Pop) (Then right truth_block) (a
+      ∷ operands) (pop_does a operands) ∙ with_value right truth_block operands operands r
+      (λ b. Ok (truth (not (is_zero b)))) is (λ b. truth_does b operands)
 
   -- ---- `&&` and `||`
 
@@ -173,9 +170,8 @@ module _ (machine : Environment) (d : List ℤ) where
       ]) operands
   unfolding does
   and_does right r a operands is =
-      then_does (Straight instruction.Duplicate) (WhenNotZero (instead right)) (a ∷ operands)
-      (a ∷ a ∷ operands) (duplicate_does a operands)
-      ∙ and_choice right r a (is_zero a) refl operands is
+      then_does (Straight instruction.Duplicate) (WhenNotZero (instead right)) (a
+      ∷ operands) (duplicate_does a operands) ∙ and_choice right r a (is_zero a) refl operands is
 
   -- 1 or 0, in front of the test
   or_test : (right : Block) (r : Result ℤ Trap) (b : Bool) (operands : List ℤ)
@@ -198,11 +194,9 @@ module _ (machine : Environment) (d : List ℤ) where
       ]) operands
   or_does right r a operands is =
       let z = truth (not (is_zero a)) in
-      then_does truth_block (then_test (WhenZero (instead right))) (a ∷ operands) (z ∷ operands)
-      (truth_does a operands)
-      ∙ then_does (Straight instruction.Duplicate) (WhenZero (instead right)) (z ∷ operands)
-      (z ∷ z ∷ operands) (duplicate_does z operands)
-      ∙ or_test right r (is_zero a) operands is
+      then_does truth_block (then_test (WhenZero (instead right))) (a ∷ operands) (truth_does a
+      operands) ∙ then_does (Straight instruction.Duplicate) (WhenZero (instead right)) (z
+      ∷ operands) (duplicate_does z operands) ∙ or_test right r (is_zero a) operands is
 
   -- ---- the rest
 

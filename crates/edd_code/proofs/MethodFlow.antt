@@ -141,46 +141,34 @@ module _ (number : Words → StrNo) where
         (unary_runs op d (omega arith))
     method_runs (Binary op left right) fit d h =
         let fits = front_none (call_mismatches false left) (call_mismatches false right) fit in
-        two_run (method_block number left) (method_block number right)
-        (Straight (instruction.Operate op)) d (method_runs left fits.0 d (omega arith))
-        (method_runs right fits.1 (suc d) (omega arith))
-        (operate_runs op d (omega (arith, high right)))
+        two_run d (method_runs left fits.0 d (omega arith)) (method_runs right fits.1 (suc d)
+        (omega arith)) (operate_runs op d (omega (arith, high right)))
     method_runs (Compare by left right) fit d h =
         let fits = front_none (call_mismatches false left) (call_mismatches false right) fit in
-        two_run (method_block number left) (method_block number right)
-        (Straight (instruction.Compare by)) d (method_runs left fits.0 d (omega arith))
-        (method_runs right fits.1 (suc d) (omega arith))
-        (join_runs (instruction.Compare by) d refl refl refl (omega (arith, high right)))
+        two_run d (method_runs left fits.0 d (omega arith)) (method_runs right fits.1 (suc d) (omega
+        arith)) (join_runs (instruction.Compare by) d refl refl refl (omega (arith, high right)))
     method_runs (LogicalAnd left right) fit d h =
         let fits = front_none (call_mismatches false left) (call_mismatches false right) fit in
-        then_runs (method_block number left)
-        (then_test (WhenNotZero (instead (method_block number right)))) d (suc d) (suc d)
-        (method_runs left fits.0 d (omega arith))
-        (and_runs (method_block number right) d (omega arith)
-        (method_runs right fits.1 d (omega arith)))
+        then_runs (method_block number left) (then_test (WhenNotZero (instead
+        (method_block number right)))) d (suc d) (suc d) (method_runs left fits.0 d (omega arith))
+        (and_runs d (omega arith) (method_runs right fits.1 d (omega arith)))
     method_runs (LogicalOr left right) fit d h =
         let fits = front_none (call_mismatches false left) (call_mismatches false right) fit in
-        then_runs (method_block number left)
-        (Then truth_block (then_test (WhenZero (instead (method_block number right))))) d
-        (suc d) (suc d) (method_runs left fits.0 d (omega arith))
-        (or_runs (method_block number right) d (omega arith)
-        (method_runs right fits.1 d (omega arith)))
+        then_runs (method_block number left) (Then truth_block (then_test
+        (WhenZero (instead (method_block number right))))) d (suc d) (suc d) (method_runs left
+        fits.0 d (omega arith)) (or_runs d (omega arith) (method_runs right fits.1 d (omega arith)))
     method_runs (Conditional test first second) fit d h =
         let fits = front_none (call_mismatches false test) (call_mismatches false first
         ++ call_mismatches false second) fit in
         let both = front_none (call_mismatches false first) (call_mismatches false second) fits.1 in
-        then_runs (method_block number test)
-        (Either (method_block number first) (method_block number second)) d (suc d) (suc d)
-        (method_runs test fits.0 d (omega arith))
-        (either_runs (method_block number first) (method_block number second) (suc d) d (suc d) refl
-        (omega arith) (omega arith) (method_runs first both.0 d (omega arith))
-        (method_runs second both.1 d (omega arith)))
+        then_runs (method_block number test) (Either (method_block number first)
+        (method_block number second)) d (suc d) (suc d) (method_runs test fits.0 d (omega arith))
+        (either_runs (suc d) d (suc d) refl (omega arith) (omega arith)
+        (method_runs first both.0 d (omega arith)) (method_runs second both.1 d (omega arith)))
     method_runs (Assign to value) fit d h = then_runs (method_block number value) (store_block to) d
         (suc d) (suc d) (method_runs value fit d (omega arith)) (store_runs to d (omega arith))
     method_runs (CompoundAssign op to value) fit d h =
-        two_run (load_block to) (method_block number value)
-        (Then (Straight (instruction.Operate op)) (store_block to)) d
-        (read_runs to d (omega arith)) (method_runs value fit (suc d) (omega arith))
+        two_run d (read_runs to d (omega arith)) (method_runs value fit (suc d) (omega arith))
         (then_runs (Straight (instruction.Operate op)) (store_block to) (suc (suc d)) (suc d)
         (suc d) (operate_runs op d (omega arith)) (store_runs to d (omega arith)))
     method_runs (Increment op to) fit d h = increment_runs op to d (omega arith)

@@ -110,57 +110,50 @@ module _ (text : StrNo → Option Words) (env : Environment) (code : List ℕ) w
 
   -- ---- a block
 
-  ends_at : (p q r : ℕ) (operands : List ℤ) (s : State) (o : Outcome State Halted) → q ≡ r
-      → Comes text env code p q operands s o → Comes text env code p r operands s o
-  ends_at p q r operands s o same comes = subst (λ (x : ℕ). Comes text env code p x operands s o)
-      same comes
+  ends_at : (p : ℕ) {q : ℕ} (r : ℕ) (operands : List ℤ) (s : State) (o : Outcome State Halted)
+      → q ≡ r → Comes text env code p q operands s o → Comes text env code p r operands s o
+  ends_at p r operands s o same comes =
+      subst (λ (x : ℕ). Comes text env code p x operands s o) same comes
 
   pub block_comes : (p : ℕ) (b : Block) → AllIn (IsRead code) p b → (operands : List ℤ) (s : State)
       → CanBeTaken env s.answers
       → Comes text env code p (p + size b) operands s (does text env b operands s)
   unfolding blocks.does act
-  block_comes p Nothing read operands s valid = ends_at p p (p + 0) operands s (Goes operands s)
-      (omega arith) (stays p operands s valid)
+  block_comes p Nothing read operands s valid =
+      ends_at p (p + 0) operands s (Goes operands s) (omega arith) (stays p operands s valid)
   block_comes p (Straight i) read operands s valid =
       straight_comes text env code p (p + length (spelling i)) s valid i operands read
   block_comes p (Then first second) read operands s valid =
-      then_comes p (p + size first) (p + (size first + size second)) operands s
-      (does text env first operands s) (does text env second)
-      (block_comes p first read.0 operands s valid)
-      (λ left t taken. ends_at (p + size first) (p + size first + size second)
-      (p + (size first + size second)) left t (does text env second left t) (omega arith)
-      (block_comes (p + size first) second read.1 left t taken))
+      then_comes p (p + size first) (p + (size first + size second)) operands s (does text env first
+      operands s) (does text env second) (block_comes p first read.0 operands s valid)
+      (λ left t taken. ends_at (p + size first) (p + (size first + size second)) left t (does text
+      env second left t) (omega arith) (block_comes (p + size first) second read.1 left t taken))
   block_comes p (WhenNotZero body) read [] s valid = tt
   block_comes p (WhenNotZero body) read (a ∷ below) s valid =
       let q = p + (5 + size body) in
-      test_comes (is_zero a) p (p + 5) q (p + 5) q (a ∷ below) below below s
-      (instruction.JumpIfZero q) (Goes below s) (does text env body below s) read.0
-      (one_of (is_zero a) (at code p (a ∷ below) s) q (p + 5) below) (stays q below s valid)
-      (ends_at (p + 5) (p + 5 + size body) q below s (does text env body below s) (omega arith)
-      (block_comes (p + 5) body read.1 below s valid))
+      test_comes (is_zero a) p (p + 5) q (p + 5) q (a ∷ below) below below s (instruction.JumpIfZero
+      q) (Goes below s) (does text env body below s) read.0 (one_of (is_zero a)
+      (at code p (a ∷ below) s) q (p + 5) below) (stays q below s valid) (ends_at (p + 5) q below s
+      (does text env body below s) (omega arith) (block_comes (p + 5) body read.1 below s valid))
   block_comes p (WhenZero body) read [] s valid = tt
   block_comes p (WhenZero body) read (a ∷ below) s valid =
       let q = p + (5 + size body) in
-      test_comes (is_zero a) p (p + 5) (p + 5) q q (a ∷ below) below below s
-      (instruction.JumpIfNotZero q) (does text env body below s) (Goes below s) read.0
-      (one_of (is_zero a) (at code p (a ∷ below) s) (p + 5) q below)
-      (ends_at (p + 5) (p + 5 + size body) q below s (does text env body below s) (omega arith)
-      (block_comes (p + 5) body read.1 below s valid))
-      (stays q below s valid)
+      test_comes (is_zero a) p (p + 5) (p + 5) q q (a
+      ∷ below) below below s (instruction.JumpIfNotZero q) (does text env body below s)
+      (Goes below s) read.0 (one_of (is_zero a) (at code p (a ∷ below) s) (p + 5) q below)
+      (ends_at (p + 5) q below s (does text env body below s) (omega arith)
+      (block_comes (p + 5) body read.1 below s valid)) (stays q below s valid)
   block_comes p (Either first otherwise) read [] s valid = tt
   block_comes p (Either first otherwise) read (a ∷ below) s valid =
       let m = p + (5 + size first) in
       let r = p + (5 + (size first + 5)) in
       let q = p + (5 + (size first + (5 + size otherwise))) in
-      test_comes (is_zero a) p (p + 5) r (p + 5) q (a ∷ below) below below s
-      (instruction.JumpIfZero r) (does text env otherwise below s) (does text env first below s)
-      read.0
-      (one_of (is_zero a) (at code p (a ∷ below) s) r (p + 5) below)
-      (ends_at r (r + size otherwise) q below s (does text env otherwise below s) (omega arith)
-      (block_comes r otherwise read.3 below s valid))
-      (before_step (p + 5) m q below s (does text env first below s) (jumps m q r read.2)
-      (ends_at (p + 5) (p + 5 + size first) m below s (does text env first below s) (omega arith)
-      (block_comes (p + 5) first read.1 below s valid)))
+      test_comes (is_zero a) p (p + 5) r (p + 5) q (a ∷ below) below below s (instruction.JumpIfZero
+      r) (does text env otherwise below s) (does text env first below s) read.0 (one_of (is_zero a)
+      (at code p (a ∷ below) s) r (p + 5) below) (ends_at r q below s (does text env otherwise below
+      s) (omega arith) (block_comes r otherwise read.3 below s valid)) (before_step (p + 5) m q
+      below s (does text env first below s) (jumps m q r read.2) (ends_at (p + 5) m below s
+      (does text env first below s) (omega arith) (block_comes (p + 5) first read.1 below s valid)))
   block_comes p (Match label body rest) read [] s valid = tt
   block_comes p (Match label body rest) read (a ∷ below) s valid =
       let m = p + (13 + size rest) in
@@ -168,11 +161,7 @@ module _ (text : StrNo → Option Words) (env : Environment) (code : List ℕ) w
       let q = p + (13 + (size rest + (5 + size body))) in
       test_comes (int_eq a label) p (p + 13) r (p + 13) q (a ∷ below) below (a ∷ below) s
       (instruction.Case label r) (does text env body below s) (does text env rest (a ∷ below) s)
-      read.0
-      refl
-      (ends_at r (r + size body) q below s (does text env body below s) (omega arith)
-      (block_comes r body read.3 below s valid))
-      (before_step (p + 13) m q (a ∷ below) s (does text env rest (a ∷ below) s)
-      (jumps m q r read.2)
-      (ends_at (p + 13) (p + 13 + size rest) m (a ∷ below) s (does text env rest (a ∷ below) s)
-      (omega arith) (block_comes (p + 13) rest read.1 (a ∷ below) s valid)))
+      read.0 refl (ends_at r q below s (does text env body below s) (omega arith)
+      (block_comes r body read.3 below s valid)) (before_step (p + 13) m q (a ∷ below) s (does text
+      env rest (a ∷ below) s) (jumps m q r read.2) (ends_at (p + 13) m (a ∷ below) s (does text env
+      rest (a ∷ below) s) (omega arith) (block_comes (p + 13) rest read.1 (a ∷ below) s valid)))

@@ -356,7 +356,7 @@ module _ (version : Version) (counts : Counts) (slots : ℕ)
         (λ m is are second.
         let there : method_exists counts m ≡ true = (and_parts _ _ are).0 in
         one_stands (instruction.AddAbortMethod m) (short_method m there)
-        (and_from _ _ (abort_methods_allowed version m (second refl)) there))
+        (and_from _ _ (abort_methods_allowed m (second refl)) there))
 
     -- ---- expressions
 

@@ -143,12 +143,11 @@ module _ (text : StrNo → Option Words) (env : Environment) (code : List ℕ) w
     pub acts : act env instruction next (at code p operands s) ≡ Some e
 
   -- it is done, and the run goes on
-  one_step : (p : ℕ) (operands : List ℤ) (s : source.State) (e : Effect) → Acts p operands s e
-      → (k : ℕ)
-      → execute env (suc k) (at code p operands s) s.answers
+  one_step : {p : ℕ} {operands : List ℤ} {s : source.State} {e : Effect} → Acts p operands s e
+      → (k : ℕ) → execute env (suc k) (at code p operands s) s.answers
       ≡ stepped (preceded (request_in e.emitted) e.changes (execute env k e.state s.answers))
   unfolding execute execute_following step
-  one_step p operands s e h k = rw (h.stands, h.acts) refl
+  one_step h k = rw (h.stands, h.acts) refl
 
   -- ---- a step that goes on
 
@@ -165,7 +164,7 @@ module _ (text : StrNo → Option Words) (env : Environment) (code : List ℕ) w
         changes = [];
       })
       → Leads p q operands left s (record s { slots = slots })
-  quiet_leads p q operands left s slots h k = ap (report_after text s) (one_step p operands s _ h k)
+  quiet_leads p q operands left s slots h k = ap (report_after text s) (one_step h k)
 
   pub list_leads : (p q : ℕ) (operands left : List ℤ) (s : source.State) (methods : List MethNo)
       → Acts p operands s (record {
@@ -175,7 +174,7 @@ module _ (text : StrNo → Option Words) (env : Environment) (code : List ℕ) w
       })
       → Leads p q operands left s (record s { abort_methods = methods })
   list_leads p q operands left s methods h k =
-      ap (report_after text s) (one_step p operands s _ h k)
+      ap (report_after text s) (one_step h k)
 
   -- the records of an attribute are none of a method's requests
   pub record_leads : (p q : ℕ) (operands left : List ℤ) (s : source.State) (given : Emitted)
@@ -183,8 +182,7 @@ module _ (text : StrNo → Option Words) (env : Environment) (code : List ℕ) w
       → Acts p operands s (record { state = at code q left s; emitted = given; changes = [] })
       → Leads p q operands left s s
   record_leads p q operands left s given none h k =
-      ap (report_after text s) (one_step p operands s _ h k
-      ∙ ap (λ (rs : List Request). stepped
+      ap (report_after text s) (one_step h k ∙ ap (λ (rs : List Request). stepped
       (preceded rs [] (execute env k (at code q left s) s.answers))) none)
 
   pub change_leads : (p q : ℕ) (operands left : List ℤ) (s : source.State) (c : Change)
@@ -196,9 +194,8 @@ module _ (text : StrNo → Option Words) (env : Environment) (code : List ℕ) w
       })
       → Leads p q operands left s (record s { values = values; changes = s.changes ++ c ∷ [] })
   change_leads p q operands left s c values h k =
-      ap (report_after text s) (one_step p operands s _ h k)
-      ∙ changes_before text (c ∷ []) s
-      (execute env k (at code q left (record s { values = values })) s.answers)
+      ap (report_after text s) (one_step h k) ∙ changes_before text (c
+      ∷ []) s (execute env k (at code q left (record s { values = values })) s.answers)
 
   -- ---- a step that is over
 
@@ -210,11 +207,9 @@ module _ (text : StrNo → Option Words) (env : Environment) (code : List ℕ) w
       })
       → (k : ℕ) → report text env code (suc k) p operands s ≡ stopped (source.Trapped why) s
   trap_reports p operands left s why h k =
-      ap (report_after text s) (one_step p operands s _ h k
-      ∙ ap stepped (is_over env k (record (at code p left s) { status = Trapped why }) s.answers
-      (image.Trapped why) refl))
-      ∙ over_now text s (record (at code p left s) { status = Trapped why }) s.answers
-      (image.Trapped why)
+      ap (report_after text s) (one_step h k ∙ ap stepped (is_over env k (record (at code p left s)
+      { status = Trapped why }) s.answers (image.Trapped why) refl)) ∙ over_now text s
+      (record (at code p left s) { status = Trapped why }) s.answers (image.Trapped why)
 
   pub abort_reports : (p : ℕ) (operands : List ℤ) (s : source.State)
       → Acts p operands s (record {
@@ -224,10 +219,9 @@ module _ (text : StrNo → Option Words) (env : Environment) (code : List ℕ) w
       })
       → (k : ℕ) → report text env code (suc k) p operands s ≡ stopped source.Aborted s
   abort_reports p operands s h k =
-      ap (report_after text s) (one_step p operands s _ h k
-      ∙ ap stepped (is_over env k (record (at code p operands s) { status = Aborted }) s.answers
-      image.Aborted refl)) ∙ over_now text s
-      (record (at code p operands s) { status = Aborted }) s.answers image.Aborted
+      ap (report_after text s) (one_step h k ∙ ap stepped (is_over env k
+      (record (at code p operands s) { status = Aborted }) s.answers image.Aborted refl))
+      ∙ over_now text s (record (at code p operands s) { status = Aborted }) s.answers image.Aborted
 
   pub end_reports : (p : ℕ) (operands : List ℤ) (s : source.State)
       → Acts p operands s (record {
@@ -245,10 +239,9 @@ module _ (text : StrNo → Option Words) (env : Environment) (code : List ℕ) w
         ending = image.Ended;
       }
   end_reports p operands s h k =
-      ap (report_after text s) (one_step p operands s _ h k
-      ∙ ap stepped (is_over env k (record (at code p operands s) { status = Ended }) s.answers
-      image.Ended refl)) ∙ over_now text s (record (at code p operands s) { status = Ended })
-      s.answers image.Ended
+      ap (report_after text s) (one_step h k ∙ ap stepped
+      (is_over env k (record (at code p operands s) { status = Ended }) s.answers image.Ended refl))
+      ∙ over_now text s (record (at code p operands s) { status = Ended }) s.answers image.Ended
 
   -- ---- a request and its answer
 
@@ -268,7 +261,7 @@ module _ (text : StrNo → Option Words) (env : Environment) (code : List ℕ) w
         → report text env code (suc k) p operands s
         ≡ report_after text (asked s) (execute env k (asks s) s.answers)
     requested s h k =
-        ap (report_after text s) (one_step p operands s _ h k)
+        ap (report_after text s) (one_step h k)
         ∙ request_before text r said is_said s (execute env k (asks s) s.answers)
 
     -- the state of the method in which each of these answers is the next

@@ -42,33 +42,33 @@ pub ruleset writing = (no_growth, plain_part, one_more, texts_overflow_first, te
 -- ---- one part, with blocks round it that name no string
 
 module _ {old new : List Words} where
-  pub then_plain : (before between after : List ℕ) (ts : List texts.Text) (a : Numbered) (b : Block)
-      → WritesPart old before ts a new between → after ≡ between ++ bytes_at (length between) b
-      → WritesPart old before ts (λ number. Then (a number) b) new after
-  then_plain before between after ts a b w is =
+  pub then_plain : (before between : List ℕ) {after : List ℕ} (ts : List texts.Text) (a : Numbered)
+      (b : Block) → WritesPart old before ts a new between → after ≡ between ++ bytes_at
+      (length between) b → WritesPart old before ts (λ number. Then (a number) b) new after
+  then_plain before between {after} ts a b w is =
       part_written w (λ number one. goes_on before between after (a number) b one is)
 
-  pub plain_then : (before between after : List ℕ) (ts : List texts.Text) (a : Block) (b : Numbered)
-      → between ≡ before ++ bytes_at (length before) a → WritesPart old between ts b new after
-      → WritesPart old before ts (λ number. Then a (b number)) new after
-  plain_then before between after ts a b is w =
+  pub plain_then : (before : List ℕ) {between : List ℕ} (after : List ℕ) (ts : List texts.Text)
+      (a : Block) (b : Numbered) → between ≡ before ++ bytes_at (length before) a → WritesPart old
+      between ts b new after → WritesPart old before ts (λ number. Then a (b number)) new after
+  plain_then before {between} after ts a b is w =
       part_written w (λ number one. goes_on before between after a (b number) is one)
 
-  pub when_not_zero_part : (before c1 c2 after : List ℕ) (hole : ℕ) (ts : List texts.Text)
-      (body : Numbered) → c1 ≡ before ++ spelling (instruction.JumpIfZero 0)
+  pub when_not_zero_part : (before : List ℕ) {c1 : List ℕ} (c2 : List ℕ) {after : List ℕ} {hole : ℕ}
+      (ts : List texts.Text) (body : Numbered) → c1 ≡ before ++ spelling (instruction.JumpIfZero 0)
       → hole ≡ length before + 1 → WritesPart old c1 ts body new c2 → after ≡ closed c2 hole
       → WritesPart old before ts (λ number. WhenNotZero (body number)) new after
-  when_not_zero_part before c1 c2 after hole ts body opened at w is =
-      part_written w (λ number one. is ∙ ap (closed c2) at ∙ when_not_zero_closed before c1 c2
-      (body number) opened one)
+  when_not_zero_part before {c1} c2 ts body opened at w is =
+      part_written w (λ number one. is ∙ ap (closed c2) at
+      ∙ when_not_zero_closed before (body number) opened one)
 
-  pub when_zero_part : (before c1 c2 after : List ℕ) (hole : ℕ) (ts : List texts.Text)
-      (body : Numbered) → c1 ≡ before ++ spelling (instruction.JumpIfNotZero 0)
-      → hole ≡ length before + 1 → WritesPart old c1 ts body new c2 → after ≡ closed c2 hole
+  pub when_zero_part : (before : List ℕ) {c1 : List ℕ} (c2 : List ℕ) {after : List ℕ} {hole : ℕ}
+      (ts : List texts.Text) (body : Numbered) → c1 ≡ before ++ spelling (instruction.JumpIfNotZero
+      0) → hole ≡ length before + 1 → WritesPart old c1 ts body new c2 → after ≡ closed c2 hole
       → WritesPart old before ts (λ number. WhenZero (body number)) new after
-  when_zero_part before c1 c2 after hole ts body opened at w is =
-      part_written w (λ number one. is ∙ ap (closed c2) at ∙ when_zero_closed before c1 c2
-      (body number) opened one)
+  when_zero_part before {c1} c2 ts body opened at w is =
+      part_written w (λ number one. is ∙ ap (closed c2) at
+      ∙ when_zero_closed before (body number) opened one)
 
   pub same_part : (before after : List ℕ) (ts : List texts.Text) (a b : Numbered)
       → ((number : Words → StrNo) → a number ≡ b number) → WritesPart old before ts a new after
@@ -89,10 +89,10 @@ module _ {old new : List Words} where
       → WritesPart old before ts (λ number. b) new after
   held_part before after ts b w is = part_written w (λ number one. is)
 
-pub last_overflows : (old : List Words) (ts : List texts.Text) → Overflows old (strings_of_texts ts)
+pub last_overflows : {old : List Words} (ts : List texts.Text) → Overflows old (strings_of_texts ts)
     → Overflows old (strings_of_texts (ts ++ []))
-last_overflows old ts over = subst (λ (us : List texts.Text). Overflows old (strings_of_texts us))
-    (sym (append-nil ts)) over
+last_overflows {old} ts over =
+    subst (λ (us : List texts.Text). Overflows old (strings_of_texts us)) (sym (append-nil ts)) over
 
 -- ---- two parts
 
@@ -104,16 +104,13 @@ module _ {old mid new : List Words} where
       (parts_written v w (λ number one two. goes_on before between after (a number) (b number) one
       two))
 
-  pub either_part : (before c1 c2 c3 c4 c5 after : List ℕ) (hole end : ℕ) (ts us : List texts.Text)
-      (first otherwise : Numbered)
-      → c1 ≡ before ++ spelling (instruction.JumpIfZero 0) → hole ≡ length before + 1
-      → WritesPart old c1 ts first mid c2 → c3 ≡ c2 ++ spelling (instruction.Jump 0)
-      → end ≡ length c2 + 1 → c4 ≡ closed c3 hole
-      → WritesPart mid c4 us otherwise new c5 → after ≡ closed c5 end
-      → WritesPart old before (ts ++ us) (λ number. Either (first number) (otherwise number))
-      new after
-  either_part before c1 c2 c3 c4 c5 after hole end ts us first otherwise one at v three behind four
-      w is =
+  pub either_part : (before : List ℕ) {c1 : List ℕ} (c2 : List ℕ) {c3 c4 : List ℕ} (c5 : List ℕ)
+      {after : List ℕ} {hole end : ℕ} (ts us : List texts.Text) (first otherwise : Numbered)
+      → c1 ≡ before ++ spelling (instruction.JumpIfZero 0) → hole ≡ length before + 1 → WritesPart
+      old c1 ts first mid c2 → c3 ≡ c2 ++ spelling (instruction.Jump 0) → end ≡ length c2 + 1 → c4
+      ≡ closed c3 hole → WritesPart mid c4 us otherwise new c5 → after ≡ closed c5 end → WritesPart
+      old before (ts ++ us) (λ number. Either (first number) (otherwise number)) new after
+  either_part before {c1} c2 {c3} {c4} c5 ts us first otherwise one at v three behind four w is =
       strings_listed (texts_listed ts us) (parts_written v w (λ number two five.
       is ∙ ap (closed c5) behind ∙ either_closed before c1 c2 c3 c4 c5 (first number)
       (otherwise number) one two three (four ∙ ap (closed c3) at) five))
@@ -129,12 +126,12 @@ known_on {A} old {mid} {new} of x known table d later =
     ∙ ap (λ (t : List Words). t ++ later) (sym table.grown))
 
 -- a part, and a request that names what depends on the numbers of strings
-pub ask_part : {old new : List Words} (before between after : List ℕ) (ts : List texts.Text)
-    (a : Numbered) (of : (Words → StrNo) → Ask) (x : Ask) → WritesPart old before ts a new between
-    → ByNumber old new of x → after ≡ between ++ spelling (instruction.Ask x)
-    → WritesPart old before ts (λ number. Then (a number) (Straight (instruction.Ask (of number))))
-    new after
-ask_part {new = new} before between after ts a of x w known is = record {
+pub ask_part : {old new : List Words} (before between : List ℕ) {after : List ℕ}
+    (ts : List texts.Text) (a : Numbered) (of : (Words → StrNo) → Ask) (x : Ask)
+    → WritesPart old before ts a new between → ByNumber old new of x
+    → after ≡ between ++ spelling (instruction.Ask x) → WritesPart old before ts
+    (λ number. Then (a number) (Straight (instruction.Ask (of number)))) new after
+ask_part {new = new} before between {after} ts a of x w known is = record {
   table = w.table;
   holds = w.holds;
   written = λ d later.
@@ -146,21 +143,20 @@ ask_part {new = new} before between after ts a of x w known is = record {
 }
 
 -- the number of a text
-pub text_known : (old new : List Words) (w : Words) (n : StrNo) → GrowsBy old (w ∷ []) new
+pub text_known : (old new : List Words) {w : Words} (n : StrNo) → GrowsBy old (w ∷ []) new
     → Keeps new w n → ByNumber old new (λ number. (number w).0 ∷ []) (n.0 ∷ [])
-text_known old new w n table keeps d later =
+text_known old new {w} n table keeps d later =
     ap (λ (k : StrNo). k.0 ∷ []) (sym (number_is new later w n (table.different d) keeps))
 
 -- ---- calls without arguments
 
 module _ {X : Type 0} (view : X → Argument Target) (i : Instruction) where
-  pub alone_part : (xs : List X) (table : List Words) (before after : List ℕ) → length xs < 1
-      → after ≡ before ++ spelling i
-      → WritesPart table before (argument_texts (arguments_from (map view xs)))
-      (λ number. alone_block i (arguments_from (map view xs))) table after
-  alone_part [] table before after h is = plain_part table before after (Straight i)
-      (one_more before after i is)
-  alone_part (x ∷ xs) table before after h is = absurd (omega arith)
+  pub alone_part : (xs : List X) (table : List Words) (before : List ℕ) {after : List ℕ} → length xs
+      < 1 → after ≡ before ++ spelling i → WritesPart table before (argument_texts (arguments_from
+      (map view xs))) (λ number. alone_block i (arguments_from (map view xs))) table after
+  alone_part [] table before {after} h is =
+      plain_part table before after (Straight i) (one_more before after i is)
+  alone_part (x ∷ xs) table before h is = absurd (omega arith)
 
   pub not_alone : (xs : List X) → 1 ≤ length xs
       → no_value ≡ alone_block i (arguments_from (map view xs))
@@ -195,12 +191,13 @@ builtin_part {old} {new} {before} {after} f g a is w =
 
 -- ---- lengths
 
-pub longer_by : (before after bytes : List ℕ) → after ≡ before ++ bytes
+pub longer_by : (before : List ℕ) {after : List ℕ} (bytes : List ℕ) → after ≡ before ++ bytes
     → length before ≤ length after
-longer_by before after bytes is = omega (arith, ap length is, length-append before bytes)
+longer_by before bytes is = omega (arith, ap length is, length-append before bytes)
 
 -- the four bytes after the first of an opening lie inside what is longer
-pub opened_inside : (before c1 c2 opening : List ℕ) (hole : ℕ) → c1 ≡ before ++ opening
-    → length opening ≡ 5 → hole ≡ length before + 1 → length c1 ≤ length c2 → hole + 4 ≤ length c2
-opened_inside before c1 c2 opening hole one five at longer =
+pub opened_inside : (before : List ℕ) {c1 : List ℕ} (c2 opening : List ℕ) {hole : ℕ}
+    → c1 ≡ before ++ opening → length opening ≡ 5 → hole ≡ length before + 1 → length c1 ≤ length c2
+    → hole + 4 ≤ length c2
+opened_inside before c2 opening one five at longer =
     omega (arith, at, longer, five, ap length one ∙ length-append before opening)

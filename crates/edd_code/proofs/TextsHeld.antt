@@ -116,11 +116,11 @@ all_held {old} {new} xs i h v =
     subst (λ (ys : List (Argument Target)). HoldsTexts old (texts_of ys) new) (take_all i xs h) v
 
 -- an argument is at its place when the arguments are viewed
-pub viewed_at : {X Y : Type 0} (view : X → Y) (xs : List X) (i : ℕ) (x : X) → i < length xs
+pub viewed_at : {X Y : Type 0} (view : X → Y) (xs : List X) (i : ℕ) {x : X} → i < length xs
     → x ≡ get_or xs i x → view x ≡ get_or (map view xs) i (view x)
-viewed_at view [] i x h is = absurd (omega arith)
-viewed_at view (y ∷ xs) zero x h is = ap view is
-viewed_at view (y ∷ xs) (suc i) x h is = viewed_at view xs i x (omega arith) is
+viewed_at view [] i h is = absurd (omega arith)
+viewed_at view (y ∷ xs) zero h is = ap view is
+viewed_at view (y ∷ xs) (suc i) {x} h is = viewed_at view xs i (omega arith) is
 
 -- ---- an argument has no more nodes than all
 
@@ -135,10 +135,10 @@ argument_falls (Value e ∷ xs) (suc i) x h is = omega (arith, argument_falls xs
 
 -- ---- variants of the code
 
-pub text_held : {old new : List Words} (a : code_argument.Argument Target) (t : code_text.Text)
+pub text_held : {old new : List Words} {a : code_argument.Argument Target} {t : code_text.Text}
     → a ≡ variant.Text t → HoldsTexts old (text_of t ∷ []) new
     → HoldsTexts old (texts_of (numbered_argument a ∷ [])) new
-text_held {old} {new} a t is h =
+text_held {old} {new} is h =
     subst (λ (x : code_argument.Argument Target). HoldsTexts old
     (texts_of (numbered_argument x ∷ [])) new) (sym is) h
 

@@ -47,9 +47,9 @@ module _ (env : Environment) (values : List ℤ) (b : Block) (spelled : AreSpell
       (unit_listed b small)
       (all_read [] (in_unit b) (unit_spelled b spelled)))
 
-  comes : (o : Outcome) → does env values b [] ≡ o
+  comes : {o : Outcome} → does env values b [] ≡ o
       → Comes env (unit_code b) values 0 (0 + size b) [] o
-  comes o is =
+  comes is =
       subst (λ (x : Outcome). Comes env (unit_code b) values 0 (0 + size b) [] x) is
       (block_comes env (unit_code b) values 0 0 b flows
       (all_in (IsRead env (unit_code b) values) 0 b (the_end b ∷ []) reads).0 [])
@@ -58,12 +58,12 @@ module _ (env : Environment) (values : List ℤ) (b : Block) (spelled : AreSpell
       → (n : ℕ) × (given_within n env (opening (record { sort = Attribute; code = unit_code b }) 0
       values) ≡ Some (Ok records))
   unit_goes records is =
-      let ending = end_step env (unit_code b) values (0 + size b) (0 + size b + 1)
+      let ending = end_step env (unit_code b) values (0 + size b)
       (all_in (IsRead env (unit_code b) values) 0 b (the_end b ∷ []) reads).1.0 in
-      let run = comes (Goes records []) is 1 in
+      let run = comes is 1 in
       (run.0, run.1 ∙ ap (with_all records) ending ∙ with_all-ok records)
 
   pub unit_traps : (why : Trap) → does env values b [] ≡ Traps why
       → (n : ℕ) × (given_within n env (opening (record { sort = Attribute; code = unit_code b }) 0
       values) ≡ Some (Err why))
-  unit_traps why is = comes (Traps why) is
+  unit_traps why is = comes is

@@ -56,9 +56,9 @@ pub in_methods : (version : Version) (counts : Counts) (a : ArrNo) → HoldsArra
 in_methods version counts a holds is = rw (second version counts a holds is) refl
 
 -- in the second version a method may list an abort method
-pub abort_methods_allowed : (version : Version) (m : MethNo) → version ≡ Two
+pub abort_methods_allowed : {version : Version} (m : MethNo) → version ≡ Two
     → is_allowed version Method (instruction.AddAbortMethod m) ≡ true
-abort_methods_allowed version m is = rw is refl
+abort_methods_allowed m is = rw is refl
 
 -- ---- what flows in the newest version flows in one where its instructions may be
 

@@ -9,16 +9,15 @@ use Rattle.edd_code.proofs.Writing.{goes_on, goes_on_ok, one_more}
 use Rattle.edd_code.proofs.expression.+expressions.Goals as goal
 
 pub write_two-returns : goal.write_two-returns
-write_two-returns t c = goes_on_ok c.write_expression-2.result c.args.code.now
-    c.write_expression.new.code _ _ _ c.in_ok-write_expression.ensures c.write_expression-2.ensures
+write_two-returns t c = goes_on_ok c.write_expression-2.result c.args.code.now _ _ _
+    c.in_ok-write_expression.ensures c.write_expression-2.ensures
 
 pub write_instead-returns : goal.write_instead-returns
 write_instead-returns t c =
     let right = expression_block (numbered_expr c.args.right.now) in
-    goes_on_ok c.write_truth.result c.args.code.now c.put.new.code _ (Straight instruction.Pop)
-    (Then right truth_block) (one_more c.args.code.now c.put.new.code instruction.Pop
-    c.in_ok-put.ensures.code)
-    (goes_on_ok c.write_truth.result c.put.new.code c.write_expression.new.code _ right truth_block
+    goes_on_ok c.write_truth.result c.args.code.now _ (Straight instruction.Pop) (Then right
+    truth_block) (one_more c.args.code.now c.put.new.code instruction.Pop c.in_ok-put.ensures.code)
+    (goes_on_ok c.write_truth.result c.put.new.code _ right truth_block
     c.in_ok-write_expression.ensures c.write_truth.ensures)
 
 pub write_and-returns : goal.write_and-returns
@@ -27,20 +26,18 @@ write_and-returns t c =
     goes_on c.args.code.now c.put.new.code _ (Straight instruction.Duplicate) (WhenNotZero body)
     (one_more c.args.code.now c.put.new.code instruction.Duplicate c.in_ok-put.ensures.code)
     (c.close.ensures ∙ ap (closed c.write_instead.new.code) c.in_ok-hole.ensures.place
-    ∙ when_not_zero_closed c.put.new.code c.open.new.code c.write_instead.new.code body
-    c.in_ok-hole.ensures.code c.in_ok-write_instead.ensures)
+    ∙ when_not_zero_closed c.put.new.code body c.in_ok-hole.ensures.code
+    c.in_ok-write_instead.ensures)
 
 pub write_or-returns : goal.write_or-returns
 write_or-returns t c =
     let body = instead (expression_block (numbered_expr c.args.right.now)) in
     goes_on c.args.code.now c.write_truth.new.code _ truth_block (then_test (WhenZero body))
-    c.in_ok-write_truth.ensures
-    (goes_on c.write_truth.new.code c.put.new.code _ (Straight instruction.Duplicate)
-    (WhenZero body) (one_more c.write_truth.new.code c.put.new.code instruction.Duplicate
-    c.in_ok-put.ensures.code)
+    c.in_ok-write_truth.ensures (goes_on c.write_truth.new.code c.put.new.code _
+    (Straight instruction.Duplicate) (WhenZero body)
+    (one_more c.write_truth.new.code c.put.new.code instruction.Duplicate c.in_ok-put.ensures.code)
     (c.close.ensures ∙ ap (closed c.write_instead.new.code) c.in_ok-hole.ensures.place
-    ∙ when_zero_closed c.put.new.code c.open.new.code c.write_instead.new.code body
-    c.in_ok-hole.ensures.code c.in_ok-write_instead.ensures))
+    ∙ when_zero_closed c.put.new.code body c.in_ok-hole.ensures.code c.in_ok-write_instead.ensures))
 
 pub write_either-returns : goal.write_either-returns
 write_either-returns t c =

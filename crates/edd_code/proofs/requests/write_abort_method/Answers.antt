@@ -19,7 +19,7 @@ pub returns-in_ok-put-in-Some-clause-sound : goal.returns-in_ok-put-in-Some-clau
 unfolding call_block
 returns-in_ok-put-in-Some-clause-sound c =
     let is = only_method_is (arguments_from (map numbered_argument c.args.arguments.now))
-    c.in-Some.method (sym c.in-Some.is ∙ c.only_method.ensures) in
+    (sym c.in-Some.is ∙ c.only_method.ensures) in
     let listing = instruction.AddAbortMethod c.in-Some.method in
     subst (λ (a : Arguments Target). WritesPart c.args.table.now c.args.code.now (argument_texts a)
     (λ number. call_block number builtin.AddAbortMethod a) c.args.table.now c.put.new.code)

@@ -9,9 +9,9 @@ use Rattle.edd_code.proofs.NumberedBlocks.{alone_part, not_alone, same_part}
 use Rattle.edd_code.proofs.requests.write_alone.Goals as goal
 
 pub returns-in_ok-put-in-empty-clause-sound : goal.returns-in_ok-put-in-empty-clause-sound
-returns-in_ok-put-in-empty-clause-sound c = alone_part numbered_argument c.args.instruction
-    c.args.arguments.now c.args.table.now c.args.code.now c.put.new.code (omega arith)
-    c.in_ok-put-in-empty.ensures.code
+returns-in_ok-put-in-empty-clause-sound c =
+    alone_part numbered_argument c.args.instruction c.args.arguments.now c.args.table.now
+    c.args.code.now (omega arith) c.in_ok-put-in-empty.ensures.code
 
 pub returns-in-len1-up-clause-sound : goal.returns-in-len1-up-clause-sound
 returns-in-len1-up-clause-sound c =

@@ -18,8 +18,7 @@ use Rattle.edd_code.proofs.texts.+texts.Goals as goal
 pub add_argument-returns-in_ok-add_text-in-Text-clause-sound :
     goal.add_argument-returns-in_ok-add_text-in-Text-clause-sound
 add_argument-returns-in_ok-add_text-in-Text-clause-sound t c =
-    text_held c.args.argument.now c.in-Text.text c.in-Text.is
-    (one_held c.args.table.now c.add_text.new.table (text_of c.in-Text.text)
+    text_held c.in-Text.is (one_held c.args.table.now c.add_text.new.table (text_of c.in-Text.text)
     c.in_ok-add_text-in-Text.ensures.table c.in_ok-add_text-in-Text.field-0
     c.in_ok-add_text-in-Text.ensures.number)
 
@@ -27,7 +26,7 @@ pub add_argument_texts-add_argument-requires : goal.add_argument_texts-add_argum
 add_argument_texts-add_argument-requires t c =
     let x = numbered_argument c.argument-item.result in
     let at = viewed_at numbered_argument c.args.arguments.now c.loop-argument.argument-index
-    c.argument-item.result (omega arith) c.argument-item.is in
+    (omega arith) c.argument-item.is in
     let within : c.loop-argument.argument-index
     < length (map numbered_argument c.args.arguments.now) =
     omega (arith, length-map c.args.arguments.now numbered_argument) in
@@ -46,9 +45,9 @@ add_argument_texts-returns-in_err-add_argument-clause-refused t c h =
     let over : Overflows c.loop-argument.table (strings_of_texts (texts_of (x ∷ []))) =
     grind (arith, common_steps) in
     argument_overflows (map numbered_argument c.args.arguments.now) c.loop-argument.argument-index x
-    (omega (arith, length-map c.args.arguments.now numbered_argument))
-    (viewed_at numbered_argument c.args.arguments.now c.loop-argument.argument-index
-    c.argument-item.result (omega arith) c.argument-item.is) c.loop-argument.invariant.held over
+    (omega (arith, length-map c.args.arguments.now numbered_argument)) (viewed_at numbered_argument
+    c.args.arguments.now c.loop-argument.argument-index (omega arith) c.argument-item.is)
+    c.loop-argument.invariant.held over
 
 pub add_argument_texts-loop-argument-preserved : goal.add_argument_texts-loop-argument-preserved
 add_argument_texts-loop-argument-preserved t c = record {
@@ -56,9 +55,8 @@ add_argument_texts-loop-argument-preserved t c = record {
       argument_held (map numbered_argument c.args.arguments.now) c.loop-argument.argument-index
       (numbered_argument c.argument-item.result)
       (omega (arith, length-map c.args.arguments.now numbered_argument))
-      (viewed_at numbered_argument c.args.arguments.now c.loop-argument.argument-index
-      c.argument-item.result (omega arith) c.argument-item.is) c.loop-argument.invariant.held
-      c.in_ok-add_argument.ensures.sound;
+      (viewed_at numbered_argument c.args.arguments.now c.loop-argument.argument-index (omega arith)
+      c.argument-item.is) c.loop-argument.invariant.held c.in_ok-add_argument.ensures.sound;
   grows = grows_on c.args.table.now c.loop-argument.table c.add_argument.new.table
       c.loop-argument.invariant.grows c.in_ok-add_argument.ensures.grows;
 }

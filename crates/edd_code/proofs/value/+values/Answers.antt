@@ -41,13 +41,11 @@ pub write_operands-returns-clause-sound : goal.write_operands-returns-clause-sou
 write_operands-returns-clause-sound t c =
     then_part c.args.code.now c.write_value.new.code c.put.new.code
     (expr_texts (numbered_expr c.args.left.now)) (expr_texts (numbered_expr c.args.right.now))
-    (λ number. method_block number (numbered_expr c.args.left.now))
-    (λ number. Then (method_block number (numbered_expr c.args.right.now))
-    (Straight c.args.instruction)) c.in_ok-write_value.ensures.sound
-    (then_plain c.write_value.new.code c.write_value-2.new.code c.put.new.code
-    (expr_texts (numbered_expr c.args.right.now))
-    (λ number. method_block number (numbered_expr c.args.right.now))
-    (Straight c.args.instruction) c.in_ok-write_value-2.ensures.sound
+    (λ number. method_block number (numbered_expr c.args.left.now)) (λ number. Then
+    (method_block number (numbered_expr c.args.right.now)) (Straight c.args.instruction))
+    c.in_ok-write_value.ensures.sound (then_plain c.write_value.new.code c.write_value-2.new.code
+    (expr_texts (numbered_expr c.args.right.now)) (λ number. method_block number (numbered_expr
+    c.args.right.now)) (Straight c.args.instruction) c.in_ok-write_value-2.ensures.sound
     (one_more c.write_value-2.new.code c.put.new.code c.args.instruction c.in_ok-put.ensures.code))
 
 pub write_and-returns-clause-sound : goal.write_and-returns-clause-sound
@@ -57,15 +55,13 @@ write_and-returns-clause-sound t c =
     then_part c.args.code.now c.write_value.new.code c.close.new.code
     (expr_texts (numbered_expr c.args.left.now)) (expr_texts (numbered_expr c.args.right.now))
     (λ number. method_block number (numbered_expr c.args.left.now))
-    (λ number. then_test (WhenNotZero (body number))) c.in_ok-write_value.ensures.sound
-    (plain_then c.write_value.new.code c.put.new.code c.close.new.code
-    (expr_texts (numbered_expr c.args.right.now)) (Straight instruction.Duplicate)
-    (λ number. WhenNotZero (body number))
+    (λ number. then_test (WhenNotZero (body number))) c.in_ok-write_value.ensures.sound (plain_then
+    c.write_value.new.code c.close.new.code (expr_texts (numbered_expr c.args.right.now))
+    (Straight instruction.Duplicate) (λ number. WhenNotZero (body number))
     (one_more c.write_value.new.code c.put.new.code instruction.Duplicate c.in_ok-put.ensures.code)
-    (when_not_zero_part c.put.new.code c.open.new.code c.write_instead.new.code c.close.new.code
-    c.in_ok-hole.hole (expr_texts (numbered_expr c.args.right.now)) body
-    c.in_ok-hole.ensures.code c.in_ok-hole.ensures.place c.in_ok-write_instead.ensures.sound
-    c.close.ensures))
+    (when_not_zero_part c.put.new.code c.write_instead.new.code
+    (expr_texts (numbered_expr c.args.right.now)) body c.in_ok-hole.ensures.code
+    c.in_ok-hole.ensures.place c.in_ok-write_instead.ensures.sound c.close.ensures))
 
 pub write_or-returns-clause-sound : goal.write_or-returns-clause-sound
 write_or-returns-clause-sound t c =
@@ -73,64 +69,50 @@ write_or-returns-clause-sound t c =
     (method_block number (numbered_expr c.args.right.now))) in
     then_part c.args.code.now c.write_value.new.code c.close.new.code
     (expr_texts (numbered_expr c.args.left.now)) (expr_texts (numbered_expr c.args.right.now))
-    (λ number. method_block number (numbered_expr c.args.left.now))
-    (λ number. Then truth_block (then_test (WhenZero (body number))))
-    c.in_ok-write_value.ensures.sound
-    (plain_then c.write_value.new.code c.write_truth.new.code c.close.new.code
-    (expr_texts (numbered_expr c.args.right.now)) truth_block
-    (λ number. then_test (WhenZero (body number))) c.in_ok-write_truth.ensures
-    (plain_then c.write_truth.new.code c.put.new.code c.close.new.code
-    (expr_texts (numbered_expr c.args.right.now)) (Straight instruction.Duplicate)
-    (λ number. WhenZero (body number))
+    (λ number. method_block number (numbered_expr c.args.left.now)) (λ number. Then truth_block
+    (then_test (WhenZero (body number)))) c.in_ok-write_value.ensures.sound (plain_then
+    c.write_value.new.code c.close.new.code (expr_texts (numbered_expr c.args.right.now))
+    truth_block (λ number. then_test (WhenZero (body number))) c.in_ok-write_truth.ensures
+    (plain_then c.write_truth.new.code c.close.new.code (expr_texts (numbered_expr
+    c.args.right.now)) (Straight instruction.Duplicate) (λ number. WhenZero (body number))
     (one_more c.write_truth.new.code c.put.new.code instruction.Duplicate c.in_ok-put.ensures.code)
-    (when_zero_part c.put.new.code c.open.new.code c.write_instead.new.code c.close.new.code
-    c.in_ok-hole.hole (expr_texts (numbered_expr c.args.right.now)) body
-    c.in_ok-hole.ensures.code c.in_ok-hole.ensures.place c.in_ok-write_instead.ensures.sound
-    c.close.ensures)))
+    (when_zero_part c.put.new.code c.write_instead.new.code
+    (expr_texts (numbered_expr c.args.right.now)) body c.in_ok-hole.ensures.code
+    c.in_ok-hole.ensures.place c.in_ok-write_instead.ensures.sound c.close.ensures)))
 
 pub write_instead-returns-clause-sound : goal.write_instead-returns-clause-sound
 write_instead-returns-clause-sound t c =
-    plain_then c.args.code.now c.put.new.code c.write_truth.new.code
-    (expr_texts (numbered_expr c.args.right.now)) (Straight instruction.Pop)
-    (λ number. Then (method_block number (numbered_expr c.args.right.now)) truth_block)
-    (one_more c.args.code.now c.put.new.code instruction.Pop c.in_ok-put.ensures.code)
-    (then_plain c.put.new.code c.write_value.new.code c.write_truth.new.code
-    (expr_texts (numbered_expr c.args.right.now))
-    (λ number. method_block number (numbered_expr c.args.right.now)) truth_block
-    c.in_ok-write_value.ensures.sound c.in_ok-write_truth.ensures)
+    plain_then c.args.code.now c.write_truth.new.code (expr_texts (numbered_expr c.args.right.now))
+    (Straight instruction.Pop) (λ number. Then (method_block number
+    (numbered_expr c.args.right.now)) truth_block) (one_more c.args.code.now c.put.new.code
+    instruction.Pop c.in_ok-put.ensures.code) (then_plain c.put.new.code c.write_value.new.code
+    (expr_texts (numbered_expr c.args.right.now)) (λ number. method_block number (numbered_expr
+    c.args.right.now)) truth_block c.in_ok-write_value.ensures.sound c.in_ok-write_truth.ensures)
 
 pub write_either-returns-clause-sound : goal.write_either-returns-clause-sound
 write_either-returns-clause-sound t c =
-    either_part c.args.code.now c.open.new.code c.write_value.new.code c.open-2.new.code
-    c.close.new.code c.write_value-2.new.code c.close-2.new.code c.in_ok-otherwise.otherwise
-    c.in_ok-end.end (expr_texts (numbered_expr c.args.first.now))
-    (expr_texts (numbered_expr c.args.second.now))
+    either_part c.args.code.now c.write_value.new.code c.write_value-2.new.code
+    (expr_texts (numbered_expr c.args.first.now)) (expr_texts (numbered_expr c.args.second.now))
     (λ number. method_block number (numbered_expr c.args.first.now))
-    (λ number. method_block number (numbered_expr c.args.second.now))
-    c.in_ok-otherwise.ensures.code c.in_ok-otherwise.ensures.place c.in_ok-write_value.ensures.sound
-    c.in_ok-end.ensures.code c.in_ok-end.ensures.place c.close.ensures
-    c.in_ok-write_value-2.ensures.sound c.close-2.ensures
+    (λ number. method_block number (numbered_expr c.args.second.now)) c.in_ok-otherwise.ensures.code
+    c.in_ok-otherwise.ensures.place c.in_ok-write_value.ensures.sound c.in_ok-end.ensures.code
+    c.in_ok-end.ensures.place c.close.ensures c.in_ok-write_value-2.ensures.sound c.close-2.ensures
 
 pub write_compound-returns-clause-sound : goal.write_compound-returns-clause-sound
 write_compound-returns-clause-sound t c =
     let joined = Then (Straight (instruction.Operate c.args.op)) (store_block c.args.to) in
-    plain_then c.args.code.now c.write_load.new.code c.write_store.new.code
-    (expr_texts (numbered_expr c.args.value.now)) (load_block c.args.to)
-    (λ number. Then (method_block number (numbered_expr c.args.value.now)) joined)
-    c.in_ok-write_load.ensures
-    (then_plain c.write_load.new.code c.write_value.new.code c.write_store.new.code
-    (expr_texts (numbered_expr c.args.value.now))
-    (λ number. method_block number (numbered_expr c.args.value.now)) joined
-    c.in_ok-write_value.ensures.sound
-    (goes_on c.write_value.new.code c.put.new.code c.write_store.new.code
-    (Straight (instruction.Operate c.args.op)) (store_block c.args.to)
-    (one_more c.write_value.new.code c.put.new.code (instruction.Operate c.args.op)
-    c.in_ok-put.ensures.code) c.in_ok-write_store.ensures))
+    plain_then c.args.code.now c.write_store.new.code (expr_texts (numbered_expr c.args.value.now))
+    (load_block c.args.to) (λ number. Then (method_block number (numbered_expr c.args.value.now))
+    joined) c.in_ok-write_load.ensures (then_plain c.write_load.new.code c.write_value.new.code
+    (expr_texts (numbered_expr c.args.value.now)) (λ number. method_block number (numbered_expr
+    c.args.value.now)) joined c.in_ok-write_value.ensures.sound (goes_on c.write_value.new.code
+    c.put.new.code c.write_store.new.code (Straight (instruction.Operate c.args.op))
+    (store_block c.args.to) (one_more c.write_value.new.code c.put.new.code
+    (instruction.Operate c.args.op) c.in_ok-put.ensures.code) c.in_ok-write_store.ensures))
 
 pub write_only-write_value-requires : goal.write_only-write_value-requires
 write_only-write_value-requires t c =
     let is = only_value_is (arguments_from (map numbered_argument c.args.arguments.now))
-    (numbered_expr c.in-Some.e.now)
     (sym (ap (option_map (λ (x : Bor (code.Expr Target)). numbered_expr x.now)) c.in-Some.is)
     ∙ c.only_value.ensures) in
     let h = ap argument_nodes is in
@@ -146,7 +128,6 @@ pub write_only-returns-in-Some-clause-sound : goal.write_only-returns-in-Some-cl
 unfolding call_block
 write_only-returns-in-Some-clause-sound t c =
     let is = only_value_is (arguments_from (map numbered_argument c.args.arguments.now))
-    (numbered_expr c.in-Some.e.now)
     (sym (ap (option_map (λ (x : Bor (code.Expr Target)). numbered_expr x.now)) c.in-Some.is)
     ∙ c.only_value.ensures) in
     carried c.write_value.result
@@ -160,13 +141,11 @@ write_only-returns-in-Some-clause-sound t c =
 pub write_only-returns-in-Some-clause-refused : goal.write_only-returns-in-Some-clause-refused
 write_only-returns-in-Some-clause-refused t c h =
     let is = only_value_is (arguments_from (map numbered_argument c.args.arguments.now))
-    (numbered_expr c.in-Some.e.now)
     (sym (ap (option_map (λ (x : Bor (code.Expr Target)). numbered_expr x.now)) c.in-Some.is)
     ∙ c.only_value.ensures) in
     subst (λ (a : Arguments Target). Overflows c.args.table.now
     (strings_of_texts (argument_texts a))) (sym is)
-    (last_overflows c.args.table.now (expr_texts (numbered_expr c.in-Some.e.now))
-    (c.write_value.ensures.refused h))
+    (last_overflows (expr_texts (numbered_expr c.in-Some.e.now)) (c.write_value.ensures.refused h))
 
 pub write_only-returns-in-None-clause-sound : goal.write_only-returns-in-None-clause-sound
 write_only-returns-in-None-clause-sound t c =
@@ -182,9 +161,8 @@ write_only-returns-in-None-clause-sound t c =
 pub write_assigned-write_value-requires : goal.write_assigned-write_value-requires
 write_assigned-write_value-requires t c =
     let is = target_and_value_are (arguments_from (map numbered_argument c.args.arguments.now))
-    c.in-Some.to (numbered_expr c.in-Some.e.now)
-    (sym (ap (option_map (λ (p : Target × Bor (code.Expr Target)).
-    (p.0, numbered_expr p.1.now))) c.in-Some.is) ∙ c.target_and_value.ensures) in
+    (sym (ap (option_map (λ (p : Target × Bor (code.Expr Target)). (p.0, numbered_expr p.1.now)))
+    c.in-Some.is) ∙ c.target_and_value.ensures) in
     let h = ap argument_nodes is in
     let m = c.decreases in
     let kept = subst (λ (a : Arguments Target). list_all is_text (argument_texts a) ≡ true) is
@@ -199,42 +177,34 @@ pub write_assigned-returns-in_ok-put-in-Some-2-clause-sound :
 unfolding call_block
 write_assigned-returns-in_ok-put-in-Some-2-clause-sound t c =
     let is = target_and_value_are (arguments_from (map numbered_argument c.args.arguments.now))
-    c.in-Some.to (numbered_expr c.in-Some.e.now)
-    (sym (ap (option_map (λ (p : Target × Bor (code.Expr Target)).
-    (p.0, numbered_expr p.1.now))) c.in-Some.is) ∙ c.target_and_value.ensures) in
+    (sym (ap (option_map (λ (p : Target × Bor (code.Expr Target)). (p.0, numbered_expr p.1.now)))
+    c.in-Some.is) ∙ c.target_and_value.ensures) in
     subst (λ (a : Arguments Target). WritesPart c.args.table.now c.args.code.now (argument_texts a)
-    (λ number. call_block number builtin.Iassign a) c.write_value.new.table
-    c.put-in-Some.new.code) (sym is)
-    (last_part c.args.code.now c.put-in-Some.new.code (expr_texts (numbered_expr c.in-Some.e.now))
-    (λ number. Then (method_block number (numbered_expr c.in-Some.e.now))
+    (λ number. call_block number builtin.Iassign a) c.write_value.new.table c.put-in-Some.new.code)
+    (sym is) (last_part c.args.code.now c.put-in-Some.new.code (expr_texts (numbered_expr
+    c.in-Some.e.now)) (λ number. Then (method_block number (numbered_expr c.in-Some.e.now))
     (Then (store_block c.in-Some.to) (Then (Straight instruction.Pop) no_value)))
-    (then_plain c.args.code.now c.write_value.new.code c.put-in-Some.new.code
-    (expr_texts (numbered_expr c.in-Some.e.now))
+    (then_plain c.args.code.now c.write_value.new.code (expr_texts (numbered_expr c.in-Some.e.now))
     (λ number. method_block number (numbered_expr c.in-Some.e.now))
     (Then (store_block c.in-Some.to) (Then (Straight instruction.Pop) no_value))
-    c.in_ok-write_value-in-Some.ensures.sound
-    (goes_on c.write_value.new.code c.write_store.new.code c.put-in-Some.new.code
-    (store_block c.in-Some.to) (Then (Straight instruction.Pop) no_value)
-    c.in_ok-write_store-in-Some.ensures
-    (goes_on c.write_store.new.code c.put.new.code c.put-in-Some.new.code (Straight instruction.Pop)
-    no_value (one_more c.write_store.new.code c.put.new.code instruction.Pop
-    c.in_ok-put-in-Some.ensures.code)
-    (one_more c.put.new.code c.put-in-Some.new.code (instruction.Push 0)
-    c.in_ok-put-in-Some-2.ensures.code)))))
+    c.in_ok-write_value-in-Some.ensures.sound (goes_on c.write_value.new.code c.write_store.new.code
+    c.put-in-Some.new.code (store_block c.in-Some.to) (Then (Straight instruction.Pop) no_value)
+    c.in_ok-write_store-in-Some.ensures (goes_on c.write_store.new.code c.put.new.code
+    c.put-in-Some.new.code (Straight instruction.Pop) no_value (one_more c.write_store.new.code
+    c.put.new.code instruction.Pop c.in_ok-put-in-Some.ensures.code) (one_more c.put.new.code
+    c.put-in-Some.new.code (instruction.Push 0) c.in_ok-put-in-Some-2.ensures.code)))))
 
 pub write_assigned-returns-in_err-write_value-in-Some-clause-refused :
     goal.write_assigned-returns-in_err-write_value-in-Some-clause-refused
 write_assigned-returns-in_err-write_value-in-Some-clause-refused t c h =
     let is = target_and_value_are (arguments_from (map numbered_argument c.args.arguments.now))
-    c.in-Some.to (numbered_expr c.in-Some.e.now)
-    (sym (ap (option_map (λ (p : Target × Bor (code.Expr Target)).
-    (p.0, numbered_expr p.1.now))) c.in-Some.is) ∙ c.target_and_value.ensures) in
+    (sym (ap (option_map (λ (p : Target × Bor (code.Expr Target)). (p.0, numbered_expr p.1.now)))
+    c.in-Some.is) ∙ c.target_and_value.ensures) in
     let inner : Overflows c.args.table.now
     (strings_of_texts (expr_texts (numbered_expr c.in-Some.e.now))) =
     grind (arith, common_steps) in
-    subst (λ (a : Arguments Target). Overflows c.args.table.now
-    (strings_of_texts (argument_texts a))) (sym is)
-    (last_overflows c.args.table.now (expr_texts (numbered_expr c.in-Some.e.now)) inner)
+    subst (λ (a : Arguments Target). Overflows c.args.table.now (strings_of_texts (argument_texts
+    a))) (sym is) (last_overflows (expr_texts (numbered_expr c.in-Some.e.now)) inner)
 
 pub write_assigned-returns-in-None-clause-sound : goal.write_assigned-returns-in-None-clause-sound
 write_assigned-returns-in-None-clause-sound t c =
@@ -251,22 +221,20 @@ write_assigned-returns-in-None-clause-sound t c =
 pub write_argument-returns-in_ok-add_text-in-Text-clause-sound :
     goal.write_argument-returns-in_ok-add_text-in-Text-clause-sound
 write_argument-returns-in_ok-add_text-in-Text-clause-sound t c =
-    text_part c.args.code.now c.args.parameter c.args.argument.now c.in-Text.text
-    c.in_ok-add_text-in-Text.field-0 c.in-Text.is c.in_ok-add_text-in-Text.ensures.table
-    c.in_ok-add_text-in-Text.ensures.number
+    text_part c.args.code.now c.args.parameter c.in_ok-add_text-in-Text.field-0 c.in-Text.is
+    c.in_ok-add_text-in-Text.ensures.table c.in_ok-add_text-in-Text.ensures.number
 
 pub write_argument-returns-in_ok-add_text-in-Text-clause-named :
     goal.write_argument-returns-in_ok-add_text-in-Text-clause-named
 write_argument-returns-in_ok-add_text-in-Text-clause-named t c =
-    text_named c.args.code.now c.args.parameter c.args.argument.now c.in-Text.text
-    c.in_ok-add_text-in-Text.field-0 c.in-Text.is c.in_ok-add_text-in-Text.ensures.table
-    c.in_ok-add_text-in-Text.ensures.number
+    text_named c.args.code.now c.args.parameter c.in_ok-add_text-in-Text.field-0 c.in-Text.is
+    c.in_ok-add_text-in-Text.ensures.table c.in_ok-add_text-in-Text.ensures.number
 
 pub write_argument-returns-in_ok-write_value-in-Number-clause-sound :
     goal.write_argument-returns-in_ok-write_value-in-Number-clause-sound
 write_argument-returns-in_ok-write_value-in-Number-clause-sound t c =
-    value_part c.args.code.now c.args.parameter c.write_value.new.code c.args.argument.now
-    c.in-Value.e c.in-Value.is c.in-Number.is c.in_ok-write_value-in-Number.ensures.sound
+    value_part c.args.code.now c.args.parameter c.write_value.new.code c.in-Value.e c.in-Value.is
+    c.in-Number.is c.in_ok-write_value-in-Number.ensures.sound
 
 pub write_arguments-returns-in_err-name-in-len1-up-parameters-clause-refused :
     goal.write_arguments-returns-in_err-name-in-len1-up-parameters-clause-refused
@@ -275,7 +243,7 @@ write_arguments-returns-in_err-name-in-len1-up-parameters-clause-refused t c h =
     (argument_texts (pure.Cons (numbered_argument c.argument-item.result) pure.Nil))) =
     grind (arith, common_steps) in
     first_overflows numbered_argument c.args.arguments.now c.argument-item.result
-    c.in-len1-up.len_at_least c.argument-item.is c.args.table.now over
+    c.in-len1-up.len_at_least c.argument-item.is over
 
 pub write_arguments-returns-in_err-ask-in-len1-up-parameters-clause-refused :
     goal.write_arguments-returns-in_err-ask-in-len1-up-parameters-clause-refused
@@ -350,11 +318,10 @@ write_arguments-returns-in_ok-ask-in-len1-up-parameters-clause-named t c =
 
 pub write_argument-returns-in_default : goal.write_argument-returns-in_default
 write_argument-returns-in_default t c = record {
-  sound = other_part c.args.table.now c.args.code.now c.args.parameter c.args.argument.now
-      c.in-Value.e c.in-Value.is c.in_default.not-Number c.requires.fits;
-  named = other_named c.args.table.now c.args.code.now c.args.parameter c.args.argument.now
-      c.in-Value.e c.variable_number.result c.in-Value.is c.in_default.not-Number
-      c.variable_number.ensures;
+  sound = other_part c.args.table.now c.args.code.now c.args.parameter c.in-Value.e c.in-Value.is
+      c.in_default.not-Number c.requires.fits;
+  named = other_named c.args.table.now c.args.code.now c.args.parameter c.in-Value.e c.in-Value.is
+      c.in_default.not-Number c.variable_number.ensures;
   grows = ([], sym (append-nil c.args.table.now));
   refused = λ h. absurd (cc h);
   longer = omega arith;
@@ -368,17 +335,14 @@ write_ask-returns-clause-sound t c =
     ∙ fit in
     same_part c.args.code.now c.put.new.code (argument_texts a)
     (λ number. Then (numbers_block c.parameters-2.result.now (argument_blocks number a))
-    (Straight (instruction.Ask (asking c.args.kind
-    (names_of number c.parameters-2.result.now a)))))
+    (Straight (instruction.Ask (asking c.args.kind (names_of number c.parameters-2.result.now a)))))
     (λ number. call_block number (builtin.Ask c.args.kind) a)
-    (λ number. ap (λ ps. Then (numbers_block ps (argument_blocks number a))
-    (Straight (instruction.Ask (asking c.args.kind (names_of number ps a)))))
-    c.parameters-2.ensures ∙ sym (asks_block number c.args.kind a fits))
-    (ask_part c.args.code.now c.write_arguments.new.code c.put.new.code (argument_texts a)
-    (λ number. numbers_block c.parameters-2.result.now (argument_blocks number a))
-    (λ number. asking c.args.kind (names_of number c.parameters-2.result.now a))
-    c.in_ok-ask.ask c.in_ok-ask.ensures.sound c.in_ok-ask.ensures.named
-    c.in_ok-put.ensures.code)
+    (λ number. ap (λ ps. Then (numbers_block ps (argument_blocks number a)) (Straight
+    (instruction.Ask (asking c.args.kind (names_of number ps a))))) c.parameters-2.ensures ∙ sym
+    (asks_block number c.args.kind a fits)) (ask_part c.args.code.now c.write_arguments.new.code
+    (argument_texts a) (λ number. numbers_block c.parameters-2.result.now (argument_blocks number
+    a)) (λ number. asking c.args.kind (names_of number c.parameters-2.result.now a)) c.in_ok-ask.ask
+    c.in_ok-ask.ensures.sound c.in_ok-ask.ensures.named c.in_ok-put.ensures.code)
 
 pub write_ask-returns-then-not-all_fit-clause-sound :
     goal.write_ask-returns-then-not-all_fit-clause-sound
@@ -430,19 +394,17 @@ write_either-returns-in_err-write_value-2-clause-refused t c h =
 
 pub write_and-close-requires : goal.write_and-close-requires
 write_and-close-requires t c =
-    opened_inside c.put.new.code c.open.new.code c.write_instead.new.code _ c.in_ok-hole.hole
-    c.in_ok-hole.ensures.code refl c.in_ok-hole.ensures.place
-    c.in_ok-write_instead.ensures.longer
+    opened_inside c.put.new.code c.write_instead.new.code _ c.in_ok-hole.ensures.code refl
+    c.in_ok-hole.ensures.place c.in_ok-write_instead.ensures.longer
 
 pub write_and-returns-clause-longer : goal.write_and-returns-clause-longer
 write_and-returns-clause-longer t c =
     let one : length c.write_value.new.code ≤ length c.put.new.code =
-    longer_by c.write_value.new.code c.put.new.code _ c.in_ok-put.ensures.code in
+    longer_by c.write_value.new.code _ c.in_ok-put.ensures.code in
     let two : length c.put.new.code ≤ length c.open.new.code =
-    longer_by c.put.new.code c.open.new.code _ c.in_ok-hole.ensures.code in
-    let inside = opened_inside c.put.new.code c.open.new.code c.write_instead.new.code _
-    c.in_ok-hole.hole c.in_ok-hole.ensures.code refl c.in_ok-hole.ensures.place
-    c.in_ok-write_instead.ensures.longer in
+    longer_by c.put.new.code _ c.in_ok-hole.ensures.code in
+    let inside = opened_inside c.put.new.code c.write_instead.new.code _ c.in_ok-hole.ensures.code
+    refl c.in_ok-hole.ensures.place c.in_ok-write_instead.ensures.longer in
     let same : length c.close.new.code ≡ length c.write_instead.new.code = ap length c.close.ensures
     ∙ closed_length c.write_instead.new.code c.in_ok-hole.hole inside in
     omega (
@@ -456,21 +418,19 @@ write_and-returns-clause-longer t c =
 
 pub write_or-close-requires : goal.write_or-close-requires
 write_or-close-requires t c =
-    opened_inside c.put.new.code c.open.new.code c.write_instead.new.code _ c.in_ok-hole.hole
-    c.in_ok-hole.ensures.code refl c.in_ok-hole.ensures.place
-    c.in_ok-write_instead.ensures.longer
+    opened_inside c.put.new.code c.write_instead.new.code _ c.in_ok-hole.ensures.code refl
+    c.in_ok-hole.ensures.place c.in_ok-write_instead.ensures.longer
 
 pub write_or-returns-clause-longer : goal.write_or-returns-clause-longer
 write_or-returns-clause-longer t c =
     let truth : length c.write_value.new.code ≤ length c.write_truth.new.code =
-    longer_by c.write_value.new.code c.write_truth.new.code _ c.in_ok-write_truth.ensures in
+    longer_by c.write_value.new.code _ c.in_ok-write_truth.ensures in
     let one : length c.write_truth.new.code ≤ length c.put.new.code =
-    longer_by c.write_truth.new.code c.put.new.code _ c.in_ok-put.ensures.code in
+    longer_by c.write_truth.new.code _ c.in_ok-put.ensures.code in
     let two : length c.put.new.code ≤ length c.open.new.code =
-    longer_by c.put.new.code c.open.new.code _ c.in_ok-hole.ensures.code in
-    let inside = opened_inside c.put.new.code c.open.new.code c.write_instead.new.code _
-    c.in_ok-hole.hole c.in_ok-hole.ensures.code refl c.in_ok-hole.ensures.place
-    c.in_ok-write_instead.ensures.longer in
+    longer_by c.put.new.code _ c.in_ok-hole.ensures.code in
+    let inside = opened_inside c.put.new.code c.write_instead.new.code _ c.in_ok-hole.ensures.code
+    refl c.in_ok-hole.ensures.place c.in_ok-write_instead.ensures.longer in
     let same : length c.close.new.code ≡ length c.write_instead.new.code = ap length c.close.ensures
     ∙ closed_length c.write_instead.new.code c.in_ok-hole.hole inside in
     omega (
@@ -485,48 +445,45 @@ write_or-returns-clause-longer t c =
 pub write_either-close-requires : goal.write_either-close-requires
 write_either-close-requires t c =
     let two : length c.write_value.new.code ≤ length c.open-2.new.code =
-    longer_by c.write_value.new.code c.open-2.new.code _ c.in_ok-end.ensures.code in
+    longer_by c.write_value.new.code _ c.in_ok-end.ensures.code in
     let up : length c.open.new.code ≤ length c.open-2.new.code =
     omega (arith, two, c.in_ok-write_value.ensures.longer) in
-    let inside = opened_inside c.args.code.now c.open.new.code c.open-2.new.code _
-    c.in_ok-otherwise.otherwise c.in_ok-otherwise.ensures.code refl
-    c.in_ok-otherwise.ensures.place up in
+    let inside = opened_inside c.args.code.now c.open-2.new.code _ c.in_ok-otherwise.ensures.code
+    refl c.in_ok-otherwise.ensures.place up in
     inside
 
 pub write_either-close-requires-2 : goal.write_either-close-requires-2
 write_either-close-requires-2 t c =
     let two : length c.write_value.new.code ≤ length c.open-2.new.code =
-    longer_by c.write_value.new.code c.open-2.new.code _ c.in_ok-end.ensures.code in
+    longer_by c.write_value.new.code _ c.in_ok-end.ensures.code in
     let up : length c.open.new.code ≤ length c.open-2.new.code =
     omega (arith, two, c.in_ok-write_value.ensures.longer) in
-    let inside = opened_inside c.args.code.now c.open.new.code c.open-2.new.code _
-    c.in_ok-otherwise.otherwise c.in_ok-otherwise.ensures.code refl
-    c.in_ok-otherwise.ensures.place up in
+    let inside = opened_inside c.args.code.now c.open-2.new.code _ c.in_ok-otherwise.ensures.code
+    refl c.in_ok-otherwise.ensures.place up in
     let same : length c.close.new.code ≡ length c.open-2.new.code = ap length c.close.ensures
     ∙ closed_length c.open-2.new.code c.in_ok-otherwise.otherwise inside in
     let on : length c.open-2.new.code ≤ length c.write_value-2.new.code =
     omega (arith, same, c.in_ok-write_value-2.ensures.longer) in
-    let behind = opened_inside c.write_value.new.code c.open-2.new.code c.write_value-2.new.code _
-    c.in_ok-end.end c.in_ok-end.ensures.code refl c.in_ok-end.ensures.place on in
+    let behind = opened_inside c.write_value.new.code c.write_value-2.new.code _
+    c.in_ok-end.ensures.code refl c.in_ok-end.ensures.place on in
     behind
 
 pub write_either-returns-clause-longer : goal.write_either-returns-clause-longer
 write_either-returns-clause-longer t c =
     let two : length c.write_value.new.code ≤ length c.open-2.new.code =
-    longer_by c.write_value.new.code c.open-2.new.code _ c.in_ok-end.ensures.code in
+    longer_by c.write_value.new.code _ c.in_ok-end.ensures.code in
     let up : length c.open.new.code ≤ length c.open-2.new.code =
     omega (arith, two, c.in_ok-write_value.ensures.longer) in
-    let inside = opened_inside c.args.code.now c.open.new.code c.open-2.new.code _
-    c.in_ok-otherwise.otherwise c.in_ok-otherwise.ensures.code refl
-    c.in_ok-otherwise.ensures.place up in
+    let inside = opened_inside c.args.code.now c.open-2.new.code _ c.in_ok-otherwise.ensures.code
+    refl c.in_ok-otherwise.ensures.place up in
     let same : length c.close.new.code ≡ length c.open-2.new.code = ap length c.close.ensures
     ∙ closed_length c.open-2.new.code c.in_ok-otherwise.otherwise inside in
     let on : length c.open-2.new.code ≤ length c.write_value-2.new.code =
     omega (arith, same, c.in_ok-write_value-2.ensures.longer) in
-    let behind = opened_inside c.write_value.new.code c.open-2.new.code c.write_value-2.new.code _
-    c.in_ok-end.end c.in_ok-end.ensures.code refl c.in_ok-end.ensures.place on in
+    let behind = opened_inside c.write_value.new.code c.write_value-2.new.code _
+    c.in_ok-end.ensures.code refl c.in_ok-end.ensures.place on in
     let one : length c.args.code.now ≤ length c.open.new.code =
-    longer_by c.args.code.now c.open.new.code _ c.in_ok-otherwise.ensures.code in
+    longer_by c.args.code.now _ c.in_ok-otherwise.ensures.code in
     let still : length c.close-2.new.code ≡ length c.write_value-2.new.code =
     ap length c.close-2.ensures ∙ closed_length c.write_value-2.new.code c.in_ok-end.end
     behind in
@@ -751,13 +708,11 @@ write_value-returns-in_ok-write_element-in-Indexed-clause-sound t c =
     let is : (numbered_expr c.args.e.now)
     ≡ pure.Indexed c.in-Indexed.array (numbered_expr c.deref.result.now) =
     grind (arith, common_steps) in
-    expression_part (numbered_expr c.args.e.now)
-    (pure.Indexed c.in-Indexed.array (numbered_expr c.deref.result.now)) is
-    (then_plain c.args.code.now c.write_value.new.code c.write_element.new.code
-    (expr_texts (numbered_expr c.deref.result.now))
-    (λ number. method_block number (numbered_expr c.deref.result.now))
-    (element_block c.in-Indexed.array) c.in_ok-write_value-in-Indexed.ensures.sound
-    c.in_ok-write_element-in-Indexed.ensures)
+    expression_part (numbered_expr c.args.e.now) (pure.Indexed c.in-Indexed.array
+    (numbered_expr c.deref.result.now)) is (then_plain c.args.code.now c.write_value.new.code
+    (expr_texts (numbered_expr c.deref.result.now)) (λ number. method_block number
+    (numbered_expr c.deref.result.now)) (element_block c.in-Indexed.array)
+    c.in_ok-write_value-in-Indexed.ensures.sound c.in_ok-write_element-in-Indexed.ensures)
 
 pub write_value-returns-in_ok-write_unary-in-Unary-clause-sound :
     goal.write_value-returns-in_ok-write_unary-in-Unary-clause-sound
@@ -766,13 +721,11 @@ write_value-returns-in_ok-write_unary-in-Unary-clause-sound t c =
     let is : (numbered_expr c.args.e.now)
     ≡ pure.Unary c.in-Unary.op (numbered_expr c.deref-in-Unary.result.now) =
     grind (arith, common_steps) in
-    expression_part (numbered_expr c.args.e.now)
-    (pure.Unary c.in-Unary.op (numbered_expr c.deref-in-Unary.result.now)) is
-    (then_plain c.args.code.now c.write_value-in-Unary.new.code c.write_unary.new.code
-    (expr_texts (numbered_expr c.deref-in-Unary.result.now))
-    (λ number. method_block number (numbered_expr c.deref-in-Unary.result.now))
-    (unary_block c.in-Unary.op) c.in_ok-write_value-in-Unary.ensures.sound
-    c.in_ok-write_unary-in-Unary.ensures)
+    expression_part (numbered_expr c.args.e.now) (pure.Unary c.in-Unary.op
+    (numbered_expr c.deref-in-Unary.result.now)) is (then_plain c.args.code.now
+    c.write_value-in-Unary.new.code (expr_texts (numbered_expr c.deref-in-Unary.result.now))
+    (λ number. method_block number (numbered_expr c.deref-in-Unary.result.now)) (unary_block
+    c.in-Unary.op) c.in_ok-write_value-in-Unary.ensures.sound c.in_ok-write_unary-in-Unary.ensures)
 
 pub write_value-returns-in_ok-write_store-in-Assign-clause-sound :
     goal.write_value-returns-in_ok-write_store-in-Assign-clause-sound
@@ -781,13 +734,11 @@ write_value-returns-in_ok-write_store-in-Assign-clause-sound t c =
     let is : (numbered_expr c.args.e.now)
     ≡ pure.Assign c.in-Assign.to (numbered_expr c.deref-in-Assign.result.now) =
     grind (arith, common_steps) in
-    expression_part (numbered_expr c.args.e.now)
-    (pure.Assign c.in-Assign.to (numbered_expr c.deref-in-Assign.result.now)) is
-    (then_plain c.args.code.now c.write_value-in-Assign.new.code c.write_store.new.code
-    (expr_texts (numbered_expr c.deref-in-Assign.result.now))
-    (λ number. method_block number (numbered_expr c.deref-in-Assign.result.now))
-    (store_block c.in-Assign.to) c.in_ok-write_value-in-Assign.ensures.sound
-    c.in_ok-write_store-in-Assign.ensures)
+    expression_part (numbered_expr c.args.e.now) (pure.Assign c.in-Assign.to (numbered_expr
+    c.deref-in-Assign.result.now)) is (then_plain c.args.code.now c.write_value-in-Assign.new.code
+    (expr_texts (numbered_expr c.deref-in-Assign.result.now)) (λ number. method_block number
+    (numbered_expr c.deref-in-Assign.result.now)) (store_block c.in-Assign.to)
+    c.in_ok-write_value-in-Assign.ensures.sound c.in_ok-write_store-in-Assign.ensures)
 
 pub write_value-returns-in_ok-write_either-in-Conditional-clause-sound :
     goal.write_value-returns-in_ok-write_either-in-Conditional-clause-sound
