@@ -65,9 +65,10 @@ snoc_same (a ∷ xs) (b ∷ ys) x y e =
     (whole, rest.1)
 
 -- the last of the first k elements is taken away
-pub popped : (all olds news : List (Option ℕ)) (hole : Option ℕ) (k : ℕ) → olds ≡ take (k + 1) all
-    → olds ≡ news ++ hole ∷ [] → k < length all → (news ≡ take k all) × (hole ≡ get_or all k None)
-popped all olds news hole k is parts below = snoc_same news (take k all) hole (get_or all k None)
+pub popped : (all : List (Option ℕ)) {olds : List (Option ℕ)} (news : List (Option ℕ))
+    (hole : Option ℕ) (k : ℕ) → olds ≡ take (k + 1) all → olds ≡ news ++ hole ∷ [] → k < length all
+    → (news ≡ take k all) × (hole ≡ get_or all k None)
+popped all news hole k is parts below = snoc_same news (take k all) hole (get_or all k None)
     (sym parts ∙ is ∙ take_more all k None below)
 
 no_more : (n : ℕ) → n ≡ n + 0
@@ -124,17 +125,13 @@ header_inside arms i arm below at = omega (
 
 module _ {V : Type 0} (strings : V → List Words) (is_block : (StrNo → Option Words) → V → Block
     → Type 0) where
-  pub case_written : (old new : List Words) (before after : List ℕ) (hole : ℕ) (label : ℤ)
-      (body : Conds Target V) → hole + 4 ≤ length before
-      → WritesBody old before hole (conds_strings strings body)
-      (λ numbered b. IsCondsBlock (is_block numbered) body b) new after
+  pub case_written : {old new : List Words} {before after : List ℕ} {hole : ℕ} (label : ℤ)
+      (body : Conds Target V) → hole + 4 ≤ length before → WritesBody old before hole
+      (conds_strings strings body) (λ numbered b. IsCondsBlock (is_block numbered) body b) new after
       → WritesArm strings is_block old before (Some hole) (Case label body) new after
-  case_written old new before after hole label body inside w = record {
-    table = grows_within (arms_strings strings (ConsArm (Case label body) NoArms)) w.table
-        (within_left (conds_strings strings body) []
-        (arms_strings strings (ConsArm (Case label body) NoArms))
-        (ap (flat_map strings) (append-nil (values_of body))
-        ∙ sym (append-nil (conds_strings strings body))));
+  case_written {before} {hole} label body inside w = record {
+    table = grows_within w.table (within_left (conds_strings strings body) [] (ap (flat_map strings)
+        (append-nil (values_of body)) ∙ sym (append-nil (conds_strings strings body))));
     longer = subst (λ (code : List ℕ). length before ≤ length code) (sym w.written)
         (with_body_length before hole w.block inside);
     around = λ rest. Match label w.block rest;
@@ -149,8 +146,8 @@ module _ {V : Type 0} (strings : V → List Words) (is_block : (StrNo → Option
   pub default_written : (old : List Words) (before : List ℕ) (hole : Option ℕ)
       (body : Conds Target V) → WritesArm strings is_block old before hole (Default body) old before
   default_written old before hole body = record {
-    table = grows_within (arms_strings strings (ConsArm (Default body) NoArms)) (nothing_added old)
-        (λ w held. absurd (omega (arith, held.1)));
+    table = grows_within {ws = (arms_strings strings (ConsArm (Default body) NoArms))}
+        (nothing_added old) (λ w held. absurd (omega (arith, held.1)));
     longer = omega arith;
     around = λ rest. rest;
     written = λ front rest is at. is ∙ ap (λ (code : List ℕ). code ++ bytes_at (length code) rest)
@@ -198,51 +195,36 @@ module _ {V : Type 0} (strings : V → List Words) (is_block : (StrNo → Option
     rest_within : Within (arms_strings strings (arms_from (drop (i + 1) arms)))
         (arms_strings strings (arms_from (drop i arms)))
     rest_within w held =
-        within_same (flat_map (strings_at_arm strings) (drop i arms))
-        (arms_strings strings (arms_from (drop i arms)))
-        (arms_strings_are strings (drop i arms)) w
-        (within_right (strings_at_arm strings arm)
-        (flat_map (strings_at_arm strings) (drop (i + 1) arms))
-        (flat_map (strings_at_arm strings) (drop i arms))
+        within_same (arms_strings_are strings (drop i arms)) w (within_right
+        (strings_at_arm strings arm) (flat_map (strings_at_arm strings) (drop (i + 1) arms))
         (flat_drop (strings_at_arm strings) arms i arm below at) w
-        (within_same (arms_strings strings (arms_from (drop (i + 1) arms)))
-        (flat_map (strings_at_arm strings) (drop (i + 1) arms))
-        (sym (arms_strings_are strings (drop (i + 1) arms))) w held))
+        (within_same (sym (arms_strings_are strings (drop (i + 1) arms))) w held))
 
     arm_within : Within (strings_at_arm strings arm)
         (arms_strings strings (arms_from (drop i arms)))
     arm_within w held =
-        within_same (flat_map (strings_at_arm strings) (drop i arms))
-        (arms_strings strings (arms_from (drop i arms)))
-        (arms_strings_are strings (drop i arms)) w
-        (within_left (strings_at_arm strings arm)
-        (flat_map (strings_at_arm strings) (drop (i + 1) arms))
-        (flat_map (strings_at_arm strings) (drop i arms))
+        within_same (arms_strings_are strings (drop i arms)) w (within_left
+        (strings_at_arm strings arm) (flat_map (strings_at_arm strings) (drop (i + 1) arms))
         (flat_drop (strings_at_arm strings) arms i arm below at) w held)
 
     all_within : Within (arms_strings strings (arms_from (drop i arms)))
         (arms_strings strings (arms_from arms))
     all_within w held =
-        within_same (flat_map (strings_at_arm strings) arms) (arms_strings strings (arms_from arms))
-        (arms_strings_are strings arms) w
-        (within_right (flat_map (strings_at_arm strings) (take i arms))
-        (flat_map (strings_at_arm strings) (drop i arms))
-        (flat_map (strings_at_arm strings) arms) (flat_parts (strings_at_arm strings) arms i) w
-        (within_same (arms_strings strings (arms_from (drop i arms)))
-        (flat_map (strings_at_arm strings) (drop i arms))
-        (sym (arms_strings_are strings (drop i arms))) w held))
+        within_same (arms_strings_are strings arms) w
+        (within_right (flat_map (strings_at_arm strings) (take i arms)) (flat_map
+        (strings_at_arm strings) (drop i arms)) (flat_parts (strings_at_arm strings) arms i) w
+        (within_same (sym (arms_strings_are strings (drop i arms))) w held))
 
     in_front : (front : List ℕ) → front ++ headers (take (i + 1) arms)
         ≡ (front ++ headers (take i arms)) ++ header arm
     in_front front = ap (λ (code : List ℕ). front ++ code) (flat_take header arms i arm below at)
         ∙ sym (append_assoc front (headers (take i arms)) (header arm))
 
-    pub back_overflows : (a b : List Words) (before now : List ℕ) (holes : List (Option ℕ))
+    pub back_overflows : {a b : List Words} {before now : List ℕ} {holes : List (Option ℕ)}
         → Back (i + 1) arms a before holes b now → Overflows b (strings_at_arm strings arm)
         → Overflows a (arms_strings strings (arms_from arms))
-    back_overflows a b before now holes back over =
-        overflows_later a (arms_strings strings (arms_from (drop (i + 1) arms))) b
-        (strings_at_arm strings arm) (arms_strings strings (arms_from arms)) back.table over
+    back_overflows {a} {b} back over =
+        overflows_later a b {us = (arms_strings strings (arms_from arms))} back.table over
         (λ w held. all_within w (rest_within w held)) (λ w held. all_within w (arm_within w held))
 
     -- the open target of the arm comes after the headers before it
@@ -250,13 +232,11 @@ module _ {V : Type 0} (strings : V → List Words) (is_block : (StrNo → Option
         ≡ hole_of (place + length (headers (take i arms))) arm
     own_hole place = hole_at place arms i arm below at
 
-    pub back_grows : (a b c : List Words) (before now after : List ℕ) (holes : List (Option ℕ))
-        (hole : Option ℕ) → hole ≡ get_or holes i None
-        → Back (i + 1) arms a before holes b now → WritesArm strings is_block b now hole arm c after
-        → Back i arms a before holes c after
-    back_grows a b c before now after holes hole own back w = record {
-      table = grows_twice (arms_strings strings (arms_from (drop i arms))) back.table w.table
-          rest_within arm_within;
+    pub back_grows : {a b c : List Words} {before now after : List ℕ} {holes : List (Option ℕ)}
+        {hole : Option ℕ} → hole ≡ get_or holes i None → Back (i + 1) arms a before holes b now
+        → WritesArm strings is_block b now hole arm c after → Back i arms a before holes c after
+    back_grows {b} {c} own back w = record {
+      table = grows_twice back.table w.table rest_within arm_within;
       longer = omega (arith, w.longer, back.longer);
       around = λ x. w.around (back.around x);
       written = λ front rest is at.
@@ -269,7 +249,7 @@ module _ {V : Type 0} (strings : V → List Words) (is_block : (StrNo → Option
           (sym (length-append front (headers (take i arms)))));
       is = λ later otherwise x held.
           let e : c ++ later ≡ b ++ (w.table.more ++ later) =
-          later_on b c w.table.more later w.table.grown in
+          later_on b w.table.more later w.table.grown in
           let behind_it : IsArmsBlock (is_block (string_of_table (c ++ later))) otherwise
           (arms_from (drop (i + 1) arms)) (back.around x) =
           subst (λ (t : List Words). IsArmsBlock (is_block (string_of_table t)) otherwise
@@ -278,15 +258,14 @@ module _ {V : Type 0} (strings : V → List Words) (is_block : (StrNo → Option
           (subst (λ (t : List Words). IsArmsBlock (is_block (string_of_table t)) otherwise
           NoArms x) e held)) in
           subst (λ (xs : List (Arm Target V)). IsArmsBlock (is_block (string_of_table (c ++ later)))
-          otherwise (arms_from xs) (w.around (back.around x)))
-          (sym (dropped arms i arm below at))
+          otherwise (arms_from xs) (w.around (back.around x))) (sym (dropped arms i below at))
           (w.is later otherwise (arms_from (drop (i + 1) arms)) (back.around x) behind_it);
     }
 
-  pub back_ends : (i : ℕ) (arms : List (Arm Target V)) (a b : List Words) (before now : List ℕ)
-      (holes : List (Option ℕ)) → i ≤ 0 → Back i arms a before holes b now
+  pub back_ends : {i : ℕ} {arms : List (Arm Target V)} {a b : List Words} {before now : List ℕ}
+      {holes : List (Option ℕ)} → i ≤ 0 → Back i arms a before holes b now
       → WritesArms strings is_block a before holes arms b now
-  back_ends i arms a b before now holes h back =
+  back_ends {i} {arms} {a} {b} {before} {now} {holes} h back =
       let whole : Back 0 arms a before holes b now = let none : i ≡ 0 =
       omega arith in subst (λ (k : ℕ). Back k arms a before holes b now) none back in record {
         table = whole.table;

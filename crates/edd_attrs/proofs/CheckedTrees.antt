@@ -73,8 +73,8 @@ pub none_broken : (rs : List Refusal) → no_breach rs ≡ true → rs ≡ []
 none_broken [] h = refl
 none_broken (r ∷ rs) h = absurd cc
 
-none_is : (rs : List Refusal) → rs ≡ [] → no_breach rs ≡ true
-none_is rs h = ap no_breach h
+none_is : {rs : List Refusal} → rs ≡ [] → no_breach rs ≡ true
+none_is h = ap no_breach h
 
 abbrev pub ruled_element : TypePart Target → Bool
 ruled_element (item.Element c) = no_breach (cond_defaults c)
@@ -92,10 +92,8 @@ is_ruled _ = true
 
 part_ruled : (p : TransactionPart Target) → transaction_part_breaches p ≡ []
     → transaction_part_defaults p ≡ [] → named is_ruled (tree_of_transaction_part p) ≡ true
-part_ruled (item.Request all) h k = rw (all_small (values_of all) h, none_is (conds_defaults all) k)
-    refl
-part_ruled (item.Reply all) h k = rw (all_small (values_of all) h, none_is (conds_defaults all) k)
-    refl
+part_ruled (item.Request all) h k = rw (all_small (values_of all) h, none_is k) refl
+part_ruled (item.Reply all) h k = rw (all_small (values_of all) h, none_is k) refl
 
 parts_ruled : (parts : List (TransactionPart Target)) → flat_map transaction_part_breaches parts
     ≡ [] → flat_map transaction_part_defaults parts ≡ []
@@ -112,9 +110,9 @@ abbrev ruled_part : TypePart Target → Bool
 ruled_part p = list_all (named is_ruled) (trees_of_part p) && ruled_element p
 
 type_part_ruled : (p : TypePart Target) → type_part_defaults p ≡ [] → ruled_part p ≡ true
-type_part_ruled (item.OneNumber which c) k = rw (none_is (cond_defaults c) k) refl
-type_part_ruled (item.OneFormat which c) k = rw (none_is (cond_defaults c) k) refl
-type_part_ruled (item.Element c) k = none_is (cond_defaults c) k
+type_part_ruled (item.OneNumber which c) k = rw (none_is k) refl
+type_part_ruled (item.OneFormat which c) k = rw (none_is k) refl
+type_part_ruled (item.Element c) k = none_is k
 
 type_parts_ruled : (parts : List (TypePart Target)) → flat_map type_part_defaults parts ≡ []
     → (list_all ruled_element parts && list_all (named is_ruled) (trees_of_parts parts)) ≡ true
@@ -134,12 +132,12 @@ alone h = rw h refl
 
 attribute_ruled : (a : Attribute Target) → attribute_data_breaches a ≡ [] → repeated_cases a ≡ []
     → throughout is_ruled a ≡ true
-attribute_ruled (item.OneText which c) h k = alone (none_is (cond_defaults c) k)
-attribute_ruled (item.Handling c) h k = alone (none_is (cond_defaults c) k)
-attribute_ruled (item.Validity c) h k = alone (none_is (cond_defaults c) k)
+attribute_ruled (item.OneText which c) h k = alone (none_is k)
+attribute_ruled (item.Handling c) h k = alone (none_is k)
+attribute_ruled (item.Validity c) h k = alone (none_is k)
 attribute_ruled (item.TypeOf word parts) h k = rw (type_parts_ruled parts k) refl
 attribute_ruled (item.Transaction number parts) h k = parts_ruled parts h k
-attribute_ruled (item.Items entries) h k = alone (none_is (conds_defaults entries) k)
+attribute_ruled (item.Items entries) h k = alone (none_is k)
 attribute_ruled _ h k = refl
 
 attributes_ruled : (attributes : List (Attribute Target))
@@ -268,11 +266,10 @@ module _ (d : Description Target) (row : AttrRef) where
       let same_items : x.0 ≡ d.items = ap (λ (e : Description Target). e.items)
       (same_Some (record { identification = u.identification; items = x.0 }) d x.2) in
       let good : list_all (throughout_item (good_with (λ k. count_of k u.items))) x.0 ≡ true =
-      each_all (resolved_item (meant_in u)) (λ i. is_item is_path is_plain i
-      && has_arrays (λ k. count_of k u.items) i.sort)
-      (throughout_item (good_with (λ k. count_of k u.items)))
+      each_all (resolved_item (meant_in u)) (λ i. is_item is_path is_plain i && has_arrays
+      (λ k. count_of k u.items) i.sort) (throughout_item (good_with (λ k. count_of k u.items)))
       (item_good u (reads_of (λ k. count_of k u.items)) (item_readable (λ k. count_of k u.items)))
-      u.items x.0 (all_both (is_item is_path is_plain)
+      u.items (all_both (is_item is_path is_plain)
       (λ i. has_arrays (λ k. count_of k u.items) i.sort) u.items checked.is_resolved.well_formed
       (all_counted u.items (count_of kind.Array u.items) (omega arith))) x.1 in
       let counts : (λ k. count_of k u.items) ≡ (λ k. count_of k d.items) =

@@ -33,34 +33,29 @@ module _ {V : Type 0} (strings : V → List Words) (is_block : (StrNo → Option
       ++ conds_strings strings otherwise
   if_strings e first otherwise = flat_map-append strings (values_of first) (values_of otherwise)
 
-  pub if_written : (old mid new : List Words) (before c0 c1 c2 c3 c4 c5 after : List ℕ)
-      (e : Expr Target) (first otherwise : Conds Target V) (hole end : ℕ)
+  pub if_written : {old mid new : List Words} (before : List ℕ) {c0 c1 c2 c3 c4 c5 after : List ℕ}
+      (e : Expr Target) (first otherwise : Conds Target V) {hole end : ℕ}
       → c0 ≡ before ++ bytes_at (length before) (expression_block e)
-      → c1 ≡ c0 ++ spelling (instruction.JumpIfZero 0) → hole ≡ length c0 + 1
-      → WritesBlock old c1 (conds_strings strings first)
-      (λ numbered b. IsCondsBlock (is_block numbered) first b) mid c2
+      → c1 ≡ c0 ++ spelling (instruction.JumpIfZero 0) → hole ≡ length c0 + 1 → WritesBlock old c1
+      (conds_strings strings first) (λ numbered b. IsCondsBlock (is_block numbered) first b) mid c2
       → c3 ≡ c2 ++ spelling (instruction.Jump 0) → end ≡ length c2 + 1 → c4 ≡ closed c3 hole
       → WritesBlock mid c4 (conds_strings strings otherwise)
-      (λ numbered b. IsCondsBlock (is_block numbered) otherwise b) new c5
-      → after ≡ closed c5 end
+      (λ numbered b. IsCondsBlock (is_block numbered) otherwise b) new c5 → after ≡ closed c5 end
       → WritesBlock old before (cond_strings strings (If e first otherwise))
       (λ numbered b. IsCondBlock (is_block numbered) (If e first otherwise) b) new after
-  if_written old mid new before c0 c1 c2 c3 c4 c5 after e first otherwise hole end test jump at x
-      over at' shut y last = record {
-        table = grows_twice (cond_strings strings (If e first otherwise)) x.table y.table
-            (within_left (conds_strings strings first) (conds_strings strings otherwise)
-            (cond_strings strings (If e first otherwise)) (if_strings e first otherwise))
+  if_written {mid} {new} before {c0} {c1} {c2} {c3} {c4} {c5} {after} e first otherwise test jump at
+      x over at' shut y last = record {
+        table = grows_twice x.table y.table (within_left (conds_strings strings first)
+            (conds_strings strings otherwise) (if_strings e first otherwise))
             (within_right (conds_strings strings first) (conds_strings strings otherwise)
-            (cond_strings strings (If e first otherwise)) (if_strings e first otherwise));
+            (if_strings e first otherwise));
         block = Then (expression_block e) (Either x.block y.block);
-        written = both_blocks before c0 after (expression_block e) (Either x.block y.block) test
-            (last ∙ ap (closed c5) at' ∙ either_closed c0 c1 c2 c3 c4 c5 x.block y.block jump
-            x.written
+        written = both_blocks before (expression_block e) (Either x.block y.block) test (last
+            ∙ ap (closed c5) at' ∙ either_closed c0 c1 c2 c3 c4 c5 x.block y.block jump x.written
             over (shut ∙ ap (closed c3) at) y.written);
         is = λ later.
             let e' : new ++ later ≡ mid ++ (y.table.more ++ later) =
-            later_on mid new y.table.more later
-            y.table.grown in (
+            later_on mid y.table.more later y.table.grown in (
               x.block,
               y.block,
               refl,
@@ -70,26 +65,20 @@ module _ {V : Type 0} (strings : V → List Words) (is_block : (StrNo → Option
             );
       }
 
-  pub if_overflows : (old : List Words) (e : Expr Target) (first otherwise : Conds Target V)
+  pub if_overflows : {old : List Words} (e : Expr Target) (first otherwise : Conds Target V)
       → Overflows old (conds_strings strings first)
       → Overflows old (cond_strings strings (If e first otherwise))
-  if_overflows old e first otherwise over =
-      overflows_within old (conds_strings strings first)
-      (cond_strings strings (If e first otherwise)) over
-      (within_left (conds_strings strings first) (conds_strings strings otherwise)
-      (cond_strings strings (If e first otherwise)) (if_strings e first otherwise))
+  if_overflows {old} e first otherwise over =
+      overflows_within old over (within_left (conds_strings strings first)
+      (conds_strings strings otherwise) (if_strings e first otherwise))
 
-  pub else_overflows : (old mid : List Words) (e : Expr Target) (first otherwise : Conds Target V)
-      → GrowsBy old (conds_strings strings first) mid
-      → Overflows mid (conds_strings strings otherwise)
-      → Overflows old (cond_strings strings (If e first otherwise))
-  else_overflows old mid e first otherwise grows over =
-      overflows_later old (conds_strings strings first) mid (conds_strings strings otherwise)
-      (cond_strings strings (If e first otherwise)) grows over
-      (within_left (conds_strings strings first) (conds_strings strings otherwise)
-      (cond_strings strings (If e first otherwise)) (if_strings e first otherwise))
-      (within_right (conds_strings strings first) (conds_strings strings otherwise)
-      (cond_strings strings (If e first otherwise)) (if_strings e first otherwise))
+  pub else_overflows : {old mid : List Words} (e : Expr Target) (first otherwise : Conds Target V)
+      → GrowsBy old (conds_strings strings first) mid → Overflows mid (conds_strings strings
+      otherwise) → Overflows old (cond_strings strings (If e first otherwise))
+  else_overflows {old} {mid} e first otherwise grows over =
+      overflows_later old mid grows over (within_left (conds_strings strings first) (conds_strings
+      strings otherwise) (if_strings e first otherwise)) (within_right (conds_strings strings first)
+      (conds_strings strings otherwise) (if_strings e first otherwise))
 
   -- ---- DEFAULT
 
@@ -113,9 +102,8 @@ module _ {V : Type 0} (strings : V → List Words) (is_block : (StrNo → Option
       → WritesBlock old before (arms_strings strings arms)
       (λ numbered b. IsDefaultBlock (is_block numbered) arms b) old before
   none_written old before arms none =
-      block_within (arms_strings strings arms)
-      (λ numbered b. IsDefaultBlock (is_block numbered) arms b) (no_block old before)
-      (λ w held. absurd (omega (arith, held.1)))
+      block_within {ws = (arms_strings strings arms)} (λ numbered b. IsDefaultBlock
+      (is_block numbered) arms b) (no_block old before) (λ w held. absurd (omega (arith, held.1)))
       (λ numbered b is. subst (λ (x : Block). IsDefaultBlock (is_block numbered) arms x) (sym is)
       (no_default numbered arms none))
 
@@ -126,16 +114,14 @@ module _ {V : Type 0} (strings : V → List Words) (is_block : (StrNo → Option
       → WritesBlock old before (arms_strings strings arms)
       (λ numbered b. IsDefaultBlock (is_block numbered) arms b) new after
   default_block old new before after arms body e w =
-      block_within (arms_strings strings arms)
-      (λ numbered b. IsDefaultBlock (is_block numbered) arms b) w
-      (default_within strings arms body e) (λ numbered b h. the_default numbered arms body b e
-      h)
+      block_within (λ numbered b. IsDefaultBlock (is_block numbered) arms b) w
+      (default_within strings arms body e) (λ numbered b h. the_default numbered arms body b e h)
 
-  pub default_overflows : (old : List Words) (arms : Arms Target V) (body : Conds Target V)
+  pub default_overflows : {old : List Words} (arms : Arms Target V) {body : Conds Target V}
       → default_of arms ≡ Some body → Overflows old (conds_strings strings body)
       → Overflows old (arms_strings strings arms)
-  default_overflows old arms body e over = overflows_within old (conds_strings strings body)
-      (arms_strings strings arms) over (default_within strings arms body e)
+  default_overflows {old} arms {body} e over =
+      overflows_within old over (default_within strings arms body e)
 
   -- ---- SELECT
 
@@ -151,17 +137,17 @@ module _ {V : Type 0} (strings : V → List Words) (is_block : (StrNo → Option
   select_written old mid new before c0 c1 c2 c3 after e arms holes test opened at popped x w =
       let rest : Block = Then (Straight instruction.Pop) x.block in
       let third : c3 ≡ (c0 ++ headers arms) ++ bytes_at (length (c0 ++ headers arms)) rest =
-      both_blocks (c0 ++ headers arms) c2 c3 (Straight instruction.Pop) x.block
-      (popped ∙ ap (λ (code : List ℕ). code ++ spelling instruction.Pop) opened
+      both_blocks (c0 ++ headers arms) (Straight instruction.Pop) x.block (popped
+      ∙ ap (λ (code : List ℕ). code ++ spelling instruction.Pop) opened
       ∙ straight_written (c0 ++ headers arms) instruction.Pop) x.written in record {
-        table = grows_twice (arms_strings strings (arms_from arms)) x.table w.table (λ v held. held)
-            (λ v held. held);
+        table = grows_twice {us = (arms_strings strings (arms_from arms))} x.table w.table
+            (λ v held. held) (λ v held. held);
         block = Then (expression_block e) (w.around rest);
-        written = both_blocks before c0 after (expression_block e) (w.around rest) test
+        written = both_blocks before (expression_block e) (w.around rest) test
             (w.written c0 rest third at);
         is = λ later.
             let e' : new ++ later ≡ mid ++ (w.table.more ++ later) =
-            later_on mid new w.table.more later w.table.grown in (
+            later_on mid w.table.more later w.table.grown in (
               w.around rest,
               x.block,
               refl,
@@ -171,19 +157,19 @@ module _ {V : Type 0} (strings : V → List Words) (is_block : (StrNo → Option
             );
       }
 
-  pub select_overflows : (old mid : List Words) (before after : List ℕ) (arms : Arms Target V)
+  pub select_overflows : {old mid : List Words} {before after : List ℕ} (arms : Arms Target V)
       → WritesBlock old before (arms_strings strings arms)
       (λ numbered b. IsDefaultBlock (is_block numbered) arms b) mid after
       → Overflows mid (arms_strings strings arms) → Overflows old (arms_strings strings arms)
-  select_overflows old mid before after arms x over =
-      overflows_later old (arms_strings strings arms) mid (arms_strings strings arms)
-      (arms_strings strings arms) x.table over (λ v held. held) (λ v held. held)
+  select_overflows {old} {mid} arms x over =
+      overflows_later old mid {us =
+      (arms_strings strings arms)} x.table over (λ v held. held) (λ v held. held)
 
 -- the first arm is the DEFAULT, or it is none
-pub found_here : {V : Type 0} (arm : Arm Target V) (rest : Arms Target V) (body : Conds Target V)
+pub found_here : {V : Type 0} (arm : Arm Target V) (rest : Arms Target V) {body : Conds Target V}
     → Some body ≡ default_of (ConsArm arm NoArms) → Some body ≡ default_of (ConsArm arm rest)
-found_here (Case label x) rest body e = absurd cc
-found_here (Default x) rest body e = e
+found_here (Case label x) rest e = absurd cc
+found_here (Default x) rest e = e
 
 pub not_here : {V : Type 0} (arm : Arm Target V) (rest : Arms Target V)
     → None ≡ default_of (ConsArm arm NoArms) → default_of (ConsArm arm rest) ≡ default_of rest

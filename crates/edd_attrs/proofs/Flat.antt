@@ -33,13 +33,13 @@ module _ {A : Type 0} (p : A → Bool) where
   pub alone : (x : A) → list_all p (x ∷ []) ≡ true → p x ≡ true
   alone x h = (both_parts (p x) true h).0
 
-  pub each : (xs : List A) (i : ℕ) (x : A) → i < length xs → x ≡ get_or xs i x
+  pub each : (xs : List A) (i : ℕ) {x : A} → i < length xs → x ≡ get_or xs i x
       → list_all p xs ≡ true → p x ≡ true
-  each [] i x h is all = absurd (omega arith)
-  each (y ∷ xs) zero x h is all = subst (λ (z : A). p z ≡ true) (sym is)
-      (both_parts (p y) (list_all p xs) all).0
-  each (y ∷ xs) (suc i) x h is all =
-      each xs i x (omega arith) is (both_parts (p y) (list_all p xs) all).1
+  each [] i h is all = absurd (omega arith)
+  each (y ∷ xs) zero h is all =
+      subst (λ (z : A). p z ≡ true) (sym is) (both_parts (p y) (list_all p xs) all).0
+  each (y ∷ xs) (suc i) {x} h is all =
+      each xs i (omega arith) is (both_parts (p y) (list_all p xs) all).1
 
   -- what passes of all elements of a list of lists passes of one of them
   pub each_flat : {X : Type 0} (f : X → List A) (xs : List X) (i : ℕ) (x : X) → i < length xs
@@ -74,17 +74,17 @@ module _ {V : Type 0} where
       ∙ sym (arm_first arm (arms_from rest))
 
   -- the first DEFAULT is among the values
-  pub default_parts : (arms : Arms Target V) (body : Conds Target V) → default_of arms ≡ Some body
+  pub default_parts : (arms : Arms Target V) {body : Conds Target V} → default_of arms ≡ Some body
       → (front : List V) × (back : List V) × (values_under arms ≡ front ++ (values_of body ++ back))
-  default_parts NoArms body e = absurd cc
-  default_parts (ConsArm (Case label x) rest) body e =
-      let more = default_parts rest body e in (
+  default_parts NoArms e = absurd cc
+  default_parts (ConsArm (Case label x) rest) {body} e =
+      let more = default_parts rest e in (
         values_of x ++ more.0,
         more.1,
         ap (λ (vs : List V). values_of x ++ vs) more.2
             ∙ simp append_assoc,
       )
-  default_parts (ConsArm (Default x) rest) body e = (
+  default_parts (ConsArm (Default x) rest) {body} e = (
     [],
     values_under rest,
     ap (λ (c : Conds Target V). values_of c ++ values_under rest)
@@ -115,25 +115,23 @@ module _ {V : Type 0} (strings : V → List Words) where
   pub default_within : (arms : Arms Target V) (body : Conds Target V) → default_of arms ≡ Some body
       → Within (conds_strings strings body) (arms_strings strings arms)
   default_within arms body e w held =
-      let parts = default_parts arms body e in
+      let parts = default_parts arms e in
       let one : arms_strings strings arms ≡ flat_map strings parts.0
       ++ flat_map strings (values_of body ++ parts.1) = ap (flat_map strings) parts.2
       ∙ flat_map-append strings parts.0 (values_of body ++ parts.1) in
       let two : flat_map strings (values_of body ++ parts.1) ≡ conds_strings strings body
       ++ flat_map strings parts.1 = flat_map-append strings (values_of body) parts.1 in
-      within_right (flat_map strings parts.0) (flat_map strings (values_of body ++ parts.1))
-      (arms_strings strings arms) one w
-      (within_left (conds_strings strings body) (flat_map strings parts.1)
-      (flat_map strings (values_of body ++ parts.1)) two w held)
+      within_right (flat_map strings parts.0) (flat_map strings (values_of body ++ parts.1)) one w
+      (within_left (conds_strings strings body) (flat_map strings parts.1) two w held)
 
 -- ---- what is kept
 
 module _ {V : Type 0} (p : V → Bool) where
-  pub element_kept : (xs : List (Cond Target V)) (i : ℕ) (x : Cond Target V) → i < length xs
-      → x ≡ get_or xs i x → list_all p (values_of (conds_from xs)) ≡ true → list_all p (values_in x)
-      ≡ true
-  element_kept xs i x h is all = each_flat p values_in xs i x h is (ap (list_all p) (conds_flat xs)
-      ∙ all)
+  pub element_kept : (xs : List (Cond Target V)) (i : ℕ) {x : Cond Target V} → i < length xs
+      → x ≡ get_or xs i x → list_all p (values_of (conds_from xs)) ≡ true
+      → list_all p (values_in x) ≡ true
+  element_kept xs i {x} h is all =
+      each_flat p values_in xs i x h is (ap (list_all p) (conds_flat xs) ∙ all)
 
   pub arm_kept : (arms : List (Arm Target V)) (i : ℕ) (arm : Arm Target V) → i < length arms
       → arm ≡ get_or arms i arm → list_all p (values_under (arms_from arms)) ≡ true
@@ -141,10 +139,10 @@ module _ {V : Type 0} (p : V → Bool) where
   arm_kept arms i arm h is all = each_flat p values_at arms i arm h is
       (ap (list_all p) (arms_flat arms) ∙ all)
 
-  pub default_kept : (arms : Arms Target V) (body : Conds Target V) → default_of arms ≡ Some body
+  pub default_kept : (arms : Arms Target V) {body : Conds Target V} → default_of arms ≡ Some body
       → list_all p (values_under arms) ≡ true → list_all p (values_of body) ≡ true
-  default_kept arms body e all =
-      let parts = default_parts arms body e in
+  default_kept arms {body} e all =
+      let parts = default_parts arms e in
       let one = all_parts p parts.0 (values_of body ++ parts.1) (ap (list_all p) (sym parts.2)
       ∙ all) in
       (all_parts p (values_of body) parts.1 one.1).0
@@ -172,7 +170,7 @@ parts_kept (item.Element c ∷ rest) h = let both = all_parts kept_enumerator (v
     (values_of (elements rest)) h in rw both.0 (parts_kept rest both.1)
 parts_kept (_ ∷ rest) h = parts_kept rest h
 
-pub part_kept : (parts : List (TypePart Target)) (i : ℕ) (q : TypePart Target) → i < length parts
+pub part_kept : (parts : List (TypePart Target)) (i : ℕ) {q : TypePart Target} → i < length parts
     → q ≡ get_or parts i q → list_all kept_enumerator (values_of (elements parts)) ≡ true
     → is_kept_part q ≡ true
-part_kept parts i q h is all = each is_kept_part parts i q h is (parts_kept parts all)
+part_kept parts i {q} h is all = each is_kept_part parts i h is (parts_kept parts all)

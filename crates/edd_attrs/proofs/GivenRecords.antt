@@ -79,8 +79,8 @@ module _ (there : Environment) (d : List ℤ) where
           through (value there d condition) _ _
           (λ a. by_test (is_zero a) _ _ _ _ (all_are_chosen otherwise) (all_are_chosen first))
       given_are_chosen (Select on arms) =
-          through (value there d on) _ _ (λ a. case_is_chosen a arms (default_given one_given arms)
-          (default_chosen there d arms) (default_is_chosen arms))
+          through (value there d on) _ _
+          (λ a. case_is_chosen a arms (default_chosen there d arms) (default_is_chosen arms))
 
       pub all_are_chosen : (c : Conds Target V) → all_given one_given c
           ≡ each f (all_chosen there d c)
@@ -89,13 +89,13 @@ module _ (there : Environment) (d : List ℤ) where
           rw (given_are_chosen first, all_are_chosen rest)
           (appended (chosen there d first) (all_chosen there d rest))
 
-      case_is_chosen : (a : ℤ) (arms : Arms Target V) (s : Trapping (List source.Record))
-          (t : Trapping (List V)) → s ≡ each f t → case_given one_given a arms s
-          ≡ each f (case_chosen there d a arms t)
-      case_is_chosen a NoArms s t h = h
-      case_is_chosen a (ConsArm (Case label body) rest) s t h =
-          by_test (int_eq a label) _ _ _ _ (all_are_chosen body) (case_is_chosen a rest s t h)
-      case_is_chosen a (ConsArm (Default body) rest) s t h = case_is_chosen a rest s t h
+      case_is_chosen : (a : ℤ) (arms : Arms Target V) {s : Trapping (List source.Record)}
+          (t : Trapping (List V)) → s ≡ each f t
+          → case_given one_given a arms s ≡ each f (case_chosen there d a arms t)
+      case_is_chosen a NoArms t h = h
+      case_is_chosen a (ConsArm (Case label body) rest) {s} t h =
+          by_test (int_eq a label) _ _ _ _ (all_are_chosen body) (case_is_chosen a rest t h)
+      case_is_chosen a (ConsArm (Default body) rest) {s} t h = case_is_chosen a rest t h
 
       default_is_chosen : (arms : Arms Target V) → default_given one_given arms
           ≡ each f (default_chosen there d arms)
@@ -147,8 +147,7 @@ module _ (there : Environment) (d : List ℤ) where
           (one_is_chosen first parts.0))
       expression_is_chosen (Select on arms) h =
           then_all (value there d on) _ _
-          (λ a. case_of_chosen a arms h (default_given expression_given arms)
-          (default_chosen there d arms) (default_of_chosen arms h))
+          (λ a. case_of_chosen a arms h (default_chosen there d arms) (default_of_chosen arms h))
 
       one_is_chosen : (c : Conds Target (Expr Target)) → is_one reads reads c ≡ true
           → all_given expression_given c ≡ all_of (all_chosen there d c)
@@ -165,17 +164,16 @@ module _ (there : Environment) (d : List ℤ) where
       at_most_one_is_chosen (Cons first (Cons second rest)) h = absurd (cc h)
 
       case_of_chosen : (a : ℤ) (arms : Arms Target (Expr Target)) → are_single_arms reads reads arms
-          ≡ true → (s : Trapping (List source.Record)) (t : Trapping (List (Expr Target)))
-          → s ≡ all_of t
-          → case_given expression_given a arms s ≡ all_of (case_chosen there d a arms t)
-      case_of_chosen a NoArms h s t k = k
-      case_of_chosen a (ConsArm (Case label body) rest) h s t k =
+          ≡ true → {s : Trapping (List source.Record)} (t : Trapping (List (Expr Target))) → s
+          ≡ all_of t → case_given expression_given a arms s ≡ all_of (case_chosen there d a arms t)
+      case_of_chosen a NoArms h t k = k
+      case_of_chosen a (ConsArm (Case label body) rest) h {s} t k =
           let parts = both_of (is_one reads reads body) (are_single_arms reads reads rest) h in
           all_by_test (int_eq a label) _ _ _ _ (one_is_chosen body parts.0)
-          (case_of_chosen a rest parts.1 s t k)
-      case_of_chosen a (ConsArm (Default body) rest) h s t k =
-          case_of_chosen a rest (both_of (is_one reads reads body)
-          (are_single_arms reads reads rest) h).1 s t k
+          (case_of_chosen a rest parts.1 t k)
+      case_of_chosen a (ConsArm (Default body) rest) h {s} t k =
+          case_of_chosen a rest
+          (both_of (is_one reads reads body) (are_single_arms reads reads rest) h).1 t k
 
       default_of_chosen : (arms : Arms Target (Expr Target)) → are_single_arms reads reads arms
           ≡ true → default_given expression_given arms ≡ all_of (default_chosen there d arms)

@@ -28,20 +28,19 @@ use Rattle.edd_code.proofs.BothTests.{both_of, both_true}
 -- ---- steps that may fail
 
 -- what holds of a value holds of the one that it is
-pub along_some : {A : Type 0} (P : A → Bool) (x y : A) → Some x ≡ Some y → P x ≡ true → P y ≡ true
-along_some P x y e h = subst (λ z. P z ≡ true) (same_Some x y e) h
+pub along_some : {A : Type 0} (P : A → Bool) {x y : A} → Some x ≡ Some y → P x ≡ true → P y ≡ true
+along_some P {x} {y} e h = subst (λ z. P z ≡ true) (same_Some x y e) h
 
 pub each_all : {A B : Type 0} (of : A → Option B) (p : A → Bool) (q : B → Bool)
-    → ((x : A) (y : B) → p x ≡ true → of x ≡ Some y → q y ≡ true)
-    → (xs : List A) (ys : List B) → list_all p xs ≡ true → each of xs ≡ Some ys
-    → list_all q ys ≡ true
-each_all of p q keeps [] ys all h = along_some (list_all q) [] ys h refl
-each_all of p q keeps (x ∷ xs) ys all h =
+    → ((x : A) (y : B) → p x ≡ true → of x ≡ Some y → q y ≡ true) → (xs : List A) {ys : List B}
+    → list_all p xs ≡ true → each of xs ≡ Some ys → list_all q ys ≡ true
+each_all of p q keeps [] {ys} all h = along_some (list_all q) h refl
+each_all of p q keeps (x ∷ xs) {ys} all h =
     let parts = both_of (p x) (list_all p xs) all in
     let first = bind_some (of x) (λ y. each of xs >>= λ others. Some (y ∷ others)) ys h in
     let rest = bind_some (each of xs) (λ others. Some (first.0 ∷ others)) ys first.2 in
-    along_some (list_all q) (first.0 ∷ rest.0) ys rest.2
-    (rw (keeps x first.0 parts.0 first.1, each_all of p q keeps xs rest.0 parts.1 rest.1) refl)
+    along_some (list_all q) rest.2
+    (rw (keeps x first.0 parts.0 first.1, each_all of p q keeps xs parts.1 rest.1) refl)
 
 -- ---- lists of tests
 

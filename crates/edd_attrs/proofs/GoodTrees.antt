@@ -35,7 +35,7 @@ use Rattle.edd_attrs.proofs.GoodParts.{along_some, each_all, all_good, all_both,
 -- ---- of a unit
 
 same_value : {V : Type 0} (p : V → Bool) (v w : V) → p v ≡ true → unchanged v ≡ Some w → p w ≡ true
-same_value p v w h e = along_some p v w e h
+same_value p v w h e = along_some p e h
 
 kind_variable : (i : ItemNo) → is_among variable_kinds i ≡ true
     → item_no.Variable (variable_of (target.Item i)) ≡ i
@@ -117,11 +117,10 @@ module _ (unit : Description Path) (reads : Target → Bool)
     conds_good c d h l e = both_true (conds_tested at reads kept kept_array of p q keeps c d h e)
         (ap is_low (same_heights at reads kept kept_array of p q keeps f g same c d h e) ∙ l)
 
-  one_good : {V : Type 0} (p : V → Bool) (c : Cond Path V) (d : Cond Target V)
-      → (is_cond is_path is_plain p c && is_single is_path is_plain c) ≡ true
-      → is_low (cond_height leaf c) ≡ true
+  one_good : {V : Type 0} (p : V → Bool) (c : Cond Path V) {d : Cond Target V} → (is_cond is_path
+      is_plain p c && is_single is_path is_plain c) ≡ true → is_low (cond_height leaf c) ≡ true
       → resolved_cond at unchanged c ≡ Some d → good_cond reads p leaf d ≡ true
-  one_good p c d h l e = cond_good unchanged p p leaf leaf (same_value p) (λ v w k m. refl) c d
+  one_good p c {d} h l e = cond_good unchanged p p leaf leaf (same_value p) (λ v w k m. refl) c d
       (both_of (is_cond is_path is_plain p c) (is_single is_path is_plain c) h).0 l e
 
   expressions_good : (c : Cond Path (Expr Path)) (d : Cond Target (Expr Target))
@@ -140,27 +139,25 @@ module _ (unit : Description Path) (reads : Target → Bool)
 
   entry_good : (e : MenuEntry Path) (f : MenuEntry Target) → is_entry is_path is_plain e ≡ true
       → resolved_entry (meant_in unit) e ≡ Some f → good_entry count reads f ≡ true
-  entry_good (item.Text text) f h e = along_some (good_entry count reads) (item.Text text) f e h
+  entry_good (item.Text text) f h e = along_some (good_entry count reads) e h
   entry_good (item.Reference to qualifiers) f h e =
       let x = bind_some (item_among (meant_in unit) entry_kinds to)
       (λ to'. Some (item.Reference to' qualifiers)) f e in
       let i = meant_exists unit entry_kinds to x.0 x.1 in
-      along_some (good_entry count reads) (item.Reference x.0 qualifiers) f x.2
-      (both_true (ap (λ t. is_listed (item_of t)) i.1 ∙ entry_listed i.0 i.3)
-      (ap (λ t. is_item_of count (item_of t)) i.1 ∙ i.2))
+      along_some (good_entry count reads) x.2 (both_true (ap (λ t. is_listed (item_of t)) i.1
+      ∙ entry_listed i.0 i.3) (ap (λ t. is_item_of count (item_of t)) i.1 ∙ i.2))
 
   data_good : (d : DataItem Path) (f : DataItem Target) → is_data_item is_path is_plain d ≡ true
       → resolved_data (meant_in unit) d ≡ Some f → good_data count reads f ≡ true
-  data_good (item.Constant n) f h e = along_some (good_data count reads) (item.Constant n) f e refl
+  data_good (item.Constant n) f h e = along_some (good_data count reads) e refl
   data_good (item.Variable variable mask qualifiers) f h e =
       let x = bind_some (item_among (meant_in unit) variable_kinds variable)
       (λ variable'. Some (item.Variable variable' mask qualifiers))
       f e in
       let i = meant_exists unit variable_kinds variable x.0 x.1 in
-      along_some (good_data count reads) (item.Variable x.0 mask qualifiers) f x.2
-      (both_true (ap (λ t. is_item_of count (item_no.Variable (variable_of t))) i.1
-      ∙ ap (is_item_of count) (kind_variable i.0 i.3) ∙ i.2)
-      (mask_small mask (both_of (is_path variable) (if_some is_small mask) h).1))
+      along_some (good_data count reads) x.2 (both_true (ap (λ t. is_item_of count
+      (item_no.Variable (variable_of t))) i.1 ∙ ap (is_item_of count) (kind_variable i.0 i.3)
+      ∙ i.2) (mask_small mask (both_of (is_path variable) (if_some is_small mask) h).1))
 
   member_good : (kinds : List Kind) → ((i : ItemNo) → is_among kinds i ≡ true → is_listed i ≡ true)
       → (m : item.Member Path) (f : item.Member Target)
@@ -173,8 +170,7 @@ module _ (unit : Description Path) (reads : Target → Bool)
       let i = meant_exists unit kinds m.item x.0 x.1 in
       let helped = both_of _ (if_some is_text m.help) h in
       let labelled = both_of _ (if_some is_text m.label) helped.0 in
-      along_some (good_member count reads)
-      (record { name = m.name; item = x.0; label = m.label; help = m.help }) f x.2
+      along_some (good_member count reads) x.2
       (both_true (both_true (ap (λ t. is_listed (item_of t)) i.1 ∙ listed i.0 i.3)
       (ap (λ t. is_item_of count (item_of t)) i.1 ∙ i.2)) (both_true labelled.1 helped.1))
 
@@ -194,16 +190,9 @@ module _ (unit : Description Path) (reads : Target → Bool)
       let helped = both_of _ (if_some is_text e.help) h in
       let labelled = both_of _ (if_some is_text e.label) helped.0 in
       let numbered = both_of (is_small e.number) (is_plain e.variable) labelled.0 in
-      along_some (good_array_element count reads) (record {
-        number = e.number;
-        variable = x.0;
-        label = e.label;
-        help = e.help;
-      }) f x.2
-      (both_true (both_true (both_true numbered.0
-      (ap (λ t. is_item_of count (item_no.Variable (variable_of t))) i.1
-      ∙ ap (is_item_of count) (kind_variable i.0 i.3) ∙ i.2)) some)
-      (both_true labelled.1 helped.1))
+      along_some (good_array_element count reads) x.2 (both_true (both_true
+      (both_true numbered.0 (ap (λ t. is_item_of count (item_no.Variable (variable_of t))) i.1
+      ∙ ap (is_item_of count) (kind_variable i.0 i.3) ∙ i.2)) some) (both_true labelled.1 helped.1))
 
   abbrev good_part : TypePart Target → Bool
   good_part q = list_all (named (is_good count reads)) (trees_of_part q)
@@ -220,20 +209,17 @@ module _ (unit : Description Path) (reads : Target → Bool)
       let parts = both_of _ (is_low (cond_height height c)) h in
       let x = bind_some (resolved_cond at (resolved_expr at) c) (λ c'. Some (item.OneNumber which c'))
       q e in
-      along_some good_part (item.OneNumber which x.0) q x.2
-      (option_good (expressions_good c x.0 parts.0 parts.1 x.1))
+      along_some good_part x.2 (option_good (expressions_good c x.0 parts.0 parts.1 x.1))
   part_good (item.OneFormat which c) q h e =
       let parts = both_of _ (is_low (cond_height leaf c)) h in
       let x = bind_some (resolved_cond at unchanged c) (λ c'. Some (item.OneFormat which c')) q e in
-      along_some good_part (item.OneFormat which x.0) q x.2
-      (option_good (one_good is_text c x.0 parts.0 parts.1 x.1))
+      along_some good_part x.2 (option_good (one_good is_text c parts.0 parts.1 x.1))
   part_good (item.Element c) q h e =
       let parts = both_of (is_cond is_path is_plain (is_enumerator is_path is_plain) c)
       (is_low (cond_height leaf c)) h in
       let x = bind_some (resolved_cond at unchanged c) (λ c'. Some (item.Element c')) q e in
-      along_some good_part (item.Element x.0) q x.2
-      (cond_good unchanged (is_enumerator is_path is_plain) good_enumerator leaf leaf
-      (λ v w k f. along_some good_enumerator v w f (enumerator_good v k)) (λ v w k f. refl) c
+      along_some good_part x.2 (cond_good unchanged (is_enumerator is_path is_plain) good_enumerator
+      leaf leaf (λ v w k f. along_some good_enumerator f (enumerator_good v k)) (λ v w k f. refl) c
       x.0 parts.0 parts.1 x.1)
 
   parts_good : (parts : List (TypePart Target)) → list_all good_part parts ≡ true
@@ -269,18 +255,16 @@ module _ (unit : Description Path) (reads : Target → Bool)
       let parts = both_of _ (is_low (conds_height leaf all)) h in
       let x = bind_some (resolved_conds at (resolved_data (meant_in unit)) all)
       (λ all'. Some (item.Request all')) q e in
-      along_some good_transaction_part (item.Request x.0) q x.2
+      along_some good_transaction_part x.2
       (conds_good (resolved_data (meant_in unit)) (is_data_item is_path is_plain)
-      (good_data count reads) leaf
-      leaf data_good (λ v w k f. refl) all x.0 parts.0 parts.1 x.1)
+      (good_data count reads) leaf leaf data_good (λ v w k f. refl) all x.0 parts.0 parts.1 x.1)
   transaction_part_good (item.Reply all) q h e =
       let parts = both_of _ (is_low (conds_height leaf all)) h in
       let x = bind_some (resolved_conds at (resolved_data (meant_in unit)) all)
       (λ all'. Some (item.Reply all')) q e in
-      along_some good_transaction_part (item.Reply x.0) q x.2
+      along_some good_transaction_part x.2
       (conds_good (resolved_data (meant_in unit)) (is_data_item is_path is_plain)
-      (good_data count reads) leaf
-      leaf data_good (λ v w k f. refl) all x.0 parts.0 parts.1 x.1)
+      (good_data count reads) leaf leaf data_good (λ v w k f. refl) all x.0 parts.0 parts.1 x.1)
 
   all_mapped : (parts : List (TransactionPart Target)) → list_all good_transaction_part parts ≡ true
       → list_all (named (is_good count reads)) (map tree_of_transaction_part parts) ≡ true
@@ -304,76 +288,62 @@ module _ (unit : Description Path) (reads : Target → Bool)
       → is_attribute is_path is_plain a ≡ true → is_low (attribute_height a) ≡ true
       → resolved_attribute (meant_in unit) sort a ≡ Some b → good_attribute b ≡ true
   attribute_good sort may some (item.OneText which c) b belongs h l e = let x =
-      bind_some (resolved_cond at unchanged c) (λ c'. Some (item.OneText which c')) b
-      e in along_some good_attribute (item.OneText which x.0) b x.2
-      (alone (one_good is_text c x.0 h l x.1))
+      bind_some (resolved_cond at unchanged c) (λ c'. Some (item.OneText which c')) b e in
+      along_some good_attribute x.2 (alone (one_good is_text c h l x.1))
   attribute_good sort may some (item.Class words) b belongs h l e =
-      along_some good_attribute (item.Class words) b e
-      refl
+      along_some good_attribute e refl
   attribute_good sort may some (item.Handling c) b belongs h l e =
-      let x = bind_some (resolved_cond at unchanged c)
-      (λ c'. Some (item.Handling c')) b e in along_some good_attribute (item.Handling x.0) b x.2
-      (alone (one_good any_value c x.0 h l x.1))
+      let x = bind_some (resolved_cond at unchanged c) (λ c'. Some (item.Handling c')) b e in
+      along_some good_attribute x.2 (alone (one_good any_value c h l x.1))
   attribute_good sort may some (item.Validity c) b belongs h l e =
-      let x = bind_some (resolved_cond at unchanged c)
-      (λ c'. Some (item.Validity c')) b e in along_some good_attribute (item.Validity x.0) b x.2
-      (alone (one_good any_value c x.0 h l x.1))
+      let x = bind_some (resolved_cond at unchanged c) (λ c'. Some (item.Validity c')) b e in
+      along_some good_attribute x.2 (alone (one_good any_value c h l x.1))
   attribute_good sort may some (item.TypeOf word parts) b belongs h l e =
       let x = bind_some (each (resolved_type_part (meant_in unit)) parts)
       (λ parts'. Some (item.TypeOf word parts')) b e in
-      let both = parts_good x.0
-      (each_all (resolved_type_part (meant_in unit)) (λ p. is_type_part is_path is_plain p
-      && is_low (type_part_height p)) good_part part_good parts x.0
-      (all_both (is_type_part is_path is_plain) (λ p. is_low (type_part_height p)) parts
+      let both = parts_good x.0 (each_all (resolved_type_part (meant_in unit))
+      (λ p. is_type_part is_path is_plain p && is_low (type_part_height p)) good_part part_good
+      parts (all_both (is_type_part is_path is_plain) (λ p. is_low (type_part_height p)) parts
       (type_parts word parts h) (all_low type_part_height parts l)) x.1) in
-      along_some good_attribute (item.TypeOf word x.0) b x.2 (both_true both refl)
+      along_some good_attribute x.2 (both_true both refl)
   attribute_good sort may some (item.Number n) b belongs h l e =
-      along_some good_attribute (item.Number n) b e
-      (alone h)
+      along_some good_attribute e (alone h)
   attribute_good sort may some (item.Operation o) b belongs h l e =
-      along_some good_attribute (item.Operation o) b e
-      refl
+      along_some good_attribute e refl
   attribute_good sort may some (item.Transaction number parts) b belongs h l e =
       let x = bind_some (each (resolved_transaction_part (meant_in unit)) parts)
       (λ parts'. Some (item.Transaction number parts')) b e in
       let told = both_of (if_some is_small number)
       (list_all (is_transaction_part is_path is_plain) parts) h in
-      along_some good_attribute (item.Transaction number x.0) b x.2
-      (both_true refl (both_true told.0
-      (all_mapped x.0 (each_all (resolved_transaction_part (meant_in unit))
-      (λ p. is_transaction_part is_path is_plain p && is_low (transaction_part_height p))
-      good_transaction_part transaction_part_good parts x.0
+      along_some good_attribute x.2 (both_true refl (both_true told.0 (all_mapped x.0 (each_all
+      (resolved_transaction_part (meant_in unit)) (λ p. is_transaction_part is_path is_plain p &&
+      is_low (transaction_part_height p)) good_transaction_part transaction_part_good parts
       (all_both (is_transaction_part is_path is_plain) (λ p. is_low (transaction_part_height p))
       parts told.1 (all_low transaction_part_height parts l)) x.1))))
   attribute_good sort may some (item.ResponseCodes responses) b belongs h l e =
-      along_some good_attribute (item.ResponseCodes responses) b e
-      (alone (all_good (is_response_code is_path is_plain) good_response response_good responses
-      h))
+      along_some good_attribute e
+      (alone (all_good (is_response_code is_path is_plain) good_response response_good responses h))
   attribute_good sort may some (item.Items entries) b belongs h l e =
       let x = bind_some (resolved_conds at (resolved_entry (meant_in unit)) entries)
       (λ entries'. Some (item.Items entries')) b e in
-      along_some good_attribute (item.Items x.0) b x.2
+      along_some good_attribute x.2
       (alone (conds_good (resolved_entry (meant_in unit)) (is_entry is_path is_plain)
       (good_entry count reads) leaf leaf entry_good (λ v w k f. refl) entries x.0 h l x.1))
   attribute_good sort may some (item.Members members) b belongs h l e =
       let x = bind_some (each (resolved_member (meant_in unit) (member_kinds sort)) members)
       (λ members'. Some (item.Members members')) b e in
-      along_some good_attribute (item.Members x.0) b x.2
-      (alone (each_all (resolved_member (meant_in unit) (member_kinds sort))
-      (is_member is_path is_plain)
-      (good_member count reads) (member_good (member_kinds sort) (members_listed sort may))
-      members x.0 h x.1))
+      along_some good_attribute x.2 (alone (each_all (resolved_member (meant_in unit)
+      (member_kinds sort)) (is_member is_path is_plain) (good_member count reads)
+      (member_good (member_kinds sort) (members_listed sort may)) members h x.1))
   attribute_good sort may some (item.Elements elements) b belongs h l e =
       let x = bind_some (each (resolved_element (meant_in unit)) elements)
       (λ elements'. Some (item.Elements elements')) b e in
-      along_some good_attribute (item.Elements x.0) b x.2
-      (alone (each_all (resolved_element (meant_in unit)) (is_array_element is_path is_plain)
-      (good_array_element count reads) (array_element_good (counted count sort belongs some))
-      elements x.0
-      h x.1))
+      along_some good_attribute x.2 (alone (each_all (resolved_element (meant_in unit))
+      (is_array_element is_path is_plain) (good_array_element count reads)
+      (array_element_good (counted count sort belongs some)) elements h x.1))
   attribute_good sort may some (item.Definition body) b belongs h l e = let x =
       bind_some (resolved_body (meant_in unit) body [] 0) (λ body'. Some (item.Definition body')) b
-      e in along_some good_attribute (item.Definition x.0) b x.2 refl
+      e in along_some good_attribute x.2 refl
 
   abbrev good_item : Item Target → Bool
   good_item i = throughout_item (is_good count reads) i
@@ -388,14 +358,10 @@ module _ (unit : Description Path) (reads : Target → Bool)
       let whole = both_of (is_item is_path is_plain i) (has_arrays count i.sort) h in
       let front = both_of (is_name i.name && may_list i.sort) _ whole.0 in
       let may = (both_of (is_name i.name) (may_list i.sort) front.0).1 in
-      along_some good_item (record { sort = i.sort; name = i.name; attributes = x.0 }) j x.2
-      (each_all (resolved_attribute (meant_in unit) i.sort)
-      (stands_in is_path is_plain (kind_of_item i.sort))
-      good_attribute
-      (λ a b k.
+      along_some good_item x.2 (each_all (resolved_attribute (meant_in unit) i.sort)
+      (stands_in is_path is_plain (kind_of_item i.sort)) good_attribute (λ a b k.
       let parts = both_of (belongs_to (kind_of_item i.sort) a && is_attribute is_path is_plain a) _
       k in
       let fits = both_of (belongs_to (kind_of_item i.sort) a) (is_attribute is_path is_plain a)
       parts.0 in
-      attribute_good i.sort may whole.1 a b fits.0 fits.1 parts.1)
-      i.attributes x.0 front.1 x.1)
+      attribute_good i.sort may whole.1 a b fits.0 fits.1 parts.1) i.attributes front.1 x.1)

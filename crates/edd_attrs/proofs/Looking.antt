@@ -40,16 +40,15 @@ module _ {X Y : Type 0} (a : Attr) (view : X → Y) (one : Y → List Named) (al
       ∙ first-append a (one (view (get_or xs i x))) (all (map view (drop (i + 1) xs)))
       ∙ ap (λ y. or_else (first_tree a (one (view y))) (found_from (i + 1) xs)) (sym is)
 
-  pub goes_on : (i : ℕ) (xs : List X) (x : X) → i < length xs → x ≡ get_or xs i x
+  pub goes_on : (i : ℕ) (xs : List X) {x : X} → i < length xs → x ≡ get_or xs i x
       → None ≡ first_tree a (one (view x)) → found_from i xs ≡ found_from 0 xs
       → found_from (i + 1) xs ≡ found_from 0 xs
-  goes_on i xs x h is none invariant = ap (λ o. or_else o (found_from (i + 1) xs)) none
+  goes_on i xs {x} h is none invariant = ap (λ o. or_else o (found_from (i + 1) xs)) none
       ∙ sym (next_found i xs x h is) ∙ invariant
 
-  pub stops : (i : ℕ) (xs : List X) (x : X) (t : Tree) → i < length xs → x ≡ get_or xs i x
-      → Some t ≡ first_tree a (one (view x)) → found_from i xs ≡ found_from 0 xs
-      → Some t ≡ found_from 0 xs
-  stops i xs x t h is found invariant = ap (λ o. or_else o (found_from (i + 1) xs)) found
+  pub stops : (i : ℕ) (xs : List X) {x : X} {t : Tree} → i < length xs → x ≡ get_or xs i x → Some t
+      ≡ first_tree a (one (view x)) → found_from i xs ≡ found_from 0 xs → Some t ≡ found_from 0 xs
+  stops i xs {x} h is found invariant = ap (λ o. or_else o (found_from (i + 1) xs)) found
       ∙ sym (next_found i xs x h is) ∙ invariant
 
   pub none_found : (i : ℕ) (xs : List X) → length xs ≤ i → all [] ≡ []

@@ -19,8 +19,7 @@ IsPartsBlock numbered parts b = IsCondsBlock (Giving numbered enumerator) (eleme
 pub part_step : (p : TypePart Target) (b c : List Words) (between after : List ℕ)
     → WritesPart b between p c after → Step element_strings IsPartsBlock p b between c after
 part_step (item.Element v) b c between after w =
-    block_step element_strings IsPartsBlock (item.Element v) b c between after
-    (λ numbered p. IsCondBlock (Giving numbered enumerator) v p) w
+    block_step element_strings IsPartsBlock (item.Element v) w
     (λ numbered rest p q one more. (p, q, refl, one, more))
-part_step x b c between after w = no_step element_strings IsPartsBlock
-    x b c between after w.0 w.1 refl (λ numbered rest q h. h)
+part_step x b c between after w =
+    no_step element_strings IsPartsBlock x b c w.0 w.1 refl (λ numbered rest q h. h)

@@ -47,8 +47,8 @@ module _ (context : Context) where
     exist : all_straight (may_stand context) b ≡ true
     short : size b ≤ n
 
-  may_be_longer : (b : Block) (m n : ℕ) → m ≤ n → TakesOne b m → TakesOne b n
-  may_be_longer b m n le t = record {
+  may_be_longer : (b : Block) {m : ℕ} (n : ℕ) → m ≤ n → TakesOne b m → TakesOne b n
+  may_be_longer b n le t = record {
     flows = t.flows;
     even = t.even;
     spelled = t.spelled;
@@ -74,9 +74,9 @@ module _ (context : Context) where
     short = omega (arith, s.short, le);
   }
 
-  pub then_sound : (x y : Block) (m n : ℕ) → IsSound x m → IsSound y n
+  pub then_sound : {x : Block} (y : Block) {m n : ℕ} → IsSound x m → IsSound y n
       → IsSound (block.Then x y) (m + n)
-  then_sound x y m n s t = record {
+  then_sound y s t = record {
     flows = (s.flows, subst (Flows y) (sym s.even) t.flows);
     even = ap (depth_after y) s.even ∙ t.even;
     spelled = (s.spelled, t.spelled);
@@ -86,10 +86,10 @@ module _ (context : Context) where
 
   module _ (reads : Target → Bool) (facts : ExpressionFacts context reads) where
     -- an expression, and after it what takes its value
-    on_value : (e : Expr Target) (b : Block) (n : ℕ) → is_pure_expr reads reads e ≡ true
+    on_value : (e : Expr Target) {b : Block} (n : ℕ) → is_pure_expr reads reads e ≡ true
         → height e ≤ 99 → TakesOne b n → n ≤ 32 * (1 + n) → (m : ℕ) → 32 * nodes e + n ≤ 32 * m
         → IsSound (block.Then (expression_block e) b) m
-    on_value e b n pure low t trivial m few =
+    on_value e {b} n pure low t trivial m few =
         let flows = facts.flows e 0 (omega (arith, low)) in
         record {
           flows = (flows.0, subst (Flows b) (sym flows.1) t.flows);
@@ -99,9 +99,9 @@ module _ (context : Context) where
           short = omega (arith, facts.short e, t.short, few);
         }
 
-    either_takes : (x y : Block) (m n : ℕ) → IsSound x m → IsSound y n
+    either_takes : (x y : Block) {m n : ℕ} → IsSound x m → IsSound y n
         → TakesOne (block.Either x y) (10 + (32 * m + 32 * n))
-    either_takes x y m n s t = record {
+    either_takes x y s t = record {
       flows = (
         omega arith,
         omega arith,
@@ -133,9 +133,9 @@ module _ (context : Context) where
       short = omega (arith, t.short);
     }
 
-    match_takes : (label : _) (x z : Block) (m n : ℕ) → is_label label ≡ true → IsSound x m
+    match_takes : (label : _) (x z : Block) {m : ℕ} (n : ℕ) → is_label label ≡ true → IsSound x m
         → TakesOne z n → TakesOne (block.Match label x z) (18 + (32 * m + n))
-    match_takes label x z m n fits s t = record {
+    match_takes label x z n fits s t = record {
       flows = (
         omega arith,
         omega arith,
@@ -197,20 +197,17 @@ module _ (context : Context) where
                 le-max_right (conds_height h first) (conds_height h otherwise),
               )) in
               subst (λ c. IsSound c (cond_nodes w (If condition first otherwise))) (sym is.2)
-              (on_value condition (block.Either is.0 is.1) _ front.0
-              (omega (arith, l, le-max_left (height condition) inner))
-              (either_takes is.0 is.1 (conds_nodes w first) (conds_nodes w otherwise) x y)
-              (omega arith) _ (omega arith))
+              (on_value condition _ front.0 (omega (arith, l, le-max_left (height condition) inner))
+              (either_takes is.0 is.1 x y) (omega arith) _ (omega arith))
           cond_sound (Select on arms) b is t l =
               let tests = both_of (is_pure_expr reads reads on) (are_arms reads reads p arms) t in
               let low : arms_height h arms ≤ 100 =
               omega (arith, l, le-max_right (height on) (arms_height h arms)) in
               let y = default_sound arms is.1 is.3 tests.1 low in
-              let x = arms_sound arms is.1 (default_nodes arms) y is.0 is.4 tests.1 low in
-              subst (λ c. IsSound c (cond_nodes w (Select on arms))) (sym is.2)
-              (on_value on is.0 _ tests.0
-              (omega (arith, l, le-max_left (height on) (arms_height h arms))) x (omega arith) _
-              (omega (arith, parts_of_nodes arms)))
+              let x = arms_sound arms is.1 y is.0 is.4 tests.1 low in
+              subst (λ c. IsSound c (cond_nodes w (Select on arms))) (sym is.2) (on_value on _
+              tests.0 (omega (arith, l, le-max_left (height on) (arms_height h arms))) x
+              (omega arith) _ (omega (arith, parts_of_nodes arms)))
 
           pub conds_sound : (c : Conds Target V) (b : Block) → IsCondsBlock of c b
               → are_conds reads reads p c ≡ true → conds_height h c ≤ 100
@@ -219,10 +216,12 @@ module _ (context : Context) where
           conds_sound (Cons first rest) b is t l =
               let tests = both_of (is_cond reads reads p first) (are_conds reads reads p rest) t in
               subst (λ c. IsSound c (conds_nodes w (Cons first rest))) (sym is.2)
-              (then_sound is.0 is.1 (cond_nodes w first) (conds_nodes w rest)
-              (cond_sound first is.0 is.3 tests.0
-              (omega (arith, l, le-max_left (cond_height h first) (conds_height h rest))))
-              (conds_sound rest is.1 is.4 tests.1
+              (then_sound is.1 (cond_sound first is.0 is.3 tests.0 (omega (
+                arith,
+                l,
+                le-max_left
+                    (cond_height h first) (conds_height h rest),
+              ))) (conds_sound rest is.1 is.4 tests.1
               (omega (arith, l, le-max_right (cond_height h first) (conds_height h rest)))))
 
           default_sound : (arms : Arms Target V) (y : Block) → IsDefaultBlock of arms y
@@ -238,25 +237,23 @@ module _ (context : Context) where
               conds_sound body y is tests.0
               (omega (arith, l, le-max_left (conds_height h body) (arms_height h rest)))
 
-          arms_sound : (arms : Arms Target V) (y : Block) (n : ℕ) → IsSound y n → (b : Block)
+          arms_sound : (arms : Arms Target V) (y : Block) {n : ℕ} → IsSound y n → (b : Block)
               → IsArmsBlock of y arms b → are_arms reads reads p arms ≡ true
-              → arms_height h arms ≤ 100
-              → TakesOne b (32 * case_nodes arms + (1 + 32 * n))
-          arms_sound NoArms y n sound b is t l =
+              → arms_height h arms ≤ 100 → TakesOne b (32 * case_nodes arms + (1 + 32 * n))
+          arms_sound NoArms y {n} sound b is t l =
               subst (λ c. TakesOne c (32 * case_nodes NoArms + (1 + 32 * n))) (sym is)
-              (may_be_longer _ (1 + 32 * n) _ (omega arith) (drop_takes y n sound))
-          arms_sound (ConsArm (Case label body) rest) y n sound b is t l =
+              (may_be_longer _ _ (omega arith) (drop_takes y n sound))
+          arms_sound (ConsArm (Case label body) rest) y {n} sound b is t l =
               let tests = both_of _ (are_arms reads reads p rest) t in
               let front = both_of (is_label label) (are_conds reads reads p body) tests.0 in
               let x = conds_sound body is.0 is.3 front.1
               (omega (arith, l, le-max_left (conds_height h body) (arms_height h rest))) in
-              let z = arms_sound rest y n sound is.1 is.4 tests.1
+              let z = arms_sound rest y sound is.1 is.4 tests.1
               (omega (arith, l, le-max_right (conds_height h body) (arms_height h rest))) in
-              let whole = match_takes label is.0 is.1 (conds_nodes w body) _ front.0 x z in
+              let whole = match_takes label is.0 is.1 _ front.0 x z in
               subst (λ c. TakesOne c (32 * case_nodes (ConsArm (Case label body) rest)
-              + (1 + 32 * n))) (sym is.2)
-              (may_be_longer _ _ _ (omega arith) whole)
-          arms_sound (ConsArm (Default body) rest) y n sound b is t l =
+              + (1 + 32 * n))) (sym is.2) (may_be_longer _ _ (omega arith) whole)
+          arms_sound (ConsArm (Default body) rest) y {n} sound b is t l =
               let tests = both_of (are_conds reads reads p body) (are_arms reads reads p rest) t in
-              arms_sound rest y n sound b is tests.1
+              arms_sound rest y sound b is tests.1
               (omega (arith, l, le-max_right (conds_height h body) (arms_height h rest)))

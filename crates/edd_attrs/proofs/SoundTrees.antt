@@ -120,9 +120,9 @@ module _ (unit : Description Target) (few : (k : Kind) → count_of k unit.items
       pub exist : all_straight (may_stand context) b ≡ true
       pub short : size b + 1 ≤ length_limit t
 
-    sound_unit : (b : Block) (t : Tree) (n : ℕ) → 32 * n + 1 ≤ length_limit (Some t)
+    sound_unit : {b : Block} (t : Tree) {n : ℕ} → 32 * n + 1 ≤ length_limit (Some t)
         → IsSound context b n → IsSoundUnit b (Some t)
-    sound_unit b t n le s = record {
+    sound_unit t le s = record {
       flows = s.flows;
       even = s.even;
       spelled = s.spelled;
@@ -157,9 +157,8 @@ module _ (unit : Description Target) (few : (k : Kind) → count_of k unit.items
       line_sound [] b is h = subst (λ c. IsSound context c 0) (sym is) (nothing_sound context 0)
       line_sound (v ∷ vs) b is h =
           let parts = both_of (p v) (list_all p vs) h in
-          subst (λ c. IsSound context c (length (v ∷ vs))) (sym is.2)
-          (again (then_sound context is.0 is.1 1 (length vs)
-          (value_sound v is.0 is.3 parts.0 (omega arith)) (line_sound vs is.1 is.4 parts.1)))
+          subst (λ c. IsSound context c (length (v ∷ vs))) (sym is.2) (again (then_sound context
+          is.1 (value_sound v is.0 is.3 parts.0 (omega arith)) (line_sound vs is.1 is.4 parts.1)))
         where
           again : {x : Block} → IsSound context x (1 + length vs)
               → IsSound context x (length (v ∷ vs))
@@ -234,29 +233,28 @@ module _ (unit : Description Target) (few : (k : Kind) → count_of k unit.items
         → IsSoundUnit b (Some t)
     unfolding IsTreeBlock length_limit tree_nodes
     tree_sound (trees.Texts c) b h is =
-        sound_unit b _ _ (omega arith) (one_sound text_record is_text (λ t k. refl) c b is
-        (good (trees.Texts c) h))
+        sound_unit _ (omega arith)
+        (one_sound text_record is_text (λ t k. refl) c b is (good (trees.Texts c) h))
     tree_sound (trees.Class names) b h is =
-        sound_unit b _ _ (omega arith) (line_sound class_record any_value (λ n k. refl) names b is
-        (always names))
+        sound_unit _ (omega arith)
+        (line_sound class_record any_value (λ n k. refl) names b is (always names))
     tree_sound (trees.Handling c) b h is =
-        sound_unit b _ _ (omega arith)
-        (one_sound handling_record any_value (λ v k. handling_small v) c b is
-        (good (trees.Handling c) h))
+        sound_unit _ (omega arith) (one_sound handling_record any_value (λ v k. handling_small v) c
+        b is (good (trees.Handling c) h))
     tree_sound (trees.Validity c) b h is =
-        sound_unit b _ _ (omega arith) (one_sound validity_record any_value (λ v k. bit_small v) c b
-        is (good (trees.Validity c) h))
+        sound_unit _ (omega arith) (one_sound validity_record any_value (λ v k. bit_small v) c b is
+        (good (trees.Validity c) h))
     tree_sound (trees.Expressions c) b h is =
         let tests = both_of (good_cond reads (good_expression count reads) height c)
         (is_single reads reads c) (good (trees.Expressions c) h) in
         let parts = both_of (is_cond reads reads (good_expression count reads) c)
         (is_low (cond_height height c)) tests.0 in
-        sound_unit b _ _ (omega arith)
+        sound_unit _ (omega arith)
         (cond_sound context reads (facts strings) IsValueBlock (good_expression count reads) height
         nodes expression_sound c b is parts.0 (leb-true (cond_height height c) 100 parts.1))
     tree_sound (trees.Enumerators parts) b h is =
         let tests = good (trees.Enumerators parts) h in
-        sound_unit b _ _ (omega (arith, elements_nodes parts))
+        sound_unit _ (omega (arith, elements_nodes parts))
         (list_sound enumerator good_enumerator (enumerator_fine unit reads) (elements parts) b is
         (elements_tested count reads parts tests) (elements_low count reads parts tests))
     tree_sound (trees.Number n) b h is = number_sound (trees.Number n) b n (omega arith)
@@ -270,26 +268,20 @@ module _ (unit : Description Target) (few : (k : Kind) → count_of k unit.items
         (is_low (conds_height leaf all)) (good (trees.Data all) h) in
         let rules = both_of (list_all kept_data (values_of all)) (no_breach (conds_defaults all))
         (ruled (trees.Data all) h) in
-        sound_unit b _ _ (omega arith)
-        (list_sound data_item (λ d. good_data count reads d && kept_data d) (data_fine unit reads)
-        all b is
-        (conds_both reads (good_data count reads) kept_data all tests.0 rules.0)
-        (leb-true (conds_height leaf all) 100 tests.1))
+        sound_unit _ (omega arith) (list_sound data_item (λ d. good_data count reads d && kept_data
+        d) (data_fine unit reads) all b is (conds_both reads (good_data count reads) kept_data all
+        tests.0 rules.0) (leb-true (conds_height leaf all) 100 tests.1))
     tree_sound (trees.ResponseCodes responses) b h is =
-        sound_unit b _ _ (omega arith) (line_sound response good_response (response_fine unit reads)
+        sound_unit _ (omega arith) (line_sound response good_response (response_fine unit reads)
         responses b is (good (trees.ResponseCodes responses) h))
     tree_sound (trees.Items entries) b h is =
         let tests = both_of (are_conds reads reads (good_entry count reads) entries)
         (is_low (conds_height leaf entries)) (good (trees.Items entries) h) in
-        sound_unit b _ _ (omega arith)
-        (list_sound entry (good_entry count reads) (entry_fine unit reads) entries b is tests.0
-        (leb-true (conds_height leaf entries) 100 tests.1))
+        sound_unit _ (omega arith) (list_sound entry (good_entry count reads) (entry_fine unit
+        reads) entries b is tests.0 (leb-true (conds_height leaf entries) 100 tests.1))
     tree_sound (trees.Members members) b h is =
-        sound_unit b _ _ (omega arith)
-        (line_sound member (good_member count reads) (member_fine unit reads) members b is
-        (good (trees.Members members) h))
+        sound_unit _ (omega arith) (line_sound member (good_member count reads)
+        (member_fine unit reads) members b is (good (trees.Members members) h))
     tree_sound (trees.Elements all) b h is =
-        sound_unit b _ _ (omega arith)
-        (line_sound element (good_array_element count reads) (array_element_fine unit reads) all
-        b is
-        (good (trees.Elements all) h))
+        sound_unit _ (omega arith) (line_sound element (good_array_element count reads)
+        (array_element_fine unit reads) all b is (good (trees.Elements all) h))

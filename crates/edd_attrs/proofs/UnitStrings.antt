@@ -37,14 +37,14 @@ all_has : (ws strings : List Words) → ((w : Words) → has w ws ≡ true → h
 all_has [] strings within = refl
 all_has (w ∷ ws) strings within =
     both_true (within w (first (has w ws) (words_refl w)))
-    (all_has ws strings (λ v h. within v (later (same_words v w) (has v ws) h)))
+    (all_has ws strings (λ v h. within v (later (same_words v w) h)))
   where
     first : {a : Bool} (b : Bool) → a ≡ true → (a || b) ≡ true
     first b h = rw h refl
 
-    later : (a b : Bool) → b ≡ true → (a || b) ≡ true
-    later true b h = refl
-    later false b h = h
+    later : (a : Bool) {b : Bool} → b ≡ true → (a || b) ≡ true
+    later true h = refl
+    later false h = h
 
 one_has : (strings ws : List Words) (w : Words) → list_all (λ v. has v strings) ws ≡ true
     → has w ws ≡ true → has w strings ≡ true

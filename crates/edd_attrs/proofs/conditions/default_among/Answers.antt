@@ -15,10 +15,9 @@ use Rattle.edd_attrs.proofs.conditions.default_among.Goals as goal
 pub loop-arm-preserved : goal.loop-arm-preserved
 loop-arm-preserved g c =
     let at = dropped (map (numbered_arm g.V.Element.view) c.args.arms.now) c.loop-arm.arm-index
-    (numbered_arm g.V.Element.view c.arm-item.result)
     (omega (arith, length-map c.args.arms.now (numbered_arm g.V.Element.view)))
-    (viewed_at (numbered_arm g.V.Element.view) c.args.arms.now c.loop-arm.arm-index
-    c.arm-item.result (omega arith) c.arm-item.is) in
+    (viewed_at (numbered_arm g.V.Element.view) c.args.arms.now c.loop-arm.arm-index (omega arith)
+    c.arm-item.is) in
     let e = sym (ap (option_map (λ (body : Bor (List (Cond Target g.row.V.Denot))). numbered_conds
     g.V.Element.view body.now)) c.in_default.is) ∙ c.default_in.ensures in
     sym (not_here (numbered_arm g.V.Element.view c.arm-item.result)
@@ -30,15 +29,12 @@ loop-arm-preserved g c =
 pub returns-in-Some : goal.returns-in-Some
 returns-in-Some g c =
     let at = dropped (map (numbered_arm g.V.Element.view) c.args.arms.now) c.loop-arm.arm-index
-    (numbered_arm g.V.Element.view c.arm-item.result)
     (omega (arith, length-map c.args.arms.now (numbered_arm g.V.Element.view)))
-    (viewed_at (numbered_arm g.V.Element.view) c.args.arms.now c.loop-arm.arm-index
-    c.arm-item.result (omega arith) c.arm-item.is) in
+    (viewed_at (numbered_arm g.V.Element.view) c.args.arms.now c.loop-arm.arm-index (omega arith)
+    c.arm-item.is) in
     let e = sym (ap (option_map (λ (body : Bor (List (Cond Target g.row.V.Denot))). numbered_conds
     g.V.Element.view body.now)) c.in-Some.is) ∙ c.default_in.ensures in
-    found_here (numbered_arm g.V.Element.view c.arm-item.result)
-    (arms_from (drop (c.loop-arm.arm-index + 1)
-    (map (numbered_arm g.V.Element.view) c.args.arms.now)))
-    (numbered_conds g.V.Element.view c.in-Some.body.now) e
+    found_here (numbered_arm g.V.Element.view c.arm-item.result) (arms_from
+    (drop (c.loop-arm.arm-index + 1) (map (numbered_arm g.V.Element.view) c.args.arms.now))) e
     ∙ ap (λ (xs : List (pure.Arm Target g.V.Element.Meant)). default_of (arms_from xs)) (sym at)
     ∙ c.loop-arm.invariant

@@ -14,7 +14,7 @@ loop-arm-preserved g c =
     let arm = view c.arm-item.result in
     let start = c.args.code.now in
     let below : i < length arms = omega (arith, length-map c.args.arms.now view) in
-    let at = viewed_at view c.args.arms.now i c.arm-item.result (omega arith) c.arm-item.is in
+    let at = viewed_at view c.args.arms.now i (omega arith) c.arm-item.is in
     let place : length c.loop-arm.code ≡ length start + length (headers (take i arms)) =
     ap length c.loop-arm.invariant.code ∙ length-append start (headers (take i arms)) in
     record {

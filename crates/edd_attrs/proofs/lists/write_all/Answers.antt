@@ -11,10 +11,8 @@ use Rattle.edd_attrs.proofs.lists.write_all.Goals as goal
 pub write-requires : goal.write-requires
 write-requires g c =
     each g.V.Element.is_kept (map g.V.Element.view c.args.all.now) c.loop-v.v-index
-    (g.V.Element.view c.v-item.result)
-    (omega (arith, length-map c.args.all.now g.V.Element.view))
-    (viewed_at g.V.Element.view c.args.all.now c.loop-v.v-index c.v-item.result (omega arith)
-    c.v-item.is) c.requires
+    (omega (arith, length-map c.args.all.now g.V.Element.view)) (viewed_at g.V.Element.view
+    c.args.all.now c.loop-v.v-index (omega arith) c.v-item.is) c.requires
 
 pub loop-v-init : goal.loop-v-init
 loop-v-init g c = record {
@@ -27,15 +25,10 @@ pub loop-v-preserved : goal.loop-v-preserved
 loop-v-preserved g c = record {
   front =
       front_grows g.V.Element.strings (λ numbered. IsLineBlock (g.V.Element.is_block numbered))
-      c.loop-v.v-index (map g.V.Element.view c.args.all.now) (g.V.Element.view c.v-item.result)
-      c.args.table.now c.loop-v.table c.write.new.table c.args.code.now c.loop-v.code
-      c.write.new.code (omega (arith, length-map c.args.all.now g.V.Element.view))
-      (viewed_at g.V.Element.view c.args.all.now c.loop-v.v-index c.v-item.result (omega arith)
-      c.v-item.is) c.loop-v.invariant.front
-      (block_step g.V.Element.strings (λ numbered. IsLineBlock (g.V.Element.is_block numbered))
-      (g.V.Element.view c.v-item.result) c.loop-v.table c.write.new.table c.loop-v.code
-      c.write.new.code
-      (λ numbered b. g.V.Element.is_block numbered (g.V.Element.view c.v-item.result) b)
+      (omega (arith, length-map c.args.all.now g.V.Element.view))
+      (viewed_at g.V.Element.view c.args.all.now c.loop-v.v-index (omega arith) c.v-item.is)
+      c.loop-v.invariant.front (block_step g.V.Element.strings
+      (λ numbered. IsLineBlock (g.V.Element.is_block numbered)) (g.V.Element.view c.v-item.result)
       c.in_ok-write.ensures.sound (λ numbered rest p q one more. (p, q, refl, one, more)));
   grows = grows_on c.args.table.now c.loop-v.table c.write.new.table c.loop-v.invariant.grows
       c.in_ok-write.ensures.grows;
@@ -50,16 +43,10 @@ returns-in_err-write-clause-refused g c h =
     let over : Overflows c.loop-v.table (g.V.Element.strings (g.V.Element.view c.v-item.result)) =
     grind (arith, common_steps) in
     front_overflows g.V.Element.strings (λ numbered. IsLineBlock (g.V.Element.is_block numbered))
-    c.loop-v.v-index (map g.V.Element.view c.args.all.now) (g.V.Element.view c.v-item.result)
-    c.args.table.now c.loop-v.table c.args.code.now c.loop-v.code
-    (omega (arith, length-map c.args.all.now g.V.Element.view))
-    (viewed_at g.V.Element.view c.args.all.now c.loop-v.v-index c.v-item.result (omega arith)
-    c.v-item.is) c.loop-v.invariant.front over
+    (omega (arith, length-map c.args.all.now g.V.Element.view)) (viewed_at g.V.Element.view
+    c.args.all.now c.loop-v.v-index (omega arith) c.v-item.is) c.loop-v.invariant.front over
 
 pub returns-clause-sound : goal.returns-clause-sound
 returns-clause-sound g c =
-    front_ends g.V.Element.strings (λ numbered. IsLineBlock (g.V.Element.is_block numbered))
-    c.loop-v.v-index (map g.V.Element.view c.args.all.now) c.args.table.now c.loop-v.table
-    c.args.code.now c.loop-v.code
-    (omega (arith, length-map c.args.all.now g.V.Element.view)) c.loop-v.invariant.front
-    (λ numbered. refl)
+    front_ends g.V.Element.strings (λ numbered. IsLineBlock (g.V.Element.is_block numbered)) (omega
+    (arith, length-map c.args.all.now g.V.Element.view)) c.loop-v.invariant.front (λ numbered. refl)

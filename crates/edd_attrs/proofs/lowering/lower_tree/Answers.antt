@@ -11,21 +11,14 @@ pub returns-clause-sound : goal.returns-clause-sound
 returns-clause-sound c =
     let lowered : LowersTree c.args.table.now (option_map views.tree_of c.args.tree)
     c.match-tree.table c.put.new.code = elim c.match-tree.branch [
-      | in-Some+in_ok-write_tree w ↦
-          subst (λ (t : Option Tree). LowersTree c.args.table.now (option_map views.tree_of t)
-          c.match-tree.table c.put.new.code) (sym w.in-Some.is)
-          (unit_lowered (Some (views.tree_of w.in-Some.tree)) c.args.table.now
-          w.write_tree.new.table c.match-tree.table c.in_ok-code.code w.write_tree.new.code
-          c.match-tree.code c.put.new.code
-          c.in_ok-code.ensures w.table-is w.code-is w.in_ok-write_tree.ensures.sound
-          c.in_ok-put.ensures.code)
-      | in_default w ↦
-          subst (λ (t : Option Tree). LowersTree c.args.table.now (option_map views.tree_of t)
-          c.match-tree.table c.put.new.code) (sym w.in_default.is)
-          (unit_lowered None c.args.table.now c.args.table.now c.match-tree.table c.in_ok-code.code
-          c.in_ok-code.code c.match-tree.code c.put.new.code
-          c.in_ok-code.ensures w.table-is w.code-is (no_block c.args.table.now c.in_ok-code.code)
-          c.in_ok-put.ensures.code)
+      | in-Some+in_ok-write_tree w ↦ subst (λ (t : Option Tree). LowersTree c.args.table.now
+          (option_map views.tree_of t) c.match-tree.table c.put.new.code) (sym w.in-Some.is)
+          (unit_lowered (Some (views.tree_of w.in-Some.tree)) c.in_ok-code.ensures w.table-is
+          w.code-is w.in_ok-write_tree.ensures.sound c.in_ok-put.ensures.code)
+      | in_default w ↦ subst (λ (t : Option Tree). LowersTree c.args.table.now
+          (option_map views.tree_of t) c.match-tree.table c.put.new.code) (sym w.in_default.is)
+          (unit_lowered None c.in_ok-code.ensures w.table-is w.code-is
+          (no_block c.args.table.now c.in_ok-code.code) c.in_ok-put.ensures.code)
     ] in
     subst (LowersTree c.args.table.now (option_map views.tree_of c.args.tree) c.match-tree.table)
     (sym c.finish.ensures) lowered

@@ -15,10 +15,8 @@ use Rattle.edd_attrs.proofs.lowering.write_parts.Goals as goal
 pub write_part-requires : goal.write_part-requires
 write_part-requires c =
     part_kept (map numbered_type_part c.args.parts.now) c.loop-part.part-index
-    (numbered_type_part c.part-item.result)
-    (omega (arith, length-map c.args.parts.now numbered_type_part))
-    (viewed_at numbered_type_part c.args.parts.now c.loop-part.part-index c.part-item.result
-    (omega arith) c.part-item.is) c.requires
+    (omega (arith, length-map c.args.parts.now numbered_type_part)) (viewed_at numbered_type_part
+    c.args.parts.now c.loop-part.part-index (omega arith) c.part-item.is) c.requires
 
 pub loop-part-init : goal.loop-part-init
 loop-part-init c = record {
@@ -30,11 +28,11 @@ loop-part-init c = record {
 pub loop-part-preserved : goal.loop-part-preserved
 loop-part-preserved c = record {
   front =
-      front_grows element_strings IsPartsBlock c.loop-part.part-index
-      (map numbered_type_part c.args.parts.now) (numbered_type_part c.part-item.result)
-      c.args.table.now c.loop-part.table c.write_part.new.table c.args.code.now c.loop-part.code
-      c.write_part.new.code (omega (arith, length-map c.args.parts.now numbered_type_part))
-      (viewed_at numbered_type_part c.args.parts.now c.loop-part.part-index c.part-item.result
+      front_grows element_strings IsPartsBlock (omega (
+        arith,
+        length-map c.args.parts.now
+            numbered_type_part,
+      )) (viewed_at numbered_type_part c.args.parts.now c.loop-part.part-index
       (omega arith) c.part-item.is) c.loop-part.invariant.front
       (part_step (numbered_type_part c.part-item.result) c.loop-part.table c.write_part.new.table
       c.loop-part.code c.write_part.new.code c.in_ok-write_part.ensures.sound);
@@ -51,22 +49,15 @@ returns-in_err-write_part-clause-refused c h =
     let over : Overflows c.loop-part.table (element_strings (numbered_type_part c.part-item.result))
     = grind (arith, common_steps) in
     subst (λ (ws : List Words). Overflows c.args.table.now ws)
-    (element_strings_are (map numbered_type_part c.args.parts.now))
-    (front_overflows element_strings IsPartsBlock c.loop-part.part-index
-    (map numbered_type_part c.args.parts.now) (numbered_type_part c.part-item.result)
-    c.args.table.now c.loop-part.table c.args.code.now c.loop-part.code
-    (omega (arith, length-map c.args.parts.now numbered_type_part))
-    (viewed_at numbered_type_part c.args.parts.now c.loop-part.part-index c.part-item.result
-    (omega arith) c.part-item.is) c.loop-part.invariant.front over)
+    (element_strings_are (map numbered_type_part c.args.parts.now)) (front_overflows element_strings
+    IsPartsBlock (omega (arith, length-map c.args.parts.now numbered_type_part)) (viewed_at
+    numbered_type_part c.args.parts.now c.loop-part.part-index (omega arith) c.part-item.is)
+    c.loop-part.invariant.front over)
 
 pub returns-clause-sound : goal.returns-clause-sound
 returns-clause-sound c =
-    subst (λ (ws : List Words). WritesBlock c.args.table.now c.args.code.now ws
-    (λ numbered b. IsPartsBlock numbered (map numbered_type_part c.args.parts.now) b)
-    c.loop-part.table c.loop-part.code)
-    (element_strings_are (map numbered_type_part c.args.parts.now))
-    (front_ends element_strings IsPartsBlock c.loop-part.part-index
-    (map numbered_type_part c.args.parts.now) c.args.table.now c.loop-part.table c.args.code.now
-    c.loop-part.code
-    (omega (arith, length-map c.args.parts.now numbered_type_part)) c.loop-part.invariant.front
-    (λ numbered. refl))
+    subst (λ (ws : List Words). WritesBlock c.args.table.now c.args.code.now ws (λ numbered
+    b. IsPartsBlock numbered (map numbered_type_part c.args.parts.now) b) c.loop-part.table
+    c.loop-part.code) (element_strings_are (map numbered_type_part c.args.parts.now)) (front_ends
+    element_strings IsPartsBlock (omega (arith, length-map c.args.parts.now numbered_type_part))
+    c.loop-part.invariant.front (λ numbered. refl))

@@ -8,12 +8,11 @@ use Rattle.edd_attrs.proofs.trees.tree_among.Goals as goal
 pub returns-in-Some : goal.returns-in-Some
 returns-in-Some c =
     stops c.args.attr numbered_attribute trees_of_attribute trees_of attributes_split
-    c.loop-attribute.attribute-index c.args.attributes.now c.attribute-item.result
-    (tree_of c.in-Some.tree) (omega arith) c.attribute-item.is c.in-Some.ensures
-    c.loop-attribute.invariant
+    c.loop-attribute.attribute-index c.args.attributes.now (omega arith) c.attribute-item.is
+    c.in-Some.ensures c.loop-attribute.invariant
 
 pub loop-attribute-preserved : goal.loop-attribute-preserved
 loop-attribute-preserved c =
     goes_on c.args.attr numbered_attribute trees_of_attribute trees_of attributes_split
-    c.loop-attribute.attribute-index c.args.attributes.now c.attribute-item.result (omega arith)
-    c.attribute-item.is c.in_default.ensures c.loop-attribute.invariant
+    c.loop-attribute.attribute-index c.args.attributes.now (omega arith) c.attribute-item.is
+    c.in_default.ensures c.loop-attribute.invariant

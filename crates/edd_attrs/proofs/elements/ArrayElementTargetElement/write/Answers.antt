@@ -33,14 +33,10 @@ returns-in_err-help-clause-refused c h =
 
 pub returns-clause-sound : goal.returns-clause-sound
 returns-clause-sound c =
-    array_element_written c.args.table.now c.add_optional.new.table c.add_optional-2.new.table
-    c.args.code.now c.put.new.code c.args.self.now.number (variable_of c.args.self.now.variable)
-    (option_map words_of (option_map text_of c.args.self.now.label))
+    array_element_written c.args.code.now c.args.self.now.number (variable_of
+    c.args.self.now.variable) (option_map words_of (option_map text_of c.args.self.now.label))
     (option_map words_of (option_map text_of c.args.self.now.help)) c.in_ok-label.label
-    c.in_ok-help.help
-    c.in_ok-label.ensures.table c.in_ok-label.ensures.number c.in_ok-help.ensures.table
-    c.in_ok-help.ensures.number
-    (c.in_ok-put.ensures.code
-    ∙ ap (λ (v : VarNo). c.args.code.now
-    ++ spelling (instruction.Element c.args.self.now.number v c.in_ok-label.label
-    c.in_ok-help.help)) c.variable_of.ensures)
+    c.in_ok-help.help c.in_ok-label.ensures.table c.in_ok-label.ensures.number
+    c.in_ok-help.ensures.table c.in_ok-help.ensures.number (c.in_ok-put.ensures.code
+    ∙ ap (λ (v : VarNo). c.args.code.now ++ spelling (instruction.Element c.args.self.now.number v
+    c.in_ok-label.label c.in_ok-help.help)) c.variable_of.ensures)

@@ -40,12 +40,8 @@ returns-clause-grows c = grows_on c.args.table.now c.add_text.new.table c.add_op
 
 pub returns-clause-sound : goal.returns-clause-sound
 returns-clause-sound c =
-    enumerator_written c.args.table.now c.add_text.new.table c.add_optional.new.table
-    c.args.code.now c.put.new.code c.args.self.now.value
-    (words_of (text_of c.args.self.now.text))
+    enumerator_written c.args.code.now c.args.self.now.value
     (option_map words_of (option_map text_of c.args.self.now.help)) c.in_ok-text.text
-    c.in_ok-help.help
-    c.in_ok-text.ensures.table c.in_ok-text.ensures.number c.in_ok-help.ensures.table
-    c.in_ok-help.ensures.number
-    (c.in_ok-put.ensures.code ∙ ap (λ (i : Instruction). c.args.code.now ++ spelling i)
-    c.enumerated.ensures)
+    c.in_ok-help.help c.in_ok-text.ensures.table c.in_ok-text.ensures.number
+    c.in_ok-help.ensures.table c.in_ok-help.ensures.number (c.in_ok-put.ensures.code
+    ∙ ap (λ (i : Instruction). c.args.code.now ++ spelling i) c.enumerated.ensures)

@@ -57,15 +57,9 @@ returns-clause-sound c =
     let keeps : Keeps c.add_name.new.table (name_words (text_bytes c.args.self.now.name))
     c.in_ok-name.name = subst (λ (bytes : List ℕ). Keeps c.add_name.new.table (name_words bytes)
     c.in_ok-name.name) c.as_str.ensures c.in_ok-name.ensures.number in
-    member_written c.args.table.now c.add_name.new.table c.add_optional.new.table
-    c.add_optional-2.new.table c.args.code.now c.put.new.code (item_of c.args.self.now.item)
-    (name_words (text_bytes c.args.self.now.name))
-    (option_map words_of (option_map text_of c.args.self.now.label))
-    (option_map words_of (option_map text_of c.args.self.now.help)) c.in_ok-name.name
-    c.in_ok-label.label c.in_ok-help.help
-    named keeps c.in_ok-label.ensures.table c.in_ok-label.ensures.number c.in_ok-help.ensures.table
-    c.in_ok-help.ensures.number
-    (c.in_ok-put.ensures.code
-    ∙ ap (λ (i : ItemNo). c.args.code.now
-    ++ spelling (instruction.Member c.in_ok-name.name i c.in_ok-label.label c.in_ok-help.help))
-    c.item_of.ensures)
+    member_written c.args.code.now (item_of c.args.self.now.item) (option_map words_of (option_map
+    text_of c.args.self.now.label)) (option_map words_of (option_map text_of c.args.self.now.help))
+    c.in_ok-name.name c.in_ok-label.label c.in_ok-help.help named keeps c.in_ok-label.ensures.table
+    c.in_ok-label.ensures.number c.in_ok-help.ensures.table c.in_ok-help.ensures.number
+    (c.in_ok-put.ensures.code ∙ ap (λ (i : ItemNo). c.args.code.now ++ spelling (instruction.Member
+    c.in_ok-name.name i c.in_ok-label.label c.in_ok-help.help)) c.item_of.ensures)

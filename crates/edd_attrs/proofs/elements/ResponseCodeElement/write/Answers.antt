@@ -8,10 +8,7 @@ use Rattle.edd_attrs.proofs.elements.ResponseCodeElement.write.Goals as goal
 
 pub returns-clause-sound : goal.returns-clause-sound
 returns-clause-sound c =
-    response_written c.args.table.now c.add_text.new.table c.args.code.now c.put.new.code
-    c.args.self.now.number c.args.self.now.class (words_of (text_of c.args.self.now.text))
-    c.in_ok-text.text c.in_ok-text.ensures.table c.in_ok-text.ensures.number
-    (c.in_ok-put.ensures.code
-    ∙ ap (λ (n : ℕ). c.args.code.now
-    ++ spelling (instruction.Response c.args.self.now.number n c.in_ok-text.text))
-    c.class_number.ensures)
+    response_written c.args.code.now c.args.self.now.number c.args.self.now.class c.in_ok-text.text
+    c.in_ok-text.ensures.table c.in_ok-text.ensures.number (c.in_ok-put.ensures.code
+    ∙ ap (λ (n : ℕ). c.args.code.now ++ spelling
+    (instruction.Response c.args.self.now.number n c.in_ok-text.text)) c.class_number.ensures)
