@@ -39,8 +39,8 @@ none_is : {A : Type 0} (xs : List A) → is_none xs ≡ true → xs ≡ []
 none_is [] h = refl
 none_is (x ∷ rest) h = absurd cc
 
-is_none_of : {A : Type 0} (xs : List A) → xs ≡ [] → is_none xs ≡ true
-is_none_of xs h = rw h refl
+is_none_of : {A : Type 0} {xs : List A} → xs ≡ [] → is_none xs ≡ true
+is_none_of h = rw h refl
 
 module _ (limit : ℕ) where
   place_prop : (t : Target) → IsProp (IsSlotBelow limit t)
@@ -85,8 +85,7 @@ pub record BodyFacts (d : Description Target) (m : MethNo) : Type 0 where
 
 module _ (d : Description Target) (is : ∥ IsChecked d ∥₁) (m : MethNo) where
   no_breach : subset_breaches d ≡ []
-  no_breach = none_is (subset_breaches d)
-      (∥∥₁_elim is (Bool-set _ _) (λ c. is_none_of (subset_breaches d) c.no_breach))
+  no_breach = none_is (subset_breaches d) (∥∥₁_elim is (Bool-set _ _) (λ c. is_none_of c.no_breach))
 
   typed : (mismatches d ≡ []) × (wrong_breaks d ≡ [])
   typed =

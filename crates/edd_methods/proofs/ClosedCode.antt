@@ -25,26 +25,25 @@ bytes_of_none = refl
 
 -- ---- lengths
 
-pub block_long : (c0 c1 : List ℕ) (b : Block) → c1 ≡ c0 ++ blocks.bytes_at (length c0) b
+pub block_long : (c0 : List ℕ) {c1 : List ℕ} (b : Block) → c1 ≡ c0 ++ blocks.bytes_at (length c0) b
     → length c1 ≡ length c0 + blocks.size b
-block_long c0 c1 b is = ap length is
-    ∙ omega (
-      arith,
-      length-append c0 (blocks.bytes_at (length c0) b),
-      block_bytes.lengths (length c0) b,
-    )
+block_long c0 b is = ap length is ∙ omega (
+  arith,
+  length-append c0 (blocks.bytes_at (length c0) b),
+  block_bytes.lengths (length c0) b,
+)
 
-pub code_longer : (c0 c1 : List ℕ) (out back : ℕ) (c : Code)
+pub code_longer : (c0 : List ℕ) {c1 : List ℕ} (out back : ℕ) (c : Code)
     → c1 ≡ c0 ++ bytes_at (length c0) out back c → length c1 ≡ length c0 + size c
-code_longer c0 c1 out back c is = ap length is
-    ∙ omega (
-      arith,
-      length-append c0 (bytes_at (length c0) out back c),
-      code_long (length c0) out back c,
-    )
+code_longer c0 out back c is = ap length is ∙ omega (
+  arith,
+  length-append c0 (bytes_at (length c0) out back c),
+  code_long (length c0) out back c,
+)
 
-pub longer : (c0 c1 part : List ℕ) → c1 ≡ c0 ++ part → length c1 ≡ length c0 + length part
-longer c0 c1 part is = ap length is ∙ length-append c0 part
+pub longer : (c0 : List ℕ) {c1 : List ℕ} (part : List ℕ) → c1 ≡ c0 ++ part
+    → length c1 ≡ length c0 + length part
+longer c0 part is = ap length is ∙ length-append c0 part
 
 -- ---- blocks, and one piece of code after another
 
@@ -61,7 +60,7 @@ pub then_written : (c0 c1 c2 : List ℕ) (out back : ℕ) (c d : Code)
     → c1 ≡ c0 ++ bytes_at (length c0) out back c → c2 ≡ c1 ++ bytes_at (length c1) out back d
     → c2 ≡ c0 ++ bytes_at (length c0) out back (Then c d)
 then_written c0 c1 c2 out back c d one two =
-    two ∙ ap (λ n. c1 ++ bytes_at n out back d) (code_longer c0 c1 out back c one)
+    two ∙ ap (λ n. c1 ++ bytes_at n out back d) (code_longer c0 out back c one)
     ∙ ap (λ code. code ++ bytes_at (length c0 + size c) out back d) one
     ∙ append_assoc c0 (bytes_at (length c0) out back c) (bytes_at (length c0 + size c) out back d)
     ∙ ap (λ bytes. c0 ++ bytes) (sym (then_is (length c0) out back c d))
@@ -80,18 +79,18 @@ guard_is p out back test c =
     bytes_of-append (blocks.emitted p test) (leave ∷ one)
     ∙ ap (λ bytes. blocks.bytes_at p test ++ bytes) (bytes_of_more leave one)
 
-pub guard_written : (c0 c1 c2 c3 : List ℕ) (out back : ℕ) (test : Block) (c : Code)
+pub guard_written : (c0 : List ℕ) {c1 c2 c3 : List ℕ} (out back : ℕ) (test : Block) (c : Code)
     → c1 ≡ c0 ++ blocks.bytes_at (length c0) test → c2 ≡ c1 ++ spelling (instruction.JumpIfZero 0)
     → c3 ≡ c2 ++ bytes_at (length c2) out back c
     → closed c3 (length c1 + 1) ≡ c0 ++ bytes_at (length c0) out back (Guard test c)
-guard_written c0 c1 c2 c3 out back test c one two three =
+guard_written c0 {c1} {c2} {c3} out back test c one two three =
     let p = length c0 in
     let a = blocks.size test in
     let x = bytes_at (length c2) out back c in
-    let l1 : length c1 ≡ p + a = block_long c0 c1 test one in
-    let l2 : length c2 ≡ p + (a + 5) = longer c1 c2 (spelling (instruction.JumpIfZero 0)) two
+    let l1 : length c1 ≡ p + a = block_long c0 test one in
+    let l2 : length c2 ≡ p + (a + 5) = longer c1 (spelling (instruction.JumpIfZero 0)) two
     ∙ omega (arith, l1) in
-    let l3 : length c3 ≡ p + (a + (5 + size c)) = code_longer c2 c3 out back c three
+    let l3 : length c3 ≡ p + (a + (5 + size c)) = code_longer c2 out back c three
     ∙ omega (arith, l2) in
     part_closed c1 c2 c3 x _ two three
     ∙ ap (λ code. code ++ (spelling (instruction.JumpIfZero (target (length c3))) ++ x)) one
@@ -118,26 +117,27 @@ branch_is p out back test c d =
     ∙ ap (λ bytes. spelling leave ++ bytes) (bytes_of-append one (skip ∷ two)
     ∙ ap (λ bytes. bytes_of one ++ bytes) (bytes_of_more skip two)))
 
-pub branch_written : (c0 c1 c2 c3 c4 c5 c6 : List ℕ) (out back : ℕ) (test : Block) (c d : Code)
-    → c1 ≡ c0 ++ blocks.bytes_at (length c0) test → c2 ≡ c1 ++ spelling (instruction.JumpIfZero 0)
-    → c3 ≡ c2 ++ bytes_at (length c2) out back c → c4 ≡ c3 ++ spelling (instruction.Jump 0)
-    → c5 ≡ closed c4 (length c1 + 1) → c6 ≡ c5 ++ bytes_at (length c5) out back d
+pub branch_written : (c0 : List ℕ) {c1 c2 c3 c4 c5 c6 : List ℕ} (out back : ℕ) (test : Block)
+    (c d : Code) → c1 ≡ c0 ++ blocks.bytes_at (length c0) test
+    → c2 ≡ c1 ++ spelling (instruction.JumpIfZero 0) → c3 ≡ c2 ++ bytes_at (length c2) out back c
+    → c4 ≡ c3 ++ spelling (instruction.Jump 0) → c5 ≡ closed c4 (length c1 + 1)
+    → c6 ≡ c5 ++ bytes_at (length c5) out back d
     → closed c6 (length c3 + 1) ≡ c0 ++ bytes_at (length c0) out back (Branch test c d)
-branch_written c0 c1 c2 c3 c4 c5 c6 out back test c d one two three four five six =
+branch_written c0 {c1} {c2} {c3} {c4} {c5} {c6} out back test c d one two three four five six =
     let p = length c0 in
     let a = blocks.size test in
     let x = bytes_at (length c2) out back c in
     let y = bytes_at (length c5) out back d in
-    let l1 : length c1 ≡ p + a = block_long c0 c1 test one in
-    let l2 : length c2 ≡ p + (a + 5) = longer c1 c2 (spelling (instruction.JumpIfZero 0)) two
+    let l1 : length c1 ≡ p + a = block_long c0 test one in
+    let l2 : length c2 ≡ p + (a + 5) = longer c1 (spelling (instruction.JumpIfZero 0)) two
     ∙ omega (arith, l1) in
-    let l3 : length c3 ≡ p + (a + (5 + size c)) = code_longer c2 c3 out back c three
+    let l3 : length c3 ≡ p + (a + (5 + size c)) = code_longer c2 out back c three
     ∙ omega (arith, l2) in
-    let l4 : length c4 ≡ p + (a + (5 + (size c + 5))) = longer c3 c4 (spelling (instruction.Jump 0))
-    four ∙ omega (arith, l3) in
+    let l4 : length c4 ≡ p + (a + (5 + (size c + 5))) =
+    longer c3 (spelling (instruction.Jump 0)) four ∙ omega (arith, l3) in
     let l5 : length c5 ≡ p + (a + (5 + (size c + 5))) = ap length five
     ∙ closed_length c4 (length c1 + 1) (omega (arith, l1, l4)) ∙ l4 in
-    let l6 : length c6 ≡ p + (a + (5 + (size c + (5 + size d)))) = code_longer c5 c6 out back d six
+    let l6 : length c6 ≡ p + (a + (5 + (size c + (5 + size d)))) = code_longer c5 out back d six
     ∙ omega (arith, l5) in
     let t1 = target (length c4) in
     let fifth : c5 ≡ c1 ++ (spelling (instruction.JumpIfZero t1)

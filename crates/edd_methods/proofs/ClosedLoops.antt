@@ -103,16 +103,15 @@ loop_same {t} {u} {t'} {u'} {x} {y} {z} {j} {x'} {y'} {z'} {j'} et eu ex ey ez e
     ∙ ap (λ bs. loop_bytes t' u' x' bs z j) ey ∙ ap (λ bs. loop_bytes t' u' x' y' bs j) ez
     ∙ ap (λ bs. loop_bytes t' u' x' y' z' bs) ej
 
-pub loop_written : (c0 c1 c2 c3 c4 c5 c6 c7 : List ℕ) (out turn o b : ℕ) (front again : Part)
-    (body : Code) → c1 ≡ c0 ++ spelling (instruction.Jump 0)
-    → c2 ≡ c1 ++ spelling (instruction.Jump 0)
-    → c3 ≡ c2 ++ part_bytes (length c2) out again → c4 ≡ closed c3 (length c0 + 1)
-    → c5 ≡ c4 ++ part_bytes (length c4) out front
+pub loop_written : (c0 : List ℕ) {c1 c2 c3 c4 c5 c6 c7 : List ℕ} {out turn : ℕ} (o b : ℕ)
+    (front again : Part) (body : Code) → c1 ≡ c0 ++ spelling (instruction.Jump 0)
+    → c2 ≡ c1 ++ spelling (instruction.Jump 0) → c3 ≡ c2 ++ part_bytes (length c2) out again
+    → c4 ≡ closed c3 (length c0 + 1) → c5 ≡ c4 ++ part_bytes (length c4) out front
     → c6 ≡ c5 ++ bytes_at (length c5) out turn body → c7 ≡ c6 ++ spelling (instruction.Jump turn)
     → out ≡ target (length c1) → turn ≡ target (length c2)
     → closed c7 (length c1 + 1) ≡ c0 ++ bytes_at (length c0) o b (Loop front again body)
-loop_written c0 c1 c2 c3 c4 c5 c6 c7 out turn o b front again body one two three four five six seven
-    out_is turn_is =
+loop_written c0 {c1} {c2} {c3} {c4} {c5} {c6} {c7} {out} {turn} o b front again body one two three
+    four five six seven out_is turn_is =
     let p = length c0 in
     let s = part_size again in
     let f = part_size front in
@@ -120,18 +119,18 @@ loop_written c0 c1 c2 c3 c4 c5 c6 c7 out turn o b front again body one two three
     let y = part_bytes (length c4) out front in
     let z = bytes_at (length c5) out turn body in
     let j = spelling (instruction.Jump turn) in
-    let l1 : length c1 ≡ p + 5 = longer c0 c1 (spelling (instruction.Jump 0)) one in
-    let l2 : length c2 ≡ p + 10 = longer c1 c2 (spelling (instruction.Jump 0)) two
+    let l1 : length c1 ≡ p + 5 = longer c0 (spelling (instruction.Jump 0)) one in
+    let l2 : length c2 ≡ p + 10 = longer c1 (spelling (instruction.Jump 0)) two
     ∙ omega (arith, l1) in
-    let l3 : length c3 ≡ p + (10 + s) = longer c2 c3 x three
+    let l3 : length c3 ≡ p + (10 + s) = longer c2 x three
     ∙ omega (arith, l2, part_long (length c2) out again) in
     let l4 : length c4 ≡ p + (10 + s) = ap length four
     ∙ closed_length c3 (p + 1) (omega (arith, l3)) ∙ l3 in
-    let l5 : length c5 ≡ p + (10 + (s + f)) = longer c4 c5 y five
+    let l5 : length c5 ≡ p + (10 + (s + f)) = longer c4 y five
     ∙ omega (arith, l4, part_long (length c4) out front) in
-    let l6 : length c6 ≡ p + (10 + (s + (f + size body))) = code_longer c5 c6 out turn body six
+    let l6 : length c6 ≡ p + (10 + (s + (f + size body))) = code_longer c5 out turn body six
     ∙ omega (arith, l5) in
-    let l7 : length c7 ≡ p + (10 + (s + (f + (size body + 5)))) = longer c6 c7 j seven
+    let l7 : length c7 ≡ p + (10 + (s + (f + (size body + 5)))) = longer c6 j seven
     ∙ omega (arith, l6) in
     let out_same : target out ≡ target (p + 5) = ap target (out_is ∙ ap target l1)
     ∙ target_again (p + 5) in
@@ -231,8 +230,8 @@ switch_same {t} {u} {t'} {u'} {x} {e} {y} {d} {x'} {e'} {y'} {d'} et eu ex ee ey
     ∙ ap (λ bs. switch_bytes t' u' x' bs y d) ee ∙ ap (λ bs. switch_bytes t' u' x' e' bs d) ey
     ∙ ap (λ bs. switch_bytes t' u' x' e' y' bs) ed
 
-pub switch_written : (c0 c1 c2 c3 c4 c5 c6 c7 c8 c9 : List ℕ) (out o b : ℕ) (on : Block)
-    (arms : Arms) (cases : List (ℤ × ℕ)) (default : Option ℕ)
+pub switch_written : (c0 : List ℕ) {c1 c2 c3 c4 c5 c6 c7 c8 c9 : List ℕ} {out : ℕ} (o b : ℕ)
+    (on : Block) (arms : Arms) {cases : List (ℤ × ℕ)} {default : Option ℕ}
     → c1 ≡ c0 ++ blocks.bytes_at (length c0) on → c2 ≡ c1 ++ spelling (instruction.Jump 0)
     → c3 ≡ c2 ++ spelling (instruction.Jump 0) → c4 ≡ c3 ++ arms_bytes (length c3) out b arms
     → c5 ≡ c4 ++ spelling (instruction.Jump out) → c6 ≡ closed c5 (length c1 + 1)
@@ -240,32 +239,31 @@ pub switch_written : (c0 c1 c2 c3 c4 c5 c6 c7 c8 c9 : List ℕ) (out o b : ℕ) 
     → c9 ≡ c8 ++ spelling (instruction.Jump (default_or out default)) → out ≡ target (length c2)
     → cases ≡ cases_at (length c3) arms → default ≡ default_at (length c3) arms
     → closed c9 (length c2 + 1) ≡ c0 ++ bytes_at (length c0) o b (Switch on arms)
-switch_written c0 c1 c2 c3 c4 c5 c6 c7 c8 c9 out o b on arms cases default one two three four five
-    six seven eight nine out_is cases_are default_are =
+switch_written c0 {c1} {c2} {c3} {c4} {c5} {c6} {c7} {c8} {c9} {out} o b on arms {cases} {default}
+    one two three four five six seven eight nine out_is cases_are default_are =
     let p = length c0 in
     let a = blocks.size on in
     let x = arms_bytes (length c3) out b arms in
     let e = spelling (instruction.Jump out) in
     let t = tests_of cases in
     let d = spelling (instruction.Jump (default_or out default)) in
-    let l1 : length c1 ≡ p + a = block_long c0 c1 on one in
-    let l2 : length c2 ≡ p + (a + 5) = longer c1 c2 (spelling (instruction.Jump 0)) two
+    let l1 : length c1 ≡ p + a = block_long c0 on one in
+    let l2 : length c2 ≡ p + (a + 5) = longer c1 (spelling (instruction.Jump 0)) two
     ∙ omega (arith, l1) in
-    let l3 : length c3 ≡ p + (a + 10) = longer c2 c3 (spelling (instruction.Jump 0)) three
+    let l3 : length c3 ≡ p + (a + 10) = longer c2 (spelling (instruction.Jump 0)) three
     ∙ omega (arith, l2) in
     let same_t : t ≡ bytes_of (tests_emitted (p + (a + 10)) arms) =
     ap tests_of (cases_are ∙ ap (λ n. cases_at n arms) l3) ∙ tests_are (p + (a + 10)) arms in
-    let l4 : length c4 ≡ p + (a + (10 + arms_size arms)) = longer c3 c4 x four
+    let l4 : length c4 ≡ p + (a + (10 + arms_size arms)) = longer c3 x four
     ∙ omega (arith, l3, arms_long (length c3) out b arms) in
-    let l5 : length c5 ≡ p + (a + (10 + (arms_size arms + 5))) = longer c4 c5 e five
+    let l5 : length c5 ≡ p + (a + (10 + (arms_size arms + 5))) = longer c4 e five
     ∙ omega (arith, l4) in
     let l6 : length c6 ≡ p + (a + (10 + (arms_size arms + 5))) = ap length six
     ∙ closed_length c5 (length c1 + 1) (omega (arith, l1, l5)) ∙ l5 in
     let l7 : length c7 ≡ p + (a + (10 + (arms_size arms + (5 + tests_size arms)))) =
-    longer c6 c7 t seven ∙ omega (arith, l6, ap length same_t, tests_long (p + (a + 10)) arms)
-    in
+    longer c6 t seven ∙ omega (arith, l6, ap length same_t, tests_long (p + (a + 10)) arms) in
     let l9 : length c9 ≡ p + (a + (10 + (arms_size arms + (5 + (tests_size arms + 6))))) =
-    longer c8 c9 d nine ∙ omega (arith, longer c7 c8 (spelling instruction.Pop) eight, l7) in
+    longer c8 d nine ∙ omega (arith, longer c7 (spelling instruction.Pop) eight, l7) in
     let out_same : target out ≡ target (p + (a + 5)) = ap target (out_is ∙ ap target l2)
     ∙ target_again (p + (a + 5)) in
     let same_x : x ≡ arms_bytes (p + (a + 10)) (p + (a + 5)) b arms =

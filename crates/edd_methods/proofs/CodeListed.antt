@@ -19,8 +19,8 @@ module _ (P : Placed → Type 0) where
   abbrev pub Holds : ℕ → List Instruction → Type 0
   Holds p is = AllByRecursion P (placed p is)
 
-  moved : (p q : ℕ) (is : List Instruction) → p ≡ q → Holds p is → Holds q is
-  moved p q is e h = subst (λ (x : ℕ). Holds x is) e h
+  moved : {p : ℕ} (q : ℕ) (is : List Instruction) → p ≡ q → Holds p is → Holds q is
+  moved q is e h = subst (λ (x : ℕ). Holds x is) e h
 
   together : (p : ℕ) (is js ks : List Instruction) → Holds p (is ++ (js ++ ks))
       → Holds p ((is ++ js) ++ ks)
@@ -46,7 +46,7 @@ module _ (P : Placed → Type 0) where
   part_holds : (p out : ℕ) (part : Part) (after : List Instruction) → p + part_size part < 2 ^ 32
       → out < 2 ^ 32 → PartIn P p out part → Holds (p + part_size part) after
       → Holds p (part_emitted p out part ++ after)
-  part_holds p out Missing after small far h others = moved (p + 0) p after (omega arith) others
+  part_holds p out Missing after small far h others = moved p after (omega arith) others
   part_holds p out (Step b) after small far h others = block_holds p b after small h others
   part_holds p out (Test b) after small far h others =
       let leave = instruction.JumpIfZero (target out) in
@@ -55,20 +55,20 @@ module _ (P : Placed → Type 0) where
       together p (blocks.emitted p b) (leave ∷ []) after
       (block_holds p b (leave ∷ after) (omega (arith, small)) h.0 (
         jump_at (λ t. instruction.JumpIfZero t) q q (q + 5) next out far refl (omega arith) h.1,
-        moved next (q + 5) after (omega arith) others,
+        moved (q + 5) after (omega arith) others,
       ))
 
   tests_hold : (p at : ℕ) (arms : Arms) (after : List Instruction) → at + arms_size arms < 2 ^ 32
       → TestsIn P p at arms → Holds (p + tests_size arms) after
       → Holds p (tests_emitted at arms ++ after)
-  tests_hold p at Nil after small h others = moved (p + 0) p after (omega arith) others
+  tests_hold p at Nil after small h others = moved p after (omega arith) others
   tests_hold p at (Statement first rest) after small h others = tests_hold p (at + size first) rest
       after (omega (arith, small)) h others
   tests_hold p at (Case label rest) after small h others = (
     jump_at (λ t. instruction.Case label t) p p (p + 13) (p + 13) at (omega (arith, small)) refl
         refl h.0,
     tests_hold (p + 13) at rest after small h.1
-        (moved (p + (13 + tests_size rest)) (p + 13 + tests_size rest) after (omega arith) others),
+        (moved (p + 13 + tests_size rest) after (omega arith) others),
   )
   tests_hold p at (Default rest) after small h others = tests_hold p at rest after small h others
 
@@ -83,10 +83,9 @@ module _ (P : Placed → Type 0) where
     code_holds p out back (Then first second) after small far near h others =
         let m = p + size first in
         let two = emitted m out back second in
-        together p (emitted p out back first) two after
-        (code_holds p out back first (two ++ after) (omega (arith, small)) far near h.0
-        (code_holds m out back second after (omega (arith, small)) far near h.1
-        (moved (p + (size first + size second)) (m + size second) after (omega arith) others)))
+        together p (emitted p out back first) two after (code_holds p out back first (two
+        ++ after) (omega (arith, small)) far near h.0 (code_holds m out back second after
+        (omega (arith, small)) far near h.1 (moved (m + size second) after (omega arith) others)))
     code_holds p out back (Guard test first) after small far near h others =
         let a = blocks.size test in
         let n = p + (a + 5) in
@@ -94,12 +93,12 @@ module _ (P : Placed → Type 0) where
         let leave = instruction.JumpIfZero (target q) in
         let one = emitted n out back first in
         let left = code_holds n out back first after (omega (arith, small)) far near h.2
-        (moved q (n + size first) after (omega arith) others) in
+        (moved (n + size first) after (omega arith) others) in
         together p (blocks.emitted p test) (leave ∷ one) after
         (block_holds p test ((leave ∷ one) ++ after) (omega (arith, small)) h.0 (
           jump_at (λ t. instruction.JumpIfZero t) (p + a) (p + a) (p + a + 5) n q
               (omega (arith, small)) refl (omega arith) h.1,
-          moved n (p + a + 5) (one ++ after) (omega arith) left,
+          moved (p + a + 5) (one ++ after) (omega arith) left,
         ))
     code_holds p out back (Branch test first otherwise) after small far near h others =
         let a = blocks.size test in
@@ -113,19 +112,19 @@ module _ (P : Placed → Type 0) where
         let two = emitted r out back otherwise in
         let e = n + size first in
         let right = code_holds r out back otherwise after (omega (arith, small)) far near h.4
-        (moved q (r + size otherwise) after (omega arith) others) in
+        (moved (r + size otherwise) after (omega arith) others) in
         let left = code_holds n out back first (skip ∷ (two ++ after)) (omega (arith, small)) far
         near h.2 (
           jump_at (λ t. instruction.Jump t) e k (e + 5) r q (omega (arith, small)) (omega arith)
               (omega arith) h.3,
-          moved r (e + 5) (two ++ after) (omega arith) right,
+          moved (e + 5) (two ++ after) (omega arith) right,
         ) in
         together p (blocks.emitted p test) (leave ∷ (one ++ (skip ∷ two))) after
         (block_holds p test ((leave ∷ (one ++ (skip ∷ two))) ++ after) (omega (arith, small)) h.0 (
           jump_at (λ t. instruction.JumpIfZero t) (p + a) (p + a) (p + a + 5) n r
               (omega (arith, small)) refl (omega arith) h.1,
-          moved n (p + a + 5) ((one ++ (skip ∷ two)) ++ after) (omega arith)
-              (together n one (skip ∷ two) after left),
+          moved (p + a + 5) ((one ++ (skip ∷ two))
+              ++ after) (omega arith) (together n one (skip ∷ two) after left),
         ))
     code_holds p out back (Loop front back_part body) after small far near h others =
         let b = part_size back_part in
@@ -143,23 +142,22 @@ module _ (P : Placed → Type 0) where
         (omega (arith, small)) (omega (arith, small)) h.4 (
           jump_at (λ t. instruction.Jump t) e last (e + 5) q (p + 10) (omega (arith, small))
               (omega arith) (omega arith) h.5,
-          moved q (e + 5) after (omega arith) others,
+          moved (e + 5) after (omega arith) others,
         ) in
         let second = part_holds n (p + 5) front ((three ++ (again ∷ [])) ++ after)
-        (omega (arith, small)) (omega (arith, small)) h.3
-        (moved k (n + f) ((three ++ (again ∷ [])) ++ after) (omega arith)
-        (together k three (again ∷ []) after third)) in
+        (omega (arith, small)) (omega (arith, small)) h.3 (moved (n + f) ((three ++ (again ∷ []))
+        ++ after) (omega arith) (together k three (again ∷ []) after third)) in
         let first = part_holds (p + 10) (p + 5) back_part ((two ++ (three ++ (again ∷ [])))
         ++ after) (omega (arith, small)) (omega (arith, small)) h.2
-        (moved n (p + 10 + b) ((two ++ (three ++ (again ∷ []))) ++ after) (omega arith)
-        (together n two (three ++ (again ∷ [])) after second)) in (
+        (moved (p + 10 + b) ((two ++ (three ++ (again ∷ [])))
+        ++ after) (omega arith) (together n two (three ++ (again ∷ [])) after second)) in (
           jump_at (λ t. instruction.Jump t) p p (p + 5) (p + 5) n (omega (arith, small)) refl refl
               h.0,
           (
             jump_at (λ t. instruction.Jump t) (p + 5) (p + 5) (p + 5 + 5) (p + 10) q
                 (omega (arith, small)) refl (omega arith) h.1,
-            moved (p + 10) (p + 5 + 5) ((one ++ (two ++ (three ++ (again ∷ [])))) ++ after)
-                (omega arith) (together (p + 10) one (two ++ (three ++ (again ∷ []))) after first),
+            moved (p + 5 + 5) ((one ++ (two ++ (three ++ (again ∷ [])))) ++ after) (omega arith)
+                (together (p + 10) one (two ++ (three ++ (again ∷ []))) after first),
           ),
         )
     code_holds p out back (Switch on arms) after small far near h others =
@@ -189,15 +187,15 @@ module _ (P : Placed → Type 0) where
             jump_at (λ x. instruction.Jump x) (e + 1) u (e + 1 + 5) q default
                 (default_small k n arms (omega (arith, small)) (omega (arith, small))) (omega arith)
                 (omega arith) h.7,
-            moved q (e + 1 + 5) after (omega arith) others,
+            moved (e + 1 + 5) after (omega arith) others,
           ),
         ) in
         let second = arms_hold k n back arms (ends ∷ ((listed ++ behind) ++ after))
         (omega (arith, small)) (omega (arith, small)) near h.3 (
           jump_at (λ x. instruction.Jump x) d r (d + 5) s n (omega (arith, small)) (omega arith)
               (omega arith) h.4,
-          moved s (d + 5) ((listed ++ behind) ++ after) (omega arith)
-              (together s listed behind after third),
+          moved (d + 5) ((listed ++ behind)
+              ++ after) (omega arith) (together s listed behind after third),
         ) in
         together p (blocks.emitted p on) (enter ∷ (leave ∷ (those ++ (ends ∷ (listed ++ behind)))))
         after
@@ -208,8 +206,8 @@ module _ (P : Placed → Type 0) where
           (
             jump_at (λ x. instruction.Jump x) (p + a + 5) n (p + a + 5 + 5) k q
                 (omega (arith, small)) (omega arith) (omega arith) h.2,
-            moved k (p + a + 5 + 5) ((those ++ (ends ∷ (listed ++ behind))) ++ after) (omega arith)
-                (together k those (ends ∷ (listed ++ behind)) after second),
+            moved (p + a + 5 + 5) ((those ++ (ends ∷ (listed ++ behind)))
+                ++ after) (omega arith) (together k those (ends ∷ (listed ++ behind)) after second),
           ),
         ))
     code_holds p out back Break after small far near h others =
@@ -222,16 +220,13 @@ module _ (P : Placed → Type 0) where
         → p + arms_size arms < 2 ^ 32 → out < 2 ^ 32 → back < 2 ^ 32 → ArmsIn P p out back arms
         → Holds (p + arms_size arms) after
         → Holds p (arms_emitted p out back arms ++ after)
-    arms_hold p out back Nil after small far near h others = moved (p + 0) p after (omega arith)
-        others
+    arms_hold p out back Nil after small far near h others = moved p after (omega arith) others
     arms_hold p out back (Statement first rest) after small far near h others =
         let m = p + size first in
         let two = arms_emitted m out back rest in
-        together p (emitted p out back first) two after
-        (code_holds p out back first (two ++ after) (omega (arith, small)) far near h.0
-        (arms_hold m out back rest after (omega (arith, small)) far near h.1
-        (moved (p + (size first + arms_size rest)) (m + arms_size rest) after (omega arith)
-        others)))
+        together p (emitted p out back first) two after (code_holds p out back first (two ++ after)
+        (omega (arith, small)) far near h.0 (arms_hold m out back rest after (omega (arith, small))
+        far near h.1 (moved (m + arms_size rest) after (omega arith) others)))
     arms_hold p out back (Case label rest) after small far near h others =
         arms_hold p out back rest after small far near h others
     arms_hold p out back (Default rest) after small far near h others =

@@ -28,8 +28,8 @@ module _ (P : Placed → Type 0) where
   abbrev Holds : ℕ → List Instruction → Type 0
   Holds p is = AllByRecursion P (placed p is)
 
-  moved : (p q : ℕ) (is : List Instruction) → p ≡ q → Holds p is → Holds q is
-  moved p q is e h = subst (λ (x : ℕ). Holds x is) e h
+  moved : {p : ℕ} (q : ℕ) (is : List Instruction) → p ≡ q → Holds p is → Holds q is
+  moved q is e h = subst (λ (x : ℕ). Holds x is) e h
 
   apart : (p : ℕ) (is js ks : List Instruction) → Holds p ((is ++ js) ++ ks)
       → Holds p (is ++ (js ++ ks))
@@ -55,7 +55,7 @@ module _ (P : Placed → Type 0) where
   part_in : (p out : ℕ) (part : Part) (after : List Instruction) → p + part_size part < 2 ^ 32
       → out < 2 ^ 32 → Holds p (part_emitted p out part ++ after)
       → PartIn P p out part × Holds (p + part_size part) after
-  part_in p out Missing after small far h = (tt, moved p (p + 0) after (omega arith) h)
+  part_in p out Missing after small far h = (tt, moved (p + 0) after (omega arith) h)
   part_in p out (Step b) after small far h = block_stands p b after small h
   part_in p out (Test b) after small far h =
       let leave = instruction.JumpIfZero (target out) in
@@ -67,14 +67,13 @@ module _ (P : Placed → Type 0) where
           jump_in (λ t. instruction.JumpIfZero t) q q (q + 5) (p + (blocks.size b + 5)) out far
               refl (omega arith) one.1.0,
         ),
-        moved (q + 5) (p + (blocks.size b + 5)) after (omega arith)
-            one.1.1,
+        moved (p + (blocks.size b + 5)) after (omega arith) one.1.1,
       )
 
   tests_in : (p at : ℕ) (arms : Arms) (after : List Instruction) → at + arms_size arms < 2 ^ 32
       → Holds p (tests_emitted at arms ++ after)
       → TestsIn P p at arms × Holds (p + tests_size arms) after
-  tests_in p at Nil after small h = (tt, moved p (p + 0) after (omega arith) h)
+  tests_in p at Nil after small h = (tt, moved (p + 0) after (omega arith) h)
   tests_in p at (Statement first rest) after small h = tests_in p (at + size first) rest after
       (omega (arith, small)) h
   tests_in p at (Case label rest) after small h =
@@ -85,8 +84,7 @@ module _ (P : Placed → Type 0) where
               refl h.0,
           more.0,
         ),
-        moved (p + 13 + tests_size rest) (p + (13 + tests_size rest)) after
-            (omega arith) more.1,
+        moved (p + (13 + tests_size rest)) after (omega arith) more.1,
       )
   tests_in p at (Default rest) after small h = tests_in p at rest after small h
 
@@ -104,8 +102,7 @@ module _ (P : Placed → Type 0) where
         let two = code_in (p + size first) out back second after (omega (arith, small)) far near
         one.1 in (
           (one.0, two.0),
-          moved (p + size first + size second) (p + (size first + size second)) after
-              (omega arith) two.1,
+          moved (p + (size first + size second)) after (omega arith) two.1,
         )
     code_in p out back (Guard test first) after small far near h =
         let a = blocks.size test in
@@ -115,14 +112,14 @@ module _ (P : Placed → Type 0) where
         (omega (arith, small))
         (apart p (blocks.emitted p test) (instruction.JumpIfZero (target q) ∷ one) after h) in
         let left = code_in (p + (a + 5)) out back first after (omega (arith, small)) far near
-        (moved (p + a + 5) (p + (a + 5)) (one ++ after) (omega arith) tested.1.1) in (
+        (moved (p + (a + 5)) (one ++ after) (omega arith) tested.1.1) in (
           (
             tested.0,
             jump_in (λ t. instruction.JumpIfZero t) (p + a) (p + a) (p + a + 5) (p + (a + 5)) q
                 (omega (arith, small)) refl (omega arith) tested.1.0,
             left.0,
           ),
-          moved (p + (a + 5) + size first) q after (omega arith) left.1,
+          moved q after (omega arith) left.1,
         )
     code_in p out back (Branch test first otherwise) after small far near h =
         let a = blocks.size test in
@@ -136,14 +133,12 @@ module _ (P : Placed → Type 0) where
         ((instruction.JumpIfZero (target r) ∷ (one ++ (skip ∷ two))) ++ after)
         (omega (arith, small)) (apart p (blocks.emitted p test)
         (instruction.JumpIfZero (target r) ∷ (one ++ (skip ∷ two))) after h) in
-        let left = code_in (p + (a + 5)) out back first (skip ∷ (two ++ after))
-        (omega (arith, small)) far near
-        (apart (p + (a + 5)) one (skip ∷ two) after
-        (moved (p + a + 5) (p + (a + 5)) ((one ++ (skip ∷ two)) ++ after) (omega arith)
-        tested.1.1)) in
+        let left = code_in (p + (a + 5)) out back first (skip
+        ∷ (two ++ after)) (omega (arith, small)) far near (apart (p + (a + 5)) one (skip ∷ two)
+        after (moved (p + (a + 5)) ((one ++ (skip ∷ two)) ++ after) (omega arith) tested.1.1)) in
         let n = p + (a + 5) + size first in
         let right = code_in r out back otherwise after (omega (arith, small)) far near
-        (moved (n + 5) r (two ++ after) (omega arith) left.1.1) in (
+        (moved r (two ++ after) (omega arith) left.1.1) in (
           (
             tested.0,
             jump_in (λ t. instruction.JumpIfZero t) (p + a) (p + a) (p + a + 5) (p + (a + 5)) r
@@ -153,7 +148,7 @@ module _ (P : Placed → Type 0) where
                 (omega arith) left.1.0,
             right.0,
           ),
-          moved (r + size otherwise) q after (omega arith) right.1,
+          moved q after (omega arith) right.1,
         )
     code_in p out back (Loop front back_part body) after small far near h =
         let b = part_size back_part in
@@ -164,21 +159,18 @@ module _ (P : Placed → Type 0) where
         let three = emitted (p + (10 + (b + f))) (p + 5) (p + 10) body in
         let two = part_emitted (p + (10 + b)) (p + 5) front in
         let one = part_emitted (p + 10) (p + 5) back_part in
-        let first = part_in (p + 10) (p + 5) back_part ((two ++ (three ++ (again ∷ []))) ++ after)
-        (omega (arith, small)) (omega (arith, small))
-        (apart (p + 10) one (two ++ (three ++ (again ∷ []))) after
-        (moved (p + 5 + 5) (p + 10) ((one ++ (two ++ (three ++ (again ∷ [])))) ++ after)
-        (omega arith) h.1.1)) in
-        let second = part_in (p + (10 + b)) (p + 5) front ((three ++ (again ∷ [])) ++ after)
-        (omega (arith, small)) (omega (arith, small))
+        let first = part_in (p + 10) (p + 5) back_part ((two ++ (three ++ (again ∷ [])))
+        ++ after) (omega (arith, small)) (omega (arith, small))
+        (apart (p + 10) one (two ++ (three ++ (again ∷ []))) after (moved (p + 10)
+        ((one ++ (two ++ (three ++ (again ∷ [])))) ++ after) (omega arith) h.1.1)) in
+        let second = part_in (p + (10 + b)) (p + 5) front ((three ++ (again ∷ []))
+        ++ after) (omega (arith, small)) (omega (arith, small))
         (apart (p + (10 + b)) two (three ++ (again ∷ [])) after
-        (moved (p + 10 + b) (p + (10 + b)) ((two ++ (three ++ (again ∷ []))) ++ after)
-        (omega arith) first.1)) in
-        let third = code_in (p + (10 + (b + f))) (p + 5) (p + 10) body (again ∷ after)
-        (omega (arith, small)) (omega (arith, small)) (omega (arith, small))
+        (moved (p + (10 + b)) ((two ++ (three ++ (again ∷ []))) ++ after) (omega arith) first.1)) in
+        let third = code_in (p + (10 + (b + f))) (p + 5) (p + 10) body (again
+        ∷ after) (omega (arith, small)) (omega (arith, small)) (omega (arith, small))
         (apart (p + (10 + (b + f))) three (again ∷ []) after
-        (moved (p + (10 + b) + f) (p + (10 + (b + f))) ((three ++ (again ∷ [])) ++ after)
-        (omega arith) second.1)) in
+        (moved (p + (10 + (b + f))) ((three ++ (again ∷ [])) ++ after) (omega arith) second.1)) in
         let n = p + (10 + (b + f)) + size body in (
           (
             jump_in (λ t. instruction.Jump t) p p (p + 5) (p + 5) (p + (10 + b))
@@ -191,7 +183,7 @@ module _ (P : Placed → Type 0) where
             jump_in (λ t. instruction.Jump t) n last (n + 5) q (p + 10) (omega (arith, small))
                 (omega arith) (omega arith) third.1.0,
           ),
-          moved (n + 5) q after (omega arith) third.1.1,
+          moved q after (omega arith) third.1.1,
         )
     code_in p out back (Switch on arms) after small far near h =
         let a = blocks.size on in
@@ -211,16 +203,14 @@ module _ (P : Placed → Type 0) where
         ++ after) (omega (arith, small))
         (apart p (blocks.emitted p on) (enter ∷ (leave ∷ (those ++ (ends ∷ (listed ++ behind)))))
         after h) in
-        let second = arms_in (p + (a + 10)) (p + (a + 5)) back arms
-        (ends ∷ ((listed ++ behind) ++ after)) (omega (arith, small)) (omega (arith, small))
-        near
-        (apart (p + (a + 10)) those (ends ∷ (listed ++ behind)) after
-        (moved (p + a + 5 + 5) (p + (a + 10)) ((those ++ (ends ∷ (listed ++ behind))) ++ after)
-        (omega arith) first.1.1.1)) in
+        let second = arms_in (p + (a + 10)) (p + (a + 5)) back arms (ends
+        ∷ ((listed ++ behind) ++ after)) (omega (arith, small)) (omega (arith, small)) near
+        (apart (p + (a + 10)) those (ends ∷ (listed ++ behind)) after (moved (p + (a + 10))
+        ((those ++ (ends ∷ (listed ++ behind))) ++ after) (omega arith) first.1.1.1)) in
         let m = p + (a + 10) + b in
-        let third = tests_in tests (p + (a + 10)) arms (behind ++ after) (omega (arith, small))
-        (apart tests listed behind after (moved (m + 5) tests ((listed ++ behind) ++ after)
-        (omega arith) second.1.1)) in
+        let third =
+        tests_in tests (p + (a + 10)) arms (behind ++ after) (omega (arith, small)) (apart tests
+        listed behind after (moved tests ((listed ++ behind) ++ after) (omega arith) second.1.1)) in
         let n = tests + t in (
           (
             first.0,
@@ -239,7 +229,7 @@ module _ (P : Placed → Type 0) where
                 (omega (arith, small)) (omega (arith, small))) (omega arith) (omega arith)
                 third.1.1.0,
           ),
-          moved (n + 1 + 5) q after (omega arith) third.1.1.1,
+          moved q after (omega arith) third.1.1.1,
         )
     code_in p out back Break after small far near h =
         (jump_in (λ t. instruction.Jump t) p p (p + 5) (p + 5) out far refl refl h.0, h.1)
@@ -251,7 +241,7 @@ module _ (P : Placed → Type 0) where
         → p + arms_size arms < 2 ^ 32 → out < 2 ^ 32 → back < 2 ^ 32
         → Holds p (arms_emitted p out back arms ++ after)
         → ArmsIn P p out back arms × Holds (p + arms_size arms) after
-    arms_in p out back Nil after small far near h = (tt, moved p (p + 0) after (omega arith) h)
+    arms_in p out back Nil after small far near h = (tt, moved (p + 0) after (omega arith) h)
     arms_in p out back (Statement first rest) after small far near h =
         let one = code_in p out back first (arms_emitted (p + size first) out back rest ++ after)
         (omega (arith, small)) far near
@@ -260,8 +250,7 @@ module _ (P : Placed → Type 0) where
         let two = arms_in (p + size first) out back rest after (omega (arith, small)) far near
         one.1 in (
           (one.0, two.0),
-          moved (p + size first + arms_size rest) (p + (size first + arms_size rest))
-              after (omega arith) two.1,
+          moved (p + (size first + arms_size rest)) after (omega arith) two.1,
         )
     arms_in p out back (Case label rest) after small far near h =
         arms_in p out back rest after small far near h

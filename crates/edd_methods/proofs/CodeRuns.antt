@@ -58,13 +58,12 @@ module _ (text : StrNo → Option Words) (env : Environment) (code : List ℕ) w
   }
 
   -- a test that takes its operand
-  zero_does : (n p there next a : ℕ) (z : ℤ) (to : Exits) (s : State) (f g : Action Completion)
-      → IsRead code (stand p (instruction.JumpIfZero there) next)
-      → Does text env code n there [] to s (f s) → Does text env code n next [] to s (g s)
-      → Does text env code n p (z ∷ []) to s
-      ((elim (is_zero z) as (λ _. Action Completion) [ true ↦ f | false ↦ g ]) s)
+  zero_does : (n p there : ℕ) {next : ℕ} (a : ℕ) (z : ℤ) (to : Exits) (s : State) (f g : Action
+      Completion) → IsRead code (stand p (instruction.JumpIfZero there) next) → Does text env code n
+      there [] to s (f s) → Does text env code n next [] to s (g s) → Does text env code n p (z
+      ∷ []) to s ((elim (is_zero z) as (λ _. Action Completion) [ true ↦ f | false ↦ g ]) s)
   unfolding act
-  zero_does n p there next a z to s f g read one two =
+  zero_does n p there {next} a z to s f g read one two =
       test_does text env code (is_zero z) n p next there next (z ∷ []) [] [] to s
       (instruction.JumpIfZero there) f g read
       (one_of text env code (is_zero z) (at code p (z ∷ []) s) there next []) one two
@@ -92,18 +91,13 @@ module _ (text : StrNo → Option Words) (env : Environment) (code : List ℕ) w
       by_test : (b : Bool) → int_eq value label ≡ b
           → Does text env code n p (value ∷ []) to s
           (source.and_then ((elim b as (λ _. Action Completion) [ true ↦ f | false ↦ g ]) s) left)
-      by_test true is = after_step text env code n p at_label (value ∷ []) [] to s s
-          (source.and_then (f s) left)
-          (goes_to text env code p next at_label (value ∷ []) [] s (instruction.Case label at_label)
-          read
-          (ap (λ (b : Bool). if b then go (at code p (value ∷ []) s) at_label [] else go
-          (at code p (value ∷ []) s) next (value ∷ [])) is)) one
-      by_test false is = after_step text env code n p next (value ∷ []) (value ∷ []) to s s
-          (source.and_then (g s) left)
-          (goes_to text env code p next next (value ∷ []) (value ∷ []) s
-          (instruction.Case label at_label) read
-          (ap (λ (b : Bool). if b then go (at code p (value ∷ []) s) at_label [] else go
-          (at code p (value ∷ []) s) next (value ∷ [])) is)) two
+      by_test true is = after_step text env code (goes_to text env code p next at_label (value ∷ [])
+          [] s (instruction.Case label at_label) read (ap (λ (b : Bool). if b then go (at code p
+          (value ∷ []) s) at_label [] else go (at code p (value ∷ []) s) next (value ∷ [])) is)) one
+      by_test false is =
+          after_step text env code (goes_to text env code p next next (value ∷ []) (value ∷ []) s
+          (instruction.Case label at_label) read (ap (λ (b : Bool). if b then go (at code p (value
+          ∷ []) s) at_label [] else go (at code p (value ∷ []) s) next (value ∷ [])) is)) two
 
   -- ---- loops
 
@@ -120,21 +114,16 @@ module _ (text : StrNo → Option Words) (env : Environment) (code : List ℕ) w
       → Does text env code n p [] to s
       (source.and_then (part_of text env part s) (unless_zero rest))
   part_does Missing n p q out to s rest whole read same valid leaves more =
-      begins_at text env code n q p [] to s (rest s) (omega (arith, same)) (more s valid)
+      begins_at text env code n p s (omega (arith, same)) (more s valid)
   part_does (Step b) n p q out to s rest whole read same valid leaves more =
-      step_does text env code n p (p + blocks.size b) to s (does text env b [] s) (unless_zero rest)
-      (whole s) (block_comes text env code p b read [] s valid)
-      (λ t taken. begins_at text env code n q (p + blocks.size b) [] to t (rest t) (sym same)
-      (more t taken))
+      step_does text env code n to (does text env b [] s) (unless_zero rest) (whole s)
+      (block_comes text env code p b read [] s valid)
+      (λ t taken. begins_at text env code n (p + blocks.size b) t (sym same) (more t taken))
   part_does (Test b) n p q out to s rest whole read same valid leaves more =
-      value_does text env code n p (p + blocks.size b) to s (does text env b [] s)
-      (unless_zero rest) (whole s) (block_comes text env code p b read.0 [] s valid)
-      (λ a t taken. zero_does n (p + blocks.size b) out (p + (blocks.size b + 5)) 0 a to t
-      (pure Normal) rest read.1
-      (after_step text env code n out to.end [] [] to t t (Done Normal t) (leaves t)
-      (here text env code n to t taken))
-      (begins_at text env code n q (p + (blocks.size b + 5)) [] to t (rest t) (sym same)
-      (more t taken)))
+      value_does text env code n to (does text env b [] s) (unless_zero rest) (whole s) (block_comes
+      text env code p b read.0 [] s valid) (λ a t taken. zero_does n (p + blocks.size b) out 0 a to
+      t (pure Normal) rest read.1 (after_step text env code (leaves t) (here text env code n to t
+      taken)) (begins_at text env code n (p + (blocks.size b + 5)) t (sym same) (more t taken)))
 
   -- the turns of a loop, from its entry, where its body does f
   turns_do : (n : ℕ) (front back_part : Part) (body : Code) (p out back : ℕ)
@@ -172,16 +161,12 @@ module _ (text : StrNo → Option Words) (env : Environment) (code : List ℕ) w
       let more = loop_turns m (part_of text env front) f (part_of text env back_part) in
       let leaves = λ (t : State). jumps text env code (p + 5) q (p + 10) read.1 [] t in
       part_does front (suc m) (p + (10 + b)) (p + (10 + (b + g))) (p + 5) to s _ in_front read.3
-      (omega arith) valid leaves
-      (λ t taken. turn_does text env code m (p + (10 + (b + g))) last (p + 5) (p + 10) to t (f t) _
-      (λ u. jumps text env code last (p + 10) q read.5 [] u) leaves
-      (fewer text env code (suc m) n (f t) less
-      (ends_at text env code n (p + (10 + (b + g))) [] (p + (10 + (b + g)) + size body) last (p + 5)
-      (p + 10) t (f t) (omega arith) (each t taken)))
-      (λ u again. part_does back_part m (p + 10) (p + (10 + b)) (p + 5) to u more behind read.2
-      (omega arith) again leaves
-      (λ v kept. turns_do n front back_part body p out back in_front behind read f each m
-      (omega (arith, less)) v kept)))
+      (omega arith) valid leaves (λ t taken. turn_does text env code m last (p + 5) (p + 10) to
+      (f t) _ (λ u. jumps text env code last (p + 10) q read.5 [] u) leaves (fewer text env code
+      (suc m) n (f t) less (ends_at text env code n (p + (10 + (b + g)) + size body) last (p + 5) (p
+      + 10) t (omega arith) (each t taken))) (λ u again. part_does back_part m (p + 10) (p
+      + (10 + b)) (p + 5) to u more behind read.2 (omega arith) again leaves (λ v kept. turns_do n
+      front back_part body p out back in_front behind read f each m (omega (arith, less)) v kept)))
 
   -- ---- all code
 
@@ -194,27 +179,25 @@ module _ (text : StrNo → Option Words) (env : Environment) (code : List ℕ) w
         (performs text env c n s)
     code_does n (Plain b) p out back whole read s valid =
         let to : Exits = record { end = p + blocks.size b; out = out; back = back } in
-        step_does text env code n p (p + blocks.size b) to s (does text env b [] s)
-        (λ a. pure Normal) (whole s) (block_comes text env code p b read [] s valid)
-        (λ t taken. here text env code n to t taken)
+        step_does text env code n to (does text env b [] s) (λ a. pure Normal) (whole s)
+        (block_comes text env code p b read [] s valid) (λ t taken. here text env code n to t taken)
     code_does n (Then first second) p out back whole read s valid =
-        then_does text env code n p (p + size first) []
-        (record { end = p + (size first + size second); out = out; back = back }) s
-        (performs text env first n s) (performs text env second n)
-        (code_does n first p out back whole.0 read.0 s valid)
-        (λ t taken. ends_at text env code n (p + size first) [] (p + size first + size second)
-        (p + (size first + size second)) out back t (performs text env second n t) (omega arith)
+        then_does text env code (p + size first) (record {
+          end = p + (size first + size second);
+          out = out;
+          back = back;
+        }) (performs text env first n s) (performs text env second n)
+        (code_does n first p out back whole.0 read.0 s valid) (λ t taken. ends_at text env code n (p
+        + size first + size second) (p + (size first + size second)) out back t (omega arith)
         (code_does n second (p + size first) out back whole.1 read.1 t taken))
     code_does n (Guard test first) p out back whole read s valid =
         let a = blocks.size test in
         let q = p + (a + (5 + size first)) in
         let to : Exits = record { end = q; out = out; back = back } in
-        value_does text env code n p (p + a) to s (does text env test [] s) _ (whole.0 s)
-        (block_comes text env code p test read.0 [] s valid)
-        (λ z t taken. zero_does n (p + a) q (p + (a + 5)) 0 z to t (pure Normal)
-        (performs text env first n) read.1 (here text env code n to t taken)
-        (ends_at text env code n (p + (a + 5)) [] (p + (a + 5) + size first) q out back t
-        (performs text env first n t) (omega arith)
+        value_does text env code n to (does text env test [] s) _ (whole.0 s)
+        (block_comes text env code p test read.0 [] s valid) (λ z t taken. zero_does n (p + a) q 0 z
+        to t (pure Normal) (performs text env first n) read.1 (here text env code n to t taken)
+        (ends_at text env code n (p + (a + 5) + size first) q out back t (omega arith)
         (code_does n first (p + (a + 5)) out back whole.1 read.2 t taken)))
     code_does n (Branch test first otherwise) p out back whole read s valid =
         let a = blocks.size test in
@@ -222,25 +205,18 @@ module _ (text : StrNo → Option Words) (env : Environment) (code : List ℕ) w
         let r = p + (a + (5 + (size first + 5))) in
         let q = p + (a + (5 + (size first + (5 + size otherwise)))) in
         let to : Exits = record { end = q; out = out; back = back } in
-        value_does text env code n p (p + a) to s (does text env test [] s) _ (whole.0 s)
-        (block_comes text env code p test read.0 [] s valid)
-        (λ z t taken. zero_does n (p + a) r (p + (a + 5)) 0 z to t (performs text env otherwise n)
-        (performs text env first n) read.1
-        (ends_at text env code n r [] (r + size otherwise) q out back t
-        (performs text env otherwise n t) (omega arith)
-        (code_does n otherwise r out back whole.2 read.4 t taken))
-        (then_jumps text env code n (p + (a + 5)) m q out back [] t (performs text env first n t)
-        (jumps text env code m q r read.3 [])
-        (ends_at text env code n (p + (a + 5)) [] (p + (a + 5) + size first) m out back t
-        (performs text env first n t) (omega arith)
-        (code_does n first (p + (a + 5)) out back whole.1 read.2 t taken))))
+        value_does text env code n to (does text env test [] s) _ (whole.0 s) (block_comes text env
+        code p test read.0 [] s valid) (λ z t taken. zero_does n (p + a) r 0 z to t
+        (performs text env otherwise n) (performs text env first n) read.1 (ends_at text env code n
+        (r + size otherwise) q out back t (omega arith) (code_does n otherwise r out back whole.2
+        read.4 t taken)) (then_jumps text env code m q out back (performs text env first n t) (jumps
+        text env code m q r read.3 []) (ends_at text env code n (p + (a + 5) + size first) m out
+        back t (omega arith) (code_does n first (p + (a + 5)) out back whole.1 read.2 t taken))))
     code_does n (Loop front back_part body) p out back whole read s valid =
         let b = part_size back_part in
         let f = part_size front in
         let entry = p + (10 + b) in
-        after_step text env code n p entry [] []
-        (record { end = p + (10 + (b + (f + (size body + 5)))); out = out; back = back }) s s _
-        (jumps text env code p entry (p + 5) read.0 [] s)
+        after_step text env code (jumps text env code p entry (p + 5) read.0 [] s)
         (turns_do n front back_part body p out back whole.0 whole.1 read (performs text env body n)
         (λ t taken. code_does n body (p + (10 + (b + f))) (p + 5) (p + 10) whole.2 read.4 t taken) n
         (omega arith) s valid)
@@ -257,20 +233,14 @@ module _ (text : StrNo → Option Words) (env : Environment) (code : List ℕ) w
         let ends = λ (v : State). jumps text env code m (p + (a + 5)) tests read.4 [] v in
         let leaves = λ (v : State). jumps text env code (p + (a + 5)) q (p + (a + 10)) read.2 []
         v in
-        value_does text env code n p (p + a) to s (does text env on [] s) _ (whole.0 s)
-        (block_comes text env code p on read.0 [] s valid)
-        (λ z u taken. after_step text env code n (p + a) tests (z ∷ []) (z ∷ []) to u u _
-        (jumps text env code (p + a) tests (p + (a + 5)) read.1 (z ∷ []) u)
-        (case_does n arms (p + (a + 10)) tests last m (p + (a + 5)) to z
-        (performs_default text env arms n) ends leaves (omega arith) (omega arith) whole.1
-        read.3 read.5
-        (λ v again. after_step text env code n last next (z ∷ []) [] to v v _
-        (drops last next z v read.6)
-        (after_step text env code n next (default_place (p + (a + 10)) (p + (a + 5)) arms) [] [] to
-        v v _ (jumps text env code next (default_place (p + (a + 10)) (p + (a + 5)) arms) q
-        read.7 [] v)
-        (default_does n arms (p + (a + 10)) m (p + (a + 5)) to ends leaves (omega arith) whole.1
-        read.3 v again))) u taken))
+        value_does text env code n to (does text env on [] s) _ (whole.0 s)
+        (block_comes text env code p on read.0 [] s valid) (λ z u taken. after_step text env code
+        (jumps text env code (p + a) tests (p + (a + 5)) read.1 (z ∷ []) u) (case_does n arms (p
+        + (a + 10)) tests last m (p + (a + 5)) to z (performs_default text env arms n) ends leaves
+        (omega arith) (omega arith) whole.1 read.3 read.5 (λ v again. after_step text env code
+        (drops last next z v read.6) (after_step text env code (jumps text env code next
+        (default_place (p + (a + 10)) (p + (a + 5)) arms) q read.7 [] v) (default_does n arms (p
+        + (a + 10)) m (p + (a + 5)) to ends leaves (omega arith) whole.1 read.3 v again))) u taken))
     code_does n Break p out back whole read s valid = break_does n p out back (p + 5) (p + 5) s
         valid read
     code_does n Continue p out back whole read s valid = continue_does n p out back (p + 5) (p + 5)
@@ -285,15 +255,13 @@ module _ (text : StrNo → Option Words) (env : Environment) (code : List ℕ) w
         → Does text env code n p [] (record { end = m; out = out; back = back }) s
         (performs_all text env arms n s)
     arms_do n Nil p m out back same whole read s valid =
-        begins_at text env code n m p [] (record { end = m; out = out; back = back }) s
-        (Done Normal s) (omega (arith, same))
+        begins_at text env code n p s (omega (arith, same))
         (here text env code n (record { end = m; out = out; back = back }) s valid)
     arms_do n (Statement first rest) p m out back same whole read s valid =
-        then_does text env code n p (p + size first) [] (record { end = m; out = out; back = back })
-        s (performs text env first n s) (performs_all text env rest n)
-        (code_does n first p out back whole.0 read.0 s valid)
-        (λ t taken. arms_do n rest (p + size first) m out back (omega (arith, same)) whole.1 read.1
-        t taken)
+        then_does text env code (p + size first) (record { end = m; out = out; back = back })
+        (performs text env first n s) (performs_all text env rest n)
+        (code_does n first p out back whole.0 read.0 s valid) (λ t taken. arms_do n rest (p
+        + size first) m out back (omega (arith, same)) whole.1 read.1 t taken)
     arms_do n (Case label rest) p m out back same whole read s valid =
         arms_do n rest p m out back same whole read s valid
     arms_do n (Default rest) p m out back same whole read s valid =
@@ -315,8 +283,7 @@ module _ (text : StrNo → Option Words) (env : Environment) (code : List ℕ) w
         (source.and_then (performs_case text env value arms n otherwise s) left)
     case_does n Nil p tests last m out to value otherwise ends leaves same at_last whole read listed
         other s valid =
-        begins_at text env code n last tests (value ∷ []) to s (source.and_then (otherwise s) left)
-        (omega (arith, at_last)) (other s valid)
+        begins_at text env code n tests s (omega (arith, at_last)) (other s valid)
     case_does n (Statement first rest) p tests last m out to value otherwise ends leaves same
         at_last whole read listed other s valid =
         case_does n rest (p + size first) tests last m out to value otherwise ends leaves
@@ -324,10 +291,9 @@ module _ (text : StrNo → Option Words) (env : Environment) (code : List ℕ) w
     case_does n (Case label rest) p tests last m out to value otherwise ends leaves same at_last
         whole read listed other s valid =
         case_or_next n tests p (tests + 13) value label to s (performs_all text env rest n)
-        (performs_case text env value rest n otherwise) listed.0
-        (left_does text env code n p m out [] to s (performs_all text env rest n s) ends leaves
-        (arms_do n rest p m out to.back same whole read s valid))
-        (case_does n rest p (tests + 13) last m out to value otherwise ends leaves same
+        (performs_case text env value rest n otherwise) listed.0 (left_does text env code m out to
+        (performs_all text env rest n s) ends leaves (arms_do n rest p m out to.back same whole read
+        s valid)) (case_does n rest p (tests + 13) last m out to value otherwise ends leaves same
         (omega (arith, at_last)) whole read listed.1 other s valid)
     case_does n (Default rest) p tests last m out to value otherwise ends leaves same at_last whole
         read listed other s valid =
@@ -343,13 +309,12 @@ module _ (text : StrNo → Option Words) (env : Environment) (code : List ℕ) w
         → Does text env code n (default_place p out arms) [] to s
         (source.and_then (performs_default text env arms n s) left)
     default_does n Nil p m out to ends leaves same whole read s valid =
-        after_step text env code n out to.end [] [] to s s (Done Normal s) (leaves s)
-        (here text env code n to s valid)
+        after_step text env code (leaves s) (here text env code n to s valid)
     default_does n (Statement first rest) p m out to ends leaves same whole read s valid =
         default_does n rest (p + size first) m out to ends leaves (omega (arith, same)) whole.1
         read.1 s valid
     default_does n (Case label rest) p m out to ends leaves same whole read s valid =
         default_does n rest p m out to ends leaves same whole read s valid
     default_does n (Default rest) p m out to ends leaves same whole read s valid =
-        left_does text env code n p m out [] to s (performs_all text env rest n s) ends leaves
+        left_does text env code m out to (performs_all text env rest n s) ends leaves
         (arms_do n rest p m out to.back same whole read s valid)

@@ -29,12 +29,12 @@ module _ (xs : List Placed) where
   Starts p = is_start xs p ≡ true
 
   -- the same place
-  pub start_moved : (p q : ℕ) → p ≡ q → Starts q → Starts p
-  start_moved p q e h = ap (is_start xs) e ∙ h
+  pub start_moved : (p : ℕ) {q : ℕ} → p ≡ q → Starts q → Starts p
+  start_moved p e h = ap (is_start xs) e ∙ h
 
   pub part_starts : (p out : ℕ) (part : Part) → InsidePart p out part → Starts (p + part_size part)
       → Starts p
-  part_starts p out Missing inside exit = start_moved p (p + 0) (omega arith) exit
+  part_starts p out Missing inside exit = start_moved p (omega arith) exit
   part_starts p out (Step b) inside exit = starts_at xs p b inside exit
   part_starts p out (Test b) inside exit =
       let leave = stand (p + blocks.size b) (instruction.JumpIfZero out) (p + (blocks.size b + 5))
@@ -43,7 +43,7 @@ module _ (xs : List Placed) where
 
   pub tests_starts : (p at : ℕ) (arms : Arms) → InsideTests p at arms → Starts (p + tests_size arms)
       → Starts p
-  tests_starts p at Nil inside exit = start_moved p (p + 0) (omega arith) exit
+  tests_starts p at Nil inside exit = start_moved p (omega arith) exit
   tests_starts p at (Statement first rest) inside exit = tests_starts p (at + size first) rest
       inside exit
   tests_starts p at (Case label rest) inside exit =
@@ -55,9 +55,8 @@ module _ (xs : List Placed) where
   code_starts p out back (Plain b) inside exit = starts_at xs p b inside exit
   code_starts p out back (Then first second) inside exit =
       let m = p + size first in
-      code_starts p out back first (λ P h. (inside P h).0)
-      (code_starts m out back second (λ P h. (inside P h).1)
-      (start_moved (m + size second) (p + (size first + size second)) (omega arith) exit))
+      code_starts p out back first (λ P h. (inside P h).0) (code_starts m out back second
+      (λ P h. (inside P h).1) (start_moved (m + size second) (omega arith) exit))
   code_starts p out back (Guard test first) inside exit =
       let a = blocks.size test in
       let leave = stand (p + a) (instruction.JumpIfZero (p + (a + (5 + size first)))) (p + (a + 5))
@@ -84,11 +83,10 @@ module _ (xs : List Placed) where
 
   pub arms_starts : (p out back : ℕ) (arms : Arms) → InsideArms p out back arms
       → Starts (p + arms_size arms) → Starts p
-  arms_starts p out back Nil inside exit = start_moved p (p + 0) (omega arith) exit
+  arms_starts p out back Nil inside exit = start_moved p (omega arith) exit
   arms_starts p out back (Statement first rest) inside exit =
       let m = p + size first in
-      code_starts p out back first (λ P h. (inside P h).0)
-      (arms_starts m out back rest (λ P h. (inside P h).1)
-      (start_moved (m + arms_size rest) (p + (size first + arms_size rest)) (omega arith) exit))
+      code_starts p out back first (λ P h. (inside P h).0) (arms_starts m out back rest
+      (λ P h. (inside P h).1) (start_moved (m + arms_size rest) (omega arith) exit))
   arms_starts p out back (Case label rest) inside exit = arms_starts p out back rest inside exit
   arms_starts p out back (Default rest) inside exit = arms_starts p out back rest inside exit

@@ -71,9 +71,9 @@ end_allowed version Method = refl
 module _ (c : Code) (small : size c < 2 ^ 31) where
   -- ---- tests of the instructions
 
-  in_unit_passes : (f : Instruction → Bool) → HoldsOfJumps f → f instruction.Pop ≡ true
+  in_unit_passes : {f : Instruction → Bool} → HoldsOfJumps f → f instruction.Pop ≡ true
       → f instruction.End ≡ true → Passes f c → list_all (λ x. f x.instruction) (listed_in c) ≡ true
-  in_unit_passes f jumps pop ending passes =
+  in_unit_passes {f} jumps pop ending passes =
       all_placed f 0 (in_unit c)
       ∙ list_passes f jumps pop ending (in_unit c)
       (both f jumps pop ending (emitted 0 (size c) (size c) c) (instruction.End ∷ [])
@@ -141,11 +141,9 @@ module _ (c : Code) (small : size c < 2 ^ 31) where
         ap (end_of 0) listed_are ∙ end_is 0 (in_unit c) ∙ omega arith
         ∙ ap length (sym (unit_is c)) in
         all_true (lt-ltb 0 (length (unit_code c)) (omega (arith, long)))
-        (grind (arith, nat_tests, ends))
-        (ap (list_all (λ x. allowed x.instruction)) listed_are
-        ∙ in_unit_passes allowed (jumps_allowed context.version context.sort)
-        (pop_allowed context.version context.sort) (end_allowed context.version context.sort)
-        are_allowed)
+        (grind (arith, nat_tests, ends)) (ap (list_all (λ x. allowed x.instruction)) listed_are
+        ∙ in_unit_passes (jumps_allowed context.version context.sort) (pop_allowed context.version
+        context.sort) (end_allowed context.version context.sort) are_allowed)
 
     land : all_land context (listed_in c) ≡ true
     land =
@@ -167,12 +165,10 @@ module _ (c : Code) (small : size c < 2 ^ 31) where
       chain = chained;
       jumps = ap (all_land context) listed_are ∙ land;
       depths = subst HasDepths (sym listed_are) (unit_depth, depths);
-      references = ap (all_exist context) listed_are
-          ∙ in_unit_passes (names_exist context)
-          (record {
-            jump = λ to. refl;
-            zero = λ to. refl;
-            not_zero = λ to. refl;
-            label = λ z to. refl;
-          }) refl refl are_named;
+      references = ap (all_exist context) listed_are ∙ in_unit_passes (record {
+        jump = λ to. refl;
+        zero = λ to. refl;
+        not_zero = λ to. refl;
+        label = λ z to. refl;
+      }) refl refl are_named;
     }

@@ -10,9 +10,9 @@ behind_same : {A B : Type 0} (o : Outcome A) (f g : A → Action B) → ((x : A)
 behind_same (Done x s) f g h = h x s
 behind_same (Stopped why s) f g h = refl
 
-pub then_same : {A B : Type 0} (o o' : Outcome A) (f g : A → Action B) → o ≡ o'
+pub then_same : {A B : Type 0} {o o' : Outcome A} (f g : A → Action B) → o ≡ o'
     → ((x : A) → Same (f x) (g x)) → and_then o f ≡ and_then o' g
-then_same o o' f g e h = ap (λ x. and_then x f) e ∙ behind_same o' f g h
+then_same {o'} f g e h = ap (λ x. and_then x f) e ∙ behind_same o' f g h
 
 pub test_same : (b : Bool) (f g : Action Completion) → Same f g
     → Same (elim b [ true ↦ pure Normal | false ↦ f ]) (elim b [ true ↦ pure Normal | false ↦ g ])
@@ -41,10 +41,9 @@ pub test_first : (n : ℕ) (front test back last : Action ℤ) (body turn : Acti
 unfolding loop_turns turns
 test_first zero front test back last body turn in_front inside behind s = refl
 test_first (suc n) front test back last body turn in_front inside behind s =
-    then_same (front s) (test s) _ _ (in_front s) (λ a. test_same (is_zero a) _ _ (λ t.
-    then_same (body t) (turn t) _ _ (inside t) (turn_same _ _ (λ u.
-    goes_on (back u) last _ _ u (behind u) (test_first n front test back last body turn in_front
-    inside behind)))))
+    then_same _ _ (in_front s) (λ a. test_same (is_zero a) _ _
+    (λ t. then_same _ _ (inside t) (turn_same _ _ (λ u. goes_on (back u) last _ _ u (behind u)
+    (test_first n front test back last body turn in_front inside behind)))))
 
 pub test_last : (n : ℕ) (back test : Action ℤ) (body turn : Action Completion) → Same body turn
     → Same back test → (s : State) → loop_turns n (pure (pos 1)) body back s
@@ -52,6 +51,5 @@ pub test_last : (n : ℕ) (back test : Action ℤ) (body turn : Action Completio
 unfolding loop_turns turns_of_do
 test_last zero back test body turn inside behind s = refl
 test_last (suc n) back test body turn inside behind s =
-    then_same (body s) (turn s) _ _ (inside s) (turn_same _ _ (λ u.
-    then_same (back u) (test u) _ _ (behind u)
+    then_same _ _ (inside s) (turn_same _ _ (λ u. then_same _ _ (behind u)
     (λ a. test_same (is_zero a) _ _ (test_last n back test body turn inside behind))))

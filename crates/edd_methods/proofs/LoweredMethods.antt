@@ -60,9 +60,9 @@ module _ (d : Description Target) (checked : ∥ IsChecked d ∥₁) (m : MethNo
   few_slots = facts.few_slots
 
   -- too many strings are too many different ones
-  pub overflowing : (old : List Words) → AreDifferent old → Overflows old (strings_of_method d m)
+  pub overflowing : {old : List Words} → AreDifferent old → Overflows old (strings_of_method d m)
       → 65535 < length (different (old ++ strings_of_method d m))
-  overflowing old apart over =
+  overflowing {old} apart over =
       let all = over.held apart in
       omega (arith, all.2, fewer_different (old ++ strings_of_method d m) all.0 all.1 all.3)
 
@@ -108,10 +108,9 @@ module _ (d : Description Target) (checked : ∥ IsChecked d ∥₁) (m : MethNo
           code_long 0 (size all) (size all) all,
         )
 
-  pub lowered_strings : (old new : List Words) (code : List ℕ)
-      → LowersBody old (body_of d m) new code → (w : Words)
-      → Contains new w ↔ (Contains old w ⊎ Contains (strings_of_method d m) w)
-  lowered_strings old new code lowered w = (
+  pub lowered_strings : {old new : List Words} {code : List ℕ} → LowersBody old (body_of d m) new
+      code → (w : Words) → Contains new w ↔ (Contains old w ⊎ Contains (strings_of_method d m) w)
+  lowered_strings {old} lowered w = (
     λ held. elim (Contains-append_cases old lowered.table.more w
         (subst (λ (t : List Words). Contains t w) lowered.table.grown held)) [
           | inl h ↦ inl h

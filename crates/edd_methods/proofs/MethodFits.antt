@@ -79,8 +79,8 @@ value_fits s (Call _ arguments) fit is = absurd cc
 
 -- ---- blocks
 
-leaves : (n : ℕ) (b : Block) → Runs b 0 n → Leaves n b
-leaves n b runs = (runs.flows, runs.after)
+leaves : (n : ℕ) {b : Block} → Runs b 0 n → Leaves n b
+leaves n runs = (runs.flows, runs.after)
 
 runs_so : (n : ℕ) (b : Block) → Leaves n b → Runs b 0 n
 runs_so n b has = record { flows = has.0; after = has.1 }
@@ -116,8 +116,7 @@ module _ (version : Version) (counts : Counts) (slots : ℕ) (number : Words →
       by_test true is = (inl refl, refl)
       by_test false is =
           let there = ok is in (
-            inr (leaves 0 (popped (method_block number) e)
-                (then_runs (method_block number e) (Straight instruction.Pop) 0 1 0
+            inr (leaves 0 (then_runs (method_block number e) (Straight instruction.Pop) 0 1 0
                 (runs_so 1 (method_block number e) there.0) (pop_runs 0 (omega arith)))),
             and_from _ true there.1 refl,
           )
@@ -125,8 +124,7 @@ module _ (version : Version) (counts : Counts) (slots : ℕ) (number : Words →
   initial_there : (e : Option (Expr Target)) → EachWritten IsThere e
       → GivesThere (initial_block (blocks_by (method_block number)) e)
   initial_there None ok = (
-    leaves 1 (Straight (instruction.Push 0))
-        (push_runs (instruction.Push 0) 0 refl refl refl (omega arith)),
+    leaves 1 (push_runs (instruction.Push 0) 0 refl refl refl (omega arith)),
     refl,
   )
   initial_there (Some e) ok = ok
@@ -158,8 +156,7 @@ module _ (version : Version) (counts : Counts) (slots : ℕ) (number : Words →
   pub declares_there : (ds : List (Declarator Target)) → EachSlotOf slots ds
       → EachDeclared IsThere ds → RestsThere (declare_block (blocks_by (method_block number)) ds)
   declares_there ds stored ok = let there =
-      declared_there ds stored ok
-      in (inr (leaves 0 (declare_block (blocks_by (method_block number)) ds) there.0), there.1)
+      declared_there ds stored ok in (inr (leaves 0 there.0), there.1)
 
   -- ---- the expressions of a body
 
@@ -171,8 +168,7 @@ module _ (version : Version) (counts : Counts) (slots : ℕ) (number : Words →
   all_there [] fit low stand = tt
   all_there (p ∷ ps) fit low stand = (
     λ is. (
-      leaves 1 (method_block number p.expression)
-          (method_runs number p.expression (value_fits p.is_statement p.expression fit.0 is) 0
+      leaves 1 (method_runs number p.expression (value_fits p.is_statement p.expression fit.0 is) 0
           (omega (arith, low.0))),
       stand.0.1,
     ),

@@ -41,8 +41,8 @@ within_both ts us vs h k w held =
       | inr p ↦ k w p
     ]
 
-pub within_same : (ts us : List Text) → ts ≡ us → Within ts us
-within_same ts us e w held = subst (λ (xs : List Text). Contains (strings_of_texts xs) w) e held
+pub within_same : {ts us : List Text} → ts ≡ us → Within ts us
+within_same e w held = subst (λ (xs : List Text). Contains (strings_of_texts xs) w) e held
 
 -- both orders hold the same
 pub exchanged : (ts us : List Text) → Within (ts ++ us) (us ++ ts)
@@ -101,9 +101,9 @@ both {a} {b} {c} {ts} {us} {P} {Q} v w = record {
 }
 
 -- the texts may be listed in another way
-pub listed : {old new : List Words} {ts : List Text} {P : Said} (us : List Text) → Within ts us
+pub listed : {old new : List Words} {ts : List Text} {P : Said} {us : List Text} → Within ts us
     → Within us ts → Numbered old ts P new → Numbered old us P new
-listed us there back w = record {
+listed there back w = record {
   table = record {
     more = w.table.more;
     grown = w.table.grown;
@@ -116,9 +116,9 @@ listed us there back w = record {
   written = w.written;
 }
 
-pub same_texts : {old new : List Words} {ts : List Text} {P : Said} (us : List Text) → ts ≡ us
+pub same_texts : {old new : List Words} {ts : List Text} {P : Said} {us : List Text} → ts ≡ us
     → Numbered old ts P new → Numbered old us P new
-same_texts {old} {new} {ts} {P} us e w = subst (λ (xs : List Text). Numbered old xs P new) e w
+same_texts {old} {new} {ts} {P} e w = subst (λ (xs : List Text). Numbered old xs P new) e w
 
 -- ---- a part that is refused
 
@@ -156,15 +156,15 @@ refused_behind {old} {mid} {ts} {P} why us new w h = (
 )
 
 -- memory is refused and no string is added
-pub no_memory : (why : LowerFault) (old : List Words) (texts : List Text) → why ≡ Memory
+pub no_memory : {why : LowerFault} (old : List Words) (texts : List Text) → why ≡ Memory
     → Refused why old texts old
-no_memory why old texts is = (no_growth old, λ e. absurd (cc (e, is)))
+no_memory old texts is = (no_growth old, λ e. absurd (cc (e, is)))
 
 -- what a function answers that passes the fault on
 pub refused_is : {A : Type 0} (old new : List Words) (texts : List Text) (P : Said)
-    (r : Result A LowerFault) (why : LowerFault) → r ≡ Err why → Refused why old texts new
+    {r : Result A LowerFault} {why : LowerFault} → r ≡ Err why → Refused why old texts new
     → Lowers r old texts P new
-refused_is {A} old new texts P r why is h =
+refused_is {A} old new texts P is h =
     subst (λ (x : Result A LowerFault). Lowers x old texts P new) (sym is) h
 
 -- ---- each of two lists of texts is good
@@ -215,11 +215,10 @@ module _ {X Y S T : Type 0} (view : X → Y) (texts : List Y → List Text)
 
   -- one element more
   pub front_grows : {i : ℕ} {all : List X} {old mid new : List Words} {before between after : S}
-      (x : X) → i < length all → x ≡ get_or all i x → Front i all old before mid between
-      → Numbered mid (texts (view x ∷ [])) (λ number. (rest : List Y)
-      → left number between (view x ∷ rest) ≡ left number after rest) new
-      → Front (i + 1) all old before new after
-  front_grows {i} {all} {old} {mid} {new} {before} {between} {after} x h is front one = record {
+      {x : X} → i < length all → x ≡ get_or all i x → Front i all old before mid between
+      → Numbered mid (texts (view x ∷ [])) (λ number. (rest : List Y) → left number between (view x
+      ∷ rest) ≡ left number after rest) new → Front (i + 1) all old before new after
+  front_grows {i} {all} {old} {mid} {new} {before} {between} {after} {x} h is front one = record {
     done = front.done ++ texts (view x ∷ []);
     rest = front.rest ∙ ap (λ ts. front.done ++ ts) (next_texts i all x h is)
         ∙ sym (append_assoc front.done (texts (view x ∷ [])) (texts (views (i + 1) all)));
@@ -233,33 +232,31 @@ module _ {X Y S T : Type 0} (view : X → Y) (texts : List Y → List Text)
       ≡ left number after []) new
   front_ends {i} {all} {old} {new} {before} {after} h none front =
       let over : views i all ≡ [] = ap (map view) (drop_all i all h) in
-      same_texts (texts (map view all))
-      (sym (front.rest ∙ ap (λ ys. front.done ++ texts ys) over
+      same_texts (sym (front.rest ∙ ap (λ ys. front.done ++ texts ys) over
       ∙ ap (λ ts. front.done ++ ts) none ∙ append-nil front.done))
       (said (λ number e. e ∙ ap (left number after) over) front.wrote)
 
   -- one element is refused
   pub front_refused : {i : ℕ} {all : List X} {old mid new : List Words} {before between : S}
-      (why : LowerFault) (x : X) → i < length all → x ≡ get_or all i x
-      → Front i all old before mid between
-      → Refused why mid (texts (view x ∷ [])) new → Refused why old (texts (map view all)) new
-  front_refused {i} {all} {old} {mid} {new} {before} {between} why x h is front refused =
+      (why : LowerFault) {x : X} → i < length all → x ≡ get_or all i x
+      → Front i all old before mid between → Refused why mid (texts (view x ∷ [])) new
+      → Refused why old (texts (map view all)) new
+  front_refused {i} {all} {old} {mid} {new} {before} {between} why {x} h is front refused =
       let one = texts (view x ∷ []) in
       let more = texts (views (i + 1) all) in
       let all_texts : texts (map view all) ≡ (front.done ++ one) ++ more = front.rest
       ∙ ap (λ ts. front.done ++ ts) (next_texts i all x h is)
       ∙ sym (append_assoc front.done one more) in
       refused_within why old (front.done ++ one) (texts (map view all)) new
-      (λ w held. within_same ((front.done ++ one) ++ more) (texts (map view all))
-      (sym all_texts) w (within_left (front.done ++ one) more w held))
+      (λ w held. within_same (sym all_texts) w (within_left (front.done ++ one) more w held))
       (refused_behind why one new front.wrote refused)
 
   -- the texts of an element are good where those of all are
-  pub front_texts : (p : Text → Bool) {i : ℕ} {all : List X} {old mid : List Words}
-      {before between : S} (x : X) → i < length all → x ≡ get_or all i x
-      → Front i all old before mid between
+  pub front_texts : (p : Text
+      → Bool) {i : ℕ} {all : List X} {old mid : List Words} {before between : S} {x : X}
+      → i < length all → x ≡ get_or all i x → Front i all old before mid between
       → list_all p (texts (map view all)) ≡ true → list_all p (texts (view x ∷ [])) ≡ true
-  front_texts p {i} {all} x h is front good =
+  front_texts p {i} {all} {x} h is front good =
       let rest = all_parts p front.done (texts (views i all)) (ap (list_all p) (sym front.rest)
       ∙ good) in
       (all_parts p (texts (view x ∷ [])) (texts (views (i + 1) all))

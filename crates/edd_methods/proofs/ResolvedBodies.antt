@@ -80,7 +80,7 @@ all_few (i ∷ rest) h =
 slots_kept : (names : Reading) (b : Body Path) (b' : Body Target) → HasFew b
     → resolved_body names b [] 0 ≡ Some b' → KeepsSlots b'
 slots_kept names b b' few h =
-    let i = body_in names b [] 0 b' h in
+    let i = body_in names b [] 0 h in
     (omega (arith, few, i.0), each_slot (0 + slots_in b) (slots_in b') (omega (arith, i.0)) b' i.1)
 
 pub not_refused : (b : Bool) (why : Refusal) → refused_if b why ≡ [] → b ≡ false

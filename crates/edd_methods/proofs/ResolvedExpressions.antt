@@ -47,78 +47,77 @@ module _ (at : Meanings) (good : Target → Bool) (meant : (p : Path) (t : Targe
         → is_expr is_path is_plain e ≡ true → resolved_by at plain e ≡ Some e' → Good e'
     good_by plain means (Literal value) e' is h = subst Good (same_Some (Literal value) e' h) is
     good_by plain means Decimal e' is h = subst Good (same_Some Decimal e' h) refl
-    good_by plain means (Reference from) e' is h = let a = bound (plain from) _ e' h in subst Good
-        (same_Some _ e' a.2) (means from a.0 a.1)
+    good_by plain means (Reference from) e' is h = let a = bound (plain from) _ h in
+        subst Good (same_Some _ e' a.2) (means from a.0 a.1)
     good_by plain means (Indexed array index) e' is h =
         let are = and_parts _ _ is in
-        let a = bound (at.array array) _ e' h in
-        let b = bound (resolved_expr at index) _ e' a.2 in
+        let a = bound (at.array array) _ h in
+        let b = bound (resolved_expr at index) _ a.2 in
         subst Good (same_Some _ e' b.2)
         (and_from _ _ (and_from _ _ (meant_array array a.0 a.1) refl)
         (good_by at.reference meant index b.0 are.1 b.1))
     good_by plain means (Parentheses inner) e' is h = let a =
-        bound (resolved_expr at inner) _ e' h in subst
-        Good (same_Some _ e' a.2) (good_by at.reference meant inner a.0 is a.1)
+        bound (resolved_expr at inner) _ h in
+        subst Good (same_Some _ e' a.2) (good_by at.reference meant inner a.0 is a.1)
     good_by plain means (Unary op operand) e' is h = let a =
-        bound (resolved_expr at operand) _ e' h in subst
-        Good (same_Some _ e' a.2) (good_by at.reference meant operand a.0 is a.1)
+        bound (resolved_expr at operand) _ h in
+        subst Good (same_Some _ e' a.2) (good_by at.reference meant operand a.0 is a.1)
     good_by plain means (Binary op left right) e' is h =
         let are = and_parts _ _ is in
-        let a = bound (resolved_expr at left) _ e' h in
-        let b = bound (resolved_expr at right) _ e' a.2 in
+        let a = bound (resolved_expr at left) _ h in
+        let b = bound (resolved_expr at right) _ a.2 in
         subst Good (same_Some _ e' b.2)
         (and_from _ _ (good_by at.reference meant left a.0 are.0 a.1)
         (good_by at.reference meant right b.0 are.1 b.1))
     good_by plain means (Compare by left right) e' is h =
         let are = and_parts _ _ is in
-        let a = bound (resolved_expr at left) _ e' h in
-        let b = bound (resolved_expr at right) _ e' a.2 in
+        let a = bound (resolved_expr at left) _ h in
+        let b = bound (resolved_expr at right) _ a.2 in
         subst Good (same_Some _ e' b.2)
         (and_from _ _ (good_by at.reference meant left a.0 are.0 a.1)
         (good_by at.reference meant right b.0 are.1 b.1))
     good_by plain means (LogicalAnd left right) e' is h =
         let are = and_parts _ _ is in
-        let a = bound (resolved_expr at left) _ e' h in
-        let b = bound (resolved_expr at right) _ e' a.2 in
+        let a = bound (resolved_expr at left) _ h in
+        let b = bound (resolved_expr at right) _ a.2 in
         subst Good (same_Some _ e' b.2)
         (and_from _ _ (good_by at.reference meant left a.0 are.0 a.1)
         (good_by at.reference meant right b.0 are.1 b.1))
     good_by plain means (LogicalOr left right) e' is h =
         let are = and_parts _ _ is in
-        let a = bound (resolved_expr at left) _ e' h in
-        let b = bound (resolved_expr at right) _ e' a.2 in
+        let a = bound (resolved_expr at left) _ h in
+        let b = bound (resolved_expr at right) _ a.2 in
         subst Good (same_Some _ e' b.2)
         (and_from _ _ (good_by at.reference meant left a.0 are.0 a.1)
         (good_by at.reference meant right b.0 are.1 b.1))
     good_by plain means (Conditional test first second) e' is h =
         let are = and_parts _ _ is in
         let front = and_parts _ _ are.0 in
-        let a = bound (resolved_expr at test) _ e' h in
-        let b = bound (resolved_expr at first) _ e' a.2 in
-        let c = bound (resolved_expr at second) _ e' b.2 in
+        let a = bound (resolved_expr at test) _ h in
+        let b = bound (resolved_expr at first) _ a.2 in
+        let c = bound (resolved_expr at second) _ b.2 in
         subst Good (same_Some _ e' c.2)
         (and_from _ _ (and_from _ _ (good_by at.reference meant test a.0 front.0 a.1)
         (good_by at.reference meant first b.0 front.1 b.1))
         (good_by at.reference meant second c.0 are.1 c.1))
     good_by plain means (Assign to value) e' is h =
         let are = and_parts _ _ is in
-        let a = bound (at.reference to) _ e' h in
-        let b = bound (resolved_expr at value) _ e' a.2 in
+        let a = bound (at.reference to) _ h in
+        let b = bound (resolved_expr at value) _ a.2 in
         subst Good (same_Some _ e' b.2)
         (and_from _ _ (meant to a.0 a.1) (good_by at.reference meant value b.0 are.1 b.1))
     good_by plain means (CompoundAssign op to value) e' is h =
         let are = and_parts _ _ is in
-        let a = bound (at.reference to) _ e' h in
-        let b = bound (resolved_expr at value) _ e' a.2 in
+        let a = bound (at.reference to) _ h in
+        let b = bound (resolved_expr at value) _ a.2 in
         subst Good (same_Some _ e' b.2)
         (and_from _ _ (meant to a.0 a.1) (good_by at.reference meant value b.0 are.1 b.1))
     good_by plain means (Increment op to) e' is h = let a =
-        bound (at.reference to) _ e' h in subst Good
-        (same_Some _ e' a.2) (meant to a.0 a.1)
+        bound (at.reference to) _ h in subst Good (same_Some _ e' a.2) (meant to a.0 a.1)
     good_by plain means (Call name arguments) e' is h =
         let are = and_parts _ _ is in
-        let a = bound (at.function name) _ e' h in
-        let b = bound (resolved_arguments at (at.argument name) arguments) _ e' a.2 in
+        let a = bound (at.function name) _ h in
+        let b = bound (resolved_arguments at (at.argument name) arguments) _ a.2 in
         subst Good (same_Some _ e' b.2)
         (arguments_good (at.argument name) (meant_argument name) arguments b.0 are.1 b.1)
 
@@ -129,13 +128,13 @@ module _ (at : Meanings) (good : Target → Bool) (meant : (p : Path) (t : Targe
     arguments_good plain means Nil others is h = subst AreGood (same_Some Nil others h) refl
     arguments_good plain means (Cons (Text text) rest) others is h =
         let are = and_parts _ _ is in
-        let a = bound (resolved_arguments at plain rest) _ others h in
+        let a = bound (resolved_arguments at plain rest) _ h in
         subst AreGood (same_Some _ others a.2)
         (and_from _ _ are.0 (arguments_good plain means rest a.0 are.1 a.1))
     arguments_good plain means (Cons (Value e) rest) others is h =
         let are = and_parts _ _ is in
-        let a = bound (resolved_by at plain e) _ others h in
-        let b = bound (resolved_arguments at plain rest) _ others a.2 in
+        let a = bound (resolved_by at plain e) _ h in
+        let b = bound (resolved_arguments at plain rest) _ a.2 in
         subst AreGood (same_Some _ others b.2)
         (and_from _ _ (good_by plain means e a.0 are.0 a.1)
         (arguments_good plain means rest b.0 are.1 b.1))

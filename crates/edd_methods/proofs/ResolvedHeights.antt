@@ -42,43 +42,42 @@ module _ (at : Meanings) where
         → resolved_by at plain e ≡ Some e' → Low (height e) e'
     low_by plain (Literal value) e' h = subst (Low 1) (same_Some (Literal value) e' h) (omega arith)
     low_by plain Decimal e' h = subst (Low 1) (same_Some Decimal e' h) (omega arith)
-    low_by plain (Reference from) e' h = let a = bound (plain from) _ e' h in subst (Low 1)
-        (same_Some _ e' a.2) (omega arith)
+    low_by plain (Reference from) e' h = let a = bound (plain from) _ h in
+        subst (Low 1) (same_Some _ e' a.2) (omega arith)
     low_by plain (Indexed array index) e' h =
-        let a = bound (at.array array) _ e' h in
-        let b = bound (resolved_expr at index) _ e' a.2 in
+        let a = bound (at.array array) _ h in
+        let b = bound (resolved_expr at index) _ a.2 in
         subst (Low (1 + height index)) (same_Some _ e' b.2)
         (omega (arith, low_by at.reference index b.0 b.1))
-    low_by plain (Parentheses inner) e' h = let a = bound (resolved_expr at inner) _ e' h in subst
-        (Low (1 + height inner)) (same_Some _ e' a.2)
-        (omega (arith, low_by at.reference inner a.0 a.1))
-    low_by plain (Unary op operand) e' h = let a = bound (resolved_expr at operand) _ e' h in subst
-        (Low (1 + height operand)) (same_Some _ e' a.2)
+    low_by plain (Parentheses inner) e' h = let a = bound (resolved_expr at inner) _ h in subst (Low
+        (1 + height inner)) (same_Some _ e' a.2) (omega (arith, low_by at.reference inner a.0 a.1))
+    low_by plain (Unary op operand) e' h = let a = bound (resolved_expr at operand) _ h in
+        subst (Low (1 + height operand)) (same_Some _ e' a.2)
         (omega (arith, low_by at.reference operand a.0 a.1))
     low_by plain (Binary op left right) e' h =
-        let a = bound (resolved_expr at left) _ e' h in
-        let b = bound (resolved_expr at right) _ e' a.2 in
+        let a = bound (resolved_expr at left) _ h in
+        let b = bound (resolved_expr at right) _ a.2 in
         subst (Low (1 + max (height left) (height right))) (same_Some _ e' b.2)
         (omega (arith, low_by at.reference left a.0 a.1, low_by at.reference right b.0 b.1))
     low_by plain (Compare by left right) e' h =
-        let a = bound (resolved_expr at left) _ e' h in
-        let b = bound (resolved_expr at right) _ e' a.2 in
+        let a = bound (resolved_expr at left) _ h in
+        let b = bound (resolved_expr at right) _ a.2 in
         subst (Low (1 + max (height left) (height right))) (same_Some _ e' b.2)
         (omega (arith, low_by at.reference left a.0 a.1, low_by at.reference right b.0 b.1))
     low_by plain (LogicalAnd left right) e' h =
-        let a = bound (resolved_expr at left) _ e' h in
-        let b = bound (resolved_expr at right) _ e' a.2 in
+        let a = bound (resolved_expr at left) _ h in
+        let b = bound (resolved_expr at right) _ a.2 in
         subst (Low (1 + max (height left) (height right))) (same_Some _ e' b.2)
         (omega (arith, low_by at.reference left a.0 a.1, low_by at.reference right b.0 b.1))
     low_by plain (LogicalOr left right) e' h =
-        let a = bound (resolved_expr at left) _ e' h in
-        let b = bound (resolved_expr at right) _ e' a.2 in
+        let a = bound (resolved_expr at left) _ h in
+        let b = bound (resolved_expr at right) _ a.2 in
         subst (Low (1 + max (height left) (height right))) (same_Some _ e' b.2)
         (omega (arith, low_by at.reference left a.0 a.1, low_by at.reference right b.0 b.1))
     low_by plain (Conditional test first second) e' h =
-        let a = bound (resolved_expr at test) _ e' h in
-        let b = bound (resolved_expr at first) _ e' a.2 in
-        let c = bound (resolved_expr at second) _ e' b.2 in
+        let a = bound (resolved_expr at test) _ h in
+        let b = bound (resolved_expr at first) _ a.2 in
+        let c = bound (resolved_expr at second) _ b.2 in
         subst (Low (1 + max (height test) (max (height first) (height second))))
         (same_Some _ e' c.2)
         (omega (
@@ -89,20 +88,20 @@ module _ (at : Meanings) where
               at.reference second c.0 c.1,
         ))
     low_by plain (Assign to value) e' h =
-        let a = bound (at.reference to) _ e' h in
-        let b = bound (resolved_expr at value) _ e' a.2 in
+        let a = bound (at.reference to) _ h in
+        let b = bound (resolved_expr at value) _ a.2 in
         subst (Low (1 + height value)) (same_Some _ e' b.2)
         (omega (arith, low_by at.reference value b.0 b.1))
     low_by plain (CompoundAssign op to value) e' h =
-        let a = bound (at.reference to) _ e' h in
-        let b = bound (resolved_expr at value) _ e' a.2 in
+        let a = bound (at.reference to) _ h in
+        let b = bound (resolved_expr at value) _ a.2 in
         subst (Low (1 + height value)) (same_Some _ e' b.2)
         (omega (arith, low_by at.reference value b.0 b.1))
-    low_by plain (Increment op to) e' h = let a = bound (at.reference to) _ e' h in subst (Low 1)
-        (same_Some _ e' a.2) (omega arith)
+    low_by plain (Increment op to) e' h = let a = bound (at.reference to) _ h in
+        subst (Low 1) (same_Some _ e' a.2) (omega arith)
     low_by plain (Call name arguments) e' h =
-        let a = bound (at.function name) _ e' h in
-        let b = bound (resolved_arguments at (at.argument name) arguments) _ e' a.2 in
+        let a = bound (at.function name) _ h in
+        let b = bound (resolved_arguments at (at.argument name) arguments) _ a.2 in
         subst (Low (1 + argument_height arguments)) (same_Some _ e' b.2)
         (omega (arith, arguments_low (at.argument name) arguments b.0 b.1))
 
@@ -112,12 +111,12 @@ module _ (at : Meanings) where
     arguments_low plain expr.Nil others h = subst (AreLow 0) (same_Some expr.Nil others h)
         (omega arith)
     arguments_low plain (expr.Cons (expr.Text text) rest) others h =
-        let a = bound (resolved_arguments at plain rest) _ others h in
+        let a = bound (resolved_arguments at plain rest) _ h in
         subst (AreLow (argument_height rest)) (same_Some _ others a.2)
         (arguments_low plain rest a.0 a.1)
     arguments_low plain (expr.Cons (expr.Value e) rest) others h =
-        let a = bound (resolved_by at plain e) _ others h in
-        let b = bound (resolved_arguments at plain rest) _ others a.2 in
+        let a = bound (resolved_by at plain e) _ h in
+        let b = bound (resolved_arguments at plain rest) _ a.2 in
         subst (AreLow (max (height e) (argument_height rest))) (same_Some _ others b.2)
         (omega (arith, low_by plain e a.0 a.1, arguments_low plain rest b.0 b.1))
 
@@ -129,7 +128,7 @@ module _ (at : Meanings) where
   optional_low None e' h = subst (λ (o : Option (Expr Target)). optional_height o ≤ 0)
       (same_Some None e' h) (omega arith)
   optional_low (Some e) e' h =
-      let a = bound (resolved_expr at e) _ e' h in
+      let a = bound (resolved_expr at e) _ h in
       subst (λ (o : Option (Expr Target)). optional_height o ≤ height e) (same_Some _ e' a.2)
       (expr_low e a.0 a.1)
 
@@ -142,9 +141,9 @@ module _ (names : Reading) where
       → DeclaredLow (declarator_height ds) ds'
   declarators_low [] scope next ds' h = subst (DeclaredLow 0) (same_Some [] ds' h) (omega arith)
   declarators_low (d ∷ rest) scope next ds' h =
-      let a = bound (resolved_optional (at_scope names scope) d.value) _ ds' h in
-      let b = bound (resolved_declarators names (declared d.place next scope) (next + 1) rest) _ ds'
-      a.2 in
+      let a = bound (resolved_optional (at_scope names scope) d.value) _ h in
+      let b =
+      bound (resolved_declarators names (declared d.place next scope) (next + 1) rest) _ a.2 in
       subst (DeclaredLow (max (1 + optional_height d.value) (declarator_height rest)))
       (same_Some _ ds' b.2)
       (omega (
@@ -165,16 +164,16 @@ module _ (names : Reading) where
     statement_low : (x : Stmt Path) (scope : Scope) (next : ℕ) (x' : Stmt Target)
         → resolved_stmt names x scope next ≡ Some x' → StatementLow (statement_height x) x'
     statement_low (Evaluate e) scope next x' h =
-        let a = bound (resolved_expr (at_scope names scope) e) _ x' h in
+        let a = bound (resolved_expr (at_scope names scope) e) _ h in
         subst (StatementLow (1 + height e)) (same_Some _ x' a.2)
         (omega (arith, expr_low (at_scope names scope) e a.0 a.1))
     statement_low (Block body) scope next x' h =
-        let a = bound (resolved_body names body scope next) _ x' h in
+        let a = bound (resolved_body names body scope next) _ h in
         subst (StatementLow (1 + body_height body)) (same_Some _ x' a.2)
         (omega (arith, body_low body scope next a.0 a.1))
     statement_low (If condition first) scope next x' h =
-        let a = bound (resolved_expr (at_scope names scope) condition) _ x' h in
-        let b = bound (resolved_stmt names first scope next) _ x' a.2 in
+        let a = bound (resolved_expr (at_scope names scope) condition) _ h in
+        let b = bound (resolved_stmt names first scope next) _ a.2 in
         subst (StatementLow (1 + max (height condition) (statement_height first)))
         (same_Some _ x' b.2)
         (omega (
@@ -183,9 +182,9 @@ module _ (names : Reading) where
           statement_low first scope next b.0 b.1,
         ))
     statement_low (IfElse condition first otherwise) scope next x' h =
-        let a = bound (resolved_expr (at_scope names scope) condition) _ x' h in
-        let b = bound (resolved_stmt names first scope next) _ x' a.2 in
-        let c = bound (resolved_stmt names otherwise scope (next + slots_of first)) _ x' b.2 in
+        let a = bound (resolved_expr (at_scope names scope) condition) _ h in
+        let b = bound (resolved_stmt names first scope next) _ a.2 in
+        let c = bound (resolved_stmt names otherwise scope (next + slots_of first)) _ b.2 in
         subst (StatementLow (1 + max (height condition)
         (max (statement_height first) (statement_height otherwise)))) (same_Some _ x' c.2)
         (omega (
@@ -196,8 +195,8 @@ module _ (names : Reading) where
               (next + slots_of first) c.0 c.1,
         ))
     statement_low (While condition body) scope next x' h =
-        let a = bound (resolved_expr (at_scope names scope) condition) _ x' h in
-        let b = bound (resolved_stmt names body scope next) _ x' a.2 in
+        let a = bound (resolved_expr (at_scope names scope) condition) _ h in
+        let b = bound (resolved_stmt names body scope next) _ a.2 in
         subst (StatementLow (1 + max (height condition) (statement_height body)))
         (same_Some _ x' b.2)
         (omega (
@@ -206,8 +205,8 @@ module _ (names : Reading) where
           statement_low body scope next b.0 b.1,
         ))
     statement_low (Do body condition) scope next x' h =
-        let a = bound (resolved_stmt names body scope next) _ x' h in
-        let b = bound (resolved_expr (at_scope names scope) condition) _ x' a.2 in
+        let a = bound (resolved_stmt names body scope next) _ h in
+        let b = bound (resolved_expr (at_scope names scope) condition) _ a.2 in
         subst (StatementLow (1 + max (statement_height body) (height condition)))
         (same_Some _ x' b.2)
         (omega (
@@ -217,10 +216,10 @@ module _ (names : Reading) where
               condition b.0 b.1,
         ))
     statement_low (For first condition update body) scope next x' h =
-        let a = bound (resolved_optional (at_scope names scope) first) _ x' h in
-        let b = bound (resolved_optional (at_scope names scope) condition) _ x' a.2 in
-        let c = bound (resolved_optional (at_scope names scope) update) _ x' b.2 in
-        let d = bound (resolved_stmt names body scope next) _ x' c.2 in
+        let a = bound (resolved_optional (at_scope names scope) first) _ h in
+        let b = bound (resolved_optional (at_scope names scope) condition) _ a.2 in
+        let c = bound (resolved_optional (at_scope names scope) update) _ b.2 in
+        let d = bound (resolved_stmt names body scope next) _ c.2 in
         subst (StatementLow (1 + max (max (optional_height first) (optional_height condition))
         (max (optional_height update) (statement_height body)))) (same_Some _ x' d.2)
         (omega (
@@ -231,8 +230,8 @@ module _ (names : Reading) where
           statement_low body scope next d.0 d.1,
         ))
     statement_low (Switch on body) scope next x' h =
-        let a = bound (resolved_expr (at_scope names scope) on) _ x' h in
-        let b = bound (resolved_body names body scope next) _ x' a.2 in
+        let a = bound (resolved_expr (at_scope names scope) on) _ h in
+        let b = bound (resolved_body names body scope next) _ a.2 in
         subst (StatementLow (1 + max (height on) (body_height body))) (same_Some _ x' b.2)
         (omega (
           arith,
@@ -246,10 +245,9 @@ module _ (names : Reading) where
         → resolved_body names b scope next ≡ Some b' → BodyLow (body_height b) b'
     body_low Nil scope next b' h = subst (BodyLow 0) (same_Some _ b' h) (omega arith)
     body_low (Cons (Declare ds) rest) scope next b' h =
-        let a = bound (resolved_declarators names scope next ds) _ b' h in
-        let c = bound (resolved_body names rest (all_declared scope next ds) (next + length ds)) _
-        b'
-        a.2 in
+        let a = bound (resolved_declarators names scope next ds) _ h in
+        let c =
+        bound (resolved_body names rest (all_declared scope next ds) (next + length ds)) _ a.2 in
         subst (BodyLow (max (1 + declarator_height ds) (body_height rest))) (same_Some _ b' c.2)
         (omega (
           arith,
@@ -257,8 +255,8 @@ module _ (names : Reading) where
           body_low rest (all_declared scope next ds) (next + length ds) c.0 c.1,
         ))
     body_low (Cons (Statement x) rest) scope next b' h =
-        let a = bound (resolved_stmt names x scope next) _ b' h in
-        let c = bound (resolved_body names rest scope (next + slots_of x)) _ b' a.2 in
+        let a = bound (resolved_stmt names x scope next) _ h in
+        let c = bound (resolved_body names rest scope (next + slots_of x)) _ a.2 in
         subst (BodyLow (max (statement_height x) (body_height rest))) (same_Some _ b' c.2)
         (omega (
           arith,
@@ -267,7 +265,7 @@ module _ (names : Reading) where
               c.0 c.1,
         ))
     body_low (Cons _ rest) scope next b' h =
-        let a = bound (resolved_body names rest scope next) _ b' h in
+        let a = bound (resolved_body names rest scope next) _ h in
         subst (BodyLow (body_height rest)) (same_Some _ b' a.2) (body_low rest scope next a.0 a.1)
 
 -- ---- so its expressions are not

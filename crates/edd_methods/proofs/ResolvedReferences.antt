@@ -36,9 +36,9 @@ module _ (unit : Description Path) (k : Kind) where
   items_stay [] ys h = subst (λ (ys : List (Item Target)). 0 ≡ count_of k ys) (same_Some [] ys h)
       refl
   items_stay (x ∷ xs) ys h =
-      let a = bound (resolved_item (meant_in unit) x) _ ys h in
-      let b = bound (each (resolved_item (meant_in unit)) xs) _ ys a.2 in
-      let c = bound (each (resolved_attribute (meant_in unit) x.sort) x.attributes) _ a.0 a.1 in
+      let a = bound (resolved_item (meant_in unit) x) _ h in
+      let b = bound (each (resolved_item (meant_in unit)) xs) _ a.2 in
+      let c = bound (each (resolved_attribute (meant_in unit) x.sort) x.attributes) _ a.1 in
       let sorts : x.sort ≡ a.0.sort = ap (λ (i : Item Target). i.sort) (same_Some _ a.0 c.2) in
       subst (λ (ys : List (Item Target)). count_of k (x ∷ xs) ≡ count_of k ys) (same_Some _ ys b.2)
       (counted (same_kind (kind_of_item x.sort) k) (same_kind (kind_of_item a.0.sort) k)
@@ -57,7 +57,7 @@ module _ (unit : Description Path) (k : Kind) where
       ≡ count_of k d.items
   unfolding resolved_unit
   counts_stay d h =
-      let a = bound (each (resolved_item (meant_in unit)) unit.items) _ d h in
+      let a = bound (each (resolved_item (meant_in unit)) unit.items) _ h in
       items_stay unit.items a.0 a.1 ∙ ap (λ (d : Description Target). count_of k d.items)
       (same_Some _ d a.2)
 
@@ -110,7 +110,7 @@ refers : (unit : Description Path) (counts : Counts) → count_of kind.Variable 
     → WellFormed b
     → resolved_body (meant_in unit) b [] 0 ≡ Some b' → Refers counts b'
 refers unit counts variables arrays methods b b' is h =
-    let i = body_in (meant_in unit) b [] 0 b' h in
+    let i = body_in (meant_in unit) b [] 0 h in
     body_at unit (around counts (slots_in b')) variables arrays methods false b [] 0 b'
     (refl, omega (arith, i.0))
     is h

@@ -41,10 +41,10 @@ module _ (m n : ℕ) (le : m ≤ n) where
 -- ---- resolved trees
 
 -- a value that is made of another
-pub bound : {A B : Type 0} (o : Option A) (f : A → Option B) (b : B) → (o >>= f) ≡ Some b
+pub bound : {A B : Type 0} (o : Option A) (f : A → Option B) {b : B} → (o >>= f) ≡ Some b
     → (x : A) × (o ≡ Some x) × (f x ≡ Some b)
-bound None f b h = absurd (none-some b h)
-bound (Some x) f b h = (x, refl, h)
+bound None f {b} h = absurd (none-some b h)
+bound (Some x) f h = (x, refl, h)
 
 -- as many slots as before, from `next` on
 abbrev AreIn : (slots next : ℕ) → List (Declarator Target) → Type 0
@@ -62,9 +62,9 @@ module _ (names : Reading) where
       → AreIn (length ds) next ds'
   declarators_in [] scope next ds' h = subst (AreIn 0 next) (same_Some [] ds' h) (refl, tt)
   declarators_in (d ∷ rest) scope next ds' h =
-      let a = bound (resolved_optional (at_scope names scope) d.value) _ ds' h in
-      let b = bound (resolved_declarators names (declared d.place next scope) (next + 1) rest) _ ds'
-      a.2 in
+      let a = bound (resolved_optional (at_scope names scope) d.value) _ h in
+      let b =
+      bound (resolved_declarators names (declared d.place next scope) (next + 1) rest) _ a.2 in
       let i = declarators_in rest (declared d.place next scope) (next + 1) b.0 b.1 in
       subst (AreIn (length (d ∷ rest)) next) (same_Some _ ds' b.2) (
         omega (arith, i.0),
@@ -81,21 +81,21 @@ module _ (names : Reading) where
     pub statement_in : (x : Stmt Path) (scope : Scope) (next : ℕ) (x' : Stmt Target)
         → resolved_stmt names x scope next ≡ Some x' → IsIn (slots_of x) next x'
     statement_in (Evaluate e) scope next x' h =
-        let a = bound (resolved_expr (at_scope names scope) e) _ x' h in
+        let a = bound (resolved_expr (at_scope names scope) e) _ h in
         subst (IsIn 0 next) (same_Some _ x' a.2) (refl, tt)
     statement_in (Block body) scope next x' h =
-        let a = bound (resolved_body names body scope next) _ x' h in
-        let i = body_in body scope next a.0 a.1 in
+        let a = bound (resolved_body names body scope next) _ h in
+        let i = body_in body scope next a.1 in
         subst (IsIn (slots_in body) next) (same_Some _ x' a.2) (i.0, i.1)
     statement_in (If condition first) scope next x' h =
-        let a = bound (resolved_expr (at_scope names scope) condition) _ x' h in
-        let b = bound (resolved_stmt names first scope next) _ x' a.2 in
+        let a = bound (resolved_expr (at_scope names scope) condition) _ h in
+        let b = bound (resolved_stmt names first scope next) _ a.2 in
         let i = statement_in first scope next b.0 b.1 in
         subst (IsIn (slots_of first) next) (same_Some _ x' b.2) (i.0, i.1)
     statement_in (IfElse condition first otherwise) scope next x' h =
-        let a = bound (resolved_expr (at_scope names scope) condition) _ x' h in
-        let b = bound (resolved_stmt names first scope next) _ x' a.2 in
-        let c = bound (resolved_stmt names otherwise scope (next + slots_of first)) _ x' b.2 in
+        let a = bound (resolved_expr (at_scope names scope) condition) _ h in
+        let b = bound (resolved_stmt names first scope next) _ a.2 in
+        let c = bound (resolved_stmt names otherwise scope (next + slots_of first)) _ b.2 in
         let i = statement_in first scope next b.0 b.1 in
         let j = statement_in otherwise scope (next + slots_of first) c.0 c.1 in
         let all = next + (slots_of first + slots_of otherwise) in
@@ -107,39 +107,38 @@ module _ (names : Reading) where
           ),
         )
     statement_in (While condition body) scope next x' h =
-        let a = bound (resolved_expr (at_scope names scope) condition) _ x' h in
-        let b = bound (resolved_stmt names body scope next) _ x' a.2 in
+        let a = bound (resolved_expr (at_scope names scope) condition) _ h in
+        let b = bound (resolved_stmt names body scope next) _ a.2 in
         let i = statement_in body scope next b.0 b.1 in
         subst (IsIn (slots_of body) next) (same_Some _ x' b.2) (i.0, i.1)
     statement_in (Do body condition) scope next x' h =
-        let a = bound (resolved_stmt names body scope next) _ x' h in
-        let b = bound (resolved_expr (at_scope names scope) condition) _ x' a.2 in
+        let a = bound (resolved_stmt names body scope next) _ h in
+        let b = bound (resolved_expr (at_scope names scope) condition) _ a.2 in
         let i = statement_in body scope next a.0 a.1 in
         subst (IsIn (slots_of body) next) (same_Some _ x' b.2) (i.0, i.1)
     statement_in (For first condition update body) scope next x' h =
-        let a = bound (resolved_optional (at_scope names scope) first) _ x' h in
-        let b = bound (resolved_optional (at_scope names scope) condition) _ x' a.2 in
-        let c = bound (resolved_optional (at_scope names scope) update) _ x' b.2 in
-        let d = bound (resolved_stmt names body scope next) _ x' c.2 in
+        let a = bound (resolved_optional (at_scope names scope) first) _ h in
+        let b = bound (resolved_optional (at_scope names scope) condition) _ a.2 in
+        let c = bound (resolved_optional (at_scope names scope) update) _ b.2 in
+        let d = bound (resolved_stmt names body scope next) _ c.2 in
         let i = statement_in body scope next d.0 d.1 in
         subst (IsIn (slots_of body) next) (same_Some _ x' d.2) (i.0, i.1)
     statement_in (Switch on body) scope next x' h =
-        let a = bound (resolved_expr (at_scope names scope) on) _ x' h in
-        let b = bound (resolved_body names body scope next) _ x' a.2 in
-        let i = body_in body scope next b.0 b.1 in
+        let a = bound (resolved_expr (at_scope names scope) on) _ h in
+        let b = bound (resolved_body names body scope next) _ a.2 in
+        let i = body_in body scope next b.1 in
         subst (IsIn (slots_in body) next) (same_Some _ x' b.2) (i.0, i.1)
     statement_in _ scope next x' h = subst (IsIn 0 next) (same_Some _ x' h) (refl, tt)
 
-    pub body_in : (b : Body Path) (scope : Scope) (next : ℕ) (b' : Body Target)
+    pub body_in : (b : Body Path) (scope : Scope) (next : ℕ) {b' : Body Target}
         → resolved_body names b scope next ≡ Some b' → IsInBody (slots_in b) next b'
-    body_in Nil scope next b' h = subst (IsInBody 0 next) (same_Some _ b' h) (refl, tt)
-    body_in (Cons (Declare ds) rest) scope next b' h =
-        let a = bound (resolved_declarators names scope next ds) _ b' h in
-        let c = bound (resolved_body names rest (all_declared scope next ds) (next + length ds)) _
-        b'
-        a.2 in
+    body_in Nil scope next {b'} h = subst (IsInBody 0 next) (same_Some _ b' h) (refl, tt)
+    body_in (Cons (Declare ds) rest) scope next {b'} h =
+        let a = bound (resolved_declarators names scope next ds) _ h in
+        let c =
+        bound (resolved_body names rest (all_declared scope next ds) (next + length ds)) _ a.2 in
         let i = declarators_in ds scope next a.0 a.1 in
-        let j = body_in rest (all_declared scope next ds) (next + length ds) c.0 c.1 in
+        let j = body_in rest (all_declared scope next ds) (next + length ds) c.1 in
         let all = next + (length ds + slots_in rest) in
         subst (IsInBody (length ds + slots_in rest) next) (same_Some _ b' c.2) (
           omega (arith, i.0, j.0),
@@ -148,11 +147,11 @@ module _ (names : Reading) where
             each_slot (next + length ds + slots_in rest) all (omega arith) c.0 j.1,
           ),
         )
-    body_in (Cons (Statement x) rest) scope next b' h =
-        let a = bound (resolved_stmt names x scope next) _ b' h in
-        let c = bound (resolved_body names rest scope (next + slots_of x)) _ b' a.2 in
+    body_in (Cons (Statement x) rest) scope next {b'} h =
+        let a = bound (resolved_stmt names x scope next) _ h in
+        let c = bound (resolved_body names rest scope (next + slots_of x)) _ a.2 in
         let i = statement_in x scope next a.0 a.1 in
-        let j = body_in rest scope (next + slots_of x) c.0 c.1 in
+        let j = body_in rest scope (next + slots_of x) c.1 in
         let all = next + (slots_of x + slots_in rest) in
         subst (IsInBody (slots_of x + slots_in rest) next) (same_Some _ b' c.2) (
           omega (arith, i.0, j.0),
@@ -161,7 +160,7 @@ module _ (names : Reading) where
             each_slot (next + slots_of x + slots_in rest) all (omega arith) c.0 j.1,
           ),
         )
-    body_in (Cons _ rest) scope next b' h =
-        let a = bound (resolved_body names rest scope next) _ b' h in
-        let i = body_in rest scope next a.0 a.1 in
+    body_in (Cons _ rest) scope next {b'} h =
+        let a = bound (resolved_body names rest scope next) _ h in
+        let i = body_in rest scope next a.1 in
         subst (IsInBody (slots_in rest) next) (same_Some _ b' a.2) (i.0, i.1)

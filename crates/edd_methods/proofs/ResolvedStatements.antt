@@ -38,11 +38,10 @@ module _ (unit : Description Path) (context : Context)
   abbrev Fits : Scope → (end : ℕ) → Type 0
   Fits scope end = IsBelow context.slots scope × (end ≤ context.slots)
 
-  part_at : (e : Expr Path) (scope : Scope) (e' : Expr Target) → IsBelow context.slots scope
-      → is_expr is_path is_plain e ≡ true → resolved_expr (at_scope (meant_in unit) scope) e ≡ Some
-      e'
-      → All (part_of e')
-  part_at e scope e' below is h = (
+  part_at : (e : Expr Path) (scope : Scope) {e' : Expr Target} → IsBelow context.slots scope
+      → is_expr is_path is_plain e ≡ true
+      → resolved_expr (at_scope (meant_in unit) scope) e ≡ Some e' → All (part_of e')
+  part_at e scope {e'} below is h = (
     expr_good (at_scope (meant_in unit) scope) (uses_existing context)
         (meant_there unit context variables arrays methods variable_kinds scope below)
         (λ name. meant_there unit context variables arrays methods (argument_kinds name) scope
@@ -57,9 +56,9 @@ module _ (unit : Description Path) (context : Context)
   optional_at None scope e' below is h = subst (λ (o : Option (Expr Target)). All (optional_part o))
       (same_Some None e' h) tt
   optional_at (Some e) scope e' below is h =
-      let a = bound (resolved_expr (at_scope (meant_in unit) scope) e) _ e' h in
+      let a = bound (resolved_expr (at_scope (meant_in unit) scope) e) _ h in
       subst (λ (o : Option (Expr Target)). All (optional_part o)) (same_Some _ e' a.2)
-      (part_at e scope a.0 below is a.1)
+      (part_at e scope below is a.1)
 
   below_declared : (place : Path) (next : ℕ) (scope : Scope) → Fits scope (next + 1)
       → IsBelow context.slots (declared place next scope)
@@ -86,10 +85,9 @@ module _ (unit : Description Path) (context : Context)
       let end : next + 1 + length rest ≤ context.slots = omega (arith, fits.1) in
       let are = and_parts _ _ is in
       let one = and_parts _ _ are.0 in
-      let a = bound (resolved_optional (at_scope (meant_in unit) scope) d.value) _ ds' h in
-      let b = bound (resolved_declarators (meant_in unit) (declared d.place next scope) (next + 1)
-      rest) _ ds'
-      a.2 in
+      let a = bound (resolved_optional (at_scope (meant_in unit) scope) d.value) _ h in
+      let b = bound
+      (resolved_declarators (meant_in unit) (declared d.place next scope) (next + 1) rest) _ a.2 in
       subst (λ (xs : List (Declarator Target)). All (flat_map (λ d. optional_part d.value) xs))
       (same_Some _ ds' b.2)
       (joined (optional_part a.0) _ (optional_at d.value scope a.0 fits.0 one.1 a.1)
@@ -110,53 +108,48 @@ module _ (unit : Description Path) (context : Context)
         → resolved_stmt (meant_in unit) x scope next ≡ Some x'
         → InStatement x'
     statement_at (Evaluate e) scope next x' fits is h =
-        let a = bound (resolved_expr (at_scope (meant_in unit) scope) e) _ x' h in
-        subst InStatement (same_Some _ x' a.2) (part_at e scope a.0 fits.0 is a.1)
+        let a = bound (resolved_expr (at_scope (meant_in unit) scope) e) _ h in
+        subst InStatement (same_Some _ x' a.2) (part_at e scope fits.0 is a.1)
     statement_at (Block body) scope next x' fits is h =
-        let a = bound (resolved_body (meant_in unit) body scope next) _ x' h in
+        let a = bound (resolved_body (meant_in unit) body scope next) _ h in
         subst InStatement (same_Some _ x' a.2) (body_at false body scope next a.0 fits is a.1)
     statement_at (If condition first) scope next x' fits is h =
         let are = and_parts _ _ is in
-        let a = bound (resolved_expr (at_scope (meant_in unit) scope) condition) _ x' h in
-        let b = bound (resolved_stmt (meant_in unit) first scope next) _ x' a.2 in
-        subst InStatement (same_Some _ x' b.2)
-        (joined (part_of a.0) _ (part_at condition scope a.0 fits.0 are.0 a.1)
-        (statement_at first scope next b.0 fits are.1 b.1))
+        let a = bound (resolved_expr (at_scope (meant_in unit) scope) condition) _ h in
+        let b = bound (resolved_stmt (meant_in unit) first scope next) _ a.2 in
+        subst InStatement (same_Some _ x' b.2) (joined (part_of a.0) _ (part_at condition scope
+        fits.0 are.0 a.1) (statement_at first scope next b.0 fits are.1 b.1))
     statement_at (IfElse condition first otherwise) scope next x' fits is h =
         let are = and_parts _ _ is in
         let front = and_parts _ _ are.0 in
-        let a = bound (resolved_expr (at_scope (meant_in unit) scope) condition) _ x' h in
-        let b = bound (resolved_stmt (meant_in unit) first scope next) _ x' a.2 in
-        let c = bound (resolved_stmt (meant_in unit) otherwise scope (next + slots_of first)) _ x'
-        b.2 in
-        subst InStatement (same_Some _ x' c.2)
-        (joined (part_of a.0) _ (part_at condition scope a.0 fits.0 front.0 a.1)
-        (joined (stmt_expressions b.0) _
-        (statement_at first scope next b.0 (fits.0, omega (arith, fits.1)) front.1 b.1)
-        (statement_at otherwise scope (next + slots_of first) c.0 (fits.0, omega (arith, fits.1))
-        are.1 c.1)))
+        let a = bound (resolved_expr (at_scope (meant_in unit) scope) condition) _ h in
+        let b = bound (resolved_stmt (meant_in unit) first scope next) _ a.2 in
+        let c =
+        bound (resolved_stmt (meant_in unit) otherwise scope (next + slots_of first)) _ b.2 in
+        subst InStatement (same_Some _ x' c.2) (joined (part_of a.0) _
+        (part_at condition scope fits.0 front.0 a.1) (joined (stmt_expressions b.0) _ (statement_at
+        first scope next b.0 (fits.0, omega (arith, fits.1)) front.1 b.1) (statement_at otherwise
+        scope (next + slots_of first) c.0 (fits.0, omega (arith, fits.1)) are.1 c.1)))
     statement_at (While condition body) scope next x' fits is h =
         let are = and_parts _ _ is in
-        let a = bound (resolved_expr (at_scope (meant_in unit) scope) condition) _ x' h in
-        let b = bound (resolved_stmt (meant_in unit) body scope next) _ x' a.2 in
-        subst InStatement (same_Some _ x' b.2)
-        (joined (part_of a.0) _ (part_at condition scope a.0 fits.0 are.0 a.1)
-        (statement_at body scope next b.0 fits are.1 b.1))
+        let a = bound (resolved_expr (at_scope (meant_in unit) scope) condition) _ h in
+        let b = bound (resolved_stmt (meant_in unit) body scope next) _ a.2 in
+        subst InStatement (same_Some _ x' b.2) (joined (part_of a.0) _ (part_at condition scope
+        fits.0 are.0 a.1) (statement_at body scope next b.0 fits are.1 b.1))
     statement_at (Do body condition) scope next x' fits is h =
         let are = and_parts _ _ is in
-        let a = bound (resolved_stmt (meant_in unit) body scope next) _ x' h in
-        let b = bound (resolved_expr (at_scope (meant_in unit) scope) condition) _ x' a.2 in
-        subst InStatement (same_Some _ x' b.2)
-        (joined (stmt_expressions a.0) _ (statement_at body scope next a.0 fits are.0 a.1)
-        (part_at condition scope b.0 fits.0 are.1 b.1))
+        let a = bound (resolved_stmt (meant_in unit) body scope next) _ h in
+        let b = bound (resolved_expr (at_scope (meant_in unit) scope) condition) _ a.2 in
+        subst InStatement (same_Some _ x' b.2) (joined (stmt_expressions a.0) _ (statement_at body
+        scope next a.0 fits are.0 a.1) (part_at condition scope fits.0 are.1 b.1))
     statement_at (For first condition update body) scope next x' fits is h =
         let three = and_parts _ _ is in
         let two = and_parts _ _ three.0 in
         let one = and_parts _ _ two.0 in
-        let a = bound (resolved_optional (at_scope (meant_in unit) scope) first) _ x' h in
-        let b = bound (resolved_optional (at_scope (meant_in unit) scope) condition) _ x' a.2 in
-        let c = bound (resolved_optional (at_scope (meant_in unit) scope) update) _ x' b.2 in
-        let d = bound (resolved_stmt (meant_in unit) body scope next) _ x' c.2 in
+        let a = bound (resolved_optional (at_scope (meant_in unit) scope) first) _ h in
+        let b = bound (resolved_optional (at_scope (meant_in unit) scope) condition) _ a.2 in
+        let c = bound (resolved_optional (at_scope (meant_in unit) scope) update) _ b.2 in
+        let d = bound (resolved_stmt (meant_in unit) body scope next) _ c.2 in
         subst InStatement (same_Some _ x' d.2)
         (joined (optional_part a.0) _ (optional_at first scope a.0 fits.0 one.0 a.1)
         (joined (optional_part b.0) _ (optional_at condition scope b.0 fits.0 one.1 b.1)
@@ -164,11 +157,10 @@ module _ (unit : Description Path) (context : Context)
         (statement_at body scope next d.0 fits three.1 d.1))))
     statement_at (Switch on body) scope next x' fits is h =
         let are = and_parts _ _ is in
-        let a = bound (resolved_expr (at_scope (meant_in unit) scope) on) _ x' h in
-        let b = bound (resolved_body (meant_in unit) body scope next) _ x' a.2 in
-        subst InStatement (same_Some _ x' b.2)
-        (joined (part_of a.0) _ (part_at on scope a.0 fits.0 are.0 a.1)
-        (body_at true body scope next b.0 fits are.1 b.1))
+        let a = bound (resolved_expr (at_scope (meant_in unit) scope) on) _ h in
+        let b = bound (resolved_body (meant_in unit) body scope next) _ a.2 in
+        subst InStatement (same_Some _ x' b.2) (joined (part_of a.0) _
+        (part_at on scope fits.0 are.0 a.1) (body_at true body scope next b.0 fits are.1 b.1))
     statement_at _ scope next x' fits is h = subst InStatement (same_Some _ x' h) tt
 
     pub body_at : (labels : Bool) (b : Body Path) (scope : Scope) (next : ℕ) (b' : Body Target)
@@ -180,10 +172,9 @@ module _ (unit : Description Path) (context : Context)
         let end : next + length ds + slots_in rest ≤ context.slots = omega (arith, fits.1) in
         let are = and_parts _ _ is in
         let front = and_parts _ _ are.0 in
-        let a = bound (resolved_declarators (meant_in unit) scope next ds) _ b' h in
-        let c = bound (resolved_body (meant_in unit) rest (all_declared scope next ds)
-        (next + length ds)) _ b'
-        a.2 in
+        let a = bound (resolved_declarators (meant_in unit) scope next ds) _ h in
+        let c = bound (resolved_body (meant_in unit) rest (all_declared scope next ds) (next
+        + length ds)) _ a.2 in
         subst InBody (same_Some _ b' c.2)
         (joined (flat_map (λ d. optional_part d.value) a.0) _
         (declarators_at ds scope next a.0 here front.1 a.1)
@@ -191,14 +182,14 @@ module _ (unit : Description Path) (context : Context)
         (below_all_declared ds scope next here, end) are.1 c.1))
     body_at labels (Cons (Statement x) rest) scope next b' fits is h =
         let are = and_parts _ _ is in
-        let a = bound (resolved_stmt (meant_in unit) x scope next) _ b' h in
-        let c = bound (resolved_body (meant_in unit) rest scope (next + slots_of x)) _ b' a.2 in
+        let a = bound (resolved_stmt (meant_in unit) x scope next) _ h in
+        let c = bound (resolved_body (meant_in unit) rest scope (next + slots_of x)) _ a.2 in
         subst InBody (same_Some _ b' c.2)
         (joined (stmt_expressions a.0) _
         (statement_at x scope next a.0 (fits.0, omega (arith, fits.1)) are.0 a.1)
         (body_at labels rest scope (next + slots_of x) c.0 (fits.0, omega (arith, fits.1)) are.1
         c.1))
     body_at labels (Cons _ rest) scope next b' fits is h =
-        let a = bound (resolved_body (meant_in unit) rest scope next) _ b' h in
+        let a = bound (resolved_body (meant_in unit) rest scope next) _ h in
         subst InBody (same_Some _ b' a.2)
         (body_at labels rest scope next a.0 fits (and_parts _ _ is).1 a.1)

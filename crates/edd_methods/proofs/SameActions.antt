@@ -15,10 +15,10 @@ next_same f g h Normal s = h s
 next_same f g h _ s = refl
 
 -- a step, and a statement after it
-pub step_then : {A : Type 0} (o : Outcome ℤ) (o' : Outcome A) (f g : Action Completion)
+pub step_then : {A : Type 0} {o : Outcome ℤ} (o' : Outcome A) (f g : Action Completion)
     → o ≡ and_then o' (λ _. pure (pos 1)) → Same f g
     → and_then (and_then o (λ _. pure Normal)) (next f) ≡ and_then o' (λ _. g)
-step_then {A} o o' f g e h = ap (λ x. and_then (and_then x (λ _. pure Normal)) (next f)) e ∙ rest o'
+step_then {A} o' f g e h = ap (λ x. and_then (and_then x (λ _. pure Normal)) (next f)) e ∙ rest o'
   where
     rest : (x : Outcome A) → and_then (and_then (and_then x (λ _. pure (pos 1))) (λ _. pure Normal))
         (next f) ≡ and_then x (λ _. g)
@@ -26,9 +26,9 @@ step_then {A} o o' f g e h = ap (λ x. and_then (and_then x (λ _. pure Normal))
     rest (Stopped why s) = refl
 
 -- a step as a statement
-pub step_alone : {A : Type 0} (o : Outcome ℤ) (o' : Outcome A) → o ≡ and_then o' (λ _. pure (pos 1))
+pub step_alone : {A : Type 0} {o : Outcome ℤ} (o' : Outcome A) → o ≡ and_then o' (λ _. pure (pos 1))
     → and_then o (λ _. pure Normal) ≡ and_then o' (λ _. pure Normal)
-step_alone {A} o o' e = ap (λ x. and_then x (λ _. pure Normal)) e ∙ rest o'
+step_alone {A} o' e = ap (λ x. and_then x (λ _. pure Normal)) e ∙ rest o'
   where
     rest : (x : Outcome A) → and_then (and_then x (λ _. pure (pos 1))) (λ _. pure Normal)
         ≡ and_then x (λ _. pure Normal)

@@ -21,15 +21,15 @@ use Rattle.edd_code.specs.Reports.{Report, transcript_report, worded, words_told
 use Rattle.edd_methods.specs.Following.{Follows}
 use Rattle.edd_methods.proofs.UnitRuns.{valid_are_taken}
 
-same_Some : {A : Type 0} (x y : A) → Some x ≡ Some y → x ≡ y
-same_Some x y h = cc h
+same_Some : {A : Type 0} {x y : A} → Some x ≡ Some y → x ≡ y
+same_Some h = cc h
 
 module _ (text : StrNo → Option Words) where
   -- arguments whose words are those of their numbers say the same
   same_arguments : (rs : List RequestArgument) (qs : List source.RequestArgument)
       → words_told text rs ≡ Some qs → SameArguments text qs rs
-  same_arguments [] qs h = subst (λ (qs : List source.RequestArgument). SameArguments text qs [])
-      (same_Some [] qs h) tt
+  same_arguments [] qs h =
+      subst (λ (qs : List source.RequestArgument). SameArguments text qs []) (same_Some h) tt
   same_arguments (argument.Text n ∷ rs) qs h =
       by_text (text n) refl (words_told text rs) (same_arguments rs) refl h
     where
@@ -46,7 +46,7 @@ module _ (text : StrNo → Option Words) where
       by_text (Some w) is None same told h = absurd (cc h)
       by_text (Some w) is (Some more) same told h =
           subst (λ (qs : List source.RequestArgument). SameArguments text qs (argument.Text n ∷ rs))
-          (same_Some (source.TextArgument w ∷ more) qs h) (is, same more told)
+          (same_Some h) (is, same more told)
   same_arguments (argument.Number z ∷ rs) qs h =
       by_rest (words_told text rs) (same_arguments rs) refl h
     where
@@ -58,9 +58,8 @@ module _ (text : StrNo → Option Words) where
           → SameArguments text qs (argument.Number z ∷ rs)
       by_rest None same told h = absurd (cc h)
       by_rest (Some more) same told h =
-          subst (λ (qs : List source.RequestArgument).
-          SameArguments text qs (argument.Number z ∷ rs))
-          (same_Some (source.NumberArgument z ∷ more) qs h) (refl, same more told)
+          subst (λ (qs : List source.RequestArgument). SameArguments text qs (argument.Number z
+          ∷ rs)) (same_Some h) (refl, same more told)
   same_arguments (argument.Variable v ∷ rs) qs h =
       by_rest (words_told text rs) (same_arguments rs) refl h
     where
@@ -72,9 +71,8 @@ module _ (text : StrNo → Option Words) where
           → SameArguments text qs (argument.Variable v ∷ rs)
       by_rest None same told h = absurd (cc h)
       by_rest (Some more) same told h =
-          subst (λ (qs : List source.RequestArgument).
-          SameArguments text qs (argument.Variable v ∷ rs))
-          (same_Some (source.VariableArgument v ∷ more) qs h) (refl, same more told)
+          subst (λ (qs : List source.RequestArgument). SameArguments text qs (argument.Variable v
+          ∷ rs)) (same_Some h) (refl, same more told)
 
   same_request : (r : image.Request) (q : source.Request) → worded text r ≡ Some q
       → SameRequest text q r
@@ -86,8 +84,7 @@ module _ (text : StrNo → Option Words) where
           → SameRequest text q r
       by_arguments None told h = absurd (cc h)
       by_arguments (Some all) told h =
-          subst (λ (q : source.Request). SameRequest text q r)
-          (same_Some (record { kind = kind_asked r; arguments = all }) q h)
+          subst (λ (q : source.Request). SameRequest text q r) (same_Some h)
           (refl, same_arguments (arguments_asked r) all told)
 
   same_requests : (qs : List source.Request) (rs : List image.Request)

@@ -14,10 +14,10 @@ unfolding slots_in
 split (Declare ds) xs = omega arith
 split _ xs = omega arith
 
-pub slots_next : {X : Type 0} (view : X → Part Target) (xs : List X) (i : ℕ) (x : X) → i < length xs
-    → x ≡ get_or xs i x → slots (map view (drop i xs)) ≡ slots (view x ∷ [])
-    + slots (map view (drop (i + 1) xs))
-slots_next view xs i x h is =
+pub slots_next : {X : Type 0} (view : X → Part Target) (xs : List X) (i : ℕ) {x : X} → i < length xs
+    → x ≡ get_or xs i x
+    → slots (map view (drop i xs)) ≡ slots (view x ∷ []) + slots (map view (drop (i + 1) xs))
+slots_next view xs i {x} h is =
     ap (λ ys. slots (map view ys)) (drop_more xs i x h)
     ∙ ap (λ y. slots (view y ∷ map view (drop (i + 1) xs))) (sym is)
     ∙ split (view x) (map view (drop (i + 1) xs))

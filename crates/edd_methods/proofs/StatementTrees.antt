@@ -55,8 +55,7 @@ module _ (text : StrNo → Option Words) (machine : Environment) (env : device.E
       (optional env e >> g)
   unfolding performs effects.does
   first_same n None means f g h s = h s
-  first_same n (Some e) means f g h s = step_then (step_of text machine (alone_block block_of e) s)
-      (evaluate env e s) f g (alone_same e means s) h
+  first_same n (Some e) means f g h s = step_then (evaluate env e s) f g (alone_same e means s) h
 
   test_same : (e : Option (Expr Target)) → EachWritten IsMeant e
       → Same (part_of text machine (test_of (blocks_by block_of) e)) (optional env e)
@@ -90,9 +89,8 @@ module _ (text : StrNo → Option Words) (machine : Environment) (env : device.E
       (declare env ds)
   unfolding performs
   declared_same n ds means s =
-      step_alone (step_of text machine (declare_block (blocks_by block_of) ds) s) (declare env ds s)
-      (step_same text machine (declare_block (blocks_by block_of) ds) (declare env ds)
-      (declare_performs text machine env block_of ds means) s)
+      step_alone (declare env ds s) (step_same text machine (declare_block (blocks_by block_of) ds)
+      (declare env ds) (declare_performs text machine env block_of ds means) s)
       ∙ declare_normal text machine env block_of ds means s
 
   declared_is_whole : (ds : List (Declarator Target)) → EachDeclared IsMeant ds
@@ -110,19 +108,15 @@ module _ (text : StrNo → Option Words) (machine : Environment) (env : device.E
           → Same (performs text machine (statement_code block_of x) n) (execute env x n)
       statement_same Empty means s = nothing_same n s
       statement_same (Evaluate e) means s =
-          step_alone (step_of text machine (alone_block block_of e) s) (evaluate env e s)
-          (step_same text machine (alone_block block_of e) (evaluate env e)
-          (alone_performs text machine env block_of e means) s)
+          step_alone (evaluate env e s) (step_same text machine (alone_block block_of e)
+          (evaluate env e) (alone_performs text machine env block_of e means) s)
       statement_same (Block body) means s = body_same body means s
       statement_same (If condition first) means s =
-          then_same (value_of text machine (block_of condition) s) (evaluate env condition s) _ _
-          (value_same text machine env block_of condition means.0 s)
+          then_same _ _ (value_same text machine env block_of condition means.0 s)
           (λ a. choice_same (is_zero a) _ _ _ _ (λ t. refl) (statement_same first means.1))
       statement_same (IfElse condition first otherwise) means s =
-          then_same (value_of text machine (block_of condition) s) (evaluate env condition s) _ _
-          (value_same text machine env block_of condition means.0 s)
-          (λ a. choice_same (is_zero a) _ _ _ _ (statement_same otherwise means.2)
-          (statement_same first means.1))
+          then_same _ _ (value_same text machine env block_of condition means.0 s) (λ a. choice_same
+          (is_zero a) _ _ _ _ (statement_same otherwise means.2) (statement_same first means.1))
       statement_same (While condition body) means s =
           test_first n (value_of text machine (block_of condition)) (evaluate env condition)
           (pure (pos 1)) (pure (pos 0)) _ _
@@ -139,29 +133,27 @@ module _ (text : StrNo → Option Words) (machine : Environment) (env : device.E
           (optional env update) _ _
           (test_same condition means.1) (statement_same body means.3) (last_same update means.2)) s
       statement_same (Switch on body) means s =
-          then_same (value_of text machine (block_of on) s) (evaluate env on s) _ _
-          (value_same text machine env block_of on means.0 s)
-          (λ a t. then_same _ _ left left (case_same a body means.1 _ _ (default_same body means.1)
-          t) (λ c u. refl))
+          then_same _ _ (value_same text machine env block_of on means.0 s) (λ a t. then_same left
+          left (case_same a body means.1 _ _ (default_same body means.1) t) (λ c u. refl))
       statement_same _ means s = refl
 
       pub body_same : (b : Body Target) → EachIn IsMeant b
           → Same (performs text machine (body_code block_of b) n) (execute_all env b n)
       body_same Nil means s = nothing_same n s
-      body_same (Cons (Declare ds) rest) means s = then_same _ _ _ _ (declared_same n ds means.0 s)
-          (next_same _ _ (body_same rest means.1))
-      body_same (Cons (Statement x) rest) means s = then_same _ _ _ _ (statement_same x means.0 s)
-          (next_same _ _ (body_same rest means.1))
+      body_same (Cons (Declare ds) rest) means s =
+          then_same _ _ (declared_same n ds means.0 s) (next_same _ _ (body_same rest means.1))
+      body_same (Cons (Statement x) rest) means s =
+          then_same _ _ (statement_same x means.0 s) (next_same _ _ (body_same rest means.1))
       body_same (Cons _ rest) means s = body_same rest means s
 
       all_same : (b : Body Target) → EachIn IsMeant b
           → Same (performs_all text machine (arms_of (blocks_by block_of) b) n)
           (execute_all env b n)
       all_same Nil means s = refl
-      all_same (Cons (Declare ds) rest) means s = then_same _ _ _ _ (declared_same n ds means.0 s)
-          (next_same _ _ (all_same rest means.1))
-      all_same (Cons (Statement x) rest) means s = then_same _ _ _ _ (statement_same x means.0 s)
-          (next_same _ _ (all_same rest means.1))
+      all_same (Cons (Declare ds) rest) means s =
+          then_same _ _ (declared_same n ds means.0 s) (next_same _ _ (all_same rest means.1))
+      all_same (Cons (Statement x) rest) means s =
+          then_same _ _ (statement_same x means.0 s) (next_same _ _ (all_same rest means.1))
       all_same (Cons _ rest) means s = all_same rest means s
 
       case_same : (a : ℤ) (b : Body Target) → EachIn IsMeant b → (f g : Action Completion)

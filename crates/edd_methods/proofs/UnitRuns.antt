@@ -74,11 +74,10 @@ module _ (text : StrNo → Option Words) (env : Environment) (c : Code) (ok : Is
         acts = refl;
       }) k
 
-  finishes : (n : ℕ) (s : State) (o : source.Outcome Completion)
-      → Does text env (unit_code c) n 0 []
-      (record { end = 0 + size c; out = size c; back = size c }) s o
+  finishes : (n : ℕ) {s : State} (o : source.Outcome Completion) → Does text env (unit_code c) n 0
+      [] (record { end = 0 + size c; out = size c; back = size c }) s o
       → (k : ℕ) × (n ≤ k) × (report text env (unit_code c) k 0 [] s ≡ transcript_report (ended o))
-  finishes n s (Done Normal t) d = let a =
+  finishes n (Done Normal t) d = let a =
       d.comes (suc n) in (
         a.0,
         omega (arith, a.1),
@@ -86,21 +85,20 @@ module _ (text : StrNo → Option Words) (env : Environment) (c : Code) (ok : Is
             ∙ ap (λ (p : ℕ). report text env (unit_code c) (suc n) p [] t) (omega arith)
             ∙ at_end n t,
       )
-  finishes n s (Done Breaks t) d = let a =
+  finishes n (Done Breaks t) d = let a =
       d.comes (suc n) in (a.0, omega (arith, a.1), a.2 ∙ at_end n t)
-  finishes n s (Done Continues t) d = let a =
+  finishes n (Done Continues t) d = let a =
       d.comes (suc n) in (a.0, omega (arith, a.1), a.2 ∙ at_end n t)
-  finishes n s (Done Returns t) d = d.comes n
-  finishes n s (Stopped why t) d = d.comes n
+  finishes n (Done Returns t) d = d.comes n
+  finishes n (Stopped why t) d = d.comes n
 
   pub unit_follows : (f : ℕ → Action Completion) → ((n : ℕ) → Same (performs text env c n) (f n))
       → Follows text env (unit_code c) f
   unit_follows f same s valid n =
-      subst (λ (o : source.Outcome Completion). (k : ℕ) × (n ≤ k)
-      × (report text env (unit_code c) k 0 [] s ≡ transcript_report (ended o))) (same n s)
-      (finishes n s (performs text env c n s) (code_follows text env [] (spelling instruction.End) c
-      (size c) (size c) n s ok (omega (arith, small)) (omega (arith, small))
-      (omega (arith, small)) whole valid))
+      subst (λ (o : source.Outcome Completion). (k : ℕ) × (n ≤ k) × (report text env (unit_code c) k
+      0 [] s ≡ transcript_report (ended o))) (same n s) (finishes n (performs text env c n s)
+      (code_follows text env [] (spelling instruction.End) c (size c) (size c) n s ok
+      (omega (arith, small)) (omega (arith, small)) (omega (arith, small)) whole valid))
 
 -- ---- runs
 

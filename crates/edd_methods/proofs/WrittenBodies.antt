@@ -55,11 +55,11 @@ one_texts s = ap placed_texts (append-nil (stmt_expressions s))
 
 -- ---- nodes
 
-pub part_falls : {X : Type 0} (view : X → tree.Part Target) (xs : List X) (i : ℕ) (x : X)
-    → i < length xs → x ≡ get_or xs i x → body_nodes (body_from (view x ∷ []))
-    ≤ body_nodes (body_from (map view xs))
-part_falls view [] i x h is = absurd (omega arith)
-part_falls {X} view (y ∷ ys) zero x h is = subst (λ (z : X). body_nodes (body_from (view z ∷ []))
+pub part_falls : {X : Type 0} (view : X → tree.Part Target) (xs : List X) (i : ℕ) {x : X}
+    → i < length xs → x ≡ get_or xs i x
+    → body_nodes (body_from (view x ∷ [])) ≤ body_nodes (body_from (map view xs))
+part_falls view [] i h is = absurd (omega arith)
+part_falls {X} view (y ∷ ys) zero h is = subst (λ (z : X). body_nodes (body_from (view z ∷ []))
     ≤ body_nodes (body_from (view y ∷ map view ys))) (sym is) (first_falls (view y))
   where
     first_falls : (q : tree.Part Target) → body_nodes (body_from (q ∷ []))
@@ -68,8 +68,8 @@ part_falls {X} view (y ∷ ys) zero x h is = subst (λ (z : X). body_nodes (body
     first_falls (tree.Statement s) = omega arith
     first_falls (CaseLabel label) = omega arith
     first_falls DefaultLabel = omega arith
-part_falls {X} view (y ∷ ys) (suc i) x h is =
-    let later = part_falls view ys i x (omega (arith, h)) is in
+part_falls {X} view (y ∷ ys) (suc i) {x} h is =
+    let later = part_falls view ys i (omega (arith, h)) is in
     more (view y) later
   where
     more : (q : tree.Part Target) → body_nodes (body_from (view x ∷ []))
@@ -131,10 +131,9 @@ module _ (given : Blocks) (out back : ℕ) where
   part_on x c0 c1 is rest =
       let one = code_in given (body_from (x ∷ [])) in
       ap (λ bytes. c0 ++ bytes) (one_part x rest (length c0))
-      ∙ sym (append_assoc c0 (here (length c0) (x ∷ [])) (here (length c0 + size one) rest))
-      ∙ ap (λ n. (c0 ++ here (length c0) (x ∷ [])) ++ here n rest)
-      (sym (code_longer c0 c1 out back one is)) ∙ ap (λ code. code ++ here (length c1) rest)
-      (sym is)
+      ∙ sym (append_assoc c0 (here (length c0) (x ∷ [])) (here (length c0 + size one) rest)) ∙ ap
+      (λ n. (c0 ++ here (length c0) (x ∷ [])) ++ here n rest) (sym (code_longer c0 out back one is))
+      ∙ ap (λ code. code ++ here (length c1) rest) (sym is)
 
   -- ---- arms, with their labels
 
@@ -185,7 +184,7 @@ module _ (given : Blocks) (out back : ℕ) where
   code_on c arms c0 c1 cases0 cases1 d0 d1 is cases default =
       let own : c1 ≡ c0 ++ bytes_at (length c0) out back c =
       is ∙ ap (λ bytes. c0 ++ bytes) (alone (length c0) c) in
-      let long : length c0 + size c ≡ length c1 = sym (code_longer c0 c1 out back c own) in
+      let long : length c0 + size c ≡ length c1 = sym (code_longer c0 out back c own) in
       all_same
       (ap (λ bytes. c0 ++ bytes)
       (bytes_of-append (emitted (length c0) out back c)
@@ -276,57 +275,45 @@ module _ {A : Type 0} (r : Result A LowerFault) (old new : List Words) (c0 c1 : 
       (λ number. c1 ≡ c0 ++ bytes_at (length c0) out back
       (body_code (method_block number) (body_from (x ∷ [])))) new
 
-  pub declare_part : (ds : List (Declarator Target)) (x : tree.Part Target) → x ≡ Declare ds
-      → Lowers r old (declared_texts ds)
-      (λ number. c1 ≡ c0 ++ blocks.bytes_at (length c0)
+  pub declare_part : {ds : List (Declarator Target)} {x : tree.Part Target} → x ≡ Declare ds
+      → Lowers r old (declared_texts ds) (λ number. c1 ≡ c0 ++ blocks.bytes_at (length c0)
       (declare_block (blocks_by (method_block number)) ds)) new → LowersPart x
   unfolding code_in
-  declare_part ds x is h =
-      subst LowersPart (sym is)
-      (reworded r old new (declared_texts ds) (body_texts (body_from (Declare ds ∷ [])))
-      (λ number. c1 ≡ c0 ++ blocks.bytes_at (length c0)
-      (declare_block (blocks_by (method_block number)) ds))
+  declare_part {ds} is h =
+      subst LowersPart (sym is) (reworded r old new (λ number. c1
+      ≡ c0 ++ blocks.bytes_at (length c0) (declare_block (blocks_by (method_block number)) ds))
       (λ number. c1 ≡ c0 ++ bytes_at (length c0) out back
       (body_code (method_block number) (body_from (Declare ds ∷ [])))) (sym (declare_texts ds))
-      (λ number e. e ∙ ap (λ bytes. c0 ++ bytes)
-      (sym (alone (blocks_by (method_block number)) out back (length c0)
-      (Plain (declare_block (blocks_by (method_block number)) ds))
+      (λ number e. e ∙ ap (λ bytes. c0 ++ bytes) (sym (alone (blocks_by (method_block number)) out
+      back (length c0) (Plain (declare_block (blocks_by (method_block number)) ds))
       ∙ plain_is (length c0) out back (declare_block (blocks_by (method_block number)) ds)))) h)
 
-  pub statement_part : (s : tree.Stmt Target) (x : tree.Part Target) → x ≡ tree.Statement s
+  pub statement_part : {s : tree.Stmt Target} {x : tree.Part Target} → x ≡ tree.Statement s
       → LowersStatement r old c0 out back s c1 new → LowersPart x
   unfolding code_in
-  statement_part s x is h =
-      subst LowersPart (sym is)
-      (reworded r old new (statement_texts s) (body_texts (body_from (tree.Statement s ∷ [])))
-      (λ number. c1 ≡ c0 ++ bytes_at (length c0) out back
-      (statement_code (method_block number) s))
-      (λ number. c1 ≡ c0 ++ bytes_at (length c0) out back
-      (body_code (method_block number) (body_from (tree.Statement s ∷ [])))) (sym (one_texts s))
-      (λ number e. e ∙ ap (λ bytes. c0 ++ bytes)
-      (sym (alone (blocks_by (method_block number)) out back (length c0)
-      (statement_code (method_block number) s)))) h)
+  statement_part {s} is h =
+      subst LowersPart (sym is) (reworded r old new (λ number. c1 ≡ c0 ++ bytes_at (length c0) out
+      back (statement_code (method_block number) s)) (λ number. c1 ≡ c0 ++ bytes_at (length c0) out
+      back (body_code (method_block number) (body_from (tree.Statement s ∷ []))))
+      (sym (one_texts s)) (λ number e. e ∙ ap (λ bytes. c0 ++ bytes) (sym (alone (blocks_by
+      (method_block number)) out back (length c0) (statement_code (method_block number) s)))) h)
 
 -- a label has no code
-pub case_part : (x : tree.Part Target) (label : ℤ) (table : List Words) (c0 : List ℕ) (out back : ℕ)
-    → x ≡ CaseLabel label
-    → Numbered table (body_texts (body_from (x ∷ [])))
-    (λ number. c0 ≡ c0 ++ bytes_at (length c0) out back
-    (body_code (method_block number) (body_from (x ∷ [])))) table
+pub case_part : {x : tree.Part Target} {label : ℤ} (table : List Words) (c0 : List ℕ) (out back : ℕ)
+    → x ≡ CaseLabel label → Numbered table (body_texts (body_from (x ∷ []))) (λ number. c0 ≡ c0
+    ++ bytes_at (length c0) out back (body_code (method_block number) (body_from (x ∷ [])))) table
 unfolding code_in
-case_part x label table c0 out back is =
+case_part table c0 out back is =
     subst (λ (y : tree.Part Target). Numbered table (body_texts (body_from (y ∷ [])))
     (λ number. c0 ≡ c0 ++ bytes_at (length c0) out back
     (body_code (method_block number) (body_from (y ∷ [])))) table) (sym is)
     (nothing_named table _ (λ number. plain_nothing c0 out back))
 
-pub default_part : (x : tree.Part Target) (table : List Words) (c0 : List ℕ) (out back : ℕ)
-    → x ≡ DefaultLabel
-    → Numbered table (body_texts (body_from (x ∷ [])))
-    (λ number. c0 ≡ c0 ++ bytes_at (length c0) out back
-    (body_code (method_block number) (body_from (x ∷ [])))) table
+pub default_part : {x : tree.Part Target} (table : List Words) (c0 : List ℕ) (out back : ℕ)
+    → x ≡ DefaultLabel → Numbered table (body_texts (body_from (x ∷ []))) (λ number. c0 ≡ c0
+    ++ bytes_at (length c0) out back (body_code (method_block number) (body_from (x ∷ [])))) table
 unfolding code_in
-default_part x table c0 out back is =
+default_part table c0 out back is =
     subst (λ (y : tree.Part Target). Numbered table (body_texts (body_from (y ∷ [])))
     (λ number. c0 ≡ c0 ++ bytes_at (length c0) out back
     (body_code (method_block number) (body_from (y ∷ [])))) table) (sym is)

@@ -58,37 +58,33 @@ abort_texts (Call (Item i) arguments) h = absurd cc
 abort_texts (Call (Function f) expr.Nil) h = refl
 abort_texts (Call (Function f) (expr.Cons first rest)) h = absurd cc
 
-pub abort_when : (x : Expr Target) (g : Target) (xs : List (Argument Target))
+pub abort_when : {x : Expr Target} (g : Target) {xs : List (Argument Target)}
     → x ≡ Call g (arguments_from xs) → xs ≡ [] → is_abort_call (Call g expr.Nil) ≡ is_abort_call x
-abort_when x g xs is none = sym (ap is_abort_call (is ∙ ap (λ ys. Call g (arguments_from ys)) none))
+abort_when g is none = sym (ap is_abort_call (is ∙ ap (λ ys. Call g (arguments_from ys)) none))
 
 some_call : (g : Target) (y : Argument Target) (ys : List (Argument Target))
     → is_abort_call (Call g (arguments_from (y ∷ ys))) ≡ false
 some_call (Local slot) y ys = refl
 some_call _ y ys = refl
 
-pub no_abort_when : (x : Expr Target) (g : Target) (xs : List (Argument Target))
+pub no_abort_when : {x : Expr Target} (g : Target) (xs : List (Argument Target))
     → x ≡ Call g (arguments_from xs) → ¬ (xs ≡ []) → false ≡ is_abort_call x
-no_abort_when x g [] is some = absurd (some refl)
-no_abort_when x g (y ∷ ys) is some = sym (ap is_abort_call is ∙ some_call g y ys)
+no_abort_when g [] is some = absurd (some refl)
+no_abort_when g (y ∷ ys) is some = sym (ap is_abort_call is ∙ some_call g y ys)
 
-pub abort_written : (e : Expr Target) (table : List Words) (c0 c1 : List ℕ) → is_abort_call e ≡ true
-    → c1 ≡ c0 ++ spelling instruction.Abort
-    → Numbered table (expr_texts e)
+pub abort_written : (e : Expr Target) (table : List Words) (c0 : List ℕ) {c1 : List ℕ}
+    → is_abort_call e ≡ true → c1 ≡ c0 ++ spelling instruction.Abort → Numbered table (expr_texts e)
     (λ number. c1 ≡ c0 ++ bytes_at (length c0) (alone_block (method_block number) e)) table
-abort_written e table c0 c1 aborts is =
-    same_texts (expr_texts e) (sym (abort_texts e aborts))
-    (nothing_named table _ (λ number. rw (aborts, alone_block)
-    (one_more c0 c1 instruction.Abort is)))
+abort_written e table c0 {c1} aborts is =
+    same_texts (sym (abort_texts e aborts)) (nothing_named table _
+    (λ number. rw (aborts, alone_block) (one_more c0 c1 instruction.Abort is)))
 
-pub popped_written : (e : Expr Target) (old new : List Words) (c0 c1 c2 : List ℕ)
-    → is_abort_call e ≡ false
-    → Numbered old (expr_texts e)
-    (λ number. c1 ≡ c0 ++ bytes_at (length c0) (method_block number e)) new
-    → c2 ≡ c1 ++ spelling instruction.Pop
-    → Numbered old (expr_texts e)
-    (λ number. c2 ≡ c0 ++ bytes_at (length c0) (alone_block (method_block number) e)) new
-popped_written e old new c0 c1 c2 goes value pop =
+pub popped_written : (e : Expr Target) {old new : List Words} (c0 c1 : List ℕ) {c2 : List ℕ}
+    → is_abort_call e ≡ false → Numbered old (expr_texts e) (λ number. c1
+    ≡ c0 ++ bytes_at (length c0) (method_block number e)) new → c2 ≡ c1 ++ spelling instruction.Pop
+    → Numbered old (expr_texts e) (λ number. c2
+    ≡ c0 ++ bytes_at (length c0) (alone_block (method_block number) e)) new
+popped_written e c0 c1 {c2} goes value pop =
     said (λ number is. rw (goes, alone_block)
     (goes_on c0 c1 c2 (method_block number e) (Straight instruction.Pop) is
     (one_more c1 c2 instruction.Pop pop))) value
@@ -102,14 +98,13 @@ pub first_missing : (first : Option (Expr Target)) (table : List Words) (c0 : Li
 first_missing None table c0 is = nothing_named table _ (λ number. nothing_written c0)
 first_missing (Some e) table c0 is = absurd cc
 
-pub initial_missing : (value : Option (Expr Target)) (table : List Words) (c0 c1 : List ℕ)
-    → value ≡ None → c1 ≡ c0 ++ spelling (instruction.Push 0)
-    → Numbered table (optional_texts value)
-    (λ number. c1 ≡ c0 ++ bytes_at (length c0)
-    (initial_block (blocks_by (method_block number)) value)) table
-initial_missing None table c0 c1 is pushed =
+pub initial_missing : (value : Option (Expr Target)) (table : List Words) (c0 : List ℕ)
+    {c1 : List ℕ} → value ≡ None → c1 ≡ c0 ++ spelling (instruction.Push 0)
+    → Numbered table (optional_texts value) (λ number. c1
+    ≡ c0 ++ bytes_at (length c0) (initial_block (blocks_by (method_block number)) value)) table
+initial_missing None table c0 {c1} is pushed =
     nothing_named table _ (λ number. one_more c0 c1 (instruction.Push 0) pushed)
-initial_missing (Some e) table c0 c1 is pushed = absurd cc
+initial_missing (Some e) table c0 is pushed = absurd cc
 
 -- ---- declarations
 
@@ -128,22 +123,19 @@ declared_split d ds =
     (flat_map (λ x. optional_part x.value) ds)
     ∙ ap (λ ps. placed_texts ps ++ declared_texts ds) (sym (append-nil (optional_part d.value)))
 
-pub declarator_written : (d : Declarator Target) (old new : List Words) (c0 c1 c2 c3 : List ℕ)
-    → Numbered old (optional_texts d.value)
-    (λ number. c1 ≡ c0 ++ bytes_at (length c0)
-    (initial_block (blocks_by (method_block number)) d.value)) new
+pub declarator_written : (d : Declarator Target) {old new : List Words} (c0 c1 c2 : List ℕ)
+    {c3 : List ℕ} → Numbered old (optional_texts d.value) (λ number. c1
+    ≡ c0 ++ bytes_at (length c0) (initial_block (blocks_by (method_block number)) d.value)) new
     → c2 ≡ c1 ++ bytes_at (length c1) (store_block d.place) → c3 ≡ c2 ++ spelling instruction.Pop
-    → Numbered old (declared_texts (d ∷ []))
-    (λ number. c3 ≡ c0 ++ bytes_at (length c0)
-    (declare_block (blocks_by (method_block number)) (d ∷ []))) new
-declarator_written d old new c0 c1 c2 c3 value store pop =
+    → Numbered old (declared_texts (d ∷ [])) (λ number. c3
+    ≡ c0 ++ bytes_at (length c0) (declare_block (blocks_by (method_block number)) (d ∷ []))) new
+declarator_written d c0 c1 c2 {c3} value store pop =
     let ends : c3 ≡ c2 ++ bytes_at (length c2) (Then (Straight instruction.Pop) Nothing) =
     goes_on c2 c3 c3 (Straight instruction.Pop) Nothing (one_more c2 c3 instruction.Pop pop)
     (nothing_written c3) in
-    same_texts (declared_texts (d ∷ [])) (sym (declared_one d))
-    (said (λ number is. goes_on c0 c1 c3 (initial_block (blocks_by (method_block number)) d.value) _
-    is (goes_on c1 c2 c3 (store_block d.place) (Then (Straight instruction.Pop) Nothing) store
-    ends)) value)
+    same_texts (sym (declared_one d)) (said (λ number is. goes_on c0 c1 c3
+    (initial_block (blocks_by (method_block number)) d.value) _ is (goes_on c1 c2 c3
+    (store_block d.place) (Then (Straight instruction.Pop) Nothing) store ends)) value)
 
 -- a block in front of two that result in the same bytes
 in_front : (a x y r : Block) → ((q : ℕ) → bytes_at q x ≡ bytes_at q y ++ bytes_at (q + size y) r)
@@ -185,25 +177,22 @@ declares_none number c = sym (nothing_written c)
 
 -- ---- parts of loops
 
-pub part_missing : (part : LoopPart) (out : ℕ) (table : List Words) (c0 : List ℕ)
-    → part ≡ kind.Missing
-    → Numbered table (loop_texts part)
-    (λ number. c0 ≡ c0 ++ part_bytes (length c0) out (loop_part (method_block number) part))
-    table
-part_missing part out table c0 is =
+pub part_missing : {part : LoopPart} (out : ℕ) (table : List Words) (c0 : List ℕ)
+    → part ≡ kind.Missing → Numbered table (loop_texts part) (λ number. c0
+    ≡ c0 ++ part_bytes (length c0) out (loop_part (method_block number) part)) table
+part_missing out table c0 is =
     subst (λ (x : LoopPart). Numbered table (loop_texts x)
     (λ number. c0 ≡ c0 ++ part_bytes (length c0) out (loop_part (method_block number) x)) table)
     (sym is)
     (nothing_named table _ (λ number. sym (ap (λ bs. c0 ++ bs) bytes_of_none ∙ append-nil c0)))
 
-pub test_written : (part : LoopPart) (e : Bor (Tree Target)) (out : ℕ) (old new : List Words)
-    (c0 c1 c2 : List ℕ) → part ≡ kind.Test e → out < 2 ^ 32
-    → Numbered old (expr_texts (numbered_expr e.now))
-    (λ number. c1 ≡ c0 ++ bytes_at (length c0) (method_block number (numbered_expr e.now))) new
-    → c2 ≡ c1 ++ spelling (instruction.JumpIfZero out)
-    → Numbered old (loop_texts part)
+pub test_written : {part : LoopPart} (e : Bor (Tree Target)) (out : ℕ) {old new : List Words}
+    (c0 c1 : List ℕ) {c2 : List ℕ} → part ≡ kind.Test e → out < 2 ^ 32
+    → Numbered old (expr_texts (numbered_expr e.now)) (λ number. c1
+    ≡ c0 ++ bytes_at (length c0) (method_block number (numbered_expr e.now))) new
+    → c2 ≡ c1 ++ spelling (instruction.JumpIfZero out) → Numbered old (loop_texts part)
     (λ number. c2 ≡ c0 ++ part_bytes (length c0) out (loop_part (method_block number) part)) new
-test_written part e out old new c0 c1 c2 is small value jump =
+test_written e out {old} {new} c0 c1 {c2} is small value jump =
     let same : target out ≡ out = mod-eq_of_lt small in
     subst (λ (x : LoopPart). Numbered old (loop_texts x)
     (λ number. c2 ≡ c0 ++ part_bytes (length c0) out (loop_part (method_block number) x)) new)

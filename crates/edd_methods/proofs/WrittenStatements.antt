@@ -47,20 +47,20 @@ LowersStatement r old c0 out back x c1 new =
 pub relisted : {A : Type 0} (r : Result A LowerFault) (old new : List Words) (ts us : List Text)
     (P Q : Said) → Within ts us → Within us ts → ((number : Words → StrNo) → P number → Q number)
     → Lowers r old ts P new → Lowers r old us Q new
-relisted (Ok x) old new ts us P Q there back h w = listed us there back (said h w)
+relisted (Ok x) old new ts us P Q there back h w = listed there back (said h w)
 relisted (Err why) old new ts us P Q there back h w = refused_within why old ts us new there w
 
-pub reworded : {A : Type 0} (r : Result A LowerFault) (old new : List Words) (ts us : List Text)
+pub reworded : {A : Type 0} (r : Result A LowerFault) (old new : List Words) {ts us : List Text}
     (P Q : Said) → ts ≡ us → ((number : Words → StrNo) → P number → Q number)
     → Lowers r old ts P new → Lowers r old us Q new
-reworded r old new ts us P Q e h w = relisted r old new ts us P Q (within_same ts us e)
-    (within_same us ts (sym e)) h w
+reworded r old new {ts} {us} P Q e h w =
+    relisted r old new ts us P Q (within_same e) (within_same (sym e)) h w
 
-behind : {A : Type 0} (r : Result A LowerFault) (old mid new : List Words) (ts us : List Text)
-    (P Q : Said) → Numbered old ts P mid → Lowers r mid us Q new
+behind : {A : Type 0} (r : Result A LowerFault) {old mid : List Words} (new : List Words)
+    {ts : List Text} (us : List Text) (P Q : Said) → Numbered old ts P mid → Lowers r mid us Q new
     → Lowers r old (ts ++ us) (λ number. P number × Q number) new
-behind (Ok x) old mid new ts us P Q v w = both v w
-behind (Err why) old mid new ts us P Q v w = refused_behind why us new v w
+behind (Ok x) new us P Q v w = both v w
+behind (Err why) new us P Q v w = refused_behind why us new v w
 
 -- ---- statements without others in them
 
@@ -95,13 +95,11 @@ module _ {A : Type 0} (r : Result A LowerFault) (old new : List Words) (c0 c1 : 
       → LowersStatement r old c0 out back (tree.Evaluate e) c1 new
   unfolding code_of
   evaluated e h =
-      reworded r old new (expr_texts e) (expr_texts e ++ [])
-      (λ number. c1 ≡ c0 ++ blocks.bytes_at (length c0) (alone_block (method_block number) e))
-      (λ number. c1 ≡ c0 ++ bytes_at (length c0) out back
-      (Plain (alone_block (method_block number) e)))
-      (sym (append-nil (expr_texts e)))
-      (λ number is. is ∙ ap (λ bytes. c0 ++ bytes)
-      (sym (plain_is (length c0) out back (alone_block (method_block number) e)))) h
+      reworded r old new (λ number. c1
+      ≡ c0 ++ blocks.bytes_at (length c0) (alone_block (method_block number) e)) (λ number. c1
+      ≡ c0 ++ bytes_at (length c0) out back (Plain (alone_block (method_block number) e)))
+      (sym (append-nil (expr_texts e))) (λ number is. is ∙ ap (λ bytes. c0
+      ++ bytes) (sym (plain_is (length c0) out back (alone_block (method_block number) e)))) h
 
   pub block_lowered : (body : Body Target)
       → Lowers r old (body_texts body) (λ number. c1 ≡ c0 ++ bytes_at (length c0) out back
@@ -129,11 +127,9 @@ module _ {A : Type 0} (r : Result A LowerFault) (old new : List Words) (c0 c1 : 
       let said_so : Said = λ number. c1 ≡ c0 ++ bytes_at (length c0) out back
       (Branch (method_block number e) (statement_code (method_block number) x)
       (statement_code (method_block number) y)) in
-      reworded r old new (expr_texts e ++ (statement_texts x ++ statement_texts y))
-      (statement_texts (tree.IfElse e x y)) said_so said_so
-      (ap (λ ts. expr_texts e ++ ts)
-      (sym (flat_map-append (λ p. expr_texts p.expression) (stmt_expressions x)
-      (stmt_expressions y)))) (λ number is. is) h
+      reworded r old new said_so said_so (ap (λ ts. expr_texts e ++ ts) (sym
+      (flat_map-append (λ p. expr_texts p.expression) (stmt_expressions x) (stmt_expressions y))))
+      (λ number is. is) h
 
   pub while_lowered : (e : Expr Target) (x : Stmt Target)
       → Lowers r old (expr_texts e ++ statement_texts x)
@@ -158,10 +154,9 @@ module _ {A : Type 0} (r : Result A LowerFault) (old new : List Words) (c0 c1 : 
       ap (λ ts. statement_texts x ++ ts) (sym (append-nil (expr_texts e)))
       ∙ sym (flat_map-append (λ p. expr_texts p.expression) (stmt_expressions x)
       (record { is_statement = false; expression = e } ∷ [])) in
-      reworded r old new (statement_texts x ++ expr_texts e) (statement_texts (tree.Do x e)) said_so
-      said_so texts (λ number is. is)
-      (relisted r old new (expr_texts e ++ statement_texts x) (statement_texts x ++ expr_texts e)
-      said_so said_so (exchanged (expr_texts e) (statement_texts x))
+      reworded r old new said_so said_so texts (λ number is. is)
+      (relisted r old new (expr_texts e ++ statement_texts x) (statement_texts x
+      ++ expr_texts e) said_so said_so (exchanged (expr_texts e) (statement_texts x))
       (exchanged (statement_texts x) (expr_texts e)) (λ number is. is) h)
 
   pub switch_lowered : (e : Expr Target) (body : Body Target)
@@ -212,17 +207,11 @@ module _ (old mid : List Words) (c0 c1 : List ℕ) (out back : ℕ) (i c u : Opt
       let two : Said = λ number. c2 ≡ c1 ++ bytes_at (length c1) out back (loop number) in
       let all : Said = λ number. c2 ≡ c0 ++ bytes_at (length c0) out back
       (Then (Plain (first_of (blocks_by (method_block number)) i)) (loop number)) in
-      reworded r old new (optional_texts i
-      ++ (optional_texts c ++ (optional_texts u ++ statement_texts x)))
-      (statement_texts (tree.For i c u x)) (λ number. one number × two number) all
-      (sym (for_texts i c u x))
-      (λ number is. then_written c0 c1 c2 out back
-      (Plain (first_of (blocks_by (method_block number)) i)) (loop number)
-      (is.0 ∙ ap (λ bytes. c0 ++ bytes)
-      (sym (plain_is (length c0) out back (first_of (blocks_by (method_block number)) i))))
-      is.1)
-      (behind r old mid new (optional_texts i)
-      (optional_texts c ++ (optional_texts u ++ statement_texts x)) one two first h)
+      reworded r old new (λ number. one number × two number) all (sym (for_texts i c u x)) (λ number
+      is. then_written c0 c1 c2 out back (Plain (first_of (blocks_by (method_block number)) i))
+      (loop number) (is.0 ∙ ap (λ bytes. c0 ++ bytes)
+      (sym (plain_is (length c0) out back (first_of (blocks_by (method_block number)) i)))) is.1)
+      (behind r new (optional_texts c ++ (optional_texts u ++ statement_texts x)) one two first h)
 
 module _ {A : Type 0} (r : Result A LowerFault) (table : List Words) (c0 c1 : List ℕ) (out back : ℕ)
   where
@@ -234,7 +223,7 @@ module _ {A : Type 0} (r : Result A LowerFault) (table : List Words) (c0 c1 : Li
             → LowersStatement q table c0 out back tree.Break c1 table
         by_result (Ok x) is = nothing_named table _
             (λ number. is ∙ ap (λ bytes. c0 ++ bytes) (break_is (length c0) out back number))
-        by_result (Err why) is = no_memory why table [] is
+        by_result (Err why) is = no_memory table [] is
 
     pub continues_lowered : JumpsTo r c0 back c1
         → LowersStatement r table c0 out back tree.Continue c1 table
@@ -244,7 +233,7 @@ module _ {A : Type 0} (r : Result A LowerFault) (table : List Words) (c0 c1 : Li
             → LowersStatement q table c0 out back tree.Continue c1 table
         by_result (Ok x) is = nothing_named table _
             (λ number. is ∙ ap (λ bytes. c0 ++ bytes) (continue_is (length c0) out back number))
-        by_result (Err why) is = no_memory why table [] is
+        by_result (Err why) is = no_memory table [] is
 
     pub returns_lowered : EndsBy r c0 instruction.End c1
         → LowersStatement r table c0 out back tree.Return c1 table
@@ -254,7 +243,7 @@ module _ {A : Type 0} (r : Result A LowerFault) (table : List Words) (c0 c1 : Li
             → LowersStatement q table c0 out back tree.Return c1 table
         by_result (Ok x) is = nothing_named table _
             (λ number. is ∙ ap (λ bytes. c0 ++ bytes) (return_is (length c0) out back number))
-        by_result (Err why) is = no_memory why table [] is
+        by_result (Err why) is = no_memory table [] is
 
 -- ---- texts of the parts of statements
 
@@ -262,8 +251,7 @@ pub for_first : (i c u : Option (Expr Target)) (x : Stmt Target)
     → Within (optional_texts i) (statement_texts (tree.For i c u x))
 for_first i c u x w held =
     let rest = optional_texts c ++ (optional_texts u ++ statement_texts x) in
-    within_same (optional_texts i ++ rest) (statement_texts (tree.For i c u x))
-    (sym (for_texts i c u x)) w (within_left (optional_texts i) rest w held)
+    within_same (sym (for_texts i c u x)) w (within_left (optional_texts i) rest w held)
 
 pub if_else_texts : (p : Text → Bool) (e : Expr Target) (x y : Stmt Target)
     → list_all p (statement_texts (tree.IfElse e x y)) ≡ true

@@ -57,8 +57,7 @@ returns-in-Ok-clause-sound c more few =
 pub returns-in-Ok-clause-strings : goal.returns-in-Ok-clause-strings
 returns-in-Ok-clause-strings c w =
     let d = description_of c.args.checked.now in
-    lowered_strings d c.args.checked.now.checked c.args.method c.args.table.now
-    c.lower_body.new.table c.in-Ok.code.items (lowered c) w
+    lowered_strings d c.args.checked.now.checked c.args.method (lowered c) w
 
 pub returns-in-Ok-clause-size : goal.returns-in-Ok-clause-size
 returns-in-Ok-clause-size c =
@@ -69,8 +68,7 @@ returns-in-Ok-clause-size c =
 pub returns-in-Err-clause-refused : goal.returns-in-Err-clause-refused
 returns-in-Err-clause-refused c many =
     let d = description_of c.args.checked.now in
-    overflowing d c.args.checked.now.checked c.args.method c.args.table.now
-    c.words.ensures.different
+    overflowing d c.args.checked.now.checked c.args.method c.words.ensures.different
     (subst (λ (b : Body Target). Overflows c.args.table.now (strings_of_texts (body_texts b)))
     (c.body_found-body.ensures ∙ ap found_body c.requires ∙ body_is_found d c.args.method)
     (c.in-Err.ensures.refused (fault_again c.in-Err.fault TooMany many)))

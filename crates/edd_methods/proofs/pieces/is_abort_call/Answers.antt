@@ -21,19 +21,14 @@ some f (x ∷ xs) h e = absurd cc
 pub returns-then-is_empty : goal.returns-then-is_empty
 returns-then-is_empty c =
     let a = c.in-Call in
-    c.is_abort.ensures
-    ∙ abort_when (numbered_expr c.args.e.now) a.function (map numbered_argument a.arguments.items)
-    (call_is (λ r. r) c.args.e.now a.at a.function a.arguments a.is)
-    (ap (map numbered_argument)
-    (none a.arguments.items (ap (λ n. n == 0) (counted a.arguments) ∙ sym c.is_empty.ensures
-    ∙ c.if-is_empty.true)))
+    c.is_abort.ensures ∙ abort_when a.function (call_is (λ r. r) c.args.e.now a.at a.function
+    a.arguments a.is) (ap (map numbered_argument) (none a.arguments.items
+    (ap (λ n. n == 0) (counted a.arguments) ∙ sym c.is_empty.ensures ∙ c.if-is_empty.true)))
 
 pub returns-else-is_empty : goal.returns-else-is_empty
 returns-else-is_empty c =
     let a = c.in-Call in
-    c.if-is_empty.false
-    ∙ no_abort_when (numbered_expr c.args.e.now) a.function
-    (map numbered_argument a.arguments.items)
+    c.if-is_empty.false ∙ no_abort_when a.function (map numbered_argument a.arguments.items)
     (call_is (λ r. r) c.args.e.now a.at a.function a.arguments a.is)
     (some numbered_argument a.arguments.items (ap (λ n. n == 0) (counted a.arguments)
     ∙ sym c.is_empty.ensures ∙ c.if-is_empty.false))

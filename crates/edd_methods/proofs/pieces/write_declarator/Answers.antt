@@ -4,6 +4,5 @@ use Rattle.edd_methods.proofs.pieces.write_declarator.Goals as goal
 
 pub returns : goal.returns
 returns c =
-    declarator_written (numbered_declarator c.args.d.now) c.args.table.now c.write_initial.new.table
-    c.args.code.now c.write_initial.new.code _ c.put.new.code
+    declarator_written (numbered_declarator c.args.d.now) c.args.code.now c.write_initial.new.code _
     c.in_ok-write_initial.ensures c.in_ok-write_store.ensures c.in_ok-put.ensures.code

@@ -7,4 +7,4 @@ use Rattle.edd_methods.proofs.pieces.write_initial.Goals as goal
 pub returns-in_ok-put-in-None : goal.returns-in_ok-put-in-None
 returns-in_ok-put-in-None c =
     initial_missing (option_map numbered_expr c.args.value.now) c.args.table.now c.args.code.now
-    c.put.new.code (ap (option_map numbered_expr) c.in-None.is) c.in_ok-put-in-None.ensures.code
+    (ap (option_map numbered_expr) c.in-None.is) c.in_ok-put-in-None.ensures.code

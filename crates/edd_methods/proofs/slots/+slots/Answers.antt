@@ -11,23 +11,23 @@ use Rattle.edd_methods.proofs.slots.+slots.Goals as goal
 
 pub slots_in-slots_of_part-slots-requires : goal.slots_in-slots_of_part-slots-requires
 slots_in-slots_of_part-slots-requires t c =
-    let next = slots_next numbered_part c.args.body.now c.loop-part.part-index c.part-item.result
-    (omega arith) c.part-item.is in
-    let h = part_falls numbered_part c.args.body.now c.loop-part.part-index c.part-item.result
-    (omega arith) c.part-item.is in
+    let next =
+    slots_next numbered_part c.args.body.now c.loop-part.part-index (omega arith) c.part-item.is in
+    let h =
+    part_falls numbered_part c.args.body.now c.loop-part.part-index (omega arith) c.part-item.is in
     let m = c.decreases in
     (omega (arith, h, m), omega (arith, next, c.loop-part.invariant, c.requires))
 
 pub slots_in-overflow_add-slots : goal.slots_in-overflow_add-slots
 slots_in-overflow_add-slots t c =
-    let next = slots_next numbered_part c.args.body.now c.loop-part.part-index c.part-item.result
-    (omega arith) c.part-item.is in
+    let next =
+    slots_next numbered_part c.args.body.now c.loop-part.part-index (omega arith) c.part-item.is in
     omega (arith, next, c.loop-part.invariant, c.requires, c.slots_of_part-slots.ensures)
 
 pub slots_in-loop-part-preserved : goal.slots_in-loop-part-preserved
 slots_in-loop-part-preserved t c =
-    let next = slots_next numbered_part c.args.body.now c.loop-part.part-index c.part-item.result
-    (omega arith) c.part-item.is in
+    let next =
+    slots_next numbered_part c.args.body.now c.loop-part.part-index (omega arith) c.part-item.is in
     omega (arith, next, c.loop-part.invariant, c.slots_of_part-slots.ensures)
 
 pub slots_in-returns : goal.slots_in-returns
@@ -60,7 +60,8 @@ slots_of_part-returns-in-Declare t c =
       arith,
       is,
       c.len.ensures,
-      length-map c.in-Declare.declarators.items numbered_declarator,
+      length-map c.in-Declare.declarators.items
+          numbered_declarator,
       c.in-Declare.declarators.ok.0,
     )
 

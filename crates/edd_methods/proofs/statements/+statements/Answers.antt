@@ -35,10 +35,10 @@ pub write_parts-write_part-requires : goal.write_parts-write_part-requires
 write_parts-write_part-requires t c =
     let left : (Words → StrNo) → List ℕ → List (tree.Part Target)
     → List ℕ = body_left c.args.leads.out c.args.leads.back in
-    let kept = front_texts numbered_part parts_texts body_split left is_text c.part-item.result
-    (omega arith) c.part-item.is c.loop-part.invariant c.requires in
-    let h = part_falls numbered_part c.args.body.now c.loop-part.part-index c.part-item.result
-    (omega arith) c.part-item.is in
+    let kept = front_texts numbered_part parts_texts body_split left is_text (omega arith)
+    c.part-item.is c.loop-part.invariant c.requires in
+    let h =
+    part_falls numbered_part c.args.body.now c.loop-part.part-index (omega arith) c.part-item.is in
     let m = c.decreases in
     (omega (arith, h, m), kept)
 
@@ -48,19 +48,17 @@ write_parts-returns-in_err-write_part t c =
     → List ℕ = body_left c.args.leads.out c.args.leads.back in
     let why = c.in_err-write_part.field-0.0 in
     let is : c.from_residual.result ≡ Err why = search rules in
-    refused_is _ _ _ _ c.from_residual.result why is
-    (front_refused numbered_part parts_texts body_split left why c.part-item.result (omega arith)
+    refused_is _ _ _ _ is (front_refused numbered_part parts_texts body_split left why (omega arith)
     c.part-item.is c.loop-part.invariant c.in_err-write_part.ensures)
 
 pub write_parts-loop-part-preserved : goal.write_parts-loop-part-preserved
 write_parts-loop-part-preserved t c =
     let left : (Words → StrNo) → List ℕ → List (tree.Part Target)
     → List ℕ = body_left c.args.leads.out c.args.leads.back in
-    front_grows numbered_part parts_texts body_split left c.part-item.result (omega arith)
-    c.part-item.is c.loop-part.invariant
-    (said (λ number is. part_on (blocks_by (method_block number)) c.args.leads.out c.args.leads.back
-    (numbered_part c.part-item.result) c.loop-part.code c.write_part.new.code is)
-    c.in_ok-write_part.ensures)
+    front_grows numbered_part parts_texts body_split left (omega arith) c.part-item.is
+    c.loop-part.invariant (said (λ number is. part_on (blocks_by (method_block number))
+    c.args.leads.out c.args.leads.back (numbered_part c.part-item.result) c.loop-part.code
+    c.write_part.new.code is) c.in_ok-write_part.ensures)
 
 pub write_parts-returns : goal.write_parts-returns
 write_parts-returns t c =
@@ -77,33 +75,31 @@ write_part-returns-in-Declare t c =
     let is = ap numbered_part c.in-Declare.is ∙ ap (λ ds. tree.Declare (map numbered_declarator ds))
     (sym c.deref.ensures.value) in
     declare_part c.write_declaration.result c.args.table.now c.write_declaration.new.table
-    c.args.code.now c.write_declaration.new.code c.args.leads.out c.args.leads.back
-    (map numbered_declarator c.deref.result.now) (numbered_part c.args.part.now) is
+    c.args.code.now c.write_declaration.new.code c.args.leads.out c.args.leads.back is
     c.write_declaration.ensures
 
 pub write_part-returns-in-Statement : goal.write_part-returns-in-Statement
 write_part-returns-in-Statement t c =
     statement_part c.write_statement.result c.args.table.now c.write_statement.new.table
     c.args.code.now c.write_statement.new.code c.args.leads.out c.args.leads.back
-    (numbered_stmt c.in-Statement.x) (numbered_part c.args.part.now)
     (ap numbered_part c.in-Statement.is) c.write_statement.ensures
 
 pub write_part-returns-in-CaseLabel : goal.write_part-returns-in-CaseLabel
 write_part-returns-in-CaseLabel t c =
     elim c.in-CaseLabel.is [
-      | inl h ↦ case_part (numbered_part c.args.part.now) h.1 c.args.table.now c.args.code.now
-          c.args.leads.out c.args.leads.back (ap numbered_part h.2)
-      | inr h ↦ default_part (numbered_part c.args.part.now) c.args.table.now c.args.code.now
-          c.args.leads.out c.args.leads.back (ap numbered_part h.1)
+      | inl h ↦ case_part c.args.table.now c.args.code.now c.args.leads.out c.args.leads.back
+          (ap numbered_part h.2)
+      | inr h ↦ default_part c.args.table.now c.args.code.now c.args.leads.out c.args.leads.back
+          (ap numbered_part h.1)
     ]
 
 pub write_part-returns-in-CaseLabel-2 : goal.write_part-returns-in-CaseLabel-2
 write_part-returns-in-CaseLabel-2 t c =
     elim c.in-CaseLabel.is [
-      | inl h ↦ case_part (numbered_part c.args.part.now) h.1 c.args.table.now c.args.code.now
-          c.args.leads.out c.args.leads.back (ap numbered_part h.2)
-      | inr h ↦ default_part (numbered_part c.args.part.now) c.args.table.now c.args.code.now
-          c.args.leads.out c.args.leads.back (ap numbered_part h.1)
+      | inl h ↦ case_part c.args.table.now c.args.code.now c.args.leads.out c.args.leads.back
+          (ap numbered_part h.2)
+      | inr h ↦ default_part c.args.table.now c.args.code.now c.args.leads.out c.args.leads.back
+          (ap numbered_part h.1)
     ]
 
 -- ---- statements
@@ -344,17 +340,12 @@ write_statement-returns-in_err-write_first-in-For t c =
     let why = c.in_err-write_first-in-For.field-0.0 in
     let is : c.from_residual.result ≡ Err why = search rules in
     let x = ap numbered_stmt c.in-For.is in
-    refused_is _ _ _ _ c.from_residual.result why is
-    (refused_within why c.args.table.now
-    (optional_texts (option_map numbered_expr c.in-For.initial))
-    (statement_texts (numbered_stmt c.args.x.now)) c.write_first.new.table
-    (λ w held. within_same (statement_texts (tree.For (option_map numbered_expr c.in-For.initial)
-    (option_map numbered_expr c.in-For.condition) (option_map numbered_expr c.in-For.update)
-    (numbered_stmt c.in-For.body.value))) (statement_texts (numbered_stmt c.args.x.now))
-    (ap statement_texts (sym x)) w
-    (for_first (option_map numbered_expr c.in-For.initial)
-    (option_map numbered_expr c.in-For.condition) (option_map numbered_expr c.in-For.update)
-    (numbered_stmt c.in-For.body.value) w held)) c.in_err-write_first-in-For.ensures)
+    refused_is _ _ _ _ is (refused_within why c.args.table.now (optional_texts
+    (option_map numbered_expr c.in-For.initial)) (statement_texts (numbered_stmt c.args.x.now))
+    c.write_first.new.table (λ w held. within_same (ap statement_texts (sym x)) w (for_first
+    (option_map numbered_expr c.in-For.initial) (option_map numbered_expr c.in-For.condition)
+    (option_map numbered_expr c.in-For.update) (numbered_stmt c.in-For.body.value) w held))
+    c.in_err-write_first-in-For.ensures)
 
 pub write_statement-returns-in_ok-write_first-in-For :
     goal.write_statement-returns-in_ok-write_first-in-For
@@ -371,36 +362,27 @@ write_statement-returns-in_ok-write_first-in-For t c =
     c.write_loop-in-For.new.table) (sym is)
     (for_lowered c.args.table.now c.write_first.new.table c.args.code.now c.write_first.new.code
     c.args.leads.out c.args.leads.back (option_map numbered_expr c.in-For.initial)
-    (option_map numbered_expr c.in-For.condition) (option_map numbered_expr c.in-For.update)
-    body c.in_ok-write_first-in-For.ensures
-    c.write_loop-in-For.result c.write_loop-in-For.new.table c.write_loop-in-For.new.code
-    (reworded c.write_loop-in-For.result c.write_first.new.table c.write_loop-in-For.new.table
-    (loop_texts c.test_of.result ++ (loop_texts c.last_of.result ++ statement_texts body))
-    (optional_texts (option_map numbered_expr c.in-For.condition)
-    ++ (optional_texts (option_map numbered_expr c.in-For.update) ++ statement_texts body))
-    (λ number. c.write_loop-in-For.new.code ≡ c.write_first.new.code
-    ++ bytes_at (length c.write_first.new.code) c.args.leads.out c.args.leads.back
-    (Loop (loop_part (method_block number) c.test_of.result)
-    (loop_part (method_block number) c.last_of.result)
-    (statement_code (method_block number) body)))
-    (λ number. c.write_loop-in-For.new.code ≡ c.write_first.new.code
-    ++ bytes_at (length c.write_first.new.code) c.args.leads.out c.args.leads.back
-    (Loop (test_of (blocks_by (method_block number))
-    (option_map numbered_expr c.in-For.condition))
-    (last_of (blocks_by (method_block number)) (option_map numbered_expr c.in-For.update))
-    (statement_code (method_block number) body)))
+    (option_map numbered_expr c.in-For.condition) (option_map numbered_expr c.in-For.update) body
+    c.in_ok-write_first-in-For.ensures c.write_loop-in-For.result c.write_loop-in-For.new.table
+    c.write_loop-in-For.new.code (reworded c.write_loop-in-For.result c.write_first.new.table
+    c.write_loop-in-For.new.table (λ number. c.write_loop-in-For.new.code ≡ c.write_first.new.code
+    ++ bytes_at (length c.write_first.new.code) c.args.leads.out c.args.leads.back (Loop (loop_part
+    (method_block number) c.test_of.result) (loop_part (method_block number) c.last_of.result)
+    (statement_code (method_block number) body))) (λ number. c.write_loop-in-For.new.code
+    ≡ c.write_first.new.code ++ bytes_at (length c.write_first.new.code) c.args.leads.out
+    c.args.leads.back (Loop (test_of (blocks_by (method_block number))
+    (option_map numbered_expr c.in-For.condition)) (last_of (blocks_by (method_block number))
+    (option_map numbered_expr c.in-For.update)) (statement_code (method_block number) body)))
     (ap (λ ts. ts ++ (loop_texts c.last_of.result ++ statement_texts body)) c.test_of.ensures.texts
     ∙ ap (λ ts. optional_texts (option_map numbered_expr c.in-For.condition)
-    ++ (ts ++ statement_texts body)) c.last_of.ensures.texts)
-    (λ number e. e ∙ ap (λ q. c.write_first.new.code ++ bytes_at (length c.write_first.new.code)
-    c.args.leads.out c.args.leads.back
-    (Loop q (loop_part (method_block number) c.last_of.result)
+    ++ (ts ++ statement_texts body)) c.last_of.ensures.texts) (λ number e. e
+    ∙ ap (λ q. c.write_first.new.code ++ bytes_at (length c.write_first.new.code) c.args.leads.out
+    c.args.leads.back (Loop q (loop_part (method_block number) c.last_of.result)
     (statement_code (method_block number) body))) (test (method_block number))
     ∙ ap (λ q. c.write_first.new.code ++ bytes_at (length c.write_first.new.code) c.args.leads.out
     c.args.leads.back (Loop (test_of (blocks_by (method_block number))
-    (option_map numbered_expr c.in-For.condition)) q
-    (statement_code (method_block number) body))) (last (method_block number)))
-    (c.write_loop-in-For.ensures c.args.leads.out c.args.leads.back)))
+    (option_map numbered_expr c.in-For.condition)) q (statement_code (method_block number) body)))
+    (last (method_block number))) (c.write_loop-in-For.ensures c.args.leads.out c.args.leads.back)))
 
 -- ---- choices
 
@@ -408,9 +390,8 @@ pub write_if-returns-in_err-write_one : goal.write_if-returns-in_err-write_one
 write_if-returns-in_err-write_one t c =
     let why = c.in_err-write_one.field-0.0 in
     let is : c.from_residual.result ≡ Err why = search rules in
-    refused_is _ _ _ _ c.from_residual.result why is
-    (refused_within why c.args.table.now (expr_texts (numbered_expr c.args.condition.now))
-    (expr_texts (numbered_expr c.args.condition.now)
+    refused_is _ _ _ _ is (refused_within why c.args.table.now (expr_texts
+    (numbered_expr c.args.condition.now)) (expr_texts (numbered_expr c.args.condition.now)
     ++ statement_texts (numbered_stmt c.args.first.now)) c.write_one.new.table (within_left _ _)
     c.in_err-write_one.ensures)
 
@@ -418,8 +399,7 @@ pub write_if-returns-in_err-write_statement : goal.write_if-returns-in_err-write
 write_if-returns-in_err-write_statement t c =
     let why = c.in_err-write_statement.field-0.0 in
     let is : c.from_residual-in_err-write_statement.result ≡ Err why = search rules in
-    refused_is _ _ _ _ c.from_residual-in_err-write_statement.result why is
-    (refused_behind why (statement_texts (numbered_stmt c.args.first.now))
+    refused_is _ _ _ _ is (refused_behind why (statement_texts (numbered_stmt c.args.first.now))
     c.write_statement.new.table c.in_ok-write_one.ensures c.in_err-write_statement.ensures)
 
 pub write_if-close-requires : goal.write_if-close-requires
@@ -427,31 +407,26 @@ write_if-close-requires t c =
     omega (
       arith,
       c.in_ok-end.ensures.place,
-      longer c.write_one.new.code c.open.new.code _ c.in_ok-end.ensures.code,
-      longer c.open.new.code c.write_statement.new.code _
-          (c.in_ok-write_statement.ensures.written []),
+      longer c.write_one.new.code _ c.in_ok-end.ensures.code,
+      longer c.open.new.code _ (c.in_ok-write_statement.ensures.written []),
     )
 
 pub write_if-returns : goal.write_if-returns
 write_if-returns t c =
-    said (λ number parts. c.close.ensures
-    ∙ ap (closed c.write_statement.new.code) c.in_ok-end.ensures.place
-    ∙ guard_written c.args.code.now c.write_one.new.code c.open.new.code c.write_statement.new.code
-    c.args.leads.out c.args.leads.back (method_block number (numbered_expr c.args.condition.now))
-    (statement_code (method_block number) (numbered_stmt c.args.first.now)) parts.0
-    c.in_ok-end.ensures.code parts.1)
+    said (λ number parts. c.close.ensures ∙ ap (closed c.write_statement.new.code)
+    c.in_ok-end.ensures.place ∙ guard_written c.args.code.now c.args.leads.out c.args.leads.back
+    (method_block number (numbered_expr c.args.condition.now)) (statement_code (method_block number)
+    (numbered_stmt c.args.first.now)) parts.0 c.in_ok-end.ensures.code parts.1)
     (both c.in_ok-write_one.ensures c.in_ok-write_statement.ensures)
 
 pub write_if_else-returns-in_err-write_one : goal.write_if_else-returns-in_err-write_one
 write_if_else-returns-in_err-write_one t c =
     let why = c.in_err-write_one.field-0.0 in
     let is : c.from_residual.result ≡ Err why = search rules in
-    refused_is _ _ _ _ c.from_residual.result why is
-    (refused_within why c.args.table.now (expr_texts (numbered_expr c.args.condition.now))
-    (expr_texts (numbered_expr c.args.condition.now)
-    ++ (statement_texts (numbered_stmt c.args.first.now)
-    ++ statement_texts (numbered_stmt c.args.otherwise.now))) c.write_one.new.table
-    (within_left _ _) c.in_err-write_one.ensures)
+    refused_is _ _ _ _ is (refused_within why c.args.table.now (expr_texts
+    (numbered_expr c.args.condition.now)) (expr_texts (numbered_expr c.args.condition.now)
+    ++ (statement_texts (numbered_stmt c.args.first.now) ++ statement_texts (numbered_stmt
+    c.args.otherwise.now))) c.write_one.new.table (within_left _ _) c.in_err-write_one.ensures)
 
 pub write_if_else-returns-in_err-write_statement : goal.write_if_else-returns-in_err-write_statement
 write_if_else-returns-in_err-write_statement t c =
@@ -459,22 +434,18 @@ write_if_else-returns-in_err-write_statement t c =
     let is : c.from_residual-in_err-write_statement.result ≡ Err why = search rules in
     let x = statement_texts (numbered_stmt c.args.first.now) in
     let y = statement_texts (numbered_stmt c.args.otherwise.now) in
-    refused_is _ _ _ _ c.from_residual-in_err-write_statement.result why is
-    (refused_behind why (x ++ y) c.write_statement.new.table c.in_ok-write_one.ensures
-    (refused_within why c.write_one.new.table x (x ++ y) c.write_statement.new.table
-    (within_left x y) c.in_err-write_statement.ensures))
+    refused_is _ _ _ _ is (refused_behind why (x ++ y) c.write_statement.new.table
+    c.in_ok-write_one.ensures (refused_within why c.write_one.new.table x (x
+    ++ y) c.write_statement.new.table (within_left x y) c.in_err-write_statement.ensures))
 
 pub write_if_else-close-requires : goal.write_if_else-close-requires
 write_if_else-close-requires t c =
     omega (
       arith,
       c.in_ok-otherwise_hole.ensures.place,
-      longer c.write_one.new.code c.open.new.code
-          _ c.in_ok-otherwise_hole.ensures.code,
-      longer c.open.new.code c.write_statement.new.code _
-          (c.in_ok-write_statement.ensures.written []),
-      longer c.write_statement.new.code
-          c.open-2.new.code _ c.in_ok-end_hole.ensures.code,
+      longer c.write_one.new.code _ c.in_ok-otherwise_hole.ensures.code,
+      longer c.open.new.code _ (c.in_ok-write_statement.ensures.written []),
+      longer c.write_statement.new.code _ c.in_ok-end_hole.ensures.code,
     )
 
 pub write_if_else-returns-in_err-write_statement-2 :
@@ -483,9 +454,8 @@ write_if_else-returns-in_err-write_statement-2 t c =
     let why = c.in_err-write_statement-2.field-0.0 in
     let is : c.from_residual-in_err-write_statement-2.result ≡ Err why = search rules in
     let y = statement_texts (numbered_stmt c.args.otherwise.now) in
-    refused_is _ _ _ _ c.from_residual-in_err-write_statement-2.result why is
-    (refused_behind why (statement_texts (numbered_stmt c.args.first.now) ++ y)
-    c.write_statement-2.new.table c.in_ok-write_one.ensures
+    refused_is _ _ _ _ is (refused_behind why (statement_texts (numbered_stmt c.args.first.now)
+    ++ y) c.write_statement-2.new.table c.in_ok-write_one.ensures
     (refused_behind why y c.write_statement-2.new.table c.in_ok-write_statement.ensures
     c.in_err-write_statement-2.ensures))
 
@@ -495,12 +465,9 @@ write_if_else-close-requires-2 t c =
     omega (
       arith,
       c.in_ok-otherwise_hole.ensures.place,
-      longer c.write_one.new.code
-          c.open.new.code _ c.in_ok-otherwise_hole.ensures.code,
-      longer c.open.new.code c.write_statement.new.code _
-          (c.in_ok-write_statement.ensures.written []),
-      longer c.write_statement.new.code
-          c.open-2.new.code _ c.in_ok-end_hole.ensures.code,
+      longer c.write_one.new.code _ c.in_ok-otherwise_hole.ensures.code,
+      longer c.open.new.code _ (c.in_ok-write_statement.ensures.written []),
+      longer c.write_statement.new.code _ c.in_ok-end_hole.ensures.code,
     ) in
     let same = ap length c.close.ensures ∙ closed_length c.open-2.new.code
     c.in_ok-otherwise_hole.otherwise_hole one in
@@ -508,26 +475,19 @@ write_if_else-close-requires-2 t c =
       arith,
       same,
       c.in_ok-end_hole.ensures.place,
-      longer c.write_statement.new.code
-          c.open-2.new.code _ c.in_ok-end_hole.ensures.code,
-      longer c.close.new.code c.write_statement-2.new.code _
-          (c.in_ok-write_statement-2.ensures.written []),
+      longer c.write_statement.new.code _ c.in_ok-end_hole.ensures.code,
+      longer c.close.new.code _ (c.in_ok-write_statement-2.ensures.written []),
     )
 
 pub write_if_else-returns : goal.write_if_else-returns
 write_if_else-returns t c =
     said (λ number parts. c.close-2.ensures ∙ ap (closed c.write_statement-2.new.code)
-    c.in_ok-end_hole.ensures.place
-    ∙ branch_written c.args.code.now c.write_one.new.code c.open.new.code c.write_statement.new.code
-    c.open-2.new.code c.close.new.code c.write_statement-2.new.code c.args.leads.out
-    c.args.leads.back
-    (method_block number (numbered_expr c.args.condition.now))
-    (statement_code (method_block number) (numbered_stmt c.args.first.now))
-    (statement_code (method_block number) (numbered_stmt c.args.otherwise.now))
-    parts.0 c.in_ok-otherwise_hole.ensures.code parts.1.0 c.in_ok-end_hole.ensures.code
-    (c.close.ensures ∙ ap (closed c.open-2.new.code) c.in_ok-otherwise_hole.ensures.place)
-    parts.1.1)
-    (both c.in_ok-write_one.ensures
+    c.in_ok-end_hole.ensures.place ∙ branch_written c.args.code.now c.args.leads.out
+    c.args.leads.back (method_block number (numbered_expr c.args.condition.now)) (statement_code
+    (method_block number) (numbered_stmt c.args.first.now)) (statement_code (method_block number)
+    (numbered_stmt c.args.otherwise.now)) parts.0 c.in_ok-otherwise_hole.ensures.code parts.1.0
+    c.in_ok-end_hole.ensures.code (c.close.ensures ∙ ap (closed c.open-2.new.code)
+    c.in_ok-otherwise_hole.ensures.place) parts.1.1) (both c.in_ok-write_one.ensures
     (both c.in_ok-write_statement.ensures c.in_ok-write_statement-2.ensures))
 
 -- ---- loops
@@ -536,58 +496,47 @@ pub write_loop-returns-in_err-write_loop_part : goal.write_loop-returns-in_err-w
 write_loop-returns-in_err-write_loop_part t c out again =
     let why = c.in_err-write_loop_part.field-0.0 in
     let is : c.from_residual-in_err-write_loop_part.result ≡ Err why = search rules in
-    refused_is _ _ _ _ c.from_residual-in_err-write_loop_part.result why is
-    (refused_within why c.args.table.now (loop_texts c.args.back) (loop_texts c.args.front
-    ++ (loop_texts c.args.back ++ statement_texts (numbered_stmt c.args.body.now)))
-    c.write_loop_part.new.table
-    (λ w held. within_right (loop_texts c.args.front) (loop_texts c.args.back
-    ++ statement_texts (numbered_stmt c.args.body.now)) w
-    (within_left (loop_texts c.args.back) (statement_texts (numbered_stmt c.args.body.now)) w
-    held)) c.in_err-write_loop_part.ensures)
+    refused_is _ _ _ _ is (refused_within why c.args.table.now (loop_texts c.args.back) (loop_texts
+    c.args.front ++ (loop_texts c.args.back ++ statement_texts (numbered_stmt c.args.body.now)))
+    c.write_loop_part.new.table (λ w held. within_right (loop_texts c.args.front)
+    (loop_texts c.args.back ++ statement_texts (numbered_stmt c.args.body.now)) w
+    (within_left (loop_texts c.args.back) (statement_texts (numbered_stmt c.args.body.now)) w held))
+    c.in_err-write_loop_part.ensures)
 
 pub write_loop-close-requires : goal.write_loop-close-requires
 write_loop-close-requires t c =
     omega (
       arith,
       c.in_ok-entry.ensures.place,
-      longer c.args.code.now c.open.new.code _
-          c.in_ok-entry.ensures.code,
-      longer c.open.new.code c.open-2.new.code _ c.in_ok-end.ensures.code,
-      longer c.open-2.new.code c.write_loop_part.new.code _
-          (c.in_ok-write_loop_part.ensures.written []),
+      longer c.args.code.now _ c.in_ok-entry.ensures.code,
+      longer c.open.new.code _ c.in_ok-end.ensures.code,
+      longer c.open-2.new.code _ (c.in_ok-write_loop_part.ensures.written []),
     )
 
 pub write_loop-returns-in_err-write_loop_part-2 : goal.write_loop-returns-in_err-write_loop_part-2
 write_loop-returns-in_err-write_loop_part-2 t c out again =
     let why = c.in_err-write_loop_part-2.field-0.0 in
     let is : c.from_residual-in_err-write_loop_part-2.result ≡ Err why = search rules in
-    refused_is _ _ _ _ c.from_residual-in_err-write_loop_part-2.result why is
-    (refused_within why c.args.table.now (loop_texts c.args.back ++ loop_texts c.args.front)
-    (loop_texts c.args.front
-    ++ (loop_texts c.args.back ++ statement_texts (numbered_stmt c.args.body.now)))
-    c.write_loop_part-2.new.table
-    (front_within (loop_texts c.args.front) (loop_texts c.args.back)
-    (statement_texts (numbered_stmt c.args.body.now)))
-    (refused_behind why (loop_texts c.args.front) c.write_loop_part-2.new.table
+    refused_is _ _ _ _ is (refused_within why c.args.table.now (loop_texts c.args.back
+    ++ loop_texts c.args.front) (loop_texts c.args.front ++ (loop_texts c.args.back
+    ++ statement_texts (numbered_stmt c.args.body.now))) c.write_loop_part-2.new.table
+    (front_within (loop_texts c.args.front) (loop_texts c.args.back) (statement_texts (numbered_stmt
+    c.args.body.now))) (refused_behind why (loop_texts c.args.front) c.write_loop_part-2.new.table
     c.in_ok-write_loop_part.ensures c.in_err-write_loop_part-2.ensures))
 
 pub write_loop-returns-in_err-write_statement : goal.write_loop-returns-in_err-write_statement
 write_loop-returns-in_err-write_statement t c out again =
     let why = c.in_err-write_statement.field-0.0 in
     let is : c.from_residual-in_err-write_statement.result ≡ Err why = search rules in
-    refused_is _ _ _ _ c.from_residual-in_err-write_statement.result why is
-    (refused_within why c.args.table.now (loop_texts c.args.back
-    ++ (loop_texts c.args.front ++ statement_texts (numbered_stmt c.args.body.now)))
-    (loop_texts c.args.front
-    ++ (loop_texts c.args.back ++ statement_texts (numbered_stmt c.args.body.now)))
-    c.write_statement.new.table
-    (front_exchanged (loop_texts c.args.back) (loop_texts c.args.front)
+    refused_is _ _ _ _ is (refused_within why c.args.table.now (loop_texts c.args.back
+    ++ (loop_texts c.args.front ++ statement_texts (numbered_stmt c.args.body.now))) (loop_texts
+    c.args.front ++ (loop_texts c.args.back ++ statement_texts (numbered_stmt c.args.body.now)))
+    c.write_statement.new.table (front_exchanged (loop_texts c.args.back) (loop_texts c.args.front)
     (statement_texts (numbered_stmt c.args.body.now)))
     (refused_behind why (loop_texts c.args.front ++ statement_texts (numbered_stmt c.args.body.now))
-    c.write_statement.new.table c.in_ok-write_loop_part.ensures
-    (refused_behind why (statement_texts (numbered_stmt c.args.body.now))
-    c.write_statement.new.table c.in_ok-write_loop_part-2.ensures
-    c.in_err-write_statement.ensures)))
+    c.write_statement.new.table c.in_ok-write_loop_part.ensures (refused_behind why
+    (statement_texts (numbered_stmt c.args.body.now)) c.write_statement.new.table
+    c.in_ok-write_loop_part-2.ensures c.in_err-write_statement.ensures)))
 
 pub write_loop-close-requires-2 : goal.write_loop-close-requires-2
 write_loop-close-requires-2 t c =
@@ -595,12 +544,9 @@ write_loop-close-requires-2 t c =
     omega (
       arith,
       c.in_ok-entry.ensures.place,
-      longer c.args.code.now c.open.new.code _
-          c.in_ok-entry.ensures.code,
-      longer c.open.new.code c.open-2.new.code _
-          c.in_ok-end.ensures.code,
-      longer c.open-2.new.code c.write_loop_part.new.code _
-          (c.in_ok-write_loop_part.ensures.written []),
+      longer c.args.code.now _ c.in_ok-entry.ensures.code,
+      longer c.open.new.code _ c.in_ok-end.ensures.code,
+      longer c.open-2.new.code _ (c.in_ok-write_loop_part.ensures.written []),
     ) in
     let same = ap length c.close.ensures ∙ closed_length c.write_loop_part.new.code
     c.in_ok-entry.entry one in
@@ -608,37 +554,25 @@ write_loop-close-requires-2 t c =
       arith,
       same,
       c.in_ok-end.ensures.place,
-      longer c.args.code.now c.open.new.code _
-          c.in_ok-entry.ensures.code,
-      longer c.open.new.code c.open-2.new.code _
-          c.in_ok-end.ensures.code,
-      longer c.open-2.new.code c.write_loop_part.new.code _
-          (c.in_ok-write_loop_part.ensures.written []),
-      longer c.close.new.code c.write_loop_part-2.new.code _
-          (c.in_ok-write_loop_part-2.ensures.written []),
-      longer c.write_loop_part-2.new.code
-          c.write_statement.new.code _ (c.in_ok-write_statement.ensures.written []),
-      longer c.write_statement.new.code c.put.new.code _ c.in_ok-put.ensures.code,
+      longer c.args.code.now _ c.in_ok-entry.ensures.code,
+      longer c.open.new.code _ c.in_ok-end.ensures.code,
+      longer c.open-2.new.code _ (c.in_ok-write_loop_part.ensures.written []),
+      longer c.close.new.code _ (c.in_ok-write_loop_part-2.ensures.written []),
+      longer c.write_loop_part-2.new.code _ (c.in_ok-write_statement.ensures.written []),
+      longer c.write_statement.new.code _ c.in_ok-put.ensures.code,
     )
 
 pub write_loop-returns : goal.write_loop-returns
 write_loop-returns t c out again =
-    listed (loop_texts c.args.front
-    ++ (loop_texts c.args.back ++ statement_texts (numbered_stmt c.args.body.now)))
-    (front_exchanged (loop_texts c.args.back) (loop_texts c.args.front)
-    (statement_texts (numbered_stmt c.args.body.now)))
-    (front_exchanged (loop_texts c.args.front) (loop_texts c.args.back)
-    (statement_texts (numbered_stmt c.args.body.now)))
+    listed (front_exchanged (loop_texts c.args.back) (loop_texts c.args.front)
+    (statement_texts (numbered_stmt c.args.body.now))) (front_exchanged (loop_texts c.args.front)
+    (loop_texts c.args.back) (statement_texts (numbered_stmt c.args.body.now)))
     (said (λ number parts. c.close-2.ensures ∙ ap (closed c.put.new.code) c.in_ok-end.ensures.place
-    ∙ loop_written c.args.code.now c.open.new.code c.open-2.new.code c.write_loop_part.new.code
-    c.close.new.code c.write_loop_part-2.new.code c.write_statement.new.code c.put.new.code
-    c.place-out.result c.place-again.result out again (loop_part (method_block number) c.args.front)
-    (loop_part (method_block number) c.args.back)
-    (statement_code (method_block number) (numbered_stmt c.args.body.now))
-    c.in_ok-entry.ensures.code c.in_ok-end.ensures.code parts.0
-    (c.close.ensures ∙ ap (closed c.write_loop_part.new.code) c.in_ok-entry.ensures.place)
-    parts.1.0 parts.1.1 c.in_ok-put.ensures.code
-    c.place-out.ensures c.place-again.ensures)
+    ∙ loop_written c.args.code.now out again (loop_part (method_block number) c.args.front)
+    (loop_part (method_block number) c.args.back) (statement_code (method_block number)
+    (numbered_stmt c.args.body.now)) c.in_ok-entry.ensures.code c.in_ok-end.ensures.code parts.0
+    (c.close.ensures ∙ ap (closed c.write_loop_part.new.code) c.in_ok-entry.ensures.place) parts.1.0
+    parts.1.1 c.in_ok-put.ensures.code c.place-out.ensures c.place-again.ensures)
     (both c.in_ok-write_loop_part.ensures
     (both c.in_ok-write_loop_part-2.ensures c.in_ok-write_statement.ensures)))
 
@@ -648,9 +582,8 @@ pub write_switch-returns-in_err-write_one : goal.write_switch-returns-in_err-wri
 write_switch-returns-in_err-write_one t c =
     let why = c.in_err-write_one.field-0.0 in
     let is : c.from_residual.result ≡ Err why = search rules in
-    refused_is _ _ _ _ c.from_residual.result why is
-    (refused_within why c.args.table.now (expr_texts (numbered_expr c.args.on.now))
-    (expr_texts (numbered_expr c.args.on.now)
+    refused_is _ _ _ _ is (refused_within why c.args.table.now
+    (expr_texts (numbered_expr c.args.on.now)) (expr_texts (numbered_expr c.args.on.now)
     ++ body_texts (body_from (map numbered_part c.args.parts.now))) c.write_one.new.table
     (within_left _ _) c.in_err-write_one.ensures)
 
@@ -658,7 +591,7 @@ pub write_switch-returns-in_err-write_arms : goal.write_switch-returns-in_err-wr
 write_switch-returns-in_err-write_arms t c =
     let why = c.in_err-write_arms.field-0.0 in
     let is : c.from_residual-in_err-write_arms.result ≡ Err why = search rules in
-    refused_is _ _ _ _ c.from_residual-in_err-write_arms.result why is
+    refused_is _ _ _ _ is
     (refused_behind why (body_texts (body_from (map numbered_part c.args.parts.now)))
     c.write_arms.new.table c.in_ok-write_one.ensures c.in_err-write_arms.ensures)
 
@@ -667,11 +600,10 @@ write_switch-close-requires t c =
     omega (
       arith,
       c.in_ok-tests.ensures.place,
-      longer c.write_one.new.code c.open.new.code _
-          c.in_ok-tests.ensures.code,
-      longer c.open.new.code c.open-2.new.code _ c.in_ok-end.ensures.code,
-      longer c.open-2.new.code c.write_arms.new.code _ (c.in_ok-write_arms.ensures.written []).code,
-      longer c.write_arms.new.code c.put.new.code _ c.in_ok-put.ensures.code,
+      longer c.write_one.new.code _ c.in_ok-tests.ensures.code,
+      longer c.open.new.code _ c.in_ok-end.ensures.code,
+      longer c.open-2.new.code _ (c.in_ok-write_arms.ensures.written []).code,
+      longer c.write_arms.new.code _ c.in_ok-put.ensures.code,
     )
 
 pub write_switch-close-requires-2 : goal.write_switch-close-requires-2
@@ -680,70 +612,50 @@ write_switch-close-requires-2 t c =
     omega (
       arith,
       c.in_ok-tests.ensures.place,
-      longer c.write_one.new.code c.open.new.code _
-          c.in_ok-tests.ensures.code,
-      longer c.open.new.code c.open-2.new.code _
-          c.in_ok-end.ensures.code,
-      longer c.open-2.new.code c.write_arms.new.code _
-          (c.in_ok-write_arms.ensures.written []).code,
-      longer c.write_arms.new.code c.put.new.code _
-          c.in_ok-put.ensures.code,
+      longer c.write_one.new.code _ c.in_ok-tests.ensures.code,
+      longer c.open.new.code _ c.in_ok-end.ensures.code,
+      longer c.open-2.new.code _ (c.in_ok-write_arms.ensures.written []).code,
+      longer c.write_arms.new.code _ c.in_ok-put.ensures.code,
     ) in
     let same = ap length c.close.ensures ∙ closed_length c.put.new.code c.in_ok-tests.tests one in
     omega (
       arith,
       same,
       c.in_ok-end.ensures.place,
-      longer c.write_one.new.code c.open.new.code _
-          c.in_ok-tests.ensures.code,
-      longer c.open.new.code c.open-2.new.code _
-          c.in_ok-end.ensures.code,
-      longer c.open-2.new.code c.write_arms.new.code _
-          (c.in_ok-write_arms.ensures.written []).code,
-      longer c.write_arms.new.code c.put.new.code _
-          c.in_ok-put.ensures.code,
-      longer c.close.new.code c.write_tests.new.code _
-          c.in_ok-write_tests.ensures,
-      longer c.write_tests.new.code c.put-2.new.code _
-          c.in_ok-put-2.ensures.code,
-      longer c.put-2.new.code c.put-3.new.code _
-          c.in_ok-put-3.ensures.code,
+      longer c.write_one.new.code _ c.in_ok-tests.ensures.code,
+      longer c.open.new.code _ c.in_ok-end.ensures.code,
+      longer c.open-2.new.code _ (c.in_ok-write_arms.ensures.written []).code,
+      longer c.write_arms.new.code _ c.in_ok-put.ensures.code,
+      longer c.close.new.code _ c.in_ok-write_tests.ensures,
+      longer c.write_tests.new.code _ c.in_ok-put-2.ensures.code,
+      longer c.put-2.new.code _ c.in_ok-put-3.ensures.code,
     )
 
 pub write_switch-returns : goal.write_switch-returns
 write_switch-returns t c =
     said (λ number parts. c.close-2.ensures ∙ ap (closed c.put-3.new.code) c.in_ok-end.ensures.place
-    ∙ switch_written c.args.code.now c.write_one.new.code c.open.new.code c.open-2.new.code
-    c.write_arms.new.code c.put.new.code c.close.new.code c.write_tests.new.code
-    c.put-2.new.code c.put-3.new.code
-    c.place-out.result c.args.leads.out c.args.leads.back
-    (method_block number (numbered_expr c.args.on.now))
-    (arms_of (blocks_by (method_block number)) (body_from (map numbered_part c.args.parts.now)))
-    c.write_arms.new.labels.cases.items c.write_arms.new.labels.default
-    parts.0 c.in_ok-tests.ensures.code c.in_ok-end.ensures.code parts.1.code
-    c.in_ok-put.ensures.code
-    (c.close.ensures ∙ ap (closed c.put.new.code) c.in_ok-tests.ensures.place)
-    (c.in_ok-write_tests.ensures ∙ ap (λ cs. c.close.new.code ++ tests_of cs) c.deref.ensures.value)
-    c.in_ok-put-2.ensures.code
-    (c.in_ok-put-3.ensures.code ∙ ap (λ n. c.put-2.new.code ++ spelling (instruction.Jump n))
-    c.default_or.ensures) c.place-out.ensures
-    (parts.1.cases ∙ ap (λ cs. cs ++ cases_at (length c.open-2.new.code)
-    (arms_of (blocks_by (method_block number))
-    (body_from (map numbered_part c.args.parts.now)))) c.new-labels.ensures.cases)
-    (parts.1.default ∙ ap (λ d. or_else d
-    (default_at (length c.open-2.new.code)
-    (arms_of (blocks_by (method_block number))
-    (body_from (map numbered_part c.args.parts.now))))) c.new-labels.ensures.default))
-    (both c.in_ok-write_one.ensures c.in_ok-write_arms.ensures)
+    ∙ switch_written c.args.code.now c.args.leads.out c.args.leads.back
+    (method_block number (numbered_expr c.args.on.now)) (arms_of (blocks_by (method_block number))
+    (body_from (map numbered_part c.args.parts.now))) parts.0 c.in_ok-tests.ensures.code
+    c.in_ok-end.ensures.code parts.1.code c.in_ok-put.ensures.code (c.close.ensures
+    ∙ ap (closed c.put.new.code) c.in_ok-tests.ensures.place) (c.in_ok-write_tests.ensures
+    ∙ ap (λ cs. c.close.new.code ++ tests_of cs) c.deref.ensures.value) c.in_ok-put-2.ensures.code
+    (c.in_ok-put-3.ensures.code ∙ ap (λ n. c.put-2.new.code
+    ++ spelling (instruction.Jump n)) c.default_or.ensures) c.place-out.ensures (parts.1.cases
+    ∙ ap (λ cs. cs ++ cases_at (length c.open-2.new.code) (arms_of (blocks_by (method_block number))
+    (body_from (map numbered_part c.args.parts.now)))) c.new-labels.ensures.cases) (parts.1.default
+    ∙ ap (λ d. or_else d (default_at (length c.open-2.new.code)
+    (arms_of (blocks_by (method_block number)) (body_from (map numbered_part c.args.parts.now)))))
+    c.new-labels.ensures.default)) (both c.in_ok-write_one.ensures c.in_ok-write_arms.ensures)
 
 pub write_arms-write_part-requires : goal.write_arms-write_part-requires
 write_arms-write_part-requires t c =
     let left : (Words → StrNo) → List ℕ × List (ℤ × ℕ) × Option ℕ → List (tree.Part Target)
     → List ℕ × List (ℤ × ℕ) × Option ℕ = switch_left c.args.leads.out c.args.leads.back in
-    let kept = front_texts numbered_part parts_texts body_split left is_text c.part-item.result
-    (omega arith) c.part-item.is c.loop-part.invariant c.requires in
-    let h = part_falls numbered_part c.args.parts.now c.loop-part.part-index c.part-item.result
-    (omega arith) c.part-item.is in
+    let kept = front_texts numbered_part parts_texts body_split left is_text (omega arith)
+    c.part-item.is c.loop-part.invariant c.requires in
+    let h =
+    part_falls numbered_part c.args.parts.now c.loop-part.part-index (omega arith) c.part-item.is in
     let m = c.decreases in
     (omega (arith, h, m), kept)
 
@@ -753,25 +665,20 @@ write_arms-returns-in_err-write_part t c =
     → List ℕ × List (ℤ × ℕ) × Option ℕ = switch_left c.args.leads.out c.args.leads.back in
     let why = c.in_err-write_part.field-0.0 in
     let is : c.from_residual-in_err-write_part.result ≡ Err why = search rules in
-    refused_is _ _ _ _ c.from_residual-in_err-write_part.result why is
-    (front_refused numbered_part parts_texts body_split left why c.part-item.result (omega arith)
+    refused_is _ _ _ _ is (front_refused numbered_part parts_texts body_split left why (omega arith)
     c.part-item.is c.loop-part.invariant c.in_err-write_part.ensures)
 
 pub write_arms-loop-part-preserved : goal.write_arms-loop-part-preserved
 write_arms-loop-part-preserved t c =
     let left : (Words → StrNo) → List ℕ × List (ℤ × ℕ) × Option ℕ → List (tree.Part Target)
     → List ℕ × List (ℤ × ℕ) × Option ℕ = switch_left c.args.leads.out c.args.leads.back in
-    front_grows numbered_part parts_texts body_split left c.part-item.result (omega arith)
-    c.part-item.is c.loop-part.invariant
-    (said (λ number is. arms_on (blocks_by (method_block number)) c.args.leads.out c.args.leads.back
-    (numbered_part c.part-item.result) c.loop-part.code c.write_part.new.code
-    c.loop-part.labels.cases.items c.note.new.labels.cases.items c.loop-part.labels.default
-    c.note.new.labels.default is
-    (c.in_ok-note.ensures.cases
-    ∙ ap (λ n. c.loop-part.labels.cases.items
-    ++ case_noted n (numbered_part c.part-item.result)) c.place.ensures)
-    (c.in_ok-note.ensures.default
-    ∙ ap (λ n. or_else c.loop-part.labels.default
+    front_grows numbered_part parts_texts body_split left (omega arith) c.part-item.is
+    c.loop-part.invariant (said (λ number is. arms_on (blocks_by (method_block number))
+    c.args.leads.out c.args.leads.back (numbered_part c.part-item.result) c.loop-part.code
+    c.write_part.new.code c.loop-part.labels.cases.items c.note.new.labels.cases.items
+    c.loop-part.labels.default c.note.new.labels.default is (c.in_ok-note.ensures.cases
+    ∙ ap (λ n. c.loop-part.labels.cases.items ++ case_noted n (numbered_part c.part-item.result))
+    c.place.ensures) (c.in_ok-note.ensures.default ∙ ap (λ n. or_else c.loop-part.labels.default
     (default_noted n (numbered_part c.part-item.result))) c.place.ensures))
     c.in_ok-write_part.ensures)
 
