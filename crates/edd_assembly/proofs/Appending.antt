@@ -11,19 +11,19 @@ module _ {X Y Z : Type 0} (f : Y → List Z) (view : X → Y) where
   abbrev pub and_rest : List Z → ℕ → List X → List Z
   and_rest zs i xs = zs ++ flat_map f (map view (drop i xs))
 
-  pub each_appended : (old new total : List Z) (i : ℕ) (xs : List X) (x : X) → i < length xs
-      → x ≡ get_or xs i x → new ≡ old ++ f (view x) → and_rest old i xs ≡ total
+  pub each_appended : (old : List Z) {new total : List Z} (i : ℕ) (xs : List X) {x : X}
+      → i < length xs → x ≡ get_or xs i x → new ≡ old ++ f (view x) → and_rest old i xs ≡ total
       → and_rest new (i + 1) xs ≡ total
-  each_appended old new total i xs x h is grown invariant =
+  each_appended old i xs {x} h is grown invariant =
       ap (λ zs. zs ++ flat_map f (map view (drop (i + 1) xs))) grown
       ∙ append_assoc old (f (view x)) (flat_map f (map view (drop (i + 1) xs)))
       ∙ ap (λ zs. old ++ zs) (ap (λ y. f (view y) ++ flat_map f (map view (drop (i + 1) xs))) is
       ∙ sym (at_drop_more (λ ys. flat_map f (map view ys)) xs i x h))
       ∙ invariant
 
-  pub each_done : (zs total : List Z) (i : ℕ) (xs : List X) → length xs ≤ i
+  pub each_done : (zs : List Z) {total : List Z} (i : ℕ) (xs : List X) → length xs ≤ i
       → and_rest zs i xs ≡ total → zs ≡ total
-  each_done zs total i xs h invariant = sym (append-nil zs)
+  each_done zs i xs h invariant = sym (append-nil zs)
       ∙ ap (λ ys. zs ++ flat_map f (map view ys)) (sym (drop_of_length-le xs h)) ∙ invariant
 
 -- A section of bytes with a row for each element, which says where the element's bytes start.
@@ -35,12 +35,11 @@ module _ {X Y Z : Type 0} (row : ℕ → Y → Z) (rows : ℕ → List Y → Lis
   rows_and_rest zs s i xs = with_rest rows (λ t y. row t y ∷ []) (λ t y. t + length (bytes y)) view
       splits zs s i xs
 
-  pub row_appended : (old new total : List Z) (before after : List ℕ) (i : ℕ) (xs : List X) (x : X)
-      → i < length xs → x ≡ get_or xs i x → new ≡ old ++ row (length before) (view x) ∷ []
-      → after ≡ before ++ bytes (view x)
-      → rows_and_rest old (length before) i xs ≡ total → rows_and_rest new (length after) (i + 1) xs
-      ≡ total
-  row_appended old new total before after i xs x h is grown longer invariant =
+  pub row_appended : (old : List Z) {new : List Z} (total : List Z) (before : List ℕ)
+      {after : List ℕ} (i : ℕ) (xs : List X) {x : X} → i < length xs → x ≡ get_or xs i x → new
+      ≡ old ++ row (length before) (view x) ∷ [] → after ≡ before ++ bytes (view x) → rows_and_rest
+      old (length before) i xs ≡ total → rows_and_rest new (length after) (i + 1) xs ≡ total
+  row_appended old {new} total before i xs {x} h is grown longer invariant =
       ap (λ n. rows_and_rest new n (i + 1) xs)
       (ap length longer ∙ length-append before (bytes (view x)))
       ∙ appended rows (λ t y. row t y ∷ []) (λ t y. t + length (bytes y)) view splits old new total

@@ -161,11 +161,11 @@ module _ (unit : Description Target) (lowered : List Lowered) (strings : List Wo
           ),
     )
 
-    by_unit : (meaning : Meaning) → tree_meaning unit ref ≡ meaning
+    by_unit : {meaning : Meaning} → tree_meaning unit ref ≡ meaning
         → same_attr ref.attr attr.Definition ≡ false → is_no_item contents ref ≡ false
         → Found (of_ref ref) contents.code (IsUnitOf unit strings) (row_of contents ref)
         → Agrees (gives ref.attr meaning values)
-    by_unit meaning meant no_body there f =
+    by_unit {meaning} meant no_body there f =
         let row = same_refs f.unit.row ref f.same in
         let code = attribute_code unit strings f.unit f.kept
         (ap (λ (r : AttrRef). same_attr r.attr attr.Definition) row ∙ no_body) in
@@ -255,10 +255,8 @@ module _ (unit : Description Target) (lowered : List Lowered) (strings : List Wo
               ∙ ap (λ b. if b then is_none (row_of contents ref) else not (ref.sub == 0)) of
               ∙ ap is_none none.0)) searched
           by_transaction (Some t) is =
-              ⊎_elim (λ found. by_unit (meaning_of ref.attr t)
-              (tree
-              ∙ ap (λ b. if b then elim (slice_get (transactions env i.attributes) ref.sub) as
-              (λ w. Meaning) [
+              ⊎_elim (λ found. by_unit (tree ∙ ap (λ b. if b then elim
+              (slice_get (transactions env i.attributes) ref.sub) as (λ w. Meaning) [
                 | Some transaction ↦ meaning_of ref.attr transaction
                 | None ↦ source.constant []
               ] else meaning_of ref.attr
@@ -289,9 +287,8 @@ module _ (unit : Description Target) (lowered : List Lowered) (strings : List Wo
           by_position true is =
               let reads = no_item_is ∙ ap (λ b. if b then is_none (row_of contents ref) else not
               (ref.sub == 0)) isnt ∙ ap not is in
-              ⊎_elim (λ found. by_unit (meaning_of ref.attr (of_attributes env i.attributes))
-              (tree ∙ ap (λ b. if b then elim (slice_get (transactions env i.attributes) ref.sub) as
-              (λ w. Meaning) [
+              ⊎_elim (λ found. by_unit (tree ∙ ap (λ b. if b then elim
+              (slice_get (transactions env i.attributes) ref.sub) as (λ w. Meaning) [
                 | Some transaction ↦ meaning_of ref.attr transaction
                 | None ↦ source.constant []
               ] else meaning_of ref.attr

@@ -31,9 +31,9 @@ all_true (x ∷ xs) = all_true xs
 
 -- each of what is resolved passes a test
 each_passes : {A B : Type 0} (of : A → Option B) (test : B → Bool)
-    → ((x : A) (y : B) → of x ≡ Some y → test y ≡ true) → (xs : List A) (ys : List B)
+    → ((x : A) (y : B) → of x ≡ Some y → test y ≡ true) → (xs : List A) {ys : List B}
     → each of xs ≡ Some ys → list_all test ys ≡ true
-each_passes of test passes xs ys h =
+each_passes of test passes xs {ys} h =
     all_mapped test ys
     ∙ ap (list_all (λ b. b)) (each_keeps of (λ x. true) test passes xs ys h)
     ∙ all_true xs
@@ -127,8 +127,7 @@ module _ (unit : Description Path) where
       (λ all. Some (item.Elements all)) b
       h in
       sym (at_some has true (item.Elements x.0) b x.2)
-      ∙ each_passes (resolved_element (meant_in unit)) (has_variable count) element_has elements x.0
-      x.1
+      ∙ each_passes (resolved_element (meant_in unit)) (has_variable count) element_has elements x.1
   attribute_has sort (item.Definition body) b h =
       made has (resolved_body (meant_in unit) body [] 0) item.Definition b true (λ x. refl) h
 
@@ -138,12 +137,13 @@ module _ (unit : Description Path) where
       let x = bind_some (each (resolved_attribute (meant_in unit) i.sort) i.attributes)
       (λ attributes. Some (record { sort = i.sort; name = i.name; attributes = attributes })) y
       h in
-      sym (at_some (has_variables count) true
-      (record { sort = i.sort; name = i.name; attributes = x.0 }) y x.2)
-      ∙ all_joined (has_variable count) written_elements x.0
-      (each_passes (resolved_attribute (meant_in unit) i.sort) has (attribute_has i.sort)
-      i.attributes x.0
-      x.1)
+      sym (at_some (has_variables count) true (record {
+        sort = i.sort;
+        name = i.name;
+        attributes =
+            x.0;
+      }) y x.2) ∙ all_joined (has_variable count) written_elements x.0 (each_passes
+      (resolved_attribute (meant_in unit) i.sort) has (attribute_has i.sort) i.attributes x.1)
 
 -- ---- a checked description
 
@@ -155,8 +155,7 @@ variables_exist d checked =
     let meant = items_meant d r in
     ap (λ n. list_all (has_variables n) d.items) (same_count u d.items meant kind.Variable)
     ∙ each_passes (resolved_item (meant_in u)) (has_variables (count_of kind.Variable u.items))
-    (item_has u)
-    u.items d.items meant
+    (item_has u) u.items meant
 
 pub variables_exist_when_checked : (d : Description Target) → ∥ IsChecked d ∥₁
     → list_all (has_variables (count_of kind.Variable d.items)) d.items ≡ true

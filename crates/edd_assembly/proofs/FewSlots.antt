@@ -39,25 +39,23 @@ use Rattle.edd_assembly.proofs.WrittenBodies.{of_picked}
 
 module _ {Y : Type 0} (f : Y → ℕ) (n : ℕ) where
   -- what is made of a part that is there
-  through : {A : Type 0} (o : Option A) (make : A → Option Y) (y : Y) → (o >>= make) ≡ Some y
+  through : {A : Type 0} (o : Option A) (make : A → Option Y) {y : Y} → (o >>= make) ≡ Some y
       → ((x : A) → o ≡ Some x → make x ≡ Some y → f y ≡ n) → f y ≡ n
-  through None make y h more = absurd (none-some y h)
-  through (Some x) make y h more = more x refl h
+  through None make {y} h more = absurd (none-some y h)
+  through (Some x) make h more = more x refl h
 
-  it_is : (x y : Y) → Some x ≡ Some y → f x ≡ n → f y ≡ n
-  it_is x y h same = ap f (sym (same_Some x y h)) ∙ same
+  it_is : {x y : Y} → Some x ≡ Some y → f x ≡ n → f y ≡ n
+  it_is {x} {y} h same = ap f (sym (same_Some x y h)) ∙ same
 
 module _ (names : Reading) where
   same_length : (scope : Scope) (next : ℕ) (ds : List (Declarator Path))
       (ys : List (Declarator Target)) → resolved_declarators names scope next ds ≡ Some ys
       → length ys ≡ length ds
-  same_length scope next [] ys h = it_is length 0 [] ys h refl
+  same_length scope next [] ys h = it_is length 0 h refl
   same_length scope next (d ∷ rest) ys h =
-      through length (suc (length rest)) (resolved_optional (at_scope names scope) d.value) _ ys h
-      (λ value e k.
-      through length (suc (length rest)) (resolved_declarators names (declared d.place next scope)
-      (next + 1) rest) _ ys k (λ others e' l.
-      it_is length (suc (length rest)) (record { place = Local next; value = value } ∷ others) ys l
+      through length (suc (length rest)) (resolved_optional (at_scope names scope) d.value) _ h
+      (λ value e k. through length (suc (length rest)) (resolved_declarators names (declared d.place
+      next scope) (next + 1) rest) _ k (λ others e' l. it_is length (suc (length rest)) l
       (ap suc (same_length (declared d.place next scope) (next + 1) rest others e'))))
 
   mutual
@@ -65,90 +63,70 @@ module _ (names : Reading) where
 
     same_slots : (x : Stmt Path) (scope : Scope) (next : ℕ) (y : Stmt Target)
         → resolved_stmt names x scope next ≡ Some y → slots_of y ≡ slots_of x
-    same_slots s.Empty scope next y h = it_is slots_of 0 s.Empty y h refl
+    same_slots s.Empty scope next y h = it_is slots_of 0 h refl
     same_slots (s.Evaluate e) scope next y h =
-        through slots_of 0 (resolved_expr (at_scope names scope) e) _ y h
-        (λ e' is k. it_is slots_of 0 (s.Evaluate e') y k refl)
+        through slots_of 0 (resolved_expr (at_scope names scope) e) _ h
+        (λ e' is k. it_is slots_of 0 k refl)
     same_slots (s.Block body) scope next y h =
-        through slots_of (slots_in body) (resolved_body names body scope next) _ y h
-        (λ b is k. it_is slots_of (slots_in body) (s.Block b) y k
-        (same_slots_in body scope next b is))
+        through slots_of (slots_in body) (resolved_body names body scope next) _ h
+        (λ b is k. it_is slots_of (slots_in body) k (same_slots_in body scope next b is))
     same_slots (s.If condition first) scope next y h =
-        through slots_of (slots_of first) (resolved_expr (at_scope names scope) condition) _ y h
-        (λ c is k.
-        through slots_of (slots_of first) (resolved_stmt names first scope next) _ y k
-        (λ a is' l. it_is slots_of (slots_of first) (s.If c a) y l
-        (same_slots first scope next a is')))
+        through slots_of (slots_of first) (resolved_expr (at_scope names scope) condition) _ h
+        (λ c is k. through slots_of (slots_of first) (resolved_stmt names first scope next) _ k
+        (λ a is' l. it_is slots_of (slots_of first) l (same_slots first scope next a is')))
     same_slots (s.IfElse condition first otherwise) scope next y h =
         let all = slots_of first + slots_of otherwise in
-        through slots_of all (resolved_expr (at_scope names scope) condition) _ y h (λ c is k.
-        through slots_of all (resolved_stmt names first scope next) _ y k (λ a is' l.
-        through slots_of all (resolved_stmt names otherwise scope (next + slots_of first)) _ y l
-        (λ b is'' m.
-        it_is slots_of all (s.IfElse c a b) y m
-        (ap (λ n. n + slots_of b) (same_slots first scope next a is')
-        ∙ ap (λ n. slots_of first + n) (same_slots otherwise scope (next + slots_of first) b
-        is'')))))
+        through slots_of all (resolved_expr (at_scope names scope) condition) _ h (λ c is k. through
+        slots_of all (resolved_stmt names first scope next) _ k (λ a is' l. through slots_of all
+        (resolved_stmt names otherwise scope (next + slots_of first)) _ l (λ b is'' m. it_is
+        slots_of all m (ap (λ n. n + slots_of b) (same_slots first scope next a is') ∙ ap
+        (λ n. slots_of first + n) (same_slots otherwise scope (next + slots_of first) b is'')))))
     same_slots (s.While condition body) scope next y h =
-        through slots_of (slots_of body) (resolved_expr (at_scope names scope) condition) _ y h
-        (λ c is k.
-        through slots_of (slots_of body) (resolved_stmt names body scope next) _ y k
-        (λ b is' l. it_is slots_of (slots_of body) (s.While c b) y l
-        (same_slots body scope next b is')))
+        through slots_of (slots_of body) (resolved_expr (at_scope names scope) condition) _ h
+        (λ c is k. through slots_of (slots_of body) (resolved_stmt names body scope next) _ k
+        (λ b is' l. it_is slots_of (slots_of body) l (same_slots body scope next b is')))
     same_slots (s.Do body condition) scope next y h =
-        through slots_of (slots_of body) (resolved_stmt names body scope next) _ y h (λ b is' k.
-        through slots_of (slots_of body) (resolved_expr (at_scope names scope) condition) _ y k
-        (λ c is l. it_is slots_of (slots_of body) (s.Do b c) y l
-        (same_slots body scope next b is')))
+        through slots_of (slots_of body) (resolved_stmt names body scope next) _ h (λ b is'
+        k. through slots_of (slots_of body) (resolved_expr (at_scope names scope) condition) _ k
+        (λ c is l. it_is slots_of (slots_of body) l (same_slots body scope next b is')))
     same_slots (s.For initial condition update body) scope next y h =
-        through slots_of (slots_of body) (resolved_optional (at_scope names scope) initial) _ y h
-        (λ i is k.
-        through slots_of (slots_of body) (resolved_optional (at_scope names scope) condition) _ y k
-        (λ c is' l.
-        through slots_of (slots_of body) (resolved_optional (at_scope names scope) update) _ y l
-        (λ u is'' m.
-        through slots_of (slots_of body) (resolved_stmt names body scope next) _ y m
-        (λ b is''' n. it_is slots_of (slots_of body) (s.For i c u b) y n
-        (same_slots body scope next b is''')))))
+        through slots_of (slots_of body) (resolved_optional (at_scope names scope) initial) _ h
+        (λ i is k. through slots_of (slots_of body)
+        (resolved_optional (at_scope names scope) condition) _ k (λ c is' l. through slots_of
+        (slots_of body) (resolved_optional (at_scope names scope) update) _ l
+        (λ u is'' m. through slots_of (slots_of body) (resolved_stmt names body scope next) _ m
+        (λ b is''' n. it_is slots_of (slots_of body) n (same_slots body scope next b is''')))))
     same_slots (s.Switch on body) scope next y h =
-        through slots_of (slots_in body) (resolved_expr (at_scope names scope) on) _ y h (λ o is k.
-        through slots_of (slots_in body) (resolved_body names body scope next) _ y k
-        (λ b is' l. it_is slots_of (slots_in body) (s.Switch o b) y l
-        (same_slots_in body scope next b is')))
-    same_slots s.Break scope next y h = it_is slots_of 0 s.Break y h refl
-    same_slots s.Continue scope next y h = it_is slots_of 0 s.Continue y h refl
-    same_slots s.Return scope next y h = it_is slots_of 0 s.Return y h refl
+        through slots_of (slots_in body) (resolved_expr (at_scope names scope) on) _ h
+        (λ o is k. through slots_of (slots_in body) (resolved_body names body scope next) _ k
+        (λ b is' l. it_is slots_of (slots_in body) l (same_slots_in body scope next b is')))
+    same_slots s.Break scope next y h = it_is slots_of 0 h refl
+    same_slots s.Continue scope next y h = it_is slots_of 0 h refl
+    same_slots s.Return scope next y h = it_is slots_of 0 h refl
 
     same_slots_in : (x : Body Path) (scope : Scope) (next : ℕ) (y : Body Target)
         → resolved_body names x scope next ≡ Some y → slots_in y ≡ slots_in x
-    same_slots_in Nil scope next y h = it_is slots_in 0 Nil y h refl
+    same_slots_in Nil scope next y h = it_is slots_in 0 h refl
     same_slots_in (Cons (Declare declarators) rest) scope next y h =
         let all = length declarators + slots_in rest in
         let inner = all_declared scope next declarators in
-        through slots_in all (resolved_declarators names scope next declarators) _ y h (λ ds is k.
-        through slots_in all (resolved_body names rest inner (next + length declarators)) _ y k
-        (λ r is' l.
-        it_is slots_in all (Cons (Declare ds) r) y l
-        (ap (λ n. n + slots_in r) (same_length scope next declarators ds is)
-        ∙ ap (λ n. length declarators + n) (same_slots_in rest inner (next + length declarators)
-        r is'))))
+        through slots_in all (resolved_declarators names scope next declarators) _ h
+        (λ ds is k. through slots_in all
+        (resolved_body names rest inner (next + length declarators)) _ k (λ r is' l. it_is slots_in
+        all l (ap (λ n. n + slots_in r) (same_length scope next declarators ds is) ∙ ap (λ n. length
+        declarators + n) (same_slots_in rest inner (next + length declarators) r is'))))
     same_slots_in (Cons (Statement first) rest) scope next y h =
         let all = slots_of first + slots_in rest in
-        through slots_in all (resolved_stmt names first scope next) _ y h (λ a is k.
-        through slots_in all (resolved_body names rest scope (next + slots_of first)) _ y k
-        (λ r is' l.
-        it_is slots_in all (Cons (Statement a) r) y l
-        (ap (λ n. n + slots_in r) (same_slots first scope next a is)
-        ∙ ap (λ n. slots_of first + n) (same_slots_in rest scope (next + slots_of first) r
-        is'))))
+        through slots_in all (resolved_stmt names first scope next) _ h (λ a is k. through slots_in
+        all (resolved_body names rest scope (next + slots_of first)) _ k (λ r is' l. it_is slots_in
+        all l (ap (λ n. n + slots_in r) (same_slots first scope next a is)
+        ∙ ap (λ n. slots_of first + n) (same_slots_in rest scope (next + slots_of first) r is'))))
     same_slots_in (Cons (CaseLabel label) rest) scope next y h =
-        through slots_in (slots_in rest) (resolved_body names rest scope next) _ y h
-        (λ r is k. it_is slots_in (slots_in rest) (Cons (CaseLabel label) r) y k
-        (same_slots_in rest scope next r is))
+        through slots_in (slots_in rest) (resolved_body names rest scope next) _ h
+        (λ r is k. it_is slots_in (slots_in rest) k (same_slots_in rest scope next r is))
     same_slots_in (Cons DefaultLabel rest) scope next y h =
-        through slots_in (slots_in rest) (resolved_body names rest scope next) _ y h
-        (λ r is k. it_is slots_in (slots_in rest) (Cons DefaultLabel r) y k
-        (same_slots_in rest scope next r is))
+        through slots_in (slots_in rest) (resolved_body names rest scope next) _ h
+        (λ r is k. it_is slots_in (slots_in rest) k (same_slots_in rest scope next r is))
 
 -- ---- the locals of an item
 
@@ -160,38 +138,37 @@ locals_in _ = 0
 keeps_locals : (names : Reading) (sort : ItemKind) (a : Attribute Path)
     (b : Attribute Target) → resolved_attribute names sort a ≡ Some b → locals_in b ≡ locals_in a
 keeps_locals names sort (item.OneText which c) b h =
-    through locals_in 0 (resolved_cond (at_attribute names) unchanged c) _ b h
-    (λ x is k. it_is locals_in 0 (item.OneText which x) b k refl)
-keeps_locals names sort (item.Class words) b h = it_is locals_in 0 (item.Class words) b h refl
+    through locals_in 0 (resolved_cond (at_attribute names) unchanged c) _ h
+    (λ x is k. it_is locals_in 0 k refl)
+keeps_locals names sort (item.Class words) b h = it_is locals_in 0 h refl
 keeps_locals names sort (item.Handling c) b h =
-    through locals_in 0 (resolved_cond (at_attribute names) unchanged c) _ b h
-    (λ x is k. it_is locals_in 0 (item.Handling x) b k refl)
+    through locals_in 0 (resolved_cond (at_attribute names) unchanged c) _ h
+    (λ x is k. it_is locals_in 0 k refl)
 keeps_locals names sort (item.Validity c) b h =
-    through locals_in 0 (resolved_cond (at_attribute names) unchanged c) _ b h
-    (λ x is k. it_is locals_in 0 (item.Validity x) b k refl)
+    through locals_in 0 (resolved_cond (at_attribute names) unchanged c) _ h
+    (λ x is k. it_is locals_in 0 k refl)
 keeps_locals names sort (item.TypeOf word parts) b h =
-    through locals_in 0 (each (resolved_type_part names) parts) _ b h
-    (λ x is k. it_is locals_in 0 (item.TypeOf word x) b k refl)
-keeps_locals names sort (item.Number n) b h = it_is locals_in 0 (item.Number n) b h refl
-keeps_locals names sort (item.Operation o) b h = it_is locals_in 0 (item.Operation o) b h refl
+    through locals_in 0 (each (resolved_type_part names) parts) _ h
+    (λ x is k. it_is locals_in 0 k refl)
+keeps_locals names sort (item.Number n) b h = it_is locals_in 0 h refl
+keeps_locals names sort (item.Operation o) b h = it_is locals_in 0 h refl
 keeps_locals names sort (item.Transaction number parts) b h =
-    through locals_in 0 (each (resolved_transaction_part names) parts) _ b h
-    (λ x is k. it_is locals_in 0 (item.Transaction number x) b k refl)
+    through locals_in 0 (each (resolved_transaction_part names) parts) _ h
+    (λ x is k. it_is locals_in 0 k refl)
 keeps_locals names sort (item.ResponseCodes responses) b h =
-    it_is locals_in 0 (item.ResponseCodes responses) b h refl
+    it_is locals_in 0 h refl
 keeps_locals names sort (item.Items entries) b h =
-    through locals_in 0 (resolved_conds (at_attribute names) (resolved_entry names) entries) _ b h
-    (λ x is k. it_is locals_in 0 (item.Items x) b k refl)
+    through locals_in 0 (resolved_conds (at_attribute names) (resolved_entry names) entries) _ h
+    (λ x is k. it_is locals_in 0 k refl)
 keeps_locals names sort (item.Members members) b h =
-    through locals_in 0 (each (resolved_member names (member_kinds sort)) members) _ b h
-    (λ x is k. it_is locals_in 0 (item.Members x) b k refl)
+    through locals_in 0 (each (resolved_member names (member_kinds sort)) members) _ h
+    (λ x is k. it_is locals_in 0 k refl)
 keeps_locals names sort (item.Elements elements) b h =
-    through locals_in 0 (each (resolved_element names) elements) _ b h
-    (λ x is k. it_is locals_in 0 (item.Elements x) b k refl)
+    through locals_in 0 (each (resolved_element names) elements) _ h
+    (λ x is k. it_is locals_in 0 k refl)
 keeps_locals names sort (item.Definition body) b h =
-    through locals_in (slots_in body) (resolved_body names body [] 0) _ b h
-    (λ x is k. it_is locals_in (slots_in body) (item.Definition x) b k
-    (same_slots_in names body [] 0 x is))
+    through locals_in (slots_in body) (resolved_body names body [] 0) _ h
+    (λ x is k. it_is locals_in (slots_in body) k (same_slots_in names body [] 0 x is))
 
 sum_from : (n : ℕ) (xs : List ℕ) → fold (λ a x. a + x) n xs ≡ n + sum xs
 sum_from n [] = omega arith
@@ -290,10 +267,10 @@ few_slots d checked m = by_item (item_at d (items_no.Method m)) refl
         (∥∥₁_elim checked (Bool-set _ _) (all_few d)) is) in
         omega (arith, few, locals_are i.sort i.name i.attributes, first_body i.attributes)
 
-pub body_code : (d : Description Target) (strings : List Words) (m : MethNo) (slots : ℕ)
+pub body_code : (d : Description Target) {strings : List Words} (m : MethNo) {slots : ℕ}
     (code : List ℕ) → ∥ IsChecked d ∥₁ → IsMethodCode d strings m slots code
     → IsBodyCode d strings slots code
-body_code d strings m slots code checked is =
+body_code d m code checked is =
     record {
       few_slots = subst (λ n. n ≤ 64) (sym is.locals) (few_slots d checked m);
       valid = is.valid;

@@ -15,19 +15,17 @@ use Rattle.edd_assembly.proofs.Cutting.{spans, names_spans, strings_spans, code_
 same : (n : ℕ) → (n == n) ≡ true
 same n = grind (arith, common_steps)
 
-both : (a b : Bool) → a ≡ true → b ≡ true → (a && b) ≡ true
-both a b x y = ap (λ c. c && b) x ∙ y
+both : (a : Bool) {b : Bool} → a ≡ true → b ≡ true → (a && b) ≡ true
+both a {b} x y = ap (λ c. c && b) x ∙ y
 
 module _ {Y : Type 0} (bytes : Y → List ℕ) where
   pub spans_fill : (s : ℕ) (ys : List Y)
       → fills s (spans bytes s ys) (s + length (flat_map bytes ys)) ≡ true
   spans_fill s [] = ap (λ n. s == n) (omega arith) ∙ same s
   spans_fill s (y ∷ ys) =
-      both (s == s) (fills (s + length (bytes y)) (spans bytes (s + length (bytes y)) ys)
-      (s + length (flat_map bytes (y ∷ ys)))) (same s)
-      (ap (λ n. fills (s + length (bytes y)) (spans bytes (s + length (bytes y)) ys) n)
-      (omega (arith, length-append (bytes y) (flat_map bytes ys)))
-      ∙ spans_fill (s + length (bytes y)) ys)
+      both (s == s) (same s)
+      (ap (λ n. fills (s + length (bytes y)) (spans bytes (s + length (bytes y)) ys) n) (omega
+      (arith, length-append (bytes y) (flat_map bytes ys))) ∙ spans_fill (s + length (bytes y)) ys)
 
 pub names_fill : (ns : List Name)
     → fills 0 (map (λ r. r.span) (map fields_of_name (name_rows 0 ns)))

@@ -47,23 +47,22 @@ module _ {X Y : Type 0} (names : List Y → List Name) (view : X → Y) (none : 
   bytes_and_rest bs i xs = with_rest (λ t ys. bytes_of (names ys))
       (λ t y. bytes_of (names (y ∷ []))) (λ t y. t) view bytes_split bs (record {}) i xs
 
-  pub names_appended : (old new total : List NameRow) (before after : List ℕ) (i : ℕ) (xs : List X)
-      (x : X) → i < length xs → x ≡ get_or xs i x
-      → new ≡ old ++ name_rows (length before) (names (view x ∷ []))
-      → after ≡ before ++ bytes_of (names (view x ∷ []))
-      → names_and_rest old (length before) i xs ≡ total
+  pub names_appended : (old : List NameRow) {new : List NameRow} (total : List NameRow)
+      (before : List ℕ) {after : List ℕ} (i : ℕ) (xs : List X) {x : X} → i < length xs
+      → x ≡ get_or xs i x → new ≡ old ++ name_rows (length before) (names (view x ∷ [])) → after
+      ≡ before ++ bytes_of (names (view x ∷ [])) → names_and_rest old (length before) i xs ≡ total
       → names_and_rest new (length after) (i + 1) xs ≡ total
-  names_appended old new total before after i xs x h is grown longer invariant =
+  names_appended old {new} total before i xs {x} h is grown longer invariant =
       ap (λ n. names_and_rest new n (i + 1) xs)
       (ap length longer ∙ length-append before (bytes_of (names (view x ∷ []))))
       ∙ appended (λ t ys. name_rows t (names ys)) (λ t y. name_rows t (names (y ∷ [])))
       (λ t y. t + length (bytes_of (names (y ∷ [])))) view rows_split old new total
       (length before) i xs x h is grown invariant
 
-  pub bytes_appended : (old new total : List ℕ) (i : ℕ) (xs : List X) (x : X) → i < length xs
-      → x ≡ get_or xs i x → new ≡ old ++ bytes_of (names (view x ∷ [])) → bytes_and_rest old i xs
-      ≡ total → bytes_and_rest new (i + 1) xs ≡ total
-  bytes_appended old new total i xs x h is grown invariant =
+  pub bytes_appended : (old : List ℕ) {new : List ℕ} (total : List ℕ) (i : ℕ) (xs : List X) {x : X}
+      → i < length xs → x ≡ get_or xs i x → new ≡ old ++ bytes_of (names (view x ∷ []))
+      → bytes_and_rest old i xs ≡ total → bytes_and_rest new (i + 1) xs ≡ total
+  bytes_appended old {new} total i xs {x} h is grown invariant =
       appended (λ t ys. bytes_of (names ys)) (λ t y. bytes_of (names (y ∷ []))) (λ t y. t) view
       bytes_split old new total (record {}) i xs x h is grown invariant
 

@@ -115,13 +115,13 @@ module _ (f g : StrNo → Option Words) (kept : (n : StrNo) (w : Words) → f n 
         ∷ xs
     no_default a x xs = every_attr (λ b. or_default b (x ∷ xs)) (λ b. x ∷ xs) refl a
 
-    records_agree : (a : Attr) (xs : List source.Record) (given : Result (List Record) Trap)
+    records_agree : (a : Attr) (xs : List source.Record) {given : Result (List Record) Trap}
         (rs : List Record) → given ≡ Ok rs → SameRecords f xs rs
         → SameReading g (source.Gives (Ok (or_default a xs))) (reading_of a given)
-    records_agree a [] given [] is same = (default_records a, ap (reading_of a) is, default_same a)
-    records_agree a [] given (r ∷ rs) is same = absurd same
-    records_agree a (x ∷ xs) given [] is same = absurd same
-    records_agree a (x ∷ xs) given (r ∷ rs) is same = (
+    records_agree a [] [] is same = (default_records a, ap (reading_of a) is, default_same a)
+    records_agree a [] (r ∷ rs) is same = absurd same
+    records_agree a (x ∷ xs) [] is same = absurd same
+    records_agree a (x ∷ xs) (r ∷ rs) is same = (
       r ∷ rs,
       ap (reading_of a) is,
       subst (λ ys. SameRecords g ys (r ∷ rs))
@@ -131,5 +131,5 @@ module _ (f g : StrNo → Option Words) (kept : (n : StrNo) (w : Words) → f n 
     pub reading_agrees : (a : Attr) (meant : Trapping (List source.Record))
         (given : Result (List Record) Trap) → SameRun f meant given
         → SameReading g (source.Gives (meant >>= λ rs. Ok (or_default a rs))) (reading_of a given)
-    reading_agrees a (Ok xs) given run = records_agree a xs given run.0 run.1 run.2
+    reading_agrees a (Ok xs) given run = records_agree a xs run.0 run.1 run.2
     reading_agrees a (Err why) given run = ap (reading_of a) run

@@ -14,8 +14,8 @@ Rows = List AttributeFields
 abbrev pub AllBefore : Rows → Rows → Type 0
 AllBefore xs ys = AllByRecursion (λ x. AllByRecursion (λ y. rises x y ≡ true) ys) xs
 
-both : (a b : Bool) → a ≡ true → b ≡ true → (a && b) ≡ true
-both a b x y = ap (λ c. c && b) x ∙ y
+both : {a b : Bool} → a ≡ true → b ≡ true → (a && b) ≡ true
+both {b} x y = ap (λ c. c && b) x ∙ y
 
 left_of : (a b : Bool) → (a && b) ≡ true → a ≡ true
 left_of true b h = refl
@@ -29,9 +29,9 @@ pub rise_append : (xs ys : Rows) → rise xs ≡ true → rise ys ≡ true → A
     → rise (xs ++ ys) ≡ true
 rise_append [] ys h k before = k
 rise_append (x ∷ []) [] h k before = refl
-rise_append (x ∷ []) (y ∷ ys) h k before = both (rises x y) (rise (y ∷ ys)) before.0.0 k
+rise_append (x ∷ []) (y ∷ ys) h k before = both before.0.0 k
 rise_append (x ∷ z ∷ xs) ys h k before =
-    both (rises x z) (rise (z ∷ (xs ++ ys))) (left_of (rises x z) (rise (z ∷ xs)) h)
+    both (left_of (rises x z) (rise (z ∷ xs)) h)
     (rise_append (z ∷ xs) ys (right_of (rises x z) (rise (z ∷ xs)) h) k before.1)
 
 pub all_append : (P : AttributeFields → Type 0) (xs ys : Rows) → AllByRecursion P xs

@@ -39,8 +39,8 @@ module _ (f g : StrNo → Option Words) (kept : (n : StrNo) (w : Words) → f n 
     requests_kept (x ∷ xs) [] h = h
     requests_kept (x ∷ xs) (r ∷ rs) h = (request_kept x r h.0, requests_kept xs rs h.1)
 
-    outcome_kept : (t : Transcript) (o : Outcome) → SameOutcome f t o → SameOutcome g t o
-    outcome_kept t o h = record {
+    outcome_kept : (t : Transcript) {o : Outcome} → SameOutcome f t o → SameOutcome g t o
+    outcome_kept t {o} h = record {
       requests = requests_kept t.requests o.requests h.requests;
       changes = h.changes;
       values = h.values;
@@ -58,4 +58,4 @@ pub follows_kept : (f g : StrNo → Option Words)
     → FollowsBody f types body machine → FollowsBody g types body machine
 follows_kept f g kept back types body machine follows s before valid asked n =
     let h = follows s before valid (requests_kept g f back s.requests before asked) n in
-    (h.0, h.1, outcome_kept f g kept (body n s) (preceded before s.changes (machine h.0 s)) h.2)
+    (h.0, h.1, outcome_kept f g kept (body n s) h.2)

@@ -30,8 +30,8 @@ right_of : (a b : Bool) → (a && b) ≡ true → b ≡ true
 right_of true b h = h
 right_of false b h = absurd (false≢true h)
 
-both : (a b : Bool) → a ≡ true → b ≡ true → (a && b) ≡ true
-both a b x y = ap (λ c. c && b) x ∙ y
+both : {a b : Bool} → a ≡ true → b ≡ true → (a && b) ≡ true
+both {b} x y = ap (λ c. c && b) x ∙ y
 
 -- the rows of one item and of others
 abbrev rows_of : Bool → Item Target → List (Item Target) → Bool
@@ -46,9 +46,7 @@ one_item : (b : Bool) (i : Item Target) (rest : List (Item Target))
     → list_all is_variable_row (map fields_of_variable (variable_kinds rest)) ≡ true
     → rows_of b i rest ≡ true
 one_item true i rest h rows =
-    both (is_variable_row (fields_of_variable (kind_of_type (written_type i.attributes))))
-    (list_all is_variable_row (map fields_of_variable (variable_kinds rest)))
-    (type_is_known (written_type i.attributes).type (written_type i.attributes).size h) rows
+    both (type_is_known (written_type i.attributes).type (written_type i.attributes).size h) rows
 one_item false i rest h rows = rows
 
 pub variables_sound : (items : List (Item Target)) → IsTrue (list_all is_small_variable items)

@@ -18,9 +18,9 @@ type_read : (t : VarType) (size : ℕ)
 type_read var_type.Integer size = refl
 type_read _ size = refl
 
-found : {A B : Type 0} (f : A → Option B) (x : A) (y : B) (rest : List A) → f x ≡ Some y
+found : {A B : Type 0} (f : A → Option B) (x : A) {y : B} (rest : List A) → f x ≡ Some y
     → filter_map f (x ∷ rest) ≡ y ∷ filter_map f rest
-found f x y rest is = rw is refl
+found f x rest is = rw is refl
 
 each_type_read : (items : List (Item Target))
     → filter_map variable_type_of
@@ -29,7 +29,6 @@ each_type_read : (items : List (Item Target))
 each_type_read [] = refl
 each_type_read (i ∷ rest) =
     found variable_type_of (fields_of_variable (kind_of_type (written_type i.attributes)))
-    (written_type i.attributes)
     (map fields_of_variable (map (λ j. kind_of_type (written_type j.attributes)) rest))
     (type_read (written_type i.attributes).type (written_type i.attributes).size)
     ∙ ap (λ ts. written_type i.attributes ∷ ts) (each_type_read rest)

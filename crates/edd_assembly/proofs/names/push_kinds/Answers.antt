@@ -14,18 +14,13 @@ loop-kind-preserved c =
     let longer = c.in_ok-push_kind.ensures.bytes
     ∙ ap (λ ns. c.loop-kind.section.bytes.items ++ bytes_of ns) whole in (
       names_appended (names_of_kinds (map numbered_item c.args.items.now)) (λ k. k) refl
-          (kinds_split (map numbered_item c.args.items.now)) c.loop-kind.section.rows.items
-          c.push_kind.new.self.rows.items _ c.loop-kind.section.bytes.items
-          c.push_kind.new.self.bytes.items c.loop-kind.kind-index c.args.kinds.now k (omega arith)
-          is
-          (c.in_ok-push_kind.ensures.rows
-          ∙ ap (λ ns. c.loop-kind.section.rows.items
-          ++ name_rows (length c.loop-kind.section.bytes.items) ns) whole) longer
-          c.loop-kind.invariant.0,
+          (kinds_split (map numbered_item c.args.items.now)) c.loop-kind.section.rows.items _
+          c.loop-kind.section.bytes.items c.loop-kind.kind-index c.args.kinds.now (omega arith) is
+          (c.in_ok-push_kind.ensures.rows ∙ ap (λ ns. c.loop-kind.section.rows.items ++ name_rows
+          (length c.loop-kind.section.bytes.items) ns) whole) longer c.loop-kind.invariant.0,
       bytes_appended (names_of_kinds (map numbered_item c.args.items.now)) (λ k. k) refl
-          (kinds_split (map numbered_item c.args.items.now)) c.loop-kind.section.bytes.items
-          c.push_kind.new.self.bytes.items _ c.loop-kind.kind-index c.args.kinds.now k (omega arith)
-          is longer c.loop-kind.invariant.1,
+          (kinds_split (map numbered_item c.args.items.now)) c.loop-kind.section.bytes.items _
+          c.loop-kind.kind-index c.args.kinds.now (omega arith) is longer c.loop-kind.invariant.1,
     )
 
 pub returns-clause-rows : goal.returns-clause-rows

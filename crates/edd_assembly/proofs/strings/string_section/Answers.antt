@@ -10,12 +10,11 @@ use Rattle.edd_assembly.proofs.strings.string_section.Goals as goal
 pub loop-w-preserved : goal.loop-w-preserved
 loop-w-preserved c = (
   row_appended string_row_at string_rows string_bytes string_of strings_split
-      c.loop-w.section.rows.items c.push.new.self.rows.items _ c.loop-w.section.bytes.items
-      c.push.new.self.bytes.items c.loop-w.w-index c.args.words.now c.w-item.result (omega arith)
-      c.w-item.is c.in_ok-push.ensures.rows c.in_ok-push.ensures.bytes c.loop-w.invariant.0,
-  each_appended string_bytes string_of c.loop-w.section.bytes.items c.push.new.self.bytes.items _
-      c.loop-w.w-index c.args.words.now c.w-item.result (omega arith) c.w-item.is
-      c.in_ok-push.ensures.bytes c.loop-w.invariant.1,
+      c.loop-w.section.rows.items _ c.loop-w.section.bytes.items c.loop-w.w-index c.args.words.now
+      (omega arith) c.w-item.is c.in_ok-push.ensures.rows c.in_ok-push.ensures.bytes
+      c.loop-w.invariant.0,
+  each_appended string_bytes string_of c.loop-w.section.bytes.items c.loop-w.w-index
+      c.args.words.now (omega arith) c.w-item.is c.in_ok-push.ensures.bytes c.loop-w.invariant.1,
 )
 
 pub returns-clause-rows : goal.returns-clause-rows
@@ -25,7 +24,6 @@ returns-clause-rows c = rows_done string_row_at string_rows string_bytes string_
 
 pub returns-clause-bytes : goal.returns-clause-bytes
 returns-clause-bytes c =
-    each_done string_bytes string_of c.loop-w.section.bytes.items _ c.loop-w.w-index
-    c.args.words.now (omega arith) c.loop-w.invariant.1
-    ∙ ap (λ bs. bs ++ flat_map string_bytes (map string_of c.args.words.now))
-    c.new-section.ensures.bytes
+    each_done string_bytes string_of c.loop-w.section.bytes.items c.loop-w.w-index c.args.words.now
+    (omega arith) c.loop-w.invariant.1 ∙ ap (λ bs. bs
+    ++ flat_map string_bytes (map string_of c.args.words.now)) c.new-section.ensures.bytes

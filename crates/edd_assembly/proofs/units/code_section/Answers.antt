@@ -9,13 +9,12 @@ use Rattle.edd_assembly.proofs.units.code_section.Goals as goal
 pub loop-unit-preserved : goal.loop-unit-preserved
 loop-unit-preserved c = (
   row_appended attribute_row_at attribute_rows code_of lowered_of attributes_split
-      c.loop-unit.section.rows.items c.push.new.self.rows.items _ c.loop-unit.section.bytes.items
-      c.push.new.self.bytes.items c.loop-unit.unit-index c.args.units.now c.unit-item.result
-      (omega arith) c.unit-item.is c.in_ok-push.ensures.rows c.in_ok-push.ensures.bytes
-      c.loop-unit.invariant.0,
-  each_appended code_of lowered_of c.loop-unit.section.bytes.items c.push.new.self.bytes.items _
-      c.loop-unit.unit-index c.args.units.now c.unit-item.result (omega arith) c.unit-item.is
-      c.in_ok-push.ensures.bytes c.loop-unit.invariant.1,
+      c.loop-unit.section.rows.items _ c.loop-unit.section.bytes.items c.loop-unit.unit-index
+      c.args.units.now (omega arith) c.unit-item.is c.in_ok-push.ensures.rows
+      c.in_ok-push.ensures.bytes c.loop-unit.invariant.0,
+  each_appended code_of lowered_of c.loop-unit.section.bytes.items c.loop-unit.unit-index
+      c.args.units.now (omega arith) c.unit-item.is c.in_ok-push.ensures.bytes
+      c.loop-unit.invariant.1,
 )
 
 pub returns-clause-rows : goal.returns-clause-rows
@@ -25,7 +24,6 @@ returns-clause-rows c = rows_done attribute_row_at attribute_rows code_of lowere
 
 pub returns-clause-bytes : goal.returns-clause-bytes
 returns-clause-bytes c =
-    each_done code_of lowered_of c.loop-unit.section.bytes.items _ c.loop-unit.unit-index
-    c.args.units.now (omega arith) c.loop-unit.invariant.1
-    ∙ ap (λ bs. bs ++ flat_map code_of (map lowered_of c.args.units.now))
-    c.new-section.ensures.bytes
+    each_done code_of lowered_of c.loop-unit.section.bytes.items c.loop-unit.unit-index
+    c.args.units.now (omega arith) c.loop-unit.invariant.1 ∙ ap (λ bs. bs
+    ++ flat_map code_of (map lowered_of c.args.units.now)) c.new-section.ensures.bytes

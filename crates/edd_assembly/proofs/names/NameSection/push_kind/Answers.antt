@@ -7,14 +7,12 @@ use Rattle.edd_assembly.proofs.names.NameSection.push_kind.Goals as goal
 pub loop-item-preserved : goal.loop-item-preserved
 loop-item-preserved c = (
   names_appended (names_of_kind c.args.kind) numbered_item refl (kind_split c.args.kind)
-      c.loop-item.self.rows.items c.push_if.new.self.rows.items _ c.loop-item.self.bytes.items
-      c.push_if.new.self.bytes.items c.loop-item.item-index c.args.items.now c.item-item.result
-      (omega arith) c.item-item.is c.in_ok-push_if.ensures.rows c.in_ok-push_if.ensures.bytes
-      c.loop-item.invariant.0,
+      c.loop-item.self.rows.items _ c.loop-item.self.bytes.items c.loop-item.item-index
+      c.args.items.now (omega arith) c.item-item.is c.in_ok-push_if.ensures.rows
+      c.in_ok-push_if.ensures.bytes c.loop-item.invariant.0,
   bytes_appended (names_of_kind c.args.kind) numbered_item refl (kind_split c.args.kind)
-      c.loop-item.self.bytes.items c.push_if.new.self.bytes.items _ c.loop-item.item-index
-      c.args.items.now c.item-item.result (omega arith) c.item-item.is c.in_ok-push_if.ensures.bytes
-      c.loop-item.invariant.1,
+      c.loop-item.self.bytes.items _ c.loop-item.item-index c.args.items.now (omega arith)
+      c.item-item.is c.in_ok-push_if.ensures.bytes c.loop-item.invariant.1,
 )
 
 pub returns-clause-rows : goal.returns-clause-rows
