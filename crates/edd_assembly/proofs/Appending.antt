@@ -36,9 +36,10 @@ module _ {X Y Z : Type 0} (row : ℕ → Y → Z) (rows : ℕ → List Y → Lis
       splits zs s i xs
 
   pub row_appended : (old : List Z) {new : List Z} (total : List Z) (before : List ℕ)
-      {after : List ℕ} (i : ℕ) (xs : List X) {x : X} → i < length xs → x ≡ get_or xs i x → new
-      ≡ old ++ row (length before) (view x) ∷ [] → after ≡ before ++ bytes (view x) → rows_and_rest
-      old (length before) i xs ≡ total → rows_and_rest new (length after) (i + 1) xs ≡ total
+      {after : List ℕ} (i : ℕ) (xs : List X) {x : X} → i < length xs → x ≡ get_or xs i x
+      → new ≡ old ++ row (length before) (view x) ∷ [] → after ≡ before ++ bytes (view x)
+      → rows_and_rest old (length before) i xs ≡ total
+      → rows_and_rest new (length after) (i + 1) xs ≡ total
   row_appended old {new} total before i xs {x} h is grown longer invariant =
       ap (λ n. rows_and_rest new n (i + 1) xs)
       (ap length longer ∙ length-append before (bytes (view x)))

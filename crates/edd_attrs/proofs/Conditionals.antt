@@ -73,8 +73,9 @@ module _ {V : Type 0} (strings : V → List Words) (is_block : (StrNo → Option
       (conds_strings strings otherwise) (if_strings e first otherwise))
 
   pub else_overflows : {old mid : List Words} (e : Expr Target) (first otherwise : Conds Target V)
-      → GrowsBy old (conds_strings strings first) mid → Overflows mid (conds_strings strings
-      otherwise) → Overflows old (cond_strings strings (If e first otherwise))
+      → GrowsBy old (conds_strings strings first) mid
+      → Overflows mid (conds_strings strings otherwise)
+      → Overflows old (cond_strings strings (If e first otherwise))
   else_overflows {old} {mid} e first otherwise grows over =
       overflows_later old mid grows over (within_left (conds_strings strings first) (conds_strings
       strings otherwise) (if_strings e first otherwise)) (within_right (conds_strings strings first)

@@ -117,9 +117,10 @@ module _ (unit : Description Path) (reads : Target → Bool)
     conds_good c d h l e = both_true (conds_tested at reads kept kept_array of p q keeps c d h e)
         (ap is_low (same_heights at reads kept kept_array of p q keeps f g same c d h e) ∙ l)
 
-  one_good : {V : Type 0} (p : V → Bool) (c : Cond Path V) {d : Cond Target V} → (is_cond is_path
-      is_plain p c && is_single is_path is_plain c) ≡ true → is_low (cond_height leaf c) ≡ true
-      → resolved_cond at unchanged c ≡ Some d → good_cond reads p leaf d ≡ true
+  one_good : {V : Type 0} (p : V → Bool) (c : Cond Path V) {d : Cond Target V}
+      → (is_cond is_path is_plain p c && is_single is_path is_plain c) ≡ true
+      → is_low (cond_height leaf c) ≡ true → resolved_cond at unchanged c ≡ Some d
+      → good_cond reads p leaf d ≡ true
   one_good p c {d} h l e = cond_good unchanged p p leaf leaf (same_value p) (λ v w k m. refl) c d
       (both_of (is_cond is_path is_plain p c) (is_single is_path is_plain c) h).0 l e
 

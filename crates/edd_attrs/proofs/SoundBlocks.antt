@@ -219,8 +219,7 @@ module _ (context : Context) where
               (then_sound is.1 (cond_sound first is.0 is.3 tests.0 (omega (
                 arith,
                 l,
-                le-max_left
-                    (cond_height h first) (conds_height h rest),
+                le-max_left (cond_height h first) (conds_height h rest),
               ))) (conds_sound rest is.1 is.4 tests.1
               (omega (arith, l, le-max_right (cond_height h first) (conds_height h rest)))))
 

@@ -106,8 +106,9 @@ nothing_written code = sym (append-nil code)
 
 module _ {old new : List Words} (code : List ℕ) (p : Parameter) where
   pub text_part : {a : code_argument.Argument Target} {t : code_text.Text} (n : StrNo)
-      → a ≡ variant.Text t → GrowsBy old (words_of (text_of t) ∷ []) new → Keeps new (words_of
-      (text_of t)) n → WritesPart old code (argument_texts (Cons (numbered_argument a) Nil))
+      → a ≡ variant.Text t → GrowsBy old (words_of (text_of t) ∷ []) new
+      → Keeps new (words_of (text_of t)) n
+      → WritesPart old code (argument_texts (Cons (numbered_argument a) Nil))
       (λ number. number_block p (argument_block number (numbered_argument a))) new code
   unfolding argument_block
   text_part {t} n is table keeps =

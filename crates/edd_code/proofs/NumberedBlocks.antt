@@ -63,8 +63,9 @@ module _ {old new : List Words} where
       ∙ when_not_zero_closed before (body number) opened one)
 
   pub when_zero_part : (before : List ℕ) {c1 : List ℕ} (c2 : List ℕ) {after : List ℕ} {hole : ℕ}
-      (ts : List texts.Text) (body : Numbered) → c1 ≡ before ++ spelling (instruction.JumpIfNotZero
-      0) → hole ≡ length before + 1 → WritesPart old c1 ts body new c2 → after ≡ closed c2 hole
+      (ts : List texts.Text) (body : Numbered)
+      → c1 ≡ before ++ spelling (instruction.JumpIfNotZero 0) → hole ≡ length before + 1
+      → WritesPart old c1 ts body new c2 → after ≡ closed c2 hole
       → WritesPart old before ts (λ number. WhenZero (body number)) new after
   when_zero_part before {c1} c2 ts body opened at w is =
       part_written w (λ number one. is ∙ ap (closed c2) at
@@ -106,10 +107,11 @@ module _ {old mid new : List Words} where
 
   pub either_part : (before : List ℕ) {c1 : List ℕ} (c2 : List ℕ) {c3 c4 : List ℕ} (c5 : List ℕ)
       {after : List ℕ} {hole end : ℕ} (ts us : List texts.Text) (first otherwise : Numbered)
-      → c1 ≡ before ++ spelling (instruction.JumpIfZero 0) → hole ≡ length before + 1 → WritesPart
-      old c1 ts first mid c2 → c3 ≡ c2 ++ spelling (instruction.Jump 0) → end ≡ length c2 + 1 → c4
-      ≡ closed c3 hole → WritesPart mid c4 us otherwise new c5 → after ≡ closed c5 end → WritesPart
-      old before (ts ++ us) (λ number. Either (first number) (otherwise number)) new after
+      → c1 ≡ before ++ spelling (instruction.JumpIfZero 0) → hole ≡ length before + 1
+      → WritesPart old c1 ts first mid c2 → c3 ≡ c2 ++ spelling (instruction.Jump 0)
+      → end ≡ length c2 + 1 → c4 ≡ closed c3 hole → WritesPart mid c4 us otherwise new c5
+      → after ≡ closed c5 end → WritesPart old before (ts
+      ++ us) (λ number. Either (first number) (otherwise number)) new after
   either_part before {c1} c2 {c3} {c4} c5 ts us first otherwise one at v three behind four w is =
       strings_listed (texts_listed ts us) (parts_written v w (λ number two five.
       is ∙ ap (closed c5) behind ∙ either_closed before c1 c2 c3 c4 c5 (first number)
@@ -151,9 +153,10 @@ text_known old new {w} n table keeps d later =
 -- ---- calls without arguments
 
 module _ {X : Type 0} (view : X → Argument Target) (i : Instruction) where
-  pub alone_part : (xs : List X) (table : List Words) (before : List ℕ) {after : List ℕ} → length xs
-      < 1 → after ≡ before ++ spelling i → WritesPart table before (argument_texts (arguments_from
-      (map view xs))) (λ number. alone_block i (arguments_from (map view xs))) table after
+  pub alone_part : (xs : List X) (table : List Words) (before : List ℕ) {after : List ℕ}
+      → length xs < 1 → after ≡ before ++ spelling i
+      → WritesPart table before (argument_texts (arguments_from (map view xs)))
+      (λ number. alone_block i (arguments_from (map view xs))) table after
   alone_part [] table before {after} h is =
       plain_part table before after (Straight i) (one_more before after i is)
   alone_part (x ∷ xs) table before h is = absurd (omega arith)

@@ -58,9 +58,10 @@ module _ (text : StrNo → Option Words) (env : Environment) (code : List ℕ) w
   }
 
   -- a test that takes its operand
-  zero_does : (n p there : ℕ) {next : ℕ} (a : ℕ) (z : ℤ) (to : Exits) (s : State) (f g : Action
-      Completion) → IsRead code (stand p (instruction.JumpIfZero there) next) → Does text env code n
-      there [] to s (f s) → Does text env code n next [] to s (g s) → Does text env code n p (z
+  zero_does : (n p there : ℕ) {next : ℕ} (a : ℕ) (z : ℤ) (to : Exits) (s : State)
+      (f g : Action Completion) → IsRead code (stand p (instruction.JumpIfZero there) next)
+      → Does text env code n there [] to s (f s) → Does text env code n next [] to s (g s)
+      → Does text env code n p (z
       ∷ []) to s ((elim (is_zero z) as (λ _. Action Completion) [ true ↦ f | false ↦ g ]) s)
   unfolding act
   zero_does n p there {next} a z to s f g read one two =

@@ -30,8 +30,9 @@ module _ {X Y : Type 0} (view : X → Attribute Target) (body : Y → Body Targe
       → option_to_list (option_map body (Some y)) ≡ bodies_in (view x)
       → found_from i xs ≡ found_from 0 xs → body y ≡ found_from 0 xs
   stops i xs x y h is found invariant =
-      sym (here (view x) (map view (drop (i + 1) xs)) found) ∙ ap (λ z. body_in (view z ∷ map view
-      (drop (i + 1) xs))) is ∙ sym (at_drop_more (λ zs. body_in (map view zs)) xs i x h) ∙ invariant
+      sym (here (view x) (map view (drop (i + 1) xs)) found)
+      ∙ ap (λ z. body_in (view z ∷ map view (drop (i + 1) xs))) is
+      ∙ sym (at_drop_more (λ zs. body_in (map view zs)) xs i x h) ∙ invariant
 
   pub goes_on : (i : ℕ) (xs : List X) (x : X) → i < length xs → x ≡ get_or xs i x
       → [] ≡ bodies_in (view x)

@@ -81,8 +81,8 @@ write_cond-returns-in-If-clause-refused g t c =
 
 pub write_cond-write_select-requires : goal.write_cond-write_select-requires
 write_cond-write_select-requires g t c κs within =
-    let is = select_is g.V.Element.view c.in-Select.arms c.in-Select.is
-    c.deref-in-Select.ensures.value in
+    let is =
+    select_is g.V.Element.view c.in-Select.arms c.in-Select.is c.deref-in-Select.ensures.value in
     let kept = subst (λ (x : Cond Target g.V.Element.Meant). list_all g.V.Element.is_kept
     (values_in x) ≡ true) is c.requires in
     let h = arms_fall g.V.Element.view c.args.c.now c.in-Select.arms c.in-Select.is
@@ -163,11 +163,10 @@ write_conds-loop-c-init g t c = record {
 pub write_conds-loop-c-preserved : goal.write_conds-loop-c-preserved
 write_conds-loop-c-preserved g t c = record {
   front =
-      front_grows (cond_strings g.V.Element.strings) (λ numbered xs b. IsCondsBlock
-      (g.V.Element.is_block numbered) (conds_from xs) b) (omega (
+      front_grows (cond_strings g.V.Element.strings)
+      (λ numbered xs b. IsCondsBlock (g.V.Element.is_block numbered) (conds_from xs) b) (omega (
         arith,
-        length-map c.args.all.now
-            (viewed g.V.Element.view),
+        length-map c.args.all.now (viewed g.V.Element.view),
       )) (viewed_at (viewed g.V.Element.view) c.args.all.now
       c.loop-c.c-index (omega arith) c.c-item.is) c.loop-c.invariant.front
       (block_step (cond_strings g.V.Element.strings) (λ numbered xs b. IsCondsBlock
@@ -201,12 +200,11 @@ pub write_conds-returns-clause-sound : goal.write_conds-returns-clause-sound
 write_conds-returns-clause-sound g t c =
     subst (λ (ws : List Words). WritesBlock c.args.table.now c.args.code.now ws (λ numbered
     b. IsCondsBlock (g.V.Element.is_block numbered) (all_viewed g.V.Element.view c.args.all.now) b)
-    c.loop-c.table c.loop-c.code) (conds_strings_are g.V.Element.strings (map (viewed
-    g.V.Element.view) c.args.all.now)) (front_ends (cond_strings g.V.Element.strings) (λ numbered xs
-    b. IsCondsBlock (g.V.Element.is_block numbered) (conds_from xs) b) (omega (
+    c.loop-c.table c.loop-c.code) (conds_strings_are g.V.Element.strings
+    (map (viewed g.V.Element.view) c.args.all.now)) (front_ends (cond_strings g.V.Element.strings)
+    (λ numbered xs b. IsCondsBlock (g.V.Element.is_block numbered) (conds_from xs) b) (omega (
       arith,
-      length-map
-          c.args.all.now (viewed g.V.Element.view),
+      length-map c.args.all.now (viewed g.V.Element.view),
     )) c.loop-c.invariant.front (λ numbered. refl))
 
 -- ---- write_select
@@ -242,8 +240,8 @@ write_default-write_conds-requires g t c κs within =
     let is = sym c.default_among.ensures
     ∙ ap (option_map (λ (body : Bor (List (code.Cond Target g.row.V.Denot))). all_viewed
     g.V.Element.view body.now)) c.in-Some.is in
-    let kept = default_kept g.V.Element.is_kept (arms_viewed g.V.Element.view c.args.arms.now) is
-    c.requires in
+    let kept =
+    default_kept g.V.Element.is_kept (arms_viewed g.V.Element.view c.args.arms.now) is c.requires in
     let h = default_falls (arms_viewed g.V.Element.view c.args.arms.now) is in
     let m = c.decreases in
     (omega (arith, h, m), (search rules, kept))

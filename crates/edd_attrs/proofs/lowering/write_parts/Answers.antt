@@ -30,8 +30,7 @@ loop-part-preserved c = record {
   front =
       front_grows element_strings IsPartsBlock (omega (
         arith,
-        length-map c.args.parts.now
-            numbered_type_part,
+        length-map c.args.parts.now numbered_type_part,
       )) (viewed_at numbered_type_part c.args.parts.now c.loop-part.part-index
       (omega arith) c.part-item.is) c.loop-part.invariant.front
       (part_step (numbered_type_part c.part-item.result) c.loop-part.table c.write_part.new.table

@@ -83,11 +83,12 @@ write_or-returns-clause-sound t c =
 pub write_instead-returns-clause-sound : goal.write_instead-returns-clause-sound
 write_instead-returns-clause-sound t c =
     plain_then c.args.code.now c.write_truth.new.code (expr_texts (numbered_expr c.args.right.now))
-    (Straight instruction.Pop) (λ number. Then (method_block number
-    (numbered_expr c.args.right.now)) truth_block) (one_more c.args.code.now c.put.new.code
-    instruction.Pop c.in_ok-put.ensures.code) (then_plain c.put.new.code c.write_value.new.code
-    (expr_texts (numbered_expr c.args.right.now)) (λ number. method_block number (numbered_expr
-    c.args.right.now)) truth_block c.in_ok-write_value.ensures.sound c.in_ok-write_truth.ensures)
+    (Straight instruction.Pop)
+    (λ number. Then (method_block number (numbered_expr c.args.right.now)) truth_block)
+    (one_more c.args.code.now c.put.new.code instruction.Pop c.in_ok-put.ensures.code)
+    (then_plain c.put.new.code c.write_value.new.code (expr_texts (numbered_expr c.args.right.now))
+    (λ number. method_block number (numbered_expr c.args.right.now)) truth_block
+    c.in_ok-write_value.ensures.sound c.in_ok-write_truth.ensures)
 
 pub write_either-returns-clause-sound : goal.write_either-returns-clause-sound
 write_either-returns-clause-sound t c =
@@ -337,11 +338,12 @@ write_ask-returns-clause-sound t c =
     (λ number. Then (numbers_block c.parameters-2.result.now (argument_blocks number a))
     (Straight (instruction.Ask (asking c.args.kind (names_of number c.parameters-2.result.now a)))))
     (λ number. call_block number (builtin.Ask c.args.kind) a)
-    (λ number. ap (λ ps. Then (numbers_block ps (argument_blocks number a)) (Straight
-    (instruction.Ask (asking c.args.kind (names_of number ps a))))) c.parameters-2.ensures ∙ sym
-    (asks_block number c.args.kind a fits)) (ask_part c.args.code.now c.write_arguments.new.code
-    (argument_texts a) (λ number. numbers_block c.parameters-2.result.now (argument_blocks number
-    a)) (λ number. asking c.args.kind (names_of number c.parameters-2.result.now a)) c.in_ok-ask.ask
+    (λ number. ap (λ ps. Then (numbers_block ps (argument_blocks number a))
+    (Straight (instruction.Ask (asking c.args.kind (names_of number ps a))))) c.parameters-2.ensures
+    ∙ sym (asks_block number c.args.kind a fits))
+    (ask_part c.args.code.now c.write_arguments.new.code (argument_texts a)
+    (λ number. numbers_block c.parameters-2.result.now (argument_blocks number a))
+    (λ number. asking c.args.kind (names_of number c.parameters-2.result.now a)) c.in_ok-ask.ask
     c.in_ok-ask.ensures.sound c.in_ok-ask.ensures.named c.in_ok-put.ensures.code)
 
 pub write_ask-returns-then-not-all_fit-clause-sound :
