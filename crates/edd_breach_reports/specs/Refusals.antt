@@ -1,22 +1,12 @@
 -- Which refusal is said.
 use Rattle.std.specs.Prelude.{◌≡◌, ℕ, List, string_bytes}
-use Rattle.edd_breach_reports.specs.declared.sources.Source.{Source}
-use Rattle.edd_breach_reports.specs.Places.{IsShownAt, UnitText}
+use Rattle.edd_breach_places.specs.Places.{IsShownAt, UnitText}
+use Rattle.edd_breach_places.specs.Sources.{lines_of}
 use Rattle.edd_breaches.specs.Told.{Told}
 use Rattle.edd_breaches.specs.Words.{told_words}
-use Rattle.edd_lexer.specs.Words.{line_at}
 use Rattle.edd_reports.specs.declared.diagnostic.Diagnostic.{Diagnostic}
 use Rattle.edd_reports.specs.declared.diagnostic.Finding.{Finding}
 use Rattle.edd_reports.specs.declared.diagnostic.Finding.TheVariants as finding
-use Rattle.edd_syntax.specs.declared.numbers.TokenNo.{TokenNo}
-
--- what a source holds
-abbrev pub text_of : Source → UnitText
-text_of s = record { text = s.text.now; tokens = s.tokens.now; items = s.items.now }
-
--- on which line a token is
-abbrev pub lines_of : UnitText → TokenNo → ℕ
-lines_of u = line_at u.text u.tokens
 
 -- the words of what is told
 abbrev pub words_in : UnitText → Told → List ℕ

@@ -5,12 +5,7 @@
 //! token it is shown; and that what helps is found safely and in bounded time.
 #![tactic(auto)]
 
-mod kinds;
 mod names;
-mod places;
 mod rules;
-mod sources;
 
-pub use kinds::OtherKinds;
 pub use rules::{diagnostic, refusal_of};
-pub use sources::Source;

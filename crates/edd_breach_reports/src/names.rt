@@ -1,6 +1,6 @@
 //! What is said of a name that means nothing where it is, or something of another kind.
 
-use crate::sources::Source;
+use edd_breach_places::Source;
 use edd_lexer::token::TokenKind;
 use edd_near_words::{Nearest, said_of};
 use edd_reports::words::{Span, is_sign, kind_word};

@@ -2,12 +2,12 @@
 
 ghost use Rattle.std.specs.Prelude.{◌≡◌, IfOk, string_bytes};
 ghost use Rattle.edd_breaches.specs.Told.{told_of};
-ghost use Rattle.edd_breach_reports.specs.Places.{IsShownAt};
-ghost use Rattle.edd_breach_reports.specs.Refusals.{IsRefusal, text_of, words_in};
+ghost use Rattle.edd_breach_places.specs.Places.{IsShownAt};
+ghost use Rattle.edd_breach_places.specs.Sources.{text_of};
+ghost use Rattle.edd_breach_reports.specs.Refusals.{IsRefusal, words_in};
 
 use crate::names::{Said, help_kind, help_unknown, named_kind};
-use crate::places::shown_at;
-use crate::sources::Source;
+use edd_breach_places::{Source, shown_at};
 use edd_breaches::{Breach, Rule, RuleFault};
 use edd_near_words::{Nearest, said_of};
 use edd_reports::diagnostic::{Diagnostic, Finding};

@@ -1,2 +1,3 @@
+pub mod AlongLaws
 pub mod BrokenLaws
 pub mod TellLaws

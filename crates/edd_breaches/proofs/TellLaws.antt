@@ -1,10 +1,12 @@
 -- Breaches that are told one after another.
-use Rattle.std.proofs.Common.{◌≡◌, sym, ap, ◌∙◌, subst, ℕ, ◌+◌, ◌<◌, List, [], ◌∷◌, ◌++◌, length, get_or, take, map, append_assoc}
+use Rattle.std.proofs.Common.{◌≡◌, sym, ap, ◌∙◌, subst, Bool, true, false, ℕ, ◌+◌, ◌<◌, List, [], ◌∷◌, ◌++◌, length, get_or, take, map, append_assoc}
 use Rattle.std.proofs.lemmas.Grind.{flat_map-append}
 use Rattle.std.proofs.lemmas.List.{append-nil, map-append, take_more}
 use Rattle.std.specs.List.{flat_map}
 use Rattle.edd_breaches.specs.declared.breach.Breach.{Breach}
-use Rattle.edd_breaches.specs.Told.{Told, Tells, told_of, refusals}
+use Rattle.edd_breaches.specs.Told.{Told, Tells, told_at, told_if, told_of, refusals}
+use Rattle.edd_syntax.specs.declared.numbers.TokenNo.{TokenNo}
+use Rattle.edd_syntax.specs.Refusal.{Refusal}
 
 pub tells_none : (old : List Breach) → Tells [] old old
 unfolding Tells
@@ -40,6 +42,18 @@ tells_more f i xs x old mid new h is before more =
     (tells_append (flat_map f (take i xs)) (f x) old mid new before more)
 
 pub ruleset tells = (tells_none, tells_append, tells_cons, tells_one)
+
+-- ---- what is told where something holds
+
+pub told_not : (b : Bool) (why : Refusal) (at : TokenNo) (old : List Breach) → b ≡ false
+    → Tells (told_if b why at) old old
+told_not b why at old h = subst (λ t. Tells (told_if t why at) old old) (sym h) (tells_none old)
+
+pub told_so : (b : Bool) (why : Refusal) (at : TokenNo) (old new : List Breach) → b ≡ true
+    → Tells (told_at why at ∷ []) old new → Tells (told_if b why at) old new
+told_so b why at old new h tells = subst (λ t. Tells (told_if t why at) old new) (sym h) tells
+
+pub ruleset told_where = (told_not, told_so)
 
 -- ---- without their places
 

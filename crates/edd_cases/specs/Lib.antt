@@ -1,4 +1,2 @@
 pub mod Ends
-pub mod Expected
 pub mod Renewed
-pub mod Steps

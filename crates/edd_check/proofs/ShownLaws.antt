@@ -4,7 +4,7 @@ use Rattle.std.specs.Prelude.{IsTrue, OnOk, Result, Ok, Err, nat_lt, slice_get}
 use Rattle.std.specs.Str.{bytes_eq}
 use Rattle.std.proofs.lemmas.List.{append-nil}
 use Rattle.std.proofs.lemmas.Slice.Eq.{bytes_eq-Decides}
-use Rattle.edd_breach_reports.specs.Places.{UnitText}
+use Rattle.edd_breach_places.specs.Places.{UnitText}
 use Rattle.edd_breach_reports.specs.Refusals.{IsRefusal, words_in}
 use Rattle.edd_breaches.specs.declared.breach.Breach.{Breach}
 use Rattle.edd_breaches.specs.Told.{Told, told_of}

@@ -2,7 +2,7 @@
 -- alone.
 use Rattle.std.specs.Prelude.{◌≡◌, ◌≢◌, ⊤, ℕ, List, [], ◌∷◌, ◌++◌, map}
 use Rattle.std.specs.List.{All}
-use Rattle.edd_breach_reports.specs.Places.{UnitText}
+use Rattle.edd_breach_places.specs.Places.{UnitText}
 use Rattle.edd_breach_reports.specs.Refusals.{IsRefusal}
 use Rattle.edd_breaches.specs.Told.{Told}
 use Rattle.edd_check.specs.Breaches.{Lists}

@@ -1,6 +1,6 @@
 -- What is shown of the broken rules that are told.
 use Rattle.std.specs.Prelude.{◌≡◌, ◌⊎◌, ℕ, ◌+◌, ◌-◌, ◌^◌, min, Bool, true, false, nat_lt, List, [], ◌∷◌, ◌++◌, length, Option, Some}
-use Rattle.edd_breach_reports.specs.Places.{AreInOneCollection, UnitText}
+use Rattle.edd_breach_places.specs.Places.{AreInOneCollection, UnitText}
 use Rattle.edd_breach_reports.specs.Refusals.{IsRefusal, IsToldOf, words_in}
 use Rattle.edd_breaches.specs.Told.{Told}
 use Rattle.edd_check.specs.declared.reports.Reports.{Reports}

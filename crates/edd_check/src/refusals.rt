@@ -2,7 +2,8 @@
 
 ghost use Rattle.std.specs.Prelude.{◌≡◌, [], List, IfOk, IsTrue, OnOk, map, string_bytes};
 ghost use Rattle.edd_breaches.specs.Told.{Told, told_of};
-ghost use Rattle.edd_breach_reports.specs.Refusals.{IsRefusal, IsToldOf, text_of};
+ghost use Rattle.edd_breach_places.specs.Sources.{text_of};
+ghost use Rattle.edd_breach_reports.specs.Refusals.{IsRefusal, IsToldOf};
 ghost use Rattle.edd_check.specs.Breaches.{Lists};
 ghost use Rattle.edd_check.specs.Said.{BeginsWith, SaysMore, unit_text};
 ghost use Rattle.edd_check.specs.Shown.{Begins, Repeats, RepeatsOne, Says, SaysAll, SaysFirst, SaysNext, state_of};
@@ -10,7 +11,8 @@ ghost use Rattle.edd_check.specs.Shown.{Begins, Repeats, RepeatsOne, Says, SaysA
 use crate::breaches::told_of;
 use crate::grammar::Compiler;
 use crate::reports::Reports;
-use edd_breach_reports::{OtherKinds, Source, diagnostic, refusal_of};
+use edd_breach_places::{OtherKinds, Source};
+use edd_breach_reports::{diagnostic, refusal_of};
 use edd_breaches::{Breach, Rule};
 use edd_compiler::Fault;
 use edd_lexer::token::Token;

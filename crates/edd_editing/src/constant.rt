@@ -1,12 +1,12 @@
 //! The value of an expression of numbers alone.
 
 use edd_breaches::RuleFault;
+use edd_constants::{Known, evaluate};
 use edd_document::Document;
 use edd_instructions::Sort;
 use edd_lexer::fault::LexFault;
 use edd_lexer::lex;
 use edd_lexer::token::TokenKind;
-use edd_lints::constants::{Known, evaluate};
 use edd_names::resolve;
 use edd_parser::fault::ParseFault;
 use edd_parser::parse;

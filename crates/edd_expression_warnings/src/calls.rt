@@ -2,8 +2,8 @@
 
 use crate::stores::{check_assigned, check_stored};
 use crate::walk::Walk;
+use edd_constants::evaluate;
 use edd_instructions::Sort;
-use edd_lints::constants::evaluate;
 use edd_lints::instrument::variable_of;
 use edd_lints::lint::Lint;
 use edd_lints::tokens_left::Mark;

@@ -9,8 +9,8 @@ use crate::operands::{
 use crate::stores::{check_assigned, check_stored, check_wrapped, is_itself};
 use crate::walk::Walk;
 use edd_arithmetic::trap_of;
+use edd_constants::{Known, evaluate, is_literal};
 use edd_lexer::token::TokenKind;
-use edd_lints::constants::{Known, evaluate, is_literal};
 use edd_lints::lint::Lint;
 use edd_lints::tokens_left::Mark;
 use edd_lints::warning::Findings;

@@ -3,8 +3,8 @@
 use crate::stores::{check_listed, without_parentheses};
 use crate::walk::Walk;
 use edd_arithmetic::{holds, wrapped};
+use edd_constants::evaluate;
 use edd_instructions::Sort;
-use edd_lints::constants::evaluate;
 use edd_lints::instrument::variable_of;
 use edd_lints::lint::Lint;
 use edd_lints::range::Range;

@@ -1,9 +1,9 @@
 //! Constants that what they are assigned to doesn't hold, and numbers of more than 32 bits.
 
 use crate::walk::Walk;
+use edd_constants::evaluate;
 use edd_instructions::Sort;
 use edd_lexer::token::TokenKind;
-use edd_lints::constants::evaluate;
 use edd_lints::instrument::variable_of;
 use edd_lints::lint::Lint;
 use edd_lints::range::Range;

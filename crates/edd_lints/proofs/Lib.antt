@@ -1,3 +1,1 @@
-pub mod KnownForms
-pub mod KnownParts
 pub mod TreeRows

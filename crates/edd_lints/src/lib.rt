@@ -4,7 +4,6 @@
 
 pub mod choices;
 pub mod classes;
-pub mod constants;
 pub mod facts;
 pub mod instrument;
 pub mod lint;

@@ -2,10 +2,10 @@
 
 use crate::flow::{Flow, GOES_ON};
 use edd_arithmetic::holds;
+use edd_constants::{Known, evaluate, is_literal};
 use edd_expression_warnings::operands::{referred, turned};
 use edd_expression_warnings::walk::{Use, Walk};
 use edd_instructions::Sort;
-use edd_lints::constants::{Known, evaluate, is_literal};
 use edd_lints::lint::Lint;
 use edd_lints::tokens_left::Mark;
 use edd_lints::warning::Findings;

@@ -2,7 +2,6 @@ pub mod BlockRows
 pub mod CondSpends
 pub mod Counting
 pub mod NamesForgotten
-pub mod Noting
 pub mod Passing
 pub mod Repeating
 pub mod RulesForgotten

@@ -1,21 +1,15 @@
 -- Lists of the same names, in whatever order.
-use Rattle.std.proofs.Common.{◌≡◌, refl, sym, ap, ◌∙◌, List, ◌∷◌, ◌++◌}
-use Rattle.std.specs.Prelude.{Bool, true, false, ◌||◌}
+use Rattle.std.proofs.Common.{◌≡◌, sym, ap, ◌∙◌, List, ◌∷◌, ◌++◌}
+use Rattle.std.specs.Prelude.{◌||◌}
 use Rattle.std.specs.Str.{bytes_eq}
 use Rattle.std.proofs.lemmas.List.Folds.{list_any-append}
+use Rattle.edd_duplicates.proofs.Noting.{or_second}
 use Rattle.edd_syntax.specs.Text.{Name}
 use Rattle.edd_syntax.specs.Refusal.{is_name_in}
 
 -- the same names
 abbrev pub SameNames : List Name → List Name → Type 0
 SameNames xs ys = (q : Name) → is_name_in xs q ≡ is_name_in ys q
-
--- the second of three comes first
-pub or_second : (a b c : Bool) → (a || (b || c)) ≡ (b || (a || c))
-or_second true true c = refl
-or_second true false c = refl
-or_second false true c = refl
-or_second false false c = refl
 
 pub with_one : (n : Name) (xs ys : List Name) → SameNames xs ys → SameNames (n ∷ xs) (n ∷ ys)
 with_one n xs ys h q = ap (λ b. bytes_eq n q || b) (h q)

@@ -2,7 +2,7 @@
 use Rattle.std.proofs.Common.{◌≡◌, sym, ap, ◌∙◌, ◌+◌, List, [], ◌∷◌, ◌++◌, map, None, subst}
 use Rattle.std.specs.Prelude.{Bool, true, false, not, Option}
 use Rattle.std.proofs.lemmas.List.{append-nil}
-use Rattle.edd_breaches.proofs.TellLaws.{tells_none, tells_one, tells_append}
+use Rattle.edd_breaches.proofs.TellLaws.{tells_none, tells_one, tells_append, told_not, told_so}
 use Rattle.edd_breaches.specs.declared.breach.Breach.{Breach}
 use Rattle.edd_breaches.specs.declared.breach.Rule.TheVariants as rule
 use Rattle.edd_breaches.specs.Told.{Tells, told_at, told_if}
@@ -17,16 +17,6 @@ use Rattle.edd_syntax.specs.Text.{Name}
 use Rattle.edd_syntax.specs.TreeView.{path_of}
 use Rattle.edd_syntax.specs.Places.{name_at}
 use Rattle.edd_name_rules.specs.RulesTold.{excess_told, lacks, missing_among}
-
-pub told_not : (b : Bool) (why : Refusal) (at : TokenNo) (old : List Breach) → b ≡ false
-    → Tells (told_if b why at) old old
-told_not b why at old h = subst (λ t. Tells (told_if t why at) old old) (sym h) (tells_none old)
-
-pub told_so : (b : Bool) (why : Refusal) (at : TokenNo) (old new : List Breach) → b ≡ true
-    → Tells (told_at why at ∷ []) old new → Tells (told_if b why at) old new
-told_so b why at old new h tells = subst (λ t. Tells (told_if t why at) old new) (sym h) tells
-
-pub ruleset told_where = (told_not, told_so)
 
 pub not_over : (b : Bool) (what : Limit) (old : List Breach) → b ≡ false
     → Tells (excess_told b what) old old

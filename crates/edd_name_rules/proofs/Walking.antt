@@ -6,9 +6,9 @@ use Rattle.edd_breaches.proofs.TellLaws.{tells_none, tells_append}
 use Rattle.edd_breaches.specs.declared.breach.Breach.{Breach}
 use Rattle.edd_breaches.specs.Told.{Told, Tells}
 use Rattle.edd_syntax.specs.Text.{Name}
-use Rattle.edd_name_rules.specs.declared.seen.Seen.{Seen}
+use Rattle.edd_duplicates.specs.declared.seen.Seen.{Seen}
 use Rattle.edd_breaches.specs.Along.{told_along, after_all}
-use Rattle.edd_name_rules.specs.Seen.{HasSeen}
+use Rattle.edd_duplicates.specs.Seen.{HasSeen}
 
 module _ {X : Type 0} (told : List Name → X → List Told) (after : List Name → X → List Name) where
   -- the names that were seen, and what was told of the first i things

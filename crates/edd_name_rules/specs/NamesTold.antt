@@ -1,11 +1,11 @@
 -- Names that are there twice, each at its token. `before` are the names so far.
 use Rattle.std.specs.Prelude.{List, [], ◌∷◌, ◌++◌}
-use Rattle.edd_breaches.specs.Told.{Told, told_if}
+use Rattle.edd_breaches.specs.Told.{Told}
+use Rattle.edd_duplicates.specs.Names.{name_told}
 use Rattle.edd_syntax.specs.declared.item.Item.{Item}
 use Rattle.edd_syntax.specs.declared.item.Attribute.{Attribute}
 use Rattle.edd_syntax.specs.declared.item.Attribute.TheVariants.{Members, Definition}
 use Rattle.edd_syntax.specs.declared.item.Member.{Member}
-use Rattle.edd_syntax.specs.declared.numbers.TokenNo.{TokenNo}
 use Rattle.edd_syntax.specs.declared.reference.Path.{Path}
 use Rattle.edd_syntax.specs.declared.stmt.Stmt.{Stmt, Row_of-Part, end_of-Part, more_of-Part}
 use Rattle.edd_syntax.specs.declared.stmt.Stmt.TheVariants.{Empty, Evaluate, Block', If', IfElse', While', Do', For', Switch', Break, Continue, Return}
@@ -14,14 +14,9 @@ use Rattle.edd_syntax.specs.declared.stmt.Part.TheVariants.{Declare, Statement, 
 use Rattle.edd_syntax.specs.declared.stmt.Declarator.{Declarator}
 use Rattle.edd_syntax.specs.ItemView.{name_of, attributes_of}
 use Rattle.edd_syntax.specs.WordsView.{text_bytes}
-use Rattle.edd_syntax.specs.Refusal.{DuplicateName, is_name_in}
 use Rattle.edd_syntax.specs.Text.{Name}
 use Rattle.edd_breaches.specs.Along.{told_along, after_all}
 use Rattle.edd_syntax.specs.Places.{name_at}
-
--- a name at a token
-abbrev pub name_told : (before : List Name) → Name → TokenNo → List Told
-name_told before name at = told_if (is_name_in before name) (DuplicateName name) at
 
 -- a local of a block
 abbrev pub local_told : (before : List Name) → Declarator Path → List Told

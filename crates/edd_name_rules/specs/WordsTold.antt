@@ -1,7 +1,8 @@
 -- Attributes that are there twice, each at its token. `before` are the words so far.
 use Rattle.std.specs.Prelude.{if◌then◌else◌, List, [], ◌∷◌, ◌++◌}
 use Rattle.std.specs.List.{flat_map}
-use Rattle.edd_breaches.specs.Told.{Told, told_if}
+use Rattle.edd_breaches.specs.Told.{Told}
+use Rattle.edd_duplicates.specs.Names.{word_told}
 use Rattle.edd_syntax.specs.declared.item.Item.{Item}
 use Rattle.edd_syntax.specs.declared.item.Attribute.{Attribute}
 use Rattle.edd_syntax.specs.declared.item.Attribute.TheVariants.{TypeOf, Transaction}
@@ -10,20 +11,14 @@ use Rattle.edd_syntax.specs.declared.item.TypePart.TheVariants as part
 use Rattle.edd_syntax.specs.declared.item.TransactionPart.{TransactionPart}
 use Rattle.edd_syntax.specs.declared.item.TransactionPart.TheVariants as transaction
 use Rattle.edd_syntax.specs.declared.numbers.Attr.TheVariants as attr
-use Rattle.edd_syntax.specs.declared.numbers.TokenNo.{TokenNo}
 use Rattle.edd_syntax.specs.declared.reference.Path.{Path}
 use Rattle.edd_syntax.specs.ItemView.{attribute_of, attributes_of, transaction_part_of, type_part_of}
 use Rattle.edd_syntax.specs.NameRules.{is_transaction, attribute_word, transaction_part_word, type_part_words}
 use Rattle.edd_syntax.specs.Numbers.{attr_word, number_attr, format_attr}
-use Rattle.edd_syntax.specs.Refusal.{DuplicateAttribute, is_name_in}
 use Rattle.edd_syntax.specs.Text.{Name}
 use Rattle.edd_syntax.specs.TreeView.{path_of}
 use Rattle.edd_breaches.specs.Along.{told_along}
 use Rattle.edd_syntax.specs.Places.{word_at}
-
--- a word at a token
-abbrev pub word_told : (before : List Name) → Name → TokenNo → List Told
-word_told before word at = told_if (is_name_in before word) (DuplicateAttribute word) at
 
 -- an option of a type; an element of the type's list is none
 abbrev pub option_told : (before : List Name) → TypePart Path → List Told

@@ -5,10 +5,10 @@ ghost use Rattle.edd_breaches.specs.Told.{Tells};
 ghost use Rattle.edd_syntax.specs.Text.{Name};
 ghost use Rattle.edd_breaches.specs.Along.{told_along, after_all};
 ghost use Rattle.edd_name_rules.specs.NamesTold.{local_told, with_local, with_locals, inside_told, part_told, member_told, with_member, with_members, members_told, item_told, with_item, names_told};
-ghost use Rattle.edd_name_rules.specs.Seen.{HasSeen};
+ghost use Rattle.edd_duplicates.specs.Seen.{HasSeen};
 
-use crate::seen::{Seen, note_name};
 use edd_breaches::Breach;
+use edd_duplicates::{Seen, note_name};
 use edd_syntax::item::{Attribute, Item, Member};
 use edd_syntax::reference::Path;
 use edd_syntax::stmt::{Declarator, Part, Stmt};

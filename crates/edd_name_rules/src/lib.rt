@@ -10,7 +10,6 @@ mod excess;
 mod nodes;
 mod repeats;
 mod rules;
-mod seen;
 mod sizes;
 mod slots;
 mod values;

@@ -7,12 +7,12 @@ ghost use Rattle.edd_syntax.specs.NameRules.{is_transaction};
 ghost use Rattle.edd_syntax.specs.Text.{Name};
 ghost use Rattle.edd_syntax.specs.TreeView.{path_of};
 ghost use Rattle.edd_breaches.specs.Along.{told_along};
-ghost use Rattle.edd_name_rules.specs.Seen.{HasSeen};
+ghost use Rattle.edd_duplicates.specs.Seen.{HasSeen};
 ghost use Rattle.edd_name_rules.specs.WordsTold.{part_told, with_part, option_told, with_option, braces_told, own_word_told, attribute_told, with_attribute, words_told_in, words_told};
 
 use crate::attributes::word_of;
-use crate::seen::{Seen, add, note_word};
 use edd_breaches::Breach;
+use edd_duplicates::{Seen, add, note_word};
 use edd_syntax::item::{Attribute, Item, TransactionPart, TypePart};
 use edd_syntax::numbers::Attr;
 use edd_syntax::reference::Path;

@@ -10,8 +10,8 @@ use crate::requests::show_bytes;
 use crate::running::run_method;
 use crate::taking::Taken;
 use edd_cases::{
-    Case, Description, Ended, Form, Kind, Misread, Printed, Tally, TestFault, Tests, beside,
-    compare, ending_of, push_as_it_is, push_case, read_tests, refusal_in,
+    Case, Description, Form, Kind, Misread, Printed, TestFault, Tests, beside, push_as_it_is,
+    push_case, read_tests,
 };
 use edd_command_line::Run;
 use edd_display::{print, print_text};
@@ -19,6 +19,7 @@ use edd_files::{
     FileFault, Files, INPUT, Source, Stop, are_words, compile_text, is_word, of_file, read_bytes,
     read_sources,
 };
+use edd_outcomes::{Ended, Tally, compare, ending_of, refusal_in};
 use edd_stops::report;
 use std::alloc::Global;
 use std::io::Write;

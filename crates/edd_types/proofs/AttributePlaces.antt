@@ -32,7 +32,7 @@ use Rattle.edd_breaches.specs.Along.{told_along}
 use Rattle.edd_types.specs.Expressions.{expr_told, condition_told}
 use Rattle.edd_types.specs.Conditionals.{nothing_told, enumerator_told, data_told, default_told, cond_told}
 use Rattle.edd_types.specs.Attributes.{type_part_told, transaction_part_told, conditions_told, method_told}
-use Rattle.edd_types.specs.Elements.{element_told, numbers_behind}
+use Rattle.edd_duplicates.specs.Elements.{element_told, numbers_behind}
 use Rattle.edd_types.specs.Rules.{type_told, option_told, options_told, breaks_told_in_method, constants_told, labels_told_in_method, elements_told}
 use Rattle.edd_types.proofs.BodyPlaces.{body_breaks_are, body_labels_are}
 use Rattle.edd_types.proofs.ConditionPlaces.{cond_is, list_is, gathered_expressions, gathered_values, gathered_defaults}

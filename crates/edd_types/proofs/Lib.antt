@@ -1,5 +1,4 @@
 pub mod AllPlaces
-pub mod AlongLaws
 pub mod Arguments
 pub mod AttributePlaces
 pub mod BodyPlaces

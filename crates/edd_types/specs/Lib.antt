@@ -1,7 +1,6 @@
 pub mod Attributes
 pub mod Breaks
 pub mod Conditionals
-pub mod Elements
 pub mod Expressions
 pub mod Labels
 pub mod Rules

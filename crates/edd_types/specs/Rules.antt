@@ -25,7 +25,7 @@ use Rattle.edd_breaches.specs.Along.{told_along}
 use Rattle.edd_types.specs.Attributes.{type_part_told, transaction_part_told, conditions_told, method_told}
 use Rattle.edd_types.specs.Breaks.{breaks_told_of}
 use Rattle.edd_types.specs.Labels.{labels_told, labels_behind}
-use Rattle.edd_types.specs.Elements.{element_told, numbers_behind}
+use Rattle.edd_duplicates.specs.Elements.{element_told, numbers_behind}
 
 -- ---- types
 

@@ -6,7 +6,6 @@ mod breaks;
 mod calls;
 mod checking;
 mod conditionals;
-mod elements;
 mod expressions;
 mod labels;
 mod options;

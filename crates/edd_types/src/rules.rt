@@ -12,12 +12,12 @@ ghost use Rattle.edd_types.specs.Rules.{breaks_told_in_method, constants_told, l
 
 use crate::attributes::{tell_conditions, tell_method, tell_transaction};
 use crate::breaks::tell_breaks;
-use crate::elements::tell_elements;
 use crate::labels::tell_labels;
 use crate::options::tell_options;
 use crate::sought::{Calls, Sought};
 use crate::types::tell_types;
 use edd_breaches::{Breach, Rule};
+use edd_duplicates::tell_elements;
 use edd_syntax::item::{Attribute, Item};
 use edd_syntax::reference::Target;
 use std::alloc::{AllocError, Global};

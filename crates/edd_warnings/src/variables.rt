@@ -2,8 +2,8 @@
 
 use crate::enumerators::check_enumerators;
 use crate::formats::check_formats;
+use edd_constants::evaluate;
 use edd_instructions::Sort;
-use edd_lints::constants::evaluate;
 use edd_lints::instrument::Instrument;
 use edd_lints::lint::Lint;
 use edd_lints::range::Range;

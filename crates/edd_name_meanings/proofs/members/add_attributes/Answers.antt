@@ -7,8 +7,7 @@ use Rattle.edd_syntax.specs.ItemView.{attribute_of}
 use Rattle.edd_syntax.specs.Resolution.{members_in}
 use Rattle.edd_syntax.specs.TreeView.{path_of}
 use Rattle.edd_name_meanings.specs.Members.{member_named}
-use Rattle.edd_name_meanings.proofs.Gathering.{gathered_more, or_none}
-use Rattle.edd_name_rules.proofs.Noting.{take_all}
+use Rattle.edd_name_meanings.proofs.Gathering.{gathered_more, or_none, take_all}
 use Rattle.edd_name_meanings.proofs.members.add_attributes.Goals as goal
 
 pub loop-attribute-init : goal.loop-attribute-init

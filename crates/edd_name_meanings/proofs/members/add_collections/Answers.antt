@@ -6,8 +6,7 @@ use Rattle.edd_syntax.specs.ItemView.{item_of}
 use Rattle.edd_syntax.specs.Numbers.{same_kind}
 use Rattle.edd_syntax.specs.TreeView.{path_of}
 use Rattle.edd_name_meanings.specs.Members.{AreCollections}
-use Rattle.edd_name_meanings.proofs.Gathering.{filtered_more}
-use Rattle.edd_name_rules.proofs.Noting.{take_all}
+use Rattle.edd_name_meanings.proofs.Gathering.{filtered_more, take_all}
 use Rattle.edd_name_meanings.proofs.members.add_collections.Goals as goal
 
 pub loop-item-init : goal.loop-item-init

@@ -8,9 +8,8 @@ use Rattle.edd_syntax.specs.ItemView.{member_of}
 use Rattle.edd_syntax.specs.TreeView.{path_of}
 use Rattle.edd_name_meanings.specs.Members.{member_named}
 use Rattle.edd_name_meanings.specs.Numbering.{at}
-use Rattle.edd_name_meanings.proofs.Gathering.{gathered_more, mapped_if, or_none}
+use Rattle.edd_name_meanings.proofs.Gathering.{gathered_more, mapped_if, or_none, take_all}
 use Rattle.edd_name_meanings.proofs.MapLaws.{mapped_or}
-use Rattle.edd_name_rules.proofs.Noting.{take_all}
 use Rattle.edd_name_meanings.proofs.members.add_members.Goals as goal
 
 map_same : {X : Type 0} (xs : List X) → map (λ m. m) xs ≡ xs

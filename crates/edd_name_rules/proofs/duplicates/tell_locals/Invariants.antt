@@ -1,6 +1,6 @@
 use Rattle.std.proofs.Common.{List}
 use Rattle.edd_syntax.specs.Text.{Name}
-use Rattle.edd_name_rules.specs.Seen.{HasSeen}
+use Rattle.edd_duplicates.specs.Seen.{HasSeen}
 use Rattle.edd_name_rules.specs.NamesTold.{local_told, with_local}
 use Rattle.edd_name_rules.proofs.Walking.{Walking}
 use Rattle.edd_name_rules.proofs.duplicates.tell_locals.Given as goal

@@ -2,7 +2,7 @@ use Rattle.std.proofs.Common.{rules, false, arith}
 use Rattle.std.specs.Prelude.{is_some}
 use Rattle.edd_breaches.specs.Along.{told_along}
 use Rattle.edd_types.specs.Conditionals.{has_default, arm_told}
-use Rattle.edd_types.proofs.AlongLaws.{tells_on}
+use Rattle.edd_breaches.proofs.AlongLaws.{tells_on}
 use Rattle.edd_types.proofs.Weights.{element_is_smaller, arm_is_smaller}
 use Rattle.edd_types.proofs.conditionals.+conditionals.Goals as goal
 

@@ -6,7 +6,7 @@ use Rattle.edd_syntax.specs.Conditional.{conds_from, arms_from}
 use Rattle.edd_syntax.specs.ItemView.{numbered_arm, numbered_cond}
 use Rattle.edd_breaches.specs.Along.{told_along}
 use Rattle.edd_types.specs.Conditionals.{has_default, cond_told, arm_told}
-use Rattle.edd_types.proofs.AlongLaws.{Underway}
+use Rattle.edd_breaches.proofs.AlongLaws.{Underway}
 use Rattle.edd_types.proofs.Weights.{weight, weight_of_all, weight_of_arm, weight_of_arms}
 use Rattle.edd_types.proofs.conditionals.+conditionals.Given as goal
 

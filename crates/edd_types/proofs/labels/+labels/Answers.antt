@@ -2,7 +2,7 @@ use Rattle.std.proofs.Common.{refl, arith}
 use Rattle.edd_syntax.specs.SubsetRules.{no_labels}
 use Rattle.edd_breaches.specs.Along.{told_along}
 use Rattle.edd_types.specs.Labels.{labels_told, labels_behind}
-use Rattle.edd_types.proofs.AlongLaws.{tells_on}
+use Rattle.edd_breaches.proofs.AlongLaws.{tells_on}
 use Rattle.edd_types.proofs.BodyRows.{labels_in_block, labels_in_switch}
 use Rattle.edd_types.proofs.TellingLaws.{tells_same}
 use Rattle.edd_types.proofs.labels.+labels.Goals as goal

@@ -2,7 +2,7 @@ use Rattle.edd_syntax.specs.SubsetRules.{no_labels}
 use Rattle.edd_syntax.specs.SubsetRules as rules
 use Rattle.edd_breaches.specs.Along.{told_along}
 use Rattle.edd_types.specs.Labels.{Holds, labels_told, labels_behind}
-use Rattle.edd_types.proofs.AlongLaws.{Underway}
+use Rattle.edd_breaches.proofs.AlongLaws.{Underway}
 use Rattle.edd_types.proofs.labels.+labels.Given as goal
 
 -- the labels are those of the parts so far, of which was told

@@ -1,0 +1,2 @@
+pub mod KnownForms
+pub mod KnownParts
