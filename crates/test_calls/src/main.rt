@@ -1,5 +1,6 @@
-//! Plays the table on the standard input with the calls that read a text and make an image of it.
-//! Each file says of its kinds what a row asks and what is answered.
+//! Plays the table on the standard input with the calls that read a text and make an image of it, and
+//! with those of an editor (`test_editor`). Each file says of its kinds what a row asks and what is
+//! answered.
 #![tactic(auto)]
 
 mod compiling;
@@ -15,8 +16,9 @@ mod warned;
 
 use std::alloc::{AllocError, Global};
 use std::io;
+use std::io::Read;
 use std::process::ExitCode;
-use test_tables::{Answers, Row, play};
+use test_tables::{Answers, Part, Row, part_of, play_rows};
 
 struct Calls;
 
@@ -63,6 +65,20 @@ impl Answers for Calls {
     }
 }
 
+// Plays a part of the table.
+fn play(rt: HostRuntime, part: Part<'_>) -> io::Result<()> {
+    if test_editor::has(part.kind) {
+        test_editor::play(rt, part)
+    } else {
+        play_rows(rt, &Calls, part)
+    }
+}
+
 fn main(rt: HostRuntime) -> io::Result<ExitCode> {
-    play(rt, &Calls)
+    let mut text = String::new(rt.alloc());
+    rt.stdin().read_to_string(&mut text)?;
+    for part in text.trim_end().split("\n@").skip(1) {
+        play(rt, part_of(part))?;
+    }
+    Ok(ExitCode::SUCCESS)
 }

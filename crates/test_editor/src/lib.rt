@@ -1,5 +1,5 @@
-//! Plays the parts of the table on the standard input, and says for each whether it comes out as the
-//! table has it: conversations with the language server, and queries on texts.
+//! What an editor asks: conversations with the language server, and queries on texts. Each part of a
+//! table comes out as the table has it or not.
 #![tactic(auto)]
 
 mod answered;
@@ -11,9 +11,7 @@ use conversation::Conversation;
 use damaged::{is_answered_at_each_byte, is_answered_at_each_cut};
 use queries::Queries;
 use std::io;
-use std::io::Read;
-use std::process::ExitCode;
-use test_tables::{Part, part_of, play_rows, print_verdict};
+use test_tables::{Part, play_rows, print_verdict};
 
 // Plays a conversation, a line for each message.
 fn converse(rt: HostRuntime, part: Part<'_>) -> io::Result<()> {
@@ -40,20 +38,17 @@ fn damage(rt: HostRuntime, name: &str) -> io::Result<()> {
     )
 }
 
-// Plays a part of the table.
-fn play(rt: HostRuntime, part: Part<'_>) -> io::Result<()> {
+/// Whether parts of this kind are an editor's: `@utf-8` or `@utf-16` begins a conversation that is
+/// initialized, `@-` one that is not; `@queries` has rows, and `@damaged` none.
+pub fn has(kind: &str) -> bool {
+    matches!(kind, "utf-8" | "utf-16" | "-" | "queries" | "damaged")
+}
+
+/// Plays a part of such a kind, and says whether it comes out as the table has it.
+pub fn play(rt: HostRuntime, part: Part<'_>) -> io::Result<()> {
     match part.kind {
         "queries" => play_rows(rt, &Queries, part),
         "damaged" => damage(rt, part.name),
         _ => converse(rt, part),
     }
-}
-
-fn main(rt: HostRuntime) -> io::Result<ExitCode> {
-    let mut text = String::new(rt.alloc());
-    rt.stdin().read_to_string(&mut text)?;
-    for part in text.trim_end().split("\n@").skip(1) {
-        play(rt, part_of(part))?;
-    }
-    Ok(ExitCode::SUCCESS)
 }
