@@ -19,7 +19,8 @@ use Rattle.edd_syntax.specs.Statement.{body_from}
 use Rattle.edd_syntax.specs.Text.{Name}
 use Rattle.edd_syntax.specs.TreeView.{declarator_of, part_of, parts_in, path_of, stmt_of}
 use Rattle.edd_breaches.specs.Along.{told_along, after_all}
-use Rattle.edd_name_rules.specs.NamesTold.{inside_told, locals_told, part_told, local_told, with_local, with_locals, member_told, with_member, members_told, with_members, item_told, with_item, name_told}
+use Rattle.edd_name_rules.specs.NamesTold.{inside_told, locals_told, part_told, local_told, with_local, with_locals, member_told, with_member, members_told, with_members, item_told, with_item}
+use Rattle.edd_duplicates.specs.Names.{name_told}
 use Rattle.edd_syntax.specs.Places.{name_at}
 use Rattle.edd_name_rules.proofs.Repeating.{map_append}
 use Rattle.edd_name_rules.proofs.SameNames.{SameNames, with_one, after_one}

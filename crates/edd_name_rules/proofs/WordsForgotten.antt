@@ -20,7 +20,8 @@ use Rattle.edd_syntax.specs.Text.{Name}
 use Rattle.edd_syntax.specs.TreeView.{path_of}
 use Rattle.edd_breaches.specs.Along.{told_along}
 use Rattle.edd_syntax.specs.Places.{word_at}
-use Rattle.edd_name_rules.specs.WordsTold.{option_told, with_option, part_told, with_part, braces_told, own_word_told, attribute_told, with_attribute, words_told, words_told_in, word_told}
+use Rattle.edd_name_rules.specs.WordsTold.{option_told, with_option, part_told, with_part, braces_told, own_word_told, attribute_told, with_attribute, words_told, words_told_in}
+use Rattle.edd_duplicates.specs.Names.{word_told}
 use Rattle.edd_name_rules.proofs.NamesForgotten.{both, one_more, one_name}
 use Rattle.edd_name_rules.proofs.SameNames.{SameNames, with_one}
 

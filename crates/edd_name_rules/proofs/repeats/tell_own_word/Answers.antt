@@ -6,7 +6,7 @@ use Rattle.edd_syntax.specs.ItemView.{attribute_of}
 use Rattle.edd_syntax.specs.NameRules.{attribute_word}
 use Rattle.edd_syntax.specs.TreeView.{path_of}
 use Rattle.edd_syntax.specs.Places.{word_at}
-use Rattle.edd_name_rules.specs.WordsTold.{word_told}
+use Rattle.edd_duplicates.specs.Names.{word_told}
 use Rattle.edd_name_rules.proofs.repeats.tell_own_word.Goals as goal
 
 pub returns-then-is_transaction-clause-told : goal.returns-then-is_transaction-clause-told
