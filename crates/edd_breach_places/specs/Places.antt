@@ -1,9 +1,11 @@
 -- Where a rule that is broken is shown.
 use Rattle.std.specs.Prelude.{◌≡◌, ◌⊎◌, ℕ, ◌+◌, ◌-◌, ◌<◌, ◌≤◌, Bool, true, false, List, ◌∷◌, drop, Option, Some, None, IfSome, option_map, slice_get, if◌then◌else◌}
+use Rattle.edd_breach_places.specs.declared.sources.Source.{Source}
 use Rattle.edd_breaches.specs.Told.{Told, told_at}
 use Rattle.edd_lexer.specs.declared.token.Token.{Token}
 use Rattle.edd_lexer.specs.declared.token.TokenKind.{TokenKind}
 use Rattle.edd_lexer.specs.declared.token.TokenKind.TheVariants as kind
+use Rattle.edd_lexer.specs.Words.{line_at}
 use Rattle.edd_reports.specs.declared.words.Span.{Span}
 use Rattle.edd_syntax.specs.declared.item.Item.{Item}
 use Rattle.edd_syntax.specs.declared.numbers.Kind.TheVariants as item_kind
@@ -24,6 +26,10 @@ pub record UnitText : Type 0 where
   pub tokens : List Token
   pub items : List (Item Path)
 
+-- what a source holds
+abbrev pub text_of : Source → UnitText
+text_of s = record { text = s.text.now; tokens = s.tokens.now; items = s.items.now }
+
 -- ---- tokens
 
 -- the bytes of a token
@@ -33,6 +39,10 @@ bytes_of t = record { start = t.start; end = t.end }
 -- those of the token with a number, where there is one
 abbrev pub span_at : List Token → (number : ℕ) → Option Span
 span_at tokens number = option_map bytes_of (slice_get tokens number)
+
+-- on which line a token is
+abbrev pub lines_of : UnitText → TokenNo → ℕ
+lines_of u = line_at u.text u.tokens
 
 -- `.`
 abbrev pub is_dot : TokenKind → Bool

@@ -3,8 +3,7 @@
 
 ghost use Rattle.std.specs.Prelude.{◌≡◌, IfSome, OnOk};
 ghost use Rattle.edd_breaches.specs.Told.{told_of};
-ghost use Rattle.edd_breach_places.specs.Places.{IsOtherKindIn, IsShownAt};
-ghost use Rattle.edd_breach_places.specs.Sources.{text_of};
+ghost use Rattle.edd_breach_places.specs.Places.{IsOtherKindIn, IsShownAt, text_of};
 
 use crate::sources::Source;
 use edd_breaches::{Breach, Rule};

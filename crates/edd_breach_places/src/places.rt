@@ -3,8 +3,7 @@
 ghost use Rattle.std.specs.Prelude.{◌≡◌, option_map};
 ghost use Rattle.edd_breaches.specs.Told.{told_of};
 ghost use Rattle.edd_breach_places.specs.Places as places;
-ghost use Rattle.edd_breach_places.specs.Places.{IsShownAt, mask_behind};
-ghost use Rattle.edd_breach_places.specs.Sources.{text_of};
+ghost use Rattle.edd_breach_places.specs.Places.{IsShownAt, mask_behind, text_of};
 
 use crate::sources::Source;
 use edd_breaches::{Breach, Rule};

@@ -1,8 +1,7 @@
 //! A text that breaks rules, and the names that it declares.
 
 ghost use Rattle.std.specs.Prelude.{◌≡◌, ◌<◌, ◌≤◌, ◌-◌, true, Some, IfOk, IfSome, IsNone, IsTrue, slice_get};
-ghost use Rattle.edd_breach_places.specs.Places.{AreInOneCollection, IsAround, IsNamedIn, is_comma, span_at};
-ghost use Rattle.edd_breach_places.specs.Sources.{lines_of, text_of};
+ghost use Rattle.edd_breach_places.specs.Places.{AreInOneCollection, IsAround, IsNamedIn, is_comma, span_at, lines_of, text_of};
 ghost use Rattle.edd_syntax.specs.Places.{name_at};
 
 use edd_lexer::line_of;

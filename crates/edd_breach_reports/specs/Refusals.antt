@@ -1,7 +1,6 @@
 -- Which refusal is said.
 use Rattle.std.specs.Prelude.{◌≡◌, ℕ, List, string_bytes}
-use Rattle.edd_breach_places.specs.Places.{IsShownAt, UnitText}
-use Rattle.edd_breach_places.specs.Sources.{lines_of}
+use Rattle.edd_breach_places.specs.Places.{IsShownAt, UnitText, lines_of}
 use Rattle.edd_breaches.specs.Told.{Told}
 use Rattle.edd_breaches.specs.Words.{told_words}
 use Rattle.edd_reports.specs.declared.diagnostic.Diagnostic.{Diagnostic}

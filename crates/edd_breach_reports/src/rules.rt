@@ -2,8 +2,7 @@
 
 ghost use Rattle.std.specs.Prelude.{◌≡◌, IfOk, string_bytes};
 ghost use Rattle.edd_breaches.specs.Told.{told_of};
-ghost use Rattle.edd_breach_places.specs.Places.{IsShownAt};
-ghost use Rattle.edd_breach_places.specs.Sources.{text_of};
+ghost use Rattle.edd_breach_places.specs.Places.{IsShownAt, text_of};
 ghost use Rattle.edd_breach_reports.specs.Refusals.{IsRefusal, words_in};
 
 use crate::names::{Said, help_kind, help_unknown, named_kind};

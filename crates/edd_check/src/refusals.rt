@@ -2,7 +2,7 @@
 
 ghost use Rattle.std.specs.Prelude.{◌≡◌, [], List, IfOk, IsTrue, OnOk, map, string_bytes};
 ghost use Rattle.edd_breaches.specs.Told.{Told, told_of};
-ghost use Rattle.edd_breach_places.specs.Sources.{text_of};
+ghost use Rattle.edd_breach_places.specs.Places.{text_of};
 ghost use Rattle.edd_breach_reports.specs.Refusals.{IsRefusal, IsToldOf};
 ghost use Rattle.edd_check.specs.Breaches.{Lists};
 ghost use Rattle.edd_check.specs.Said.{BeginsWith, SaysMore, unit_text};

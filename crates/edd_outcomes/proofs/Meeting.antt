@@ -7,8 +7,7 @@ use Rattle.edd_cases.specs.declared.lines.Says.{Says}
 use Rattle.edd_cases.specs.declared.lines.Says.TheVariants as says
 use Rattle.edd_cases.specs.declared.settings.Form.{Form}
 use Rattle.edd_cases.specs.declared.settings.Form.TheVariants as form
-use Rattle.edd_outcomes.specs.Expected.{whole, part, wholes, parts, same, holds, passes}
-use Rattle.edd_outcomes.specs.Steps.{behind_next, past}
+use Rattle.edd_outcomes.specs.Expected.{whole, part, wholes, parts, same, holds, passes, behind_next, past}
 
 same_first : (text line : List ℕ) (expected printed : List (List ℕ))
     → same (text ∷ expected) (line ∷ printed) ≡ elim (behind_next text (line ∷ printed)) [

@@ -1,5 +1,5 @@
 -- What the lines of a test expect of the lines that are printed.
-use Rattle.std.specs.Prelude.{ℕ, Bool, true, false, ◌&&◌, List, [], ◌∷◌, map, Option, Some, None, filter_map}
+use Rattle.std.specs.Prelude.{ℕ, Bool, true, false, ◌&&◌, if◌then◌else◌, List, [], ◌∷◌, map, Option, Some, None, filter_map}
 use Rattle.std.specs.Str.{bytes_eq}
 use Rattle.edd_cases.specs.declared.lines.Line.{Line}
 use Rattle.edd_cases.specs.declared.lines.Says.{Says}
@@ -61,3 +61,25 @@ holds (text ∷ expected) printed = elim (behind text printed) [
 abbrev pub passes : Form → List Line → (printed : List (List ℕ)) → Bool
 passes form.Whole lines printed = same (wholes lines) printed
 passes form.Parts lines printed = holds (parts lines) printed
+
+-- ---- a test line by line: what is left of the printed lines behind what a line expects of them
+
+-- what is behind the next line, which is this text
+abbrev pub behind_next : (text : List ℕ) → List (List ℕ) → Option (List (List ℕ))
+behind_next text [] = None
+behind_next text (line ∷ rest) = if bytes_eq line text then Some rest else None
+
+-- what is left after a line with `=`, whose text has to come next; another line takes nothing
+abbrev past_whole : Says → List (List ℕ) → Option (List (List ℕ))
+past_whole (says.Whole text) left = behind_next text.now left
+past_whole _ left = Some left
+
+-- what is left after a line with `~`, whose text has to come; another line takes nothing
+abbrev past_part : Says → List (List ℕ) → Option (List (List ℕ))
+past_part (says.Part text) left = behind text.now left
+past_part _ left = Some left
+
+-- what is left after a line of a test of this form
+abbrev pub past : Form → Says → List (List ℕ) → Option (List (List ℕ))
+past form.Whole = past_whole
+past form.Parts = past_part

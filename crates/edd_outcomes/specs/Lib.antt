@@ -1,2 +1,1 @@
 pub mod Expected
-pub mod Steps

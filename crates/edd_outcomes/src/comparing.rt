@@ -3,7 +3,6 @@
 ghost use Rattle.std.specs.Prelude.{◌≡◌, [], drop, option_map, is_none};
 ghost use Rattle.edd_outcomes.specs.Expected as expected;
 ghost use Rattle.edd_outcomes.specs.Expected.{texts, passes};
-ghost use Rattle.edd_outcomes.specs.Steps as steps;
 
 use edd_cases::{Case, Form, Line, Says, Seen};
 
@@ -36,7 +35,7 @@ pub enum Difference<'c, 'p> {
 // The place behind the next line, which is this text.
 fn behind_next(text: &str, seen: &[Seen<'_>], at: usize) -> Option<usize>
     ensures { option_map (λ n. texts (drop n seen.now)) result
-        ≡ steps.behind_next text.now (texts (drop at seen.now)) }
+        ≡ expected.behind_next text.now (texts (drop at seen.now)) }
 {
     if at < seen.len() && seen[at].text == text {
         Some(at + 1)
@@ -61,7 +60,7 @@ fn behind(text: &str, seen: &[Seen<'_>], at: usize) -> Option<usize>
 // The place behind what a line of a test of this form expects from here on.
 fn past(form: Form, says: Says<'_>, seen: &[Seen<'_>], at: usize) -> Option<usize>
     ensures { option_map (λ n. texts (drop n seen.now)) result
-        ≡ steps.past form says.entry (texts (drop at seen.now)) }
+        ≡ expected.past form says.entry (texts (drop at seen.now)) }
 {
     match form {
         Form::Whole => match says {

@@ -1,4 +1,4 @@
-use Rattle.edd_breach_places.specs.Sources.{text_of}
+use Rattle.edd_breach_places.specs.Places.{text_of}
 use Rattle.edd_breaches.specs.Told.{told_of}
 use Rattle.edd_check.proofs.ShownLaws.{repeats_at}
 use Rattle.edd_check.proofs.refusals.is_said.Goals as goal

@@ -1,6 +1,6 @@
 use Rattle.std.proofs.Common.{◌∙◌, subst}
 use Rattle.std.specs.Prelude.{IsTrue}
-use Rattle.edd_breach_places.specs.Sources.{text_of}
+use Rattle.edd_breach_places.specs.Places.{text_of}
 use Rattle.edd_check.proofs.ShownLaws.{starts}
 use Rattle.edd_check.proofs.refusals.says_first.Goals as goal
 

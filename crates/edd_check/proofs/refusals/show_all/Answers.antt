@@ -1,5 +1,5 @@
 use Rattle.std.proofs.Common.{sym, subst, arith, [], map, take}
-use Rattle.edd_breach_places.specs.Sources.{text_of}
+use Rattle.edd_breach_places.specs.Places.{text_of}
 use Rattle.edd_breaches.specs.Told.{told_of}
 use Rattle.edd_check.specs.Shown.{Says, state_of}
 use Rattle.edd_check.proofs.ShownLaws.{says_one_more, told_more}

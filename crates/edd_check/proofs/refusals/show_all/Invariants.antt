@@ -1,5 +1,5 @@
 use Rattle.std.proofs.Common.{[], map, take}
-use Rattle.edd_breach_places.specs.Sources.{text_of}
+use Rattle.edd_breach_places.specs.Places.{text_of}
 use Rattle.edd_breaches.specs.Told.{told_of}
 use Rattle.edd_check.specs.Shown.{Says, state_of}
 use Rattle.edd_check.proofs.refusals.show_all.Given as goal

@@ -1,6 +1,6 @@
 use Rattle.std.proofs.Common.{map}
 use Rattle.std.specs.Prelude.{string_bytes}
-use Rattle.edd_breach_places.specs.Sources.{text_of}
+use Rattle.edd_breach_places.specs.Places.{text_of}
 use Rattle.edd_breaches.specs.Told.{told_of}
 use Rattle.edd_check.specs.Shown.{state_of}
 use Rattle.edd_check.proofs.ShownLaws.{begins_all, on_ok}

@@ -1,6 +1,6 @@
 use Rattle.std.proofs.Common.{rules}
 use Rattle.edd_breaches.specs.Told.{told_of}
-use Rattle.edd_breach_places.specs.Sources.{text_of}
+use Rattle.edd_breach_places.specs.Places.{text_of}
 use Rattle.edd_breach_places.proofs.ItemsAround.{at_kind}
 use Rattle.edd_breach_places.proofs.kinds.OtherKinds.tell.Goals as goal
 

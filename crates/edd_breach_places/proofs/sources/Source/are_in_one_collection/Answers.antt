@@ -1,5 +1,5 @@
 use Rattle.std.proofs.lemmas.Bool.Decides.{Decides-eqb}
-use Rattle.edd_breach_places.specs.Sources.{text_of}
+use Rattle.edd_breach_places.specs.Places.{text_of}
 use Rattle.edd_breach_places.proofs.ItemsAround.{both_named}
 use Rattle.edd_breach_places.proofs.sources.Source.are_in_one_collection.Goals as goal
 
