@@ -1,6 +1,7 @@
 //! Where a rule that is broken is shown, in a text that spells a unit.
 //!
-//! Proved is at which token, which item is around one, and which collection a member is in.
+//! Proved is at which token, and that an item or a collection that is found around one is the one
+//! there; that it is found is not.
 #![tactic(auto)]
 
 mod kinds;
