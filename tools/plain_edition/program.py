@@ -34,7 +34,7 @@ def place(edition, started):
     made = os.path.join(ROOM, "target", "release", "edd")
     shutil.copy(made, PROGRAM + ".new")
     os.utime(PROGRAM + ".new", (started, started))
-    parts = [it for it in OWN if it != "plain"] + [f"plain/{name}" for name in edition.own]
+    parts = [it for it in OWN if it != "plain"] + edition.own
     parts += [f"crates/{crate.name}/src" for crate in edition.crates]
     with open(PROGRAM + ".sources", "w", encoding="utf-8") as file:
         file.write("".join(f"{part}\n" for part in parts))

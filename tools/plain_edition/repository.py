@@ -4,6 +4,8 @@ from typing import NamedTuple
 
 TOP = os.path.dirname(os.path.dirname(os.path.dirname(os.path.realpath(__file__))))
 PLAIN = os.path.join(TOP, "plain")
+# The folder of the player of the tables of tests.
+TESTS = "tests"
 # What is made in the checkout: nothing of it is committed.
 MADE = os.path.join(PLAIN, "out")
 

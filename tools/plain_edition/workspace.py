@@ -61,7 +61,7 @@ class Edition:
     """The files of the plain edition by their paths, and counts of what was left out."""
 
     def __init__(self, names=None, own=()):
-        """All crates, or these and what they use; with these further crates of `plain/`."""
+        """All crates, or these and what they use; with these further crates of `plain/`, and `tests` for the player of the tables."""
         # A static library of the kit is for C alone, and takes slices as only the kit passes them: plain/c stands for it.
         every = [it for it in repository.crates() if "staticlib" not in it.kinds]
         self.crates = repository.below(every, names) if names else every
@@ -110,13 +110,13 @@ class Edition:
     def add_own(self, more):
         """The crates of `plain/` that the crates at hand use, and these more."""
         used = {OWN[name] for crate in self.crates for name in crate.uses if name in OWN} | {"std", "derive", *more}
-        self.own = sorted(used)
-        for name in self.own:
-            for path, text in folder_files(os.path.join(repository.PLAIN, name)):
-                self.files[f"plain/{name}/{path}"] = text
+        self.own = sorted(f"plain/{name}" if name != repository.TESTS else name for name in used)
+        for folder in self.own:
+            for path, text in folder_files(os.path.join(repository.TOP, folder)):
+                self.files[f"{folder}/{path}"] = text
 
     def add_workspace(self):
-        members = [it.name for it in self.crates] + [f"plain/{name}" for name in self.own]
+        members = [it.name for it in self.crates] + self.own
         listed = "".join(f'    "{name}",\n' for name in members)
         self.files["Cargo.toml"] = f'[workspace]\nresolver = "3"\nmembers = [\n{listed}]\n\n{LINTS}\n{PROFILES}'
 
@@ -177,7 +177,7 @@ def text_at(place):
 def folder_files(top):
     """The files of a crate of `plain/`, by their paths."""
     for folder, folders, names in os.walk(top):
-        folders[:] = sorted(it for it in folders if it not in ("out", "target"))
+        folders[:] = sorted(it for it in folders if it not in ("out", "target", "tables"))
         for name in sorted(names):
             place = os.path.join(folder, name)
             with open(place, encoding="utf-8") as file:
