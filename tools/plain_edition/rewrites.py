@@ -9,7 +9,7 @@ from .tokens import BLANK, Token, Unknown
 
 HANDLED = ("assert", "assert_eq", "assert_ne")
 # Macros that the shim takes with the handle of the system.
-WITH_HANDLE = HANDLED + ("print", "println")
+WITH_HANDLE = HANDLED + ("print", "println", "eprintln")
 PROVED = re.compile(r", proved[^\"]*\"$")
 PLAIN = ", plain, not proved here\""
 FILE_HEAD = "use std::prelude::v1::*;\n"

@@ -1,5 +1,4 @@
 pub mod Escaping
-pub mod Following
 pub mod Marking
 pub mod Once
 pub mod OneText

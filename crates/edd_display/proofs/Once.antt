@@ -1,8 +1,8 @@
 -- No entry of an image stands twice: they differ in kind, item, attribute or position.
-use Rattle.std.proofs.Common.{◌≡◌, ◌≢◌, ℕ, zero, suc, ◌+◌, ◌≤◌, Bool, true, false, List, [], ◌∷◌, ◌++◌, map, refl, sym, ap, arith, inl, inr, if◌then◌else◌, length}
+use Rattle.std.proofs.Common.{◌≡◌, ◌≢◌, ℕ, zero, suc, ◌+◌, ◌≤◌, Bool, true, false, List, [], ◌∷◌, ◌++◌, map, refl, sym, ap, arith, inl, inr, if◌then◌else◌, length, take}
 use Rattle.std.specs.Prelude.{⊤, ◌||◌}
 use Rattle.std.proofs.lemmas.Bool.{cases_Bool, eqb-true}
-use Rattle.std.specs.List.{AllByRecursion, filter, flat_map, range_with_len}
+use Rattle.std.specs.List.{AllByRecursion, flat_map, prefix_len, range_with_len}
 use Rattle.edd_syntax.specs.declared.numbers.Kind.{Kind}
 use Rattle.edd_syntax.specs.declared.numbers.Kind.TheVariants.{Variable}
 use Rattle.edd_syntax.specs.declared.numbers.ItemNo.{ItemNo}
@@ -29,13 +29,10 @@ range_rises : (n a k : ℕ) → n ≤ a → Rise n (range_with_len a k)
 range_rises n a zero le = tt
 range_rises n a (suc k) le = (le, range_rises (suc a) (a + 1) k (omega arith))
 
-filter_rises : (p : ℕ → Bool) (n : ℕ) (xs : List ℕ) → Rise n xs → Rise n (filter p xs)
-filter_rises p n [] h = tt
-filter_rises p n (x ∷ xs) h = elim (cases_Bool (p x)) [
-  | inl e ↦ rw e (h.0, filter_rises p (suc x) xs h.1)
-  | inr e ↦ rw e (lower n (suc x) (filter p xs) (omega (arith, h.0))
-      (filter_rises p (suc x) xs h.1))
-]
+take_rises : (n k : ℕ) (xs : List ℕ) → Rise n xs → Rise n (take k xs)
+take_rises n zero xs h = tt
+take_rises n (suc k) [] h = tt
+take_rises n (suc k) (x ∷ xs) h = (h.0, take_rises (suc x) k xs h.1)
 
 same_rises : (n : ℕ) (xs : List ℕ) → Rise n xs → Rise n (map (λ x. x) xs)
 same_rises n [] h = tt
@@ -142,7 +139,8 @@ three_once item sub = (
 positions_rise : (c : Contents) (item : ItemNo) → Rise 0 (positions_of c item)
 unfolding positions_of
 positions_rise c item =
-    filter_rises (has_transaction c item) 0 (range_with_len 0 65536) (range_rises 0 0 65536 (omega arith))
+    take_rises 0 (prefix_len (has_transaction c item) (range_with_len 0 65536))
+    (range_with_len 0 65536) (range_rises 0 0 65536 (omega arith))
 
 transactions_once : (c : Contents) (item : ItemNo)
     → AreOnce (flat_map (transaction_entries item) (positions_of c item))

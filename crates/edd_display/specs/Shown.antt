@@ -2,7 +2,7 @@
 use Rattle.std.specs.Prelude.{◌≡◌, ◌≢◌, ⊤, ℕ, ℤ, Bool, true, false, not, ◌&&◌, ◌||◌, if◌then◌else◌, List, [], ◌∷◌, ◌++◌, map, Option, Some, None, slice_get, codes}
 use Rattle.std.specs.Fmt.{decimal}
 use Rattle.std.specs.Io.KnownBytes.{Appends}
-use Rattle.std.specs.List.{AllByRecursion, filter, flat_map, list_any, range_with_len}
+use Rattle.std.specs.List.{AllByRecursion, flat_map, range_with_len, take_while}
 use Rattle.edd_syntax.specs.declared.numbers.TheConstants.{ATTRIBUTES}
 use Rattle.edd_syntax.specs.declared.numbers.Kind.{Kind}
 use Rattle.edd_syntax.specs.declared.numbers.Kind.TheVariants.{Variable, Command, Menu, Collection, Method, Array}
@@ -50,14 +50,13 @@ row_at item a sub = record { item = item; attr = a; sub = sub }
 abbrev pub transaction_attributes : List Attr
 transaction_attributes = attr.Transaction ∷ attr.Request ∷ attr.Reply ∷ []
 
--- at the position there is a transaction, or a part of one
+-- TRANSACTION can be read at the position
 abbrev pub has_transaction : Contents → ItemNo → (sub : ℕ) → Bool
-has_transaction c item sub =
-    list_any (λ a. not (is_no_item c (row_at item a sub))) transaction_attributes
+has_transaction c item sub = not (is_no_item c (row_at item attr.Transaction sub))
 
--- the positions of all transactions of an item
+-- the positions of transactions, from 0 to the first that has none
 unfoldable pub positions_of : Contents → ItemNo → List ℕ
-positions_of c item = filter (has_transaction c item) (range_with_len 0 65536)
+positions_of c item = take_while (has_transaction c item) (range_with_len 0 65536)
 
 -- the attributes of the transaction at a position
 abbrev pub transaction_entries : ItemNo → (sub : ℕ) → List Entry

@@ -10,16 +10,14 @@ ghost use Rattle.edd_image.specs.Existing.{item_exists};
 ghost use Rattle.edd_instructions.specs.Agreement.{count_in};
 ghost use Rattle.edd_loader.specs.Lookups.{type_of_kind};
 ghost use Rattle.edd_machine.specs.Types.{types_in};
-ghost use Rattle.edd_display.specs.Gaps.{HasNoGap};
 ghost use Rattle.edd_display.specs.Shown as shown;
 ghost use Rattle.edd_display.specs.Shown.{Prints, after_name, attribute_entries, attributes, blames_values, entries_of, has_transaction, head_line, identification_line, item_entries, kind_entries, kinds, positions_of, transaction_entries, type_shown};
 ghost use Rattle.edd_display.specs.Written.{AreWritten};
 
 use crate::fault::ShowFault;
-use crate::gaps::has_gap;
 use crate::lines::{print, print_text};
 use crate::page::Page;
-use crate::rows::{is_any_found, print_default, print_found, print_row, read};
+use crate::rows::{is_absent, print_default, print_found, print_row, read};
 use crate::words::type_word;
 use crate::written::{is_written, written_of};
 use edd_image::{Counts, VarKind};
@@ -55,33 +53,28 @@ fn print_transaction<W: Write>(
     ensures refused { IfErr result (λ fault. blames_values fault ≡ false) }
 {
     let at = row_at(item, Attr::Transaction, sub);
-    let request_at = row_at(item, Attr::Request, sub);
-    let reply_at = row_at(item, Attr::Reply, sub);
     let transaction = read(alloc, page, at, values)?;
-    let request = read(alloc, page, request_at, values)?;
-    let reply = read(alloc, page, reply_at, values)?;
-    let exists = is_any_found(&transaction, &request, &reply);
-    if !exists {
+    if is_absent(&transaction) {
         return Ok(false);
     }
     print_found(page, at, &transaction, line, out)?;
-    print_found(page, request_at, &request, line, out)?;
-    print_found(page, reply_at, &reply, line, out)?;
+    let request_at = row_at(item, Attr::Request, sub);
+    print_row(alloc, page, values, request_at, line, out)?;
+    let reply_at = row_at(item, Attr::Reply, sub);
+    print_row(alloc, page, values, reply_at, line, out)?;
     Ok(true)
 }
 
-// The lines of all transactions. Where there is no gap, the first position that has none ends them.
+// The lines of the transactions, up to the first position that has none.
 fn print_transactions<W: Write>(
     alloc: Global,
     page: &Page<'_, '_>,
     values: &Values,
-    has_gap: bool,
     item: ItemNo,
     line: &mut String,
     out: &mut W,
 ) -> Result<(), ShowFault>
     requires good { AreDeviceValues (types_in page.now.image.now) values.now.numbers.items }
-    requires gap { has_gap ≡ false → HasNoGap (contents_in page.now.image.now) }
     ensures sound { OnOk result (Prints page.now.image.now values.now.numbers.items
         page.now.language.now (flat_map (transaction_entries item)
         (positions_of (contents_in page.now.image.now) item))
@@ -90,7 +83,7 @@ fn print_transactions<W: Write>(
 {
     for sub in 0..65_536u32 {
         let exists = print_transaction(alloc, page, values, item, sub as u16, line, out)?;
-        if !exists && !has_gap {
+        if !exists {
             return Ok(());
         }
     }
@@ -103,7 +96,6 @@ fn print_attribute<W: Write>(
     alloc: Global,
     page: &Page<'_, '_>,
     values: &Values,
-    has_gap: bool,
     written: u32,
     item: ItemNo,
     attr: Attr,
@@ -111,7 +103,6 @@ fn print_attribute<W: Write>(
     out: &mut W,
 ) -> Result<(), ShowFault>
     requires good { AreDeviceValues (types_in page.now.image.now) values.now.numbers.items }
-    requires gap { has_gap ≡ false → HasNoGap (contents_in page.now.image.now) }
     requires exists { IsTrue (item_exists (contents_in page.now.image.now).counts item) }
     requires rows { AreWritten (contents_in page.now.image.now) item written }
     ensures sound { OnOk result (Prints page.now.image.now values.now.numbers.items
@@ -123,7 +114,7 @@ fn print_attribute<W: Write>(
         return Ok(());
     }
     if matches!(attr, Attr::Transaction) {
-        return print_transactions(alloc, page, values, has_gap, item, line, out);
+        return print_transactions(alloc, page, values, item, line, out);
     }
     if attr.is_of_transaction() || matches!(attr, Attr::Definition) {
         return Ok(());
@@ -140,14 +131,12 @@ fn print_attributes<W: Write>(
     alloc: Global,
     page: &Page<'_, '_>,
     values: &Values,
-    has_gap: bool,
     written: u32,
     item: ItemNo,
     line: &mut String,
     out: &mut W,
 ) -> Result<(), ShowFault>
     requires good { AreDeviceValues (types_in page.now.image.now) values.now.numbers.items }
-    requires gap { has_gap ≡ false → HasNoGap (contents_in page.now.image.now) }
     requires exists { IsTrue (item_exists (contents_in page.now.image.now).counts item) }
     requires rows { AreWritten (contents_in page.now.image.now) item written }
     ensures sound { OnOk result (Prints page.now.image.now values.now.numbers.items
@@ -156,7 +145,7 @@ fn print_attributes<W: Write>(
     ensures refused { IfErr result (λ fault. blames_values fault ≡ false) }
 {
     for attr in ATTRIBUTES {
-        print_attribute(alloc, page, values, has_gap, written, item, attr, line, out)?;
+        print_attribute(alloc, page, values, written, item, attr, line, out)?;
     }
     Ok(())
 }
@@ -213,7 +202,6 @@ fn print_item<W: Write>(
     page: &Page<'_, '_>,
     values: &Values,
     are_good: bool,
-    has_gap: bool,
     written: u32,
     item: ItemNo,
     line: &mut String,
@@ -221,7 +209,6 @@ fn print_item<W: Write>(
 ) -> Result<(), ShowFault>
     requires good { IsTrue are_good ↔ AreDeviceValues (types_in page.now.image.now)
         values.now.numbers.items }
-    requires gap { has_gap ≡ false → HasNoGap (contents_in page.now.image.now) }
     requires exists { IsTrue (item_exists (contents_in page.now.image.now).counts item) }
     requires rows { AreWritten (contents_in page.now.image.now) item written }
     ensures sound { OnOk result (Prints page.now.image.now values.now.numbers.items
@@ -234,7 +221,7 @@ fn print_item<W: Write>(
     if !are_good {
         return Err(ShowFault::WrongValues);
     }
-    print_attributes(alloc, page, values, has_gap, written, item, line, out)?;
+    print_attributes(alloc, page, values, written, item, line, out)?;
     Ok(())
 }
 
@@ -257,14 +244,12 @@ fn print_kind<W: Write>(
     page: &Page<'_, '_>,
     values: &Values,
     are_good: bool,
-    has_gap: bool,
     kind: Kind,
     line: &mut String,
     out: &mut W,
 ) -> Result<(), ShowFault>
     requires good { IsTrue are_good ↔ AreDeviceValues (types_in page.now.image.now)
         values.now.numbers.items }
-    requires gap { has_gap ≡ false → HasNoGap (contents_in page.now.image.now) }
     ensures sound { OnOk result (Prints page.now.image.now values.now.numbers.items
         page.now.language.now (kind_entries (contents_in page.now.image.now) kind)
         (W.contents out.old) (W.contents out.new)) }
@@ -276,9 +261,7 @@ fn print_kind<W: Write>(
     for number in 0..count {
         let item = kind.item(number);
         let written = all[number as usize];
-        print_item(
-            alloc, page, values, are_good, has_gap, written, item, line, out,
-        )?;
+        print_item(alloc, page, values, are_good, written, item, line, out)?;
     }
     Ok(())
 }
@@ -298,9 +281,8 @@ fn print_kinds<W: Write>(
         → ¬ AreDeviceValues (types_in page.now.image.now) values.now.numbers.items) }
 {
     let are_good = values.are_of(page.image);
-    let has_gap = has_gap(page.image);
     for kind in KINDS {
-        print_kind(alloc, page, values, are_good, has_gap, kind, line, out)?;
+        print_kind(alloc, page, values, are_good, kind, line, out)?;
     }
     Ok(())
 }

@@ -1,6 +1,6 @@
 //! The line of an attribute.
 
-ghost use Rattle.std.specs.Prelude.{◌≡◌, ◌++◌, ◌∷◌, [], IfErr, IfOk, OnOk, false, not, ◌||◌, string_bytes};
+ghost use Rattle.std.specs.Prelude.{◌≡◌, ◌++◌, ◌∷◌, [], IfErr, IfOk, OnOk, false, string_bytes};
 ghost use Rattle.std.specs.Io.KnownBytes.{Appends};
 ghost use Rattle.edd_syntax.specs.DeviceValues.{AreDeviceValues};
 ghost use Rattle.edd_image.specs.Contents.{contents_in};
@@ -54,20 +54,11 @@ pub fn read(
     }
 }
 
-// Whether there is nothing to read.
-fn is_absent(found: &Found) -> bool
+/// Whether there is nothing to read.
+pub fn is_absent(found: &Found) -> bool
     ensures { result ≡ is_absent (reading_found found.now) }
 {
     matches!(found, Found::Nothing)
-}
-
-/// Whether one of the three attributes of a transaction was found.
-pub fn is_any_found(transaction: &Found, request: &Found, reply: &Found) -> bool
-    ensures { result ≡ (not (is_absent (reading_found transaction.now))
-        || (not (is_absent (reading_found request.now))
-        || not (is_absent (reading_found reply.now)))) }
-{
-    !is_absent(transaction) || !is_absent(request) || !is_absent(reply)
 }
 
 // Whether there is nothing to say.

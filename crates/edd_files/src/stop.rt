@@ -25,6 +25,8 @@ pub enum Stop<'a> {
     /// The source is refused, which is told so.
     NotCompiled(String),
     NotLoaded(LoadFault),
+    /// A text is shown as an image. The line says what helps.
+    TextAsImage(String),
     Script(ScriptFault),
     Values(ValuesFault),
     /// The image has no method of this name.

@@ -16,12 +16,7 @@ use edd_sinks::TextSink;
 use std::alloc::Global;
 use std::io::Write;
 
-/// What `show` says of a text, and `play`.
-#[derive(Clone, Copy)]
-pub enum Instead {
-    View,
-    Try,
-}
+const THIS_IS_A_TEXT: &str = "help: this is a text and no image:";
 
 /// Adds the files that the marks of a preprocessor name for what is shown, as far as they can be
 /// read.
@@ -198,26 +193,52 @@ fn is_text(bytes: &[u8]) -> bool {
     str::from_utf8(bytes).is_ok_and(|text| text.chars().all(is_sign))
 }
 
-/// What was done with an image. Where it is none but a text, the command for a source is named.
-pub fn with_command_named<'a, W: Write>(
+// Whether an image is refused since it is a text.
+fn is_of_text(answer: &Result<(), Stop<'_>>, bytes: &[u8]) -> bool {
+    matches!(answer, Err(Stop::NotLoaded(LoadFault::Magic))) && is_text(bytes)
+}
+
+/// What was shown of an image. Where the image is a text, the refusal has the line for `hint`.
+pub fn with_hint<'a>(
     alloc: Global,
     answer: Result<(), Stop<'a>>,
     name: &str,
     bytes: &[u8],
-    instead: Instead,
-    out: &mut W,
 ) -> Result<(), Stop<'a>> {
-    if !matches!(answer, Err(Stop::NotLoaded(LoadFault::Magic))) || !is_text(bytes) {
+    if !is_of_text(&answer, bytes) {
         return answer;
     }
-    let (word, does) = match instead {
-        Instead::View => ("view", "shows"),
-        Instead::Try => ("try", "runs"),
-    };
+    let line = printed(
+        alloc,
+        format_args!("{THIS_IS_A_TEXT} `edd view {name}` shows a source"),
+    );
+    Err(Stop::TextAsImage(line.finish()?))
+}
+
+/// What was played of an image. Where the image is a text, the refusal is printed, and below it the
+/// command that runs a source.
+pub fn with_try_named<'a, W: Write>(
+    alloc: Global,
+    answer: Result<(), Stop<'a>>,
+    name: &str,
+    bytes: &[u8],
+    out: &mut W,
+) -> Result<(), Stop<'a>> {
+    if !is_of_text(&answer, bytes) {
+        return answer;
+    }
     let mut printer = Printer::new(alloc, out);
     printer.print(format_args!("refused {}", LoadFault::Magic));
-    let help = "help: this is a text and no image:";
-    printer.print(format_args!("{help} `edd {word} {name}` {does} a source"));
+    printer.print(format_args!("{THIS_IS_A_TEXT} `edd try {name}` runs a source"));
     printer.finish()?;
     Err(Stop::Shown)
+}
+
+/// Tells the user beside the output what helps, where the program stops with such a line.
+pub fn hint<F: Files>(stop: &Stop<'_>, files: &mut F)
+    ensures kept { F.account files.new ≡ F.account files.old }
+{
+    if let Stop::TextAsImage(line) = stop {
+        files.hint(line);
+    }
 }

@@ -7,8 +7,8 @@ mod reasons;
 mod reports;
 
 pub use explained::{
-    Instead, add_originals, explain_refusal, image_of_source, with_command_named,
-    with_device_shown, with_script_shown,
+    add_originals, explain_refusal, hint, image_of_source, with_device_shown, with_hint,
+    with_script_shown, with_try_named,
 };
 pub use reasons::told;
 pub use reports::{DONE, FILE, MEMORY, report, status};

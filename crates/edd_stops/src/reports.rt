@@ -6,6 +6,7 @@ use crate::reasons::reason_of;
 use edd_check::LINTS;
 use edd_display::{ShowFault, print, print_text, printed};
 use edd_files::Stop;
+use edd_loader::LoadFault;
 use std::alloc::Global;
 use std::fmt::Display;
 use std::io::Write;
@@ -75,6 +76,7 @@ pub fn report<W: Write>(alloc: Global, stop: &Stop<'_>, out: &mut W) -> Result<(
         Stop::Named(name) => print(alloc, out, format_args!("file {name}")),
         Stop::NotCompiled(fault) | Stop::Device(fault) => refused(alloc, fault, out),
         Stop::NotLoaded(fault) => refused(alloc, fault, out),
+        Stop::TextAsImage(_) => refused(alloc, &LoadFault::Magic, out),
         Stop::Script(fault) => refused(alloc, fault, out),
         Stop::Values(fault) => refused(alloc, fault, out),
         Stop::Play(fault) => refused(alloc, fault, out),
@@ -98,6 +100,7 @@ pub fn status(stop: &Stop<'_>) -> u8
         Stop::Shown
         | Stop::NotCompiled(_)
         | Stop::NotLoaded(_)
+        | Stop::TextAsImage(_)
         | Stop::Script(_)
         | Stop::Values(_)
         | Stop::NoMethod(_)

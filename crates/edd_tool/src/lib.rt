@@ -2,7 +2,7 @@
 //! call of the compiler that it makes.
 #![tactic(auto)]
 
-ghost use Rattle.std.specs.Prelude.{◌≤◌, map, string_bytes};
+ghost use Rattle.std.specs.Prelude.{◌≡◌, ◌≤◌, map, string_bytes};
 ghost use Rattle.edd_files.specs.Saves.{MaySave};
 
 mod checking;
@@ -24,7 +24,7 @@ pub use edd_compiler::{Fault, compile};
 use edd_display::ShowFault;
 use edd_files::Stop;
 pub use edd_files::{FileFault, Files};
-use edd_stops::{DONE, FILE, MEMORY, report, status};
+use edd_stops::{DONE, FILE, MEMORY, hint, report, status};
 use std::alloc::Global;
 use std::io::{BufWriter, Write};
 pub use system::run_on_system;
@@ -45,7 +45,7 @@ pub fn run<F: Files, W: Write>(alloc: Global, words: &[String], files: &mut F, o
 {
     match print_lines(alloc, words, files, out) {
         Ok(()) => DONE,
-        Err(stop) => stopped(alloc, &stop, out),
+        Err(stop) => stopped(alloc, &stop, files, out),
     }
 }
 
@@ -75,11 +75,15 @@ fn print_lines<'a, F: Files, W: Write>(
 }
 
 // Says why the program stops, as far as that can be said.
-fn stopped<W: Write>(alloc: Global, stop: &Stop<'_>, out: &mut W) -> u8
-    ensures { result ≤ 4 }
+fn stopped<F: Files, W: Write>(alloc: Global, stop: &Stop<'_>, files: &mut F, out: &mut W) -> u8
+    ensures status { result ≤ 4 }
+    ensures kept { F.account files.new ≡ F.account files.old }
 {
     match report(alloc, stop, out) {
-        Ok(()) => status(stop),
+        Ok(()) => {
+            hint(stop, files);
+            status(stop)
+        }
         Err(ShowFault::Memory) => no_memory(out),
         Err(_) => FILE,
     }

@@ -19,7 +19,7 @@ use edd_dump::dump;
 use edd_files::{Files, Stop, read};
 use edd_loader::{Image, load};
 use edd_machine::Values;
-use edd_stops::{Instead, image_of_source, told, with_command_named, with_script_shown};
+use edd_stops::{image_of_source, told, with_hint, with_script_shown};
 use std::alloc::Global;
 use std::io::Write;
 
@@ -83,7 +83,7 @@ fn show_file<'a, F: Files, W: Write>(
     let taken = take(alloc, file, None, showing.script, files)?;
     let (bytes, script) = (taken.description.as_slice(), taken.script.as_slice());
     let answer = show_bytes(alloc, bytes, script, showing.language, out);
-    let answer = with_command_named(alloc, answer, file, bytes, Instead::View, out);
+    let answer = with_hint(alloc, answer, file, bytes);
     let script = (showing.script, script);
     with_script_shown(alloc, answer, bytes, script, showing.is_explained, out)
 }

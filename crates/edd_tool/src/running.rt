@@ -10,9 +10,7 @@ use edd_device::Device;
 use edd_files::{Files, Stop};
 use edd_loader::{Image, load};
 use edd_script::parse;
-use edd_stops::{
-    Instead, image_of_source, with_command_named, with_device_shown, with_script_shown,
-};
+use edd_stops::{image_of_source, with_device_shown, with_script_shown, with_try_named};
 use edd_tracing::{Followed, trace};
 use std::alloc::Global;
 use std::io::Write;
@@ -63,7 +61,7 @@ fn run_image<'a, W: Write>(
     let bytes = taken.description.as_slice();
     let ran = run_method(alloc, bytes, taken, run, out);
     if run.is_explained {
-        with_command_named(alloc, ran, name, bytes, Instead::Try, out)
+        with_try_named(alloc, ran, name, bytes, out)
     } else {
         ran
     }

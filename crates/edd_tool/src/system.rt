@@ -69,6 +69,11 @@ impl<R: rt::Files + Input + Print + AllocGlobal> Files for ProgramFiles<'_, R> {
         let mut files = system_files(self.rt);
         files.save(name, bytes).map_err(|error| of_writing(&error))
     }
+
+    fn hint(&mut self, line: &str) {
+        // There is nowhere to say that the standard error takes nothing.
+        let _ = eprintln!(self.rt; "{line}");
+    }
 }
 
 /// Runs the program `edd` on the words of its command line, the program's name first, over the

@@ -64,3 +64,8 @@ macro_rules! println {
 macro_rules! print {
     ($rt:expr; $($text:tt)*) => { $rt.print(format_args!($($text)*)) };
 }
+
+#[macro_export]
+macro_rules! eprintln {
+    ($rt:expr; $($text:tt)*) => { $rt.eprintln(format_args!($($text)*)) };
+}

@@ -22,7 +22,7 @@ pub trait Abort {}
 
 impl Abort for HostRuntime {}
 
-/// Prints to the standard output.
+/// Prints to the standard output and the standard error.
 pub trait Print {
     fn print(&self, arguments: fmt::Arguments<'_>) -> Result<()> {
         with_output(|out| real::io::Write::write_fmt(out, arguments))
@@ -30,6 +30,10 @@ pub trait Print {
 
     fn println(&self, arguments: fmt::Arguments<'_>) -> Result<()> {
         self.print(format_args!("{arguments}\n"))
+    }
+
+    fn eprintln(&self, arguments: fmt::Arguments<'_>) -> Result<()> {
+        real::io::Write::write_fmt(&mut real::io::stderr(), format_args!("{arguments}\n"))
     }
 }
 
