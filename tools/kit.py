@@ -1,4 +1,4 @@
-"""What tools/build and tools/quick share: the kit's `rt` as a module, and libraries that hold what they state.
+"""What tools/build, tools/quick and tools/wrong share: the kit's `rt` as a module, libraries that hold what they state, and wrong bodies.
 
 Such a library is proved from nothing and written without its proofs, as the gate writes it, so that the crates above load it in a
 fraction of the time. They are in out/statements of each crate, beside what `rt check` keeps, with a stamp of all that they are made of.
@@ -7,9 +7,11 @@ import copy
 import importlib.machinery
 import importlib.util
 import os
+import re
 import shutil
 import sys
 import tempfile
+import threading
 import time
 
 TOP = os.path.dirname(os.path.dirname(os.path.realpath(__file__)))
@@ -17,6 +19,28 @@ TOP = os.path.dirname(os.path.dirname(os.path.realpath(__file__)))
 
 class Missing(Exception):
     """The kit is not installed."""
+
+
+class Said:
+    """Prints a line for each thing that was tried, and counts those that failed."""
+
+    def __init__(self):
+        self.failed_ones, self.lock = 0, threading.Lock()
+
+    def line(self, is_well, text, more=""):
+        lines = [f"{'ok    ' if is_well else 'FAILED'} {text}"]
+        if not is_well:
+            lines += [f"       {it}" for it in more.split("\n") if it]
+        with self.lock:
+            self.failed_ones += not is_well
+            print("\n".join(lines), flush=True)
+
+    # what `libraries` says
+    def proved(self, name, seconds):
+        self.line(True, f"{name}: library proved in {seconds:.0f} s")
+
+    def failed(self, name, output):
+        self.line(False, f"{name}: library not proved", output[-2000:])
 
 
 def load():
@@ -84,3 +108,47 @@ def libraries(rt, left, built, progress):
         call = lambda given, jobs, it=it: build(it, {**known, **given}, jobs, rt.rtlib, progress)
         tasks[it.name, "proof"] = (waits, it.count(rb"\n"), rt.need(it), call)
     return all(rt.in_lanes(tasks).values())
+
+
+def listed(rt):
+    """The crates of crates.txt by their names. Each takes the libraries below it from out/statements."""
+    crates = {it.name: it for it in rt.rtlib.crates_below(TOP)}
+    for it in crates.values():
+        place(it)
+    return crates
+
+
+def prepare(rt, crates, said, apart=()):
+    """Proves the missing libraries below these crates, except those that stand apart, and says whether all are proved."""
+    below = []
+    for crate in crates:
+        below += [it for it in crate.below() if it not in below and it not in apart]
+    below.sort(key=lambda it: len(it.below()))
+    left = [it for it in below if not is_built(it, rt.rtlib)]
+    if left:
+        print(f"proving {len(left)} libraries below: {' '.join(it.name for it in left)}", flush=True)
+    return not left or libraries(rt, left, [it for it in below if it not in left], said)
+
+
+def wrong_bodies(name):
+    """The edits of wrong/NAME, and the files there that are no edit by their name or place."""
+    edits, others = [], []
+    for at, folders, files in os.walk(f"{TOP}/wrong/{name}"):
+        folders.sort()
+        for file in sorted(files):
+            is_edit = at == f"{TOP}/wrong/{name}" and re.fullmatch(r"[A-Za-z0-9_-]+\.edit", file)
+            (edits if is_edit else others).append(f"{at}/{file}")
+    return edits, others
+
+
+def refuse_names(files, said):
+    for it in files:
+        said.line(False, f"{os.path.relpath(it, TOP)}: is no edit by its name or place")
+
+
+def try_edits(rt, crate, edits, said):
+    """Has the prover try these edits as the gate does, a line for each, and returns how many it refused."""
+    tried = rt.must_fail_all(crate, edits, ["--jobs", "1"])
+    for is_refused, text in tried:
+        said.line(is_refused, text.replace("must-fail ", "", 1))
+    return sum(is_refused for is_refused, _ in tried)
