@@ -20,16 +20,18 @@ def say(text):
     print(text, flush=True)
 
 
+def table(text):
+    """The columns of each crate in the table of docs/GATE.md, as numbers."""
+    head = re.search(r"^\| Crate \|(.*)\|$", text, re.M)[1].split("|")
+    rows = re.findall(r"^\| `(\w+)` \|(.*)\|$", text, re.M)
+    return {name: {of.strip(): float(it.strip() or 0) for of, it in zip(head, cells.split("|"))} for name, cells in rows}
+
+
 def measured():
     """The processor seconds of each crate, with its edits and its program, by docs/GATE.md."""
-    found = {}
     with open(PAGE, encoding="utf-8") as page:
-        for line in page:
-            cells = [it.strip() for it in line.strip().strip("|").split("|")]
-            name = re.fullmatch(r"`(\w+)`", cells[0])
-            if name and len(cells) == 5:
-                found[name[1]] = sum(int(cells[at] or 0) for at in (1, 3, 4))
-    return found
+        rows = table(page.read())
+    return {name: sum(row.get(it, 0) for it in ("First check", "Tests", "Their checks", "Program")) for name, row in rows.items()}
 
 
 def crates():

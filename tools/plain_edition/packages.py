@@ -1,6 +1,6 @@
 """Cargo, and where the crates come from that others wrote: the registry, or Debian's packages of their sources.
 
-`install` is the one function that changes the machine. The program's wrapper and `.ci/run` call it, and say what it does.
+`install` is the one function that changes the machine. The program's wrapper and `tools/test` call it, and say what it does.
 """
 import os
 import re
