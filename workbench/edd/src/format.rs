@@ -1,0 +1,26 @@
+//! The layout of sources.
+
+use crate::Refusal;
+use crate::memory::Global;
+
+/// Lays a source out: the same tokens and comments, with other blanks and line ends between them.
+/// docs/LAYOUT.md describes the layout.
+///
+/// # Errors
+///
+/// The source has no tokens.
+///
+/// ```
+/// let laid_out = edd::format(b"VARIABLE p{TYPE INTEGER(2);}")?;
+/// assert_eq!(
+///     String::from_utf8_lossy(&laid_out),
+///     "VARIABLE p {\n    TYPE INTEGER (2);\n}\n",
+/// );
+/// # Ok::<(), edd::Refusal>(())
+/// ```
+pub fn format(source: &[u8]) -> Result<Vec<u8>, Refusal> {
+    match edd_layout::laid_out(Global, source) {
+        Ok(laid_out) => Ok(laid_out.into_real()),
+        Err(fault) => Err(Refusal::of_text(&fault)),
+    }
+}
