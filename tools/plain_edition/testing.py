@@ -4,7 +4,7 @@ import re
 import shutil
 
 from . import packages, repository, workspace
-from .trials import alike, bare, calls_for_c, disk, elsewhere, example, fuzzing, images, refusals, runs, score
+from .trials import alike, bare, calls_for_c, disk, elsewhere, example, fuzzing, images, refusals, runs, score, workbench
 
 FOLDER = os.path.join(repository.MADE, "edition")
 PROFILE = "checked"
@@ -31,6 +31,7 @@ def set_up():
     if lacking:
         packages.install(lacking)
     packages.settle(FOLDER, True)
+    workbench.settled(True)
 
 
 def sources(counts, edition):
@@ -92,6 +93,7 @@ def test():
     edition = written()
     packages.settle(FOLDER, False)
     program = own_steps(counts, edition)
+    counts.step("the workbench", workbench.tested)
     counts.step("the example in Rust", example.runs, FOLDER, program)
     counts.step("hostile images", images.refused_alike, {"64 bits": program})
     counts.step("the proved program", alike.same_bytes, program)

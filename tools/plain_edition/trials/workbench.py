@@ -1,0 +1,31 @@
+"""The workbench over the core that is written for it: its tests, and what clippy says."""
+import re
+
+from .. import core, packages
+
+RESULT = re.compile(r"^test result: .* (\d+) passed; (\d+) failed", re.MULTILINE)
+
+
+def settled(may_install):
+    """Writes the core, and has the crates of the workbench at hand."""
+    core.write()
+    return packages.settle(core.WORKBENCH, may_install, packages.WORKBENCH)
+
+
+def tested(score):
+    """Its tests with their counts, those in its pages among them, and clippy without a warning, where clippy is there."""
+    command = settled(False)
+    ran = command.run(["test", "--quiet", "--offline", "--no-fail-fast"], core.WORKBENCH)
+    for passed, failed in RESULT.findall(ran.stdout):
+        score.count(int(passed), int(failed))
+    if ran.returncode:
+        score.check(False, f"cargo test: {ran.stdout[-2000:]}{ran.stderr[-2000:]}")
+    return linted(score, command)
+
+
+def linted(score, command):
+    if command.run(["clippy", "--version"]).returncode:
+        return "without clippy, which is not there"
+    ran = command.run(["clippy", "--quiet", "--offline", "--all-targets", "--", "--deny", "warnings"], core.WORKBENCH)
+    score.check(ran.returncode == 0, f"cargo clippy: {ran.stderr[-3000:]}")
+    return "clippy has no warning" if ran.returncode == 0 else None
