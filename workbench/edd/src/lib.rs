@@ -96,3 +96,8 @@ pub use edd_syntax::numbers::{
     ArrNo, Attr, AttrRef, CmdNo, CollNo, Element, ItemNo, Kind, MenuNo, MethNo, StrNo, VarNo,
 };
 pub use edd_syntax::types::{Handling, VarType};
+
+/// The code of the page for programs.
+#[cfg(doctest)]
+#[doc = include_str!("../../../docs/RUST.md")]
+mod page {}
