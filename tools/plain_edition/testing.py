@@ -93,7 +93,7 @@ def test():
     edition = written()
     packages.settle(FOLDER, False)
     program = own_steps(counts, edition)
-    counts.step("the workbench", workbench.tested)
+    counts.step("the workbench", workbench.tested, program)
     counts.step("the example in Rust", example.runs, FOLDER, program)
     counts.step("hostile images", images.refused_alike, {"64 bits": program})
     counts.step("the proved program", alike.same_bytes, program)

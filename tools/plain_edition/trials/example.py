@@ -1,4 +1,4 @@
-"""The example in Rust: it is built over the edition, and runs a method as the program does."""
+"""The examples in Rust: each runs a method as the program does. That in examples/rust is built over the edition."""
 import os
 import shutil
 import subprocess
@@ -24,8 +24,13 @@ def built(folder):
 
 
 def runs(score, folder, program):
-    """Its values and the number of its requests are those that the program prints."""
+    """What the example prints is right."""
     command, room = built(folder)
+    compare(score, program, "the example", lambda words: command.run(["run", "--quiet", "--offline", "--", *words], room))
+
+
+def compare(score, program, name, run):
+    """The values and the number of the requests that an example prints are those that the program prints. It is run with words."""
     with tempfile.TemporaryDirectory() as files:
         image, script = os.path.join(files, "image"), os.path.join(files, "script")
         with open(script, "w", encoding="utf-8") as file:
@@ -34,10 +39,10 @@ def runs(score, folder, program):
         subprocess.run([program, "compile", source, image], stdin=subprocess.DEVNULL, capture_output=True, check=True)
         played = subprocess.run([program, "play", image, METHOD, script], stdin=subprocess.DEVNULL, capture_output=True, text=True,
                                 check=True)
-        ran = command.run(["run", "--quiet", "--offline", "--", image, METHOD], room)
+        ran = run([image, METHOD])
     said, wanted = ran.stdout.splitlines(), played.stdout.splitlines()
     values = [line.removeprefix("value ") for line in wanted if line.startswith("value ")]
     requests = [line for line in wanted if line.startswith("ask ")]
-    score.check(ran.returncode == 0, f"the example: {ran.stderr[-2000:]}")
-    score.check(said[-len(values):] == values, f"the example's values: {said}, not {wanted}")
-    score.check(len(said) == len(values) + len(requests) + 1, f"the example's requests: {said}, not {wanted}")
+    score.check(ran.returncode == 0, f"{name}: {ran.stderr[-2000:]}")
+    score.check(said[-len(values):] == values, f"{name}'s values: {said}, not {wanted}")
+    score.check(len(said) == len(values) + len(requests) + 1, f"{name}'s requests: {said}, not {wanted}")

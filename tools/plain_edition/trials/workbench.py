@@ -2,6 +2,7 @@
 import re
 
 from .. import core, packages
+from . import example
 
 RESULT = re.compile(r"^test result: .* (\d+) passed; (\d+) failed", re.MULTILINE)
 
@@ -12,14 +13,17 @@ def settled(may_install):
     return packages.settle(core.WORKBENCH, may_install, packages.WORKBENCH)
 
 
-def tested(score):
-    """Its tests with their counts, those in its pages among them, and clippy without a warning, where clippy is there."""
+def tested(score, program):
+    """Its tests with their counts, those in its pages among them; its example, which prints what the program prints; and clippy
+    without a warning, where clippy is there."""
     command = settled(False)
     ran = command.run(["test", "--quiet", "--offline", "--no-fail-fast"], core.WORKBENCH)
     for passed, failed in RESULT.findall(ran.stdout):
         score.count(int(passed), int(failed))
     if ran.returncode:
         score.check(False, f"cargo test: {ran.stdout[-2000:]}{ran.stderr[-2000:]}")
+    start = ["run", "--quiet", "--offline", "--example", "run_method", "--"]
+    example.compare(score, program, "run_method", lambda words: command.run([*start, *words], core.WORKBENCH))
     return linted(score, command)
 
 

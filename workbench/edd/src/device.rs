@@ -216,3 +216,27 @@ impl fmt::Debug for Device<'_, '_> {
             .finish_non_exhaustive()
     }
 }
+
+#[cfg(test)]
+mod tests {
+    use super::*;
+    use edd_device::DeviceFault as Core;
+
+    #[test]
+    fn faults_print_as_those_of_the_core() {
+        let faults = [
+            Core::Asks(MethNo(0)),
+            Core::Traps(MethNo(0), Trap::DivZero),
+            Core::Aborts(MethNo(0)),
+            Core::RunsOn(MethNo(0)),
+            Core::NoCommand(1),
+            Core::NoTransaction(1, 2),
+            Core::NoMessage(CmdNo(0), Trap::BadShift),
+            Core::OutOfRange(VarNo(0)),
+            Core::WrongCode,
+        ];
+        for fault in faults {
+            assert_eq!(DeviceFault::from_core(fault).to_string(), fault.to_string());
+        }
+    }
+}

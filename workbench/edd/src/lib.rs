@@ -86,7 +86,7 @@ pub use screens::{Bound, Choice, Content, Format, Leads, Radix, Row, Screen, She
 pub use session::Session;
 pub use values::Values;
 
-/// Plain data of the core.
+// Plain data of the core.
 pub use edd_image::VarKind;
 pub use edd_instructions::{Record, Request};
 pub use edd_loader::Text;

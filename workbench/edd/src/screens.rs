@@ -319,3 +319,32 @@ impl<'b> Sheet<'b> {
         }
     }
 }
+
+#[cfg(test)]
+mod tests {
+    use super::*;
+    use crate::memory::{Global, made};
+    use edd_panel_lines::{TextSink, push_words};
+
+    #[test]
+    fn words_print_as_those_of_the_core() {
+        let traps = [
+            Trap::DivZero,
+            Trap::DivOverflow,
+            Trap::BadShift,
+            Trap::NoElement,
+        ];
+        let texts = [Text::Words("Druck"), Text::Key("pressure_label")];
+        let words = traps
+            .map(edd_screens::Words::Fault)
+            .into_iter()
+            .chain(texts.map(edd_screens::Words::Text))
+            .chain([edd_screens::Words::Name("p")]);
+        for words in words {
+            let mut line = TextSink::new(Global);
+            push_words(&mut line, words);
+            let line = made(line.finish());
+            assert_eq!(Words::from_core(words).to_string(), line.as_str());
+        }
+    }
+}

@@ -21,6 +21,17 @@ fn folder(name: &str) -> PathBuf {
         .join(name)
 }
 
+/// The sources in a folder of the repository, by the extension of their files. A folder that is not
+/// there has none.
+pub(crate) fn sources_in(name: &str, extension: &str) -> Vec<String> {
+    let entries = std::fs::read_dir(folder(name)).into_iter().flatten();
+    let paths = entries.map(|entry| entry.expect("a file").path());
+    let sources = paths.filter(|path| path.extension().is_some_and(|it| it == extension));
+    sources
+        .map(|path| std::fs::read_to_string(path).expect("a source"))
+        .collect()
+}
+
 /// The examples, by their names.
 pub(crate) fn sources() -> Vec<(String, Vec<u8>)> {
     let mut found = Vec::new();
