@@ -1,4 +1,17 @@
 //! The player of the tables of tests. `tests/tables/` has the tables; their answers were worked out by hand.
+#![forbid(unsafe_code)]
+#![cfg_attr(
+    not(test),
+    deny(
+        clippy::arithmetic_side_effects,
+        clippy::as_conversions,
+        clippy::expect_used,
+        clippy::indexing_slicing,
+        clippy::panic,
+        clippy::unwrap_used
+    )
+)]
 
+pub mod playing;
 pub mod score;
 pub mod table;
