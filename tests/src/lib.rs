@@ -12,6 +12,9 @@
     )
 )]
 
+pub mod calls;
+mod editor;
+pub mod images;
 pub mod playing;
 pub mod score;
 pub mod table;
