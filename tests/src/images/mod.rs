@@ -1,5 +1,4 @@
-//! The calls on images. Each file says of its kinds of parts what a row asks and what is answered;
-//! `steps` are steps on an image.
+//! The calls on images. The head of each file lists its kinds of parts.
 
 mod faults;
 mod hosts;
