@@ -20,8 +20,6 @@ pub enum PlayError {
     Folder(io::Error),
     #[error("{0} runs a program: give its path by --program")]
     NoProgram(&'static str),
-    #[error("the suite {0} is not there yet")]
-    NotThere(&'static str),
 }
 
 impl PlayError {

@@ -6,7 +6,7 @@ use edd_tests::error::PlayError;
 use edd_tests::options::Options;
 use edd_tests::program::{AS_EDD, run_as_edd};
 use edd_tests::score::Score;
-use edd_tests::{pages, rows};
+use edd_tests::{calls, images, pages, rows};
 use std::process::ExitCode;
 
 /// Plays the tables of tests, and prints each row that fails with what was wanted and what was printed.
@@ -39,8 +39,14 @@ impl Suite {
             Suite::Rows => score.suite("rows", |score| rows::play(options, score)),
             Suite::Program => score.suite("program", |score| rows::play_program(options, score)),
             Suite::Pages => score.suite("pages", |score| pages::play(options, score)),
-            Suite::Calls => Err(PlayError::NotThere("calls")),
-            Suite::Images => Err(PlayError::NotThere("images")),
+            Suite::Calls => score.suite("calls", |score| {
+                calls::play(&options.read_table("calls")?, &options.only, score);
+                Ok(())
+            }),
+            Suite::Images => score.suite("images", |score| {
+                images::play(&options.read_table("image_calls")?, &options.only, score);
+                Ok(())
+            }),
         }
     }
 }

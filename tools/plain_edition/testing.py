@@ -68,7 +68,7 @@ def own_steps(counts, edition):
     counts.step("cargo build", built)
     counts.step("cargo test", tested)
     counts.step("stored runs", runs.stored, edition, MADE)
-    counts.step("rows and pages", player.played, MADE, ["rows", "pages"])
+    counts.step("tables", player.played, MADE, ["rows", "pages", "calls", "images"])
     counts.step("rows by the program", player.by_program, MADE, program)
     counts.step("outputs that nobody reads", runs.closed_output, program)
     counts.step("files as the system has them", disk.saved, program)

@@ -1,0 +1,179 @@
+//! Rows are played: each is answered, and the answer is compared with the one that is wanted.
+
+use crate::score::Score;
+use crate::table::{Part, Row};
+use edd_plain_std::alloc::AllocError;
+use std::error::Error;
+use std::fmt::{self, Display};
+use std::panic::{AssertUnwindSafe, catch_unwind};
+
+/// Why a row has no answer.
+#[derive(Debug, Clone, Copy, PartialEq, Eq)]
+pub enum NoAnswer {
+    /// The kind of its part is not known.
+    Kind,
+    /// It is no row of this kind, for this reason.
+    Row(&'static str),
+    /// The crates that are called ran out of memory.
+    Memory,
+}
+
+impl From<AllocError> for NoAnswer {
+    fn from(_: AllocError) -> Self {
+        NoAnswer::Memory
+    }
+}
+
+impl Display for NoAnswer {
+    fn fmt(&self, formatter: &mut fmt::Formatter<'_>) -> fmt::Result {
+        match self {
+            NoAnswer::Kind => formatter.write_str("no part is of this kind"),
+            NoAnswer::Row(why) => write!(formatter, "this is no such row: {why}"),
+            NoAnswer::Memory => formatter.write_str("out of memory"),
+        }
+    }
+}
+
+impl Error for NoAnswer {}
+
+/// What is wrong with a row.
+#[derive(Debug, Clone, PartialEq, Eq)]
+pub enum Fault {
+    /// Another answer came.
+    Answer {
+        wanted: String,
+        came: String,
+    },
+    NoAnswer(NoAnswer),
+    /// A call panicked; what it said was printed before.
+    Panic,
+}
+
+impl Display for Fault {
+    fn fmt(&self, formatter: &mut fmt::Formatter<'_>) -> fmt::Result {
+        match self {
+            Fault::Answer { wanted, came } => write_difference(formatter, wanted, came),
+            Fault::NoAnswer(why) => write!(formatter, "  {why}"),
+            Fault::Panic => formatter.write_str("  a call panicked"),
+        }
+    }
+}
+
+/// Writes the lines that differ, or both texts where their lines do not pair up.
+fn write_difference(formatter: &mut fmt::Formatter<'_>, wanted: &str, came: &str) -> fmt::Result {
+    if wanted.lines().count() != came.lines().count() {
+        return write!(formatter, "  wanted {wanted}\n  came   {came}");
+    }
+    let pairs = wanted.lines().zip(came.lines());
+    for (number, (wanted, came)) in pairs.filter(|(wanted, came)| wanted != came).enumerate() {
+        let before = if number == 0 { "" } else { "\n" };
+        write!(formatter, "{before}  wanted {wanted}\n  came   {came}")?;
+    }
+    Ok(())
+}
+
+/// Calls what may panic, and returns what it answers.
+///
+/// # Errors
+///
+/// Returns that there is no answer, or that it panicked.
+pub fn attempt<T>(call: impl FnOnce() -> Result<T, NoAnswer>) -> Result<T, Fault> {
+    match catch_unwind(AssertUnwindSafe(call)) {
+        Ok(answer) => answer.map_err(Fault::NoAnswer),
+        Err(_) => Err(Fault::Panic),
+    }
+}
+
+/// Plays a row, and returns what is wrong with it.
+fn fault_of(row: &Row<'_>, answer: impl Fn(&Row<'_>) -> Result<String, NoAnswer>) -> Option<Fault> {
+    match attempt(|| answer(row)) {
+        Ok(came) if came == row.wanted => None,
+        Ok(came) => Some(Fault::Answer {
+            wanted: row.wanted.clone(),
+            came,
+        }),
+        Err(fault) => Some(fault),
+    }
+}
+
+/// Plays the rows of a part, and returns how many there are.
+///
+/// A line that belongs to no row counts as a row that failed, and none of the part is played.
+pub fn play_rows(
+    part: &Part<'_>,
+    score: &mut Score,
+    answer: impl Fn(&Row<'_>) -> Result<String, NoAnswer>,
+) -> usize {
+    let rows = match part.rows() {
+        Ok(rows) => rows,
+        Err(stray) => {
+            score.row(part.name, Some(stray));
+            return 0;
+        }
+    };
+    for row in &rows {
+        let name = format_args!(
+            "{}, line {}: {} {}",
+            part.name, row.line, row.asked, row.text
+        );
+        score.row(name, fault_of(row, &answer));
+    }
+    rows.len()
+}
+
+#[cfg(test)]
+mod tests {
+    use super::*;
+    use crate::table::parts;
+
+    fn played(table: &str) -> (usize, Score) {
+        let mut score = Score::default();
+        let part = parts(table).next().unwrap();
+        let count = play_rows(&part, &mut score, |row| match row.text.as_str() {
+            "panic" => panic!("as it was told"),
+            "none" => Err(NoAnswer::Memory),
+            text => Ok(text.to_uppercase()),
+        });
+        (count, score)
+    }
+
+    #[test]
+    fn rows_pass_with_the_answer_that_is_wanted() {
+        let (count, score) = played("@a b\n- x -> X\n- y -> Y\n");
+        assert_eq!(
+            (count, score.to_string().as_str()),
+            (2, "2 passed, 0 failed")
+        );
+    }
+
+    #[test]
+    fn other_answers_and_panics_fail_alone() {
+        let (count, score) = played("@a b\n- x -> Y\n- panic -> PANIC\n- none -> NONE\n- y -> Y\n");
+        assert_eq!(
+            (count, score.to_string().as_str()),
+            (4, "1 passed, 3 failed")
+        );
+    }
+
+    #[test]
+    fn a_stray_line_fails() {
+        let (count, score) = played("@a b\n- x -> X\n+ y -> Y\n");
+        assert_eq!(
+            (count, score.to_string().as_str()),
+            (0, "0 passed, 1 failed")
+        );
+    }
+
+    #[test]
+    fn only_lines_that_differ_are_shown() {
+        let fault = |wanted: &str, came: &str| Fault::Answer {
+            wanted: wanted.into(),
+            came: came.into(),
+        };
+        assert_eq!(
+            fault("a\nb\nc", "a\nx\ny").to_string(),
+            "  wanted b\n  came   x\n  wanted c\n  came   y"
+        );
+        assert_eq!(fault("a", "a\nb").to_string(), "  wanted a\n  came   a\nb");
+    }
+}
