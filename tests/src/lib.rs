@@ -14,7 +14,14 @@
 
 pub mod calls;
 mod editor;
+pub mod error;
+pub mod folder;
 pub mod images;
+pub mod options;
+pub mod pages;
+pub mod parallel;
 pub mod playing;
+pub mod program;
+pub mod rows;
 pub mod score;
 pub mod table;
