@@ -110,11 +110,11 @@ impl Display for Played {
     }
 }
 
-/// Plays the parts whose names contain all these words, and prints how much was played.
+/// Plays the parts whose names contain all these words, and notes how much was played.
 pub fn play(table: &str, only: &[String], score: &mut Score) {
     let mut played = Played::default();
     for part in parts(table).filter(|part| part.is_named(only)) {
         played.add(&part, score);
     }
-    println!("calls: {played}");
+    score.note(played);
 }
