@@ -11,6 +11,8 @@ import sys
 # Debian's packages of the crates that the edition uses, and of what further systems need.
 SOURCES = ("librust-arrayvec-dev", "librust-clap-dev", "librust-serde-dev", "librust-serde-derive-dev", "librust-serde-json-dev",
            "librust-unicode-width-dev")
+# The same with those of the player of the tables.
+TESTS = (*SOURCES, "librust-thiserror-dev")
 COMPILER = ("rustc-web", "cargo-web")
 # A compiler with the source of its standard library, of which one is made for other systems, and their linkers.
 SYSTEMS = (*COMPILER, "rust-web-src", "lld", "gcc-multilib")
@@ -101,8 +103,8 @@ def install(packages):
             raise Missing(f"{' '.join(words)} failed:\n{ran.stdout[-1500:]}")
 
 
-def settle(out, may_install):
-    """Has the crates for a workspace at hand, so that cargo builds it offline."""
+def settle(out, may_install, sources=SOURCES):
+    """Has the crates for a workspace at hand, so that cargo builds it offline; Debian's packages with their sources are named."""
     command = cargo(may_install)
     configuration = os.path.join(out, ".cargo", "config.toml")
     has_all = lambda *words, **more: command.run(["fetch", "--quiet", *words], out, **more).returncode == 0
@@ -112,7 +114,7 @@ def settle(out, may_install):
         os.remove(configuration)
     if has_all(**PATIENCE):
         return command
-    left = lacking(SOURCES)
+    left = lacking(sources)
     if left:
         if not may_install or not can_install():
             raise Missing("cargo reaches no registry with the crates that are needed; as root on Debian: " + apt_get(left))
