@@ -3,73 +3,42 @@
 use crate::score::Score;
 use crate::table::{Part, Row};
 use edd_plain_std::alloc::AllocError;
-use std::error::Error;
-use std::fmt::{self, Display};
 use std::panic::{AssertUnwindSafe, catch_unwind};
 
 /// Why a row has no answer.
-#[derive(Debug, Clone, Copy, PartialEq, Eq)]
+#[derive(Debug, Clone, Copy, PartialEq, Eq, thiserror::Error)]
 pub enum NoAnswer {
-    /// The kind of its part is not known.
+    #[error("no part is of this kind")]
     Kind,
     /// It is no row of this kind, for this reason.
+    #[error("this is no such row: {0}")]
     Row(&'static str),
-    /// The crates that are called ran out of memory.
-    Memory,
+    #[error("out of memory")]
+    Memory(#[from] AllocError),
 }
-
-impl From<AllocError> for NoAnswer {
-    fn from(_: AllocError) -> Self {
-        NoAnswer::Memory
-    }
-}
-
-impl Display for NoAnswer {
-    fn fmt(&self, formatter: &mut fmt::Formatter<'_>) -> fmt::Result {
-        match self {
-            NoAnswer::Kind => formatter.write_str("no part is of this kind"),
-            NoAnswer::Row(why) => write!(formatter, "this is no such row: {why}"),
-            NoAnswer::Memory => formatter.write_str("out of memory"),
-        }
-    }
-}
-
-impl Error for NoAnswer {}
 
 /// What is wrong with a row.
-#[derive(Debug, Clone, PartialEq, Eq)]
+#[derive(Debug, Clone, PartialEq, Eq, thiserror::Error)]
 pub enum Fault {
     /// Another answer came.
-    Answer {
-        wanted: String,
-        came: String,
-    },
-    NoAnswer(NoAnswer),
+    #[error("{}", difference(wanted, came))]
+    Answer { wanted: String, came: String },
+    #[error("  {0}")]
+    NoAnswer(#[from] NoAnswer),
     /// A call panicked; what it said was printed before.
+    #[error("  a call panicked")]
     Panic,
 }
 
-impl Display for Fault {
-    fn fmt(&self, formatter: &mut fmt::Formatter<'_>) -> fmt::Result {
-        match self {
-            Fault::Answer { wanted, came } => write_difference(formatter, wanted, came),
-            Fault::NoAnswer(why) => write!(formatter, "  {why}"),
-            Fault::Panic => formatter.write_str("  a call panicked"),
-        }
+/// Returns the lines that differ, or both texts where their lines do not pair up.
+fn difference(wanted: &str, came: &str) -> String {
+    let shown = |(wanted, came): (&str, &str)| format!("  wanted {wanted}\n  came   {came}");
+    if wanted.split('\n').count() != came.split('\n').count() {
+        return shown((wanted, came));
     }
-}
-
-/// Writes the lines that differ, or both texts where their lines do not pair up.
-fn write_difference(formatter: &mut fmt::Formatter<'_>, wanted: &str, came: &str) -> fmt::Result {
-    if wanted.lines().count() != came.lines().count() {
-        return write!(formatter, "  wanted {wanted}\n  came   {came}");
-    }
-    let pairs = wanted.lines().zip(came.lines());
-    for (number, (wanted, came)) in pairs.filter(|(wanted, came)| wanted != came).enumerate() {
-        let before = if number == 0 { "" } else { "\n" };
-        write!(formatter, "{before}  wanted {wanted}\n  came   {came}")?;
-    }
-    Ok(())
+    let pairs = wanted.split('\n').zip(came.split('\n'));
+    let differing = pairs.filter(|(wanted, came)| wanted != came).map(shown);
+    differing.collect::<Vec<_>>().join("\n")
 }
 
 /// Calls what may panic, and returns what it answers.
@@ -131,7 +100,7 @@ mod tests {
         let part = parts(table).next().unwrap();
         let count = play_rows(&part, &mut score, |row| match row.text.as_str() {
             "panic" => panic!("as it was told"),
-            "none" => Err(NoAnswer::Memory),
+            "none" => Err(NoAnswer::Memory(AllocError)),
             text => Ok(text.to_uppercase()),
         });
         (count, score)
@@ -175,5 +144,6 @@ mod tests {
             "  wanted b\n  came   x\n  wanted c\n  came   y"
         );
         assert_eq!(fault("a", "a\nb").to_string(), "  wanted a\n  came   a\nb");
+        assert_eq!(fault("a", "a\n").to_string(), "  wanted a\n  came   a\n");
     }
 }

@@ -4,9 +4,6 @@
 //! what is asked, with a line `> ` for each line of its text and a line `< ` for each of its answer.
 //! Lines that begin with a `#` are comments.
 
-use std::error::Error;
-use std::fmt::{self, Display};
-
 /// A part of a table.
 #[derive(Debug, Clone, Copy, PartialEq, Eq)]
 pub struct Part<'t> {
@@ -29,23 +26,12 @@ pub struct Row<'t> {
 }
 
 /// A line of a part that belongs to no row.
-#[derive(Debug, Clone, PartialEq, Eq)]
+#[derive(Debug, Clone, PartialEq, Eq, thiserror::Error)]
+#[error("line {number} belongs to no row: {line}")]
 pub struct StrayLine {
     pub number: usize,
     pub line: String,
 }
-
-impl Display for StrayLine {
-    fn fmt(&self, formatter: &mut fmt::Formatter<'_>) -> fmt::Result {
-        write!(
-            formatter,
-            "line {} belongs to no row: {}",
-            self.number, self.line
-        )
-    }
-}
-
-impl Error for StrayLine {}
 
 /// The parts of a table, in order.
 ///
