@@ -24,7 +24,7 @@ pub enum PlayError {
 
 impl PlayError {
     /// What turns an error of a file into one of the suite.
-    pub fn of_file(path: &Path) -> impl FnOnce(io::Error) -> PlayError {
+    pub fn in_file(path: &Path) -> impl FnOnce(io::Error) -> PlayError {
         let path = path.to_owned();
         |error| PlayError::File { path, error }
     }

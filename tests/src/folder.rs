@@ -1,7 +1,7 @@
 //! Folders for the files of runs.
 
 use std::fs::{self, DirBuilder};
-use std::io;
+use std::io::{self, ErrorKind};
 use std::os::unix::fs::DirBuilderExt;
 use std::path::{Path, PathBuf};
 use std::sync::atomic::{AtomicU32, Ordering};
@@ -22,11 +22,16 @@ impl TempFolder {
     /// # Ok::<(), std::io::Error>(())
     /// ```
     pub fn new() -> io::Result<TempFolder> {
-        let number = MADE.fetch_add(1, Ordering::Relaxed);
-        let name = format!("edd_play_{}_{number}", std::process::id());
-        let path = std::env::temp_dir().join(name);
-        DirBuilder::new().mode(0o755).create(&path)?;
-        Ok(TempFolder(path))
+        loop {
+            let number = MADE.fetch_add(1, Ordering::Relaxed);
+            let name = format!("edd_play_{}_{number}", std::process::id());
+            let path = std::env::temp_dir().join(name);
+            match DirBuilder::new().mode(0o755).create(&path) {
+                // An earlier process of this number left it.
+                Err(error) if error.kind() == ErrorKind::AlreadyExists => {}
+                made => return made.map(|()| TempFolder(path)),
+            }
+        }
     }
 
     pub fn path(&self) -> &Path {

@@ -52,8 +52,9 @@ impl Suite {
 }
 
 fn main() -> ExitCode {
-    let mut words = std::env::args().skip(1).peekable();
+    let mut words = std::env::args_os().skip(1).peekable();
     if words.next_if(|word| word == AS_EDD).is_some() {
+        let words = words.map(|word| word.to_string_lossy().into_owned());
         return ExitCode::from(run_as_edd(words));
     }
     let CommandLine { options, suites } = CommandLine::parse();

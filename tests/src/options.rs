@@ -48,6 +48,6 @@ impl Options {
     /// Reads a file of the folder of tables.
     pub fn read_table(&self, name: &str) -> Result<String, PlayError> {
         let path = self.tables.join(name);
-        fs::read_to_string(&path).map_err(PlayError::of_file(&path))
+        fs::read_to_string(&path).map_err(PlayError::in_file(&path))
     }
 }

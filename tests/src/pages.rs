@@ -104,7 +104,7 @@ impl Stage {
         let program = program.without_root(room.path())?;
         let folder = room.path().join("files");
         fs::create_dir(&folder)?;
-        program.give(&folder)?;
+        program.hand_over(&folder)?;
         let is_description = |path: &Path| !PROGRAMS.iter().any(|name| path.ends_with(name));
         copy_files(
             &options.top.join("examples"),
@@ -133,7 +133,7 @@ impl Stage {
                 counts.steps = counts.steps.saturating_add(1);
                 score.row(
                     format!("{}: {}", page.heading, step.line),
-                    self.take(step).err(),
+                    self.run_step(step).err(),
                 );
             }
         }
@@ -142,7 +142,7 @@ impl Stage {
     fn write(&self, name: &str, lines: &str) -> io::Result<()> {
         let path = self.folder.join(name);
         fs::write(&path, format!("{lines}\n"))?;
-        self.program.give(&path)
+        self.program.hand_over(&path)
     }
 
     /// Runs a command. Its status is a row, and so is each part of what it prints.
@@ -177,8 +177,8 @@ impl Stage {
         }
     }
 
-    fn take(&self, step: &Step<'_>) -> Result<(), PageFault> {
-        let printed = steps::take_step(step.line, &self.program, &self.folder)?;
+    fn run_step(&self, step: &Step<'_>) -> Result<(), PageFault> {
+        let printed = steps::run_step(step.line, &self.program, &self.folder)?;
         if printed == step.wanted {
             Ok(())
         } else {
@@ -208,9 +208,9 @@ fn try_examples(options: &Options, counts: &mut Counts, score: &mut Score) {
 fn compare_refusals(path: &Path, is_renewed: bool, score: &mut Score) -> Result<(), PlayError> {
     let wanted = write_refusals();
     if is_renewed {
-        fs::write(path, &wanted).map_err(PlayError::of_file(path))?;
+        fs::write(path, &wanted).map_err(PlayError::in_file(path))?;
     }
-    let found = fs::read_to_string(path).map_err(PlayError::of_file(path))?;
+    let found = fs::read_to_string(path).map_err(PlayError::in_file(path))?;
     score.row(path.display(), find_difference(&wanted, &found));
     Ok(())
 }

@@ -46,7 +46,7 @@ pub fn map<T: Sync, R: Send>(
             done.push((place, result.map_err(|payload| Panicked::new(&*payload))));
         }
     };
-    let mut done: Vec<_> = thread::scope(|scope| {
+    let done: Vec<_> = thread::scope(|scope| {
         let start = |_| {
             thread::Builder::new()
                 .stack_size(STACK)
@@ -61,8 +61,14 @@ pub fn map<T: Sync, R: Send>(
             .flat_map(|worker| worker.join().unwrap_or_default())
             .collect()
     });
-    done.sort_by_key(|(place, _)| *place);
-    done.into_iter().map(|(_, result)| result).collect()
+    let missing = || Err(Panicked("no thread did the work".to_owned()));
+    let mut results: Vec<_> = items.iter().map(|_| missing()).collect();
+    for (place, result) in done {
+        if let Some(slot) = results.get_mut(place) {
+            *slot = result;
+        }
+    }
+    results
 }
 
 #[cfg(test)]

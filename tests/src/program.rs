@@ -95,7 +95,7 @@ impl Program {
     }
 
     /// Gives a file to the user that the program runs as. A link itself is given, not what it leads to.
-    pub fn give(&self, path: &Path) -> io::Result<()> {
+    pub fn hand_over(&self, path: &Path) -> io::Result<()> {
         match self.user {
             Some(_) if path.is_symlink() => std::os::unix::fs::lchown(path, self.user, self.user),
             Some(_) => chown(path, self.user, self.user),

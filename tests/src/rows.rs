@@ -107,7 +107,7 @@ pub fn play(options: &Options, score: &mut Score) -> Result<(), PlayError> {
     let rows = select_rows(options, &table)?;
     if options.renew && options.plays_all() {
         let path = options.tables.join(IMAGES);
-        fs::write(&path, images::write_table(rows.iter())).map_err(PlayError::of_file(&path))?;
+        fs::write(&path, images::write_table(rows.iter())).map_err(PlayError::in_file(&path))?;
     }
     let stored = options.read_table(IMAGES)?;
     let images = Images::parse(&stored).map_err(PlayError::Images)?;
@@ -124,7 +124,7 @@ pub fn play(options: &Options, score: &mut Score) -> Result<(), PlayError> {
     }
     if options.plays_all() {
         find_lost_images(&rows, &images, score);
-        say_counts(all.into_iter().sum(), score);
+        note_counts(all.into_iter().sum(), score);
     }
     Ok(())
 }
@@ -162,7 +162,7 @@ fn find_lost_images(rows: &[Row<'_>], images: &Images<'_>, score: &mut Score) {
     }
 }
 
-fn say_counts(counts: Counts, score: &mut Score) {
+fn note_counts(counts: Counts, score: &mut Score) {
     let Tried { runs, done } = counts.damaged;
     let is_enough = runs >= LEAST_DAMAGED.runs && done >= LEAST_DAMAGED.done;
     let least = format!(

@@ -27,10 +27,10 @@ pub enum StepError {
 /// `soft NAME TARGET`, `hard NAME FILE` and `mode NAME DIGITS` make or change files. `run` and `pipe` run the program,
 /// and `show` and `list` say what is there. `one_file` runs it on a file in memory, and `save` and `save_opened` write
 /// to a disk in memory of which each call fails in turn.
-pub fn take_step(line: &str, program: &Program, folder: &Path) -> Result<String, StepError> {
+pub fn run_step(line: &str, program: &Program, folder: &Path) -> Result<String, StepError> {
     let (kind, words) = line.split_once(' ').unwrap_or((line, ""));
     match kind {
-        "run" => Ok(say_ended(&program.run(
+        "run" => Ok(format_finished(&program.run(
             words.split_ascii_whitespace(),
             folder,
             &[],
@@ -45,7 +45,7 @@ pub fn take_step(line: &str, program: &Program, folder: &Path) -> Result<String,
     }
 }
 
-fn say_ended(ended: &Finished) -> String {
+fn format_finished(ended: &Finished) -> String {
     match ended.status {
         Some(status) => format!("{}status {status}\n", ended.text()),
         None => format!("{}ended by a signal\n", ended.text()),
@@ -56,7 +56,7 @@ fn run_into_pipe(words: &str, program: &Program, folder: &Path) -> Result<String
     let (ended, taken) = program.run_into_pipe(words.split_ascii_whitespace(), folder)?;
     Ok(format!(
         "{}the pipe took {} bytes\n",
-        say_ended(&ended),
+        format_finished(&ended),
         taken.len()
     ))
 }
@@ -77,7 +77,7 @@ fn change(kind: &str, words: &str, program: &Program, folder: &Path) -> Result<(
         }
         _ => return Err(StepError::Unknown),
     }
-    Ok(program.give(&path)?)
+    Ok(program.hand_over(&path)?)
 }
 
 /// Says where the links of a name lead, if it is one, and what is there.
@@ -131,7 +131,7 @@ mod tests {
     fn steps_make_files_and_show_them() {
         let folder = TempFolder::new().unwrap();
         let program = Program::this_player().unwrap();
-        let step = |line| take_step(line, &program, folder.path()).unwrap();
+        let step = |line| run_step(line, &program, folder.path()).unwrap();
         assert_eq!(
             step("folder new")
                 + &step("text new/i an image")
@@ -146,7 +146,7 @@ mod tests {
             "a folder\nnothing\ni l\n"
         );
         assert!(matches!(
-            take_step("jump", &program, folder.path()),
+            run_step("jump", &program, folder.path()),
             Err(StepError::Unknown)
         ));
     }

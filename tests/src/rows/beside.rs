@@ -85,7 +85,7 @@ fn compare_row(row: &Row<'_>, programs: [&Program; 2]) -> Result<(), Difference>
             files: read_files(folder.path())?,
         })
     });
-    compare(one?, other?, row.is_of_library())
+    compare(one?, other?, row.prints_library_text())
 }
 
 /// Compiles a source and shows its image. Says whether it has one.
@@ -106,9 +106,9 @@ fn compare_images(source: &[u8], programs: [&Program; 2]) -> Result<bool, Differ
 }
 
 /// Compares status, output and files. The lines of the library that reads command lines differ by its version.
-fn compare(one: Trace, other: Trace, is_of_library: bool) -> Result<(), Difference> {
+fn compare(one: Trace, other: Trace, prints_library_text: bool) -> Result<(), Difference> {
     for (one, other) in one.ran.into_iter().zip(other.ran) {
-        let has_same_lines = is_of_library || one.printed == other.printed;
+        let has_same_lines = prints_library_text || one.printed == other.printed;
         if one.status != other.status || !has_same_lines {
             return Err(Difference::Printed(Box::new([one, other])));
         }

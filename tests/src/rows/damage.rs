@@ -13,7 +13,7 @@ const LONGEST_PIECE: usize = 64;
 ///
 /// ```
 /// use edd_tests::rows::Dice;
-/// let (mut one, mut other) = (Dice::of_text("a row"), Dice::of_text("a row"));
+/// let (mut one, mut other) = (Dice::from_seed("a row"), Dice::from_seed("a row"));
 /// assert_eq!(one.below(1000), other.below(1000));
 /// ```
 #[derive(Debug, Clone)]
@@ -21,7 +21,7 @@ pub struct Dice(u64);
 
 impl Dice {
     /// A generator with a text as its seed, so that each row has its own damage whichever rows are played.
-    pub fn of_text(text: &str) -> Dice {
+    pub fn from_seed(text: &str) -> Dice {
         let add = |hash: u64, byte: &u8| (hash ^ u64::from(*byte)).wrapping_mul(0x0100_0000_01b3);
         Dice(text.as_bytes().iter().fold(0xcbf2_9ce4_8422_2325, add))
     }
@@ -127,7 +127,7 @@ mod tests {
         let whole: Vec<u8> = (0..=255).collect();
         let damaged = |text: String| {
             let mut bytes = whole.clone();
-            damage(&mut Dice::of_text(&text), &mut bytes, b"another file");
+            damage(&mut Dice::from_seed(&text), &mut bytes, b"another file");
             assert_eq!(bytes.len(), whole.len());
             bytes != whole
         };
@@ -141,6 +141,6 @@ mod tests {
 
     #[test]
     fn an_empty_file_stays_empty() {
-        (0..20).for_each(|number| damage(&mut Dice::of_text(&format!("{number}")), &mut [], &[]));
+        (0..20).for_each(|number| damage(&mut Dice::from_seed(&format!("{number}")), &mut [], &[]));
     }
 }

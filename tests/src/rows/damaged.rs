@@ -27,7 +27,7 @@ pub struct Tried {
 impl Tried {
     /// Runs a command over damaged files, and counts it.
     fn run(&mut self, command: &str, files: &[File]) -> Result<Run, Fault> {
-        let printed = Run::of(command, files, &Calls::passing());
+        let printed = Run::in_memory(command, files, &Calls::passing());
         self.runs = self.runs.saturating_add(1);
         let is_right = match printed.status {
             0 => {
@@ -89,7 +89,7 @@ pub fn try_damaged(row: &Row<'_>) -> Result<Tried, Fault> {
     if row.status > 1 || row.files.iter().any(|file| file.bytes.len() > LONGEST) {
         return Ok(tried);
     }
-    let mut dice = Dice::of_text(&row.title());
+    let mut dice = Dice::from_seed(&row.title());
     tried.try_files(row, &mut dice)?;
     if let Some(image) = row.file(SOURCE).and_then(compile) {
         (0..TIMES).try_for_each(|_| tried.try_image(&image, &mut dice))?;

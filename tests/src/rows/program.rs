@@ -36,12 +36,12 @@ pub fn play_program(options: &Options, score: &mut Score) -> Result<(), PlayErro
         .program
         .as_deref()
         .ok_or(PlayError::NoProgram("program"))?;
-    let program = Program::new(path).map_err(PlayError::of_file(path))?;
+    let program = Program::new(path).map_err(PlayError::in_file(path))?;
     let table = read_tables(options)?;
     let rows = select_rows(options, &table)?;
     let (rows, left): (Vec<_>, Vec<_>) = rows.into_iter().partition(has_real_files);
     if let Some(other) = options.beside.as_deref() {
-        let other = Program::new(other).map_err(PlayError::of_file(other))?;
+        let other = Program::new(other).map_err(PlayError::in_file(other))?;
         super::compare_programs(&rows, [&program, &other], score);
         return Ok(());
     }
@@ -91,7 +91,7 @@ fn play_row(row: &Row<'_>, program: &Program) -> Result<bool, ProgramFault> {
     let folder = TempFolder::new()?;
     let printed = run_row(row, program, folder.path())?;
     let has_lines = printed.printed == row.lines.as_bytes();
-    if printed.status != Some(i32::from(row.status)) || !(has_lines || row.is_of_library()) {
+    if printed.status != Some(i32::from(row.status)) || !(has_lines || row.prints_library_text()) {
         return Err(ProgramFault::Differs {
             wanted: (row.status, row.lines.clone()),
             printed,

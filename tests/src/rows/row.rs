@@ -136,7 +136,7 @@ impl<'t> Row<'t> {
     }
 
     /// Whether its lines are words of the library that reads command lines, which differ by its version.
-    pub fn is_of_library(&self) -> bool {
+    pub fn prints_library_text(&self) -> bool {
         self.status == WRONG_COMMAND_LINE
             || self.words().next().is_none()
             || self.words().any(|word| LIBRARY_WORDS.contains(&word))
@@ -252,12 +252,12 @@ mod tests {
 
     #[test]
     fn lines_of_the_library_are_known() {
-        let of_library = |text| Row::parse(text).is_ok_and(|row| row.is_of_library());
+        let is_of_library = |text| Row::parse(text).is_ok_and(|row| row.prints_library_text());
         assert!(
-            of_library("edd\n@status 0\n")
-                && of_library("edd view --help\n@status 0\n")
-                && of_library("edd view\n@status 2\n")
+            is_of_library("edd\n@status 0\n")
+                && is_of_library("edd view --help\n@status 0\n")
+                && is_of_library("edd view\n@status 2\n")
         );
-        assert!(!of_library("edd view s\n@status 1\n"));
+        assert!(!is_of_library("edd view s\n@status 1\n"));
     }
 }

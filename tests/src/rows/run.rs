@@ -20,10 +20,10 @@ impl Run {
     /// ```
     /// use edd_tests::rows::{Calls, File, Run};
     /// let source = File { name: "s".into(), bytes: b"no description".to_vec() };
-    /// let run = Run::of("edd view s", &[source], &Calls::passing());
+    /// let run = Run::in_memory("edd view s", &[source], &Calls::passing());
     /// assert_eq!((run.status, run.text()), (1, "refused 10 SYNTAX line 1\n".into()));
     /// ```
-    pub fn of(command: &str, files: &[File], calls: &Calls) -> Run {
+    pub fn in_memory(command: &str, files: &[File], calls: &Calls) -> Run {
         let words: Vec<_> = command
             .split(' ')
             .map(|word| Word::from_real(word.to_owned()))

@@ -14,7 +14,7 @@ const FILE: u8 = 3;
 /// Runs the row with all calls passing. Gives what it prints, which is its lines, but for those of the library
 /// that reads command lines where that is of another version.
 pub fn run_as_it_is(row: &Row<'_>) -> Result<Run, Fault> {
-    let run = Run::of(row.command, &row.files, &Calls::passing());
+    let run = Run::in_memory(row.command, &row.files, &Calls::passing());
     if is_as_written(row, &run) {
         Ok(run)
     } else {
@@ -27,7 +27,7 @@ pub fn run_as_it_is(row: &Row<'_>) -> Result<Run, Fault> {
 pub fn run_failing(row: &Row<'_>, whole: &Run, call: Call) -> Result<u32, Fault> {
     for number in 0..MOST_CALLS {
         let calls = Calls::failing(call, number);
-        let printed = Run::of(row.command, &row.files, &calls);
+        let printed = Run::in_memory(row.command, &row.files, &calls);
         match calls.state() {
             Failing::After(_) if printed == *whole => return Ok(number),
             Failing::After(_) => {
@@ -57,7 +57,7 @@ pub fn run_failing(row: &Row<'_>, whole: &Run, call: Call) -> Result<u32, Fault>
 }
 
 fn is_as_written(row: &Row<'_>, run: &Run) -> bool {
-    let has_lines = run.printed == row.lines.as_bytes() || row.is_of_library();
+    let has_lines = run.printed == row.lines.as_bytes() || row.prints_library_text();
     run.status == row.status
         && has_lines
         && row.saved.as_ref().is_none_or(|saved| *saved == run.saved)
