@@ -29,12 +29,13 @@ pub fn run_as_edd(words: impl Iterator<Item = String>) -> u8 {
     )
 }
 
-/// How a process ended, and what it printed.
+/// How a process ended, and what it printed to its output and to the standard error.
 #[derive(Debug, Clone, Default, PartialEq, Eq)]
 pub struct Finished {
     /// Nothing where a signal ended it.
     pub status: Option<i32>,
     pub printed: Vec<u8>,
+    pub hint: Vec<u8>,
 }
 
 impl Finished {
@@ -46,9 +47,14 @@ impl Finished {
 impl Display for Finished {
     fn fmt(&self, formatter: &mut fmt::Formatter<'_>) -> fmt::Result {
         match self.status {
-            Some(status) => write!(formatter, "status {status}\n{}", self.text()),
-            None => write!(formatter, "ended by a signal\n{}", self.text()),
+            Some(status) => write!(formatter, "status {status}\n{}", self.text())?,
+            None => write!(formatter, "ended by a signal\n{}", self.text())?,
         }
+        if !self.hint.is_empty() {
+            let hint = String::from_utf8_lossy(&self.hint);
+            write!(formatter, "on the standard error:\n{hint}")?;
+        }
+        Ok(())
     }
 }
 
@@ -127,7 +133,11 @@ impl Program {
         folder: &Path,
         typed: &[u8],
     ) -> io::Result<Finished> {
-        let mut child = self.command(words, folder).stdin(Stdio::piped()).spawn()?;
+        let mut child = self
+            .command(words, folder)
+            .stdin(Stdio::piped())
+            .stderr(Stdio::piped())
+            .spawn()?;
         let stdin = child.stdin.take();
         let ended = thread::scope(|scope| {
             // A program that ends early leaves what is typed.
@@ -137,6 +147,7 @@ impl Program {
         Ok(Finished {
             status: ended.status.code(),
             printed: ended.stdout,
+            hint: ended.stderr,
         })
     }
 
@@ -163,6 +174,7 @@ impl Program {
             Finished {
                 status: ended.status.code(),
                 printed: ended.stdout,
+                hint: Vec::new(),
             },
             taken,
         ))

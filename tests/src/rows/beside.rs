@@ -109,7 +109,7 @@ fn compare_images(source: &[u8], programs: [&Program; 2]) -> Result<bool, Differ
 fn compare(one: Trace, other: Trace, prints_library_text: bool) -> Result<(), Difference> {
     for (one, other) in one.ran.into_iter().zip(other.ran) {
         let has_same_lines = prints_library_text || one.printed == other.printed;
-        if one.status != other.status || !has_same_lines {
+        if one.status != other.status || one.hint != other.hint || !has_same_lines {
             return Err(Difference::Printed(Box::new([one, other])));
         }
     }

@@ -96,11 +96,12 @@ impl Calls {
     }
 }
 
-/// Files by their names, and the bytes that were saved last.
+/// Files by their names, the lines that were told beside the output, and the bytes that were saved last.
 #[derive(Debug)]
 pub struct MemoryFiles<'f> {
     pub files: &'f [File],
     pub calls: &'f Calls,
+    pub hint: String,
     pub saved: Vec<u8>,
 }
 
@@ -184,6 +185,11 @@ impl<'f> Files for MemoryFiles<'f> {
         self.saved = bytes.to_vec();
         Ok(())
     }
+
+    fn hint(&mut self, line: &str) {
+        self.hint.push_str(line);
+        self.hint.push('\n');
+    }
 }
 
 /// Keeps what is written. Takes at most eleven bytes a write.
@@ -218,6 +224,7 @@ mod tests {
         let mut memory = MemoryFiles {
             files: &files,
             calls: &calls,
+            hint: String::new(),
             saved: Vec::new(),
         };
         let mut reader = memory.open(name).unwrap();

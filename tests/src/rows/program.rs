@@ -17,10 +17,10 @@ use std::path::Path;
 /// What is wrong with a row of the program.
 #[derive(Debug, thiserror::Error)]
 pub enum ProgramFault {
-    #[error("wanted: status {}\n{}\nprinted: {printed}", wanted.0, wanted.1)]
+    #[error("wanted: {wanted}\nprinted: {printed}")]
     Differs {
-        wanted: (u8, String),
-        printed: Finished,
+        wanted: Box<Finished>,
+        printed: Box<Finished>,
     },
     #[error("it saved other bytes: {0:02X?}")]
     Saved(Option<Vec<u8>>),
@@ -91,10 +91,16 @@ fn play_row(row: &Row<'_>, program: &Program) -> Result<bool, ProgramFault> {
     let folder = TempFolder::new()?;
     let printed = run_row(row, program, folder.path())?;
     let has_lines = printed.printed == row.lines.as_bytes();
-    if printed.status != Some(i32::from(row.status)) || !(has_lines || row.prints_library_text()) {
+    let wanted = Finished {
+        status: Some(i32::from(row.status)),
+        printed: row.lines.clone().into_bytes(),
+        hint: row.hint.clone().into_bytes(),
+    };
+    let has_status = printed.status == wanted.status && printed.hint == wanted.hint;
+    if !has_status || !(has_lines || row.prints_library_text()) {
         return Err(ProgramFault::Differs {
-            wanted: (row.status, row.lines.clone()),
-            printed,
+            wanted: Box::new(wanted),
+            printed: Box::new(printed),
         });
     }
     let saved = row.saved.as_ref().map(|_| read_saved(row, folder.path()));

@@ -6,11 +6,12 @@ use edd_plain_std::alloc::Global;
 use edd_plain_std::string::String as Word;
 use std::fmt::{self, Display};
 
-/// How a run ended, what it printed and what it saved last.
+/// How a run ended, what it printed, what it told beside that, and what it saved last.
 #[derive(Debug, Clone, Default, PartialEq, Eq)]
 pub struct Run {
     pub status: u8,
     pub printed: Vec<u8>,
+    pub hint: String,
     pub saved: Vec<u8>,
 }
 
@@ -31,6 +32,7 @@ impl Run {
         let mut files = MemoryFiles {
             files,
             calls,
+            hint: String::new(),
             saved: Vec::new(),
         };
         let mut output = MemoryOutput {
@@ -41,6 +43,7 @@ impl Run {
         Run {
             status,
             printed: output.printed,
+            hint: files.hint,
             saved: files.saved,
         }
     }
@@ -53,6 +56,9 @@ impl Run {
 impl Display for Run {
     fn fmt(&self, formatter: &mut fmt::Formatter<'_>) -> fmt::Result {
         write!(formatter, "status {}\n{}", self.status, self.text())?;
+        if !self.hint.is_empty() {
+            write!(formatter, "on the standard error:\n{}", self.hint)?;
+        }
         self.saved
             .iter()
             .try_for_each(|byte| write!(formatter, "{byte:02X} "))

@@ -60,6 +60,7 @@ fn is_as_written(row: &Row<'_>, run: &Run) -> bool {
     let has_lines = run.printed == row.lines.as_bytes() || row.prints_library_text();
     run.status == row.status
         && has_lines
+        && run.hint == row.hint
         && row.saved.as_ref().is_none_or(|saved| *saved == run.saved)
 }
 
@@ -69,6 +70,7 @@ fn differs(row: &Row<'_>, printed: Run) -> Fault {
         wanted: Run {
             status: row.status,
             printed: row.lines.clone().into_bytes(),
+            hint: row.hint.clone(),
             saved,
         },
         printed,

@@ -30,7 +30,7 @@ class Row:
                 self.files.append((argument.decode(), bytearray(from_hex(below))))
             case "more" | "times" | "numbered" | "fill":
                 lengthen(self.files[-1][1], kind, argument)
-            case "name" | "status" | "image" | "saved":
+            case "name" | "status" | "hint" | "image" | "saved":
                 pass
             case _:
                 raise ValueError(f"a part of a row that is not known: {kind}")
