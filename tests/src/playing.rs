@@ -1,4 +1,4 @@
-//! Rows are played: each is answered, and the answer is compared with the one that is wanted.
+//! Plays rows: each is answered, and the answer is compared with the one that is wanted.
 
 use crate::score::Score;
 use crate::table::{Part, Row};
@@ -10,7 +10,6 @@ use std::panic::{AssertUnwindSafe, catch_unwind};
 pub enum NoAnswer {
     #[error("no part is of this kind")]
     Kind,
-    /// It is no row of this kind, for this reason.
     #[error("this is no such row: {0}")]
     Row(&'static str),
     #[error("out of memory")]
@@ -20,12 +19,10 @@ pub enum NoAnswer {
 /// What is wrong with a row.
 #[derive(Debug, Clone, PartialEq, Eq, thiserror::Error)]
 pub enum Fault {
-    /// Another answer came.
     #[error("{}", difference(wanted, came))]
     Answer { wanted: String, came: String },
     #[error("  {0}")]
     NoAnswer(#[from] NoAnswer),
-    /// A call panicked; what it said was printed before.
     #[error("  a call panicked")]
     Panic,
 }
@@ -41,11 +38,11 @@ fn difference(wanted: &str, came: &str) -> String {
     differing.collect::<Vec<_>>().join("\n")
 }
 
-/// Calls what may panic, and returns what it answers.
+/// Makes a call that may panic.
 ///
 /// # Errors
 ///
-/// Returns that there is no answer, or that it panicked.
+/// Returns why there is no answer, or that the call panicked.
 pub fn attempt<T>(call: impl FnOnce() -> Result<T, NoAnswer>) -> Result<T, Fault> {
     match catch_unwind(AssertUnwindSafe(call)) {
         Ok(answer) => answer.map_err(Fault::NoAnswer),
@@ -81,10 +78,8 @@ pub fn play_rows(
         }
     };
     for row in &rows {
-        let name = format_args!(
-            "{}, line {}: {} {}",
-            part.name, row.line, row.asked, row.text
-        );
+        let shown = format!("{} {}", row.asked, row.text);
+        let name = format_args!("{}, line {}: {}", part.name, row.line, shown.trim_start());
         score.row(name, fault_of(row, &answer));
     }
     rows.len()

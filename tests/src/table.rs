@@ -33,7 +33,7 @@ pub struct StrayLine {
     pub line: String,
 }
 
-/// The parts of a table, in order.
+/// Returns the parts of a table, in order.
 ///
 /// ```
 /// let table = "# a comment\n@kind one name\n- a -> b\n@other\n? asked\n> text\n< answer\n";
@@ -71,7 +71,7 @@ impl<'t> Part<'t> {
         words.iter().all(|word| self.name.contains(word.as_str()))
     }
 
-    /// Its lines with their numbers in the table.
+    /// Returns its lines with their numbers in the table.
     pub fn numbered_lines(&self) -> impl Iterator<Item = (usize, &'t str)> {
         let first = self.line.saturating_add(1);
         (first..).zip(self.lines.lines())
@@ -154,7 +154,7 @@ impl<'t> From<RowLines<'t>> for Row<'t> {
     }
 }
 
-/// The bytes that a text of a table stands for, or nothing if it ends inside an escape.
+/// Returns the bytes that a text of a table stands for, or nothing if it ends inside an escape.
 ///
 /// `\n`, `\r`, `\t` and `\x` with two hexadecimal digits are escapes; any other character after a
 /// backslash stands for itself.

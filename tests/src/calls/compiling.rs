@@ -1,7 +1,9 @@
-//! Of items below an identification. `units`: what the identification is and how many items there are,
-//! or the fault. `rows`: the rows of their attributes, in order. `elements`: the version of their
-//! image, and each element as array, number and variable. `steps`: steps on their image, as
-//! `crate::images` has them.
+//! Compiles the items below an identification.
+//!
+//! - `units`: the numbers of the identification and the count of items, or the error.
+//! - `rows`: the rows of the attributes, in order.
+//! - `elements`: the version of the image, and each element as array, number and variable.
+//! - `steps`: steps on the image, as in `images/steps.rs`.
 
 use crate::images::steps_on;
 use crate::playing::NoAnswer;

@@ -1,6 +1,8 @@
-//! `json`: parts of the only line of JSON that `check` prints of items from line 2 on, each a path and
-//! what is there. Asked are a lint that is denied, or `-`, and the name of the source. `many`: how many
-//! lines are printed of so many statements that are refused, and what the last one counts.
+//! Reads back the JSON that `check` prints of items, which begin at line 2.
+//!
+//! - `json`: paths in the only line of JSON, each with the value there. A row asks a lint that is denied, or
+//!   `-`, and the name of the source.
+//! - `many`: how many lines are printed of so many statements that are refused, and the count in the last.
 
 use crate::images::number;
 use crate::playing::NoAnswer;
@@ -11,7 +13,7 @@ use serde_json::Value;
 
 const HEAD: &str = "MANUFACTURER 1, DEVICE_TYPE 2, DEVICE_REVISION 3, DD_REVISION 4\n";
 
-/// Returns what is printed of a description of these items.
+/// Checks a description of these items, and returns what is printed.
 fn printed(name: &str, items: &str, denied: Option<Lint>) -> Result<String, NoAnswer> {
     let mut choices = Choices::new(Global);
     if let Some(lint) = denied {
@@ -31,7 +33,7 @@ fn printed(name: &str, items: &str, denied: Option<Lint>) -> Result<String, NoAn
     String::from_utf8(out.into_real()).map_err(|_| NoAnswer::Row("it is printed as no text"))
 }
 
-/// Returns the parts of a line whose paths are those of these lines.
+/// Returns the path of each of these lines with the value there.
 fn parts_of(line: &str, wanted: &str) -> Result<String, NoAnswer> {
     let line: Value =
         serde_json::from_str(line).map_err(|_| NoAnswer::Row("no JSON is printed"))?;

@@ -1,12 +1,13 @@
-//! `layouts`: the layout of a text, written as `unescaped` has it, or its fault. The layout of a layout
-//! is itself.
+//! Formats texts.
+//!
+//! - `layouts`: the layout of a text, or its lexical error. The layout of a layout is itself.
 
 use super::bytes_of;
 use crate::playing::NoAnswer;
 use edd_layout::laid_out;
 use edd_plain_std::alloc::Global;
 
-/// Returns the lines of a layout, each of which has its end.
+/// Returns a layout without its last line feed, or says that it has none.
 fn lines(layout: &[u8]) -> String {
     let text = String::from_utf8_lossy(layout);
     match text.strip_suffix('\n') {

@@ -1,7 +1,9 @@
-//! `lowered`: the code of attributes, worked out by hand from the table of instructions. A line names how
-//! many strings the table holds before, and the attribute; behind ` -> ` are the bytes, and how many
-//! strings it holds then. The table is that of the lines before. Where a number is asked, as many
-//! menus come before the items, and the first shows the last.
+//! Lowers attributes. Their code was worked out by hand from the table of instructions.
+//!
+//! - `lowered`: a line is a number and an attribute. The table of strings is first filled up to that number;
+//!   behind ` -> ` are the bytes of the code and how many strings the table holds then. All lines of a row
+//!   share one table. If a row asks a number, so many menus come before its items, and the first menu shows
+//!   the last.
 
 use super::compiling::described;
 use crate::images::{number, reference_of};
@@ -11,7 +13,7 @@ use edd_plain_std::alloc::Global;
 use edd_strings::{Table, split};
 use edd_syntax::checked::Checked;
 
-/// Adds texts until the table holds so many strings.
+/// Fills the table up to so many strings.
 fn fill(table: &mut Table, count: usize) -> Result<(), NoAnswer> {
     for number in table.words().len()..count {
         let words = split(Global, &number.to_string());
@@ -21,7 +23,7 @@ fn fill(table: &mut Table, count: usize) -> Result<(), NoAnswer> {
     Ok(())
 }
 
-/// Returns a line with its answer.
+/// Lowers the attribute that a line names, and returns the line with its answer.
 fn line_of(checked: &Checked, table: &mut Table, line: &str) -> Result<String, NoAnswer> {
     let (held, name) = line.split_once(' ').unwrap_or((line, ""));
     fill(table, number(held)?)?;
@@ -35,7 +37,7 @@ fn line_of(checked: &Checked, table: &mut Table, line: &str) -> Result<String, N
     Ok(format!("{line} -> {code}and {}", table.words().len()))
 }
 
-/// Returns menus, of which the first shows the last, before these items.
+/// Returns so many menus and then the items; the first menu shows the last.
 fn after_menus(count: usize, items: &str) -> String {
     let last = count.saturating_sub(1);
     let menu = |number: usize| match number {

@@ -1,5 +1,5 @@
-//! The calls that read a text and make an image of it, and those of an editor. Each file says of its
-//! kinds of parts what a row asks and what is answered.
+//! The calls that read a text and compile it, and those of an editor. The head of each file lists its kinds
+//! of parts.
 
 mod compiling;
 mod json;
@@ -23,7 +23,7 @@ fn bytes_of(text: &str) -> Result<Vec<u8>, NoAnswer> {
     unescaped(text).ok_or(NoAnswer::Row("an escape without its end"))
 }
 
-/// Returns what is answered of a text alone.
+/// Answers a row whose kind needs its text alone.
 fn of_text(kind: &str, text: &str) -> Result<String, NoAnswer> {
     match kind {
         "tokens" => tokens::kinds(text),
@@ -102,19 +102,19 @@ impl Display for Played {
             conversations,
             damaged,
         } = self;
+        write!(formatter, "rows {rows}, queries {queries}, ")?;
         write!(
             formatter,
-            "{rows} rows, {queries} queries, {conversations} conversations, "
-        )?;
-        write!(formatter, "{damaged} of texts that are cut anywhere")
+            "conversations {conversations}, damaged texts {damaged}"
+        )
     }
 }
 
-/// Plays the parts of a table whose names contain all these words, and prints how much it played.
+/// Plays the parts whose names contain all these words, and notes how much was played.
 pub fn play(table: &str, only: &[String], score: &mut Score) {
     let mut played = Played::default();
     for part in parts(table).filter(|part| part.is_named(only)) {
         played.add(&part, score);
     }
-    println!("calls: {played}");
+    score.note(played);
 }

@@ -1,7 +1,10 @@
-//! `texts`: how many items the unit of a text has, or the fault. `items`: the same of what stands below
-//! an identification, from line 2 on. `repeated`: the same where the second and the fourth line of the
-//! text stand as many times as is asked. `nested`: how many statements are read, where the lines with
-//! a `$` stand around those without one, two of them around each.
+//! Parses texts.
+//!
+//! - `texts`: how many items the text has, or the error.
+//! - `items`: the same of items below an identification, which begin at line 2.
+//! - `repeated`: the same, with the second and the fourth line of the text as many times as the row asks.
+//! - `nested`: how many statements are parsed. Lines with a `$` are frames, the others are statements; each
+//!   statement is put into each pair of frames.
 
 use super::bytes_of;
 use crate::images::number;
@@ -61,7 +64,7 @@ pub fn repeated(asked: &str, pieces: &str) -> Result<String, NoAnswer> {
     Ok(item_answer(&text))
 }
 
-/// Returns whether a statement is read in one frame in another.
+/// Returns whether a statement is parsed inside one frame inside another.
 fn is_read(statement: &str, outer: (&str, &str), inner: (&str, &str)) -> bool {
     let ((before, after), (first, last)) = (outer, inner);
     let items = format!(

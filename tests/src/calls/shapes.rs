@@ -1,7 +1,10 @@
-//! Trees that were worked out by hand. `operators`: how many pairs of operators group by their rows,
-//! of lines with an operator and its row each. `elses`: whether the statement of a method's body is
-//! an `if` around one that has the `else`. `lists`: how many entries the list of a menu has, how many
-//! come after its first ELSE, and whether c is the last one.
+//! Looks at the shapes of trees.
+//!
+//! - `operators`: how many pairs of operators group by their precedence. A line is an operator and the number
+//!   of its row in the table of operators.
+//! - `elses`: `inner` if the statement is an `if` around the one that has the `else`.
+//! - `lists`: how many entries the list of a menu has, how many entries its first `ELSE` has, and whether
+//!   the last entry is `c`.
 
 use super::parsing::unit_of_items;
 use crate::images::number;

@@ -1,6 +1,9 @@
-//! `splits`: the variants of a text, or its fault. `choices`: the text for the language that is asked.
-//! `numbered`: the numbers in one table of what lines `add TEXT` or `add [KEY]` add; `cut COUNT`
-//! cuts the table, and `last` prints its last string. Texts are written as `unescaped` has them.
+//! Splits texts by language, and numbers them in a table. Texts have the escapes of `unescaped`.
+//!
+//! - `splits`: the variants of a text, or the error.
+//! - `choices`: the text for the language that the row asks.
+//! - `numbered`: the answers of one table to lines: `add TEXT` or `add [KEY]` answers the number, `cut COUNT`
+//!   how many strings are left, `last` the last string.
 
 use super::bytes_of;
 use crate::images::number;
@@ -9,7 +12,7 @@ use edd_plain_std::alloc::Global;
 use edd_strings::{StringFault, Table, choose, key, split};
 use edd_syntax::words::Words;
 
-/// Writes the variants as `code=text`, parted by `;`, and a key in brackets.
+/// Writes variants as `code=text` with a `;` between them, and a key in brackets.
 fn written(words: &Words) -> String {
     match words {
         Words::Key(key) => format!("[{}]", key.name),
@@ -22,7 +25,7 @@ fn written(words: &Words) -> String {
     }
 }
 
-/// Returns the words of a text of the table, or of one of two keys, in brackets.
+/// Splits a text; two keys are written in brackets.
 fn words_of(text: &str) -> Result<Result<Words, StringFault>, NoAnswer> {
     match text {
         "[A]" => return Ok(key(Global, "A")),
@@ -49,7 +52,7 @@ pub fn choice(language: &str, text: &str) -> Result<String, NoAnswer> {
     })
 }
 
-/// Does to the table what a line says.
+/// Takes a line, and returns its answer.
 fn take(table: &mut Table, line: &str) -> Result<String, NoAnswer> {
     let (word, rest) = line.split_once(' ').unwrap_or((line, ""));
     match word {

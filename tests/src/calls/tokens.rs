@@ -1,5 +1,8 @@
-//! `tokens`: the kinds of a text's tokens, or its fault. `places`: each with its bytes and its line.
-//! `lengths`: the same kinds of so many blanks or letters. Bytes are written as `unescaped` has them.
+//! Lexes texts with the escapes of `unescaped`.
+//!
+//! - `tokens`: the kind of each token, or the error.
+//! - `places`: the same, each with its bytes and its line.
+//! - `lengths`: the kinds of the tokens of so many blanks or letters, as `256 letters`.
 
 use super::bytes_of;
 use crate::images::number;
@@ -35,7 +38,6 @@ pub fn places(text: &str) -> Result<String, NoAnswer> {
     Ok(printed(&bytes_of(text)?, place))
 }
 
-/// Of a text as `256 letters`.
 pub fn length(text: &str) -> Result<String, NoAnswer> {
     let byte = match text.split_once(' ') {
         Some((_, "letters")) => b'a',

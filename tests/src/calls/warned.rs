@@ -1,6 +1,10 @@
-//! `warnings`: of items from line 2 on, each warning's line, its word, its lint, and the line and the word
-//! of its other place. `bodies`: the same of a body. `messages` and `body_messages`: the message of
-//! the first warning. `lints`: the lint of a name, or all of them.
+//! Finds warnings.
+//!
+//! - `warnings`: the warnings of items, which begin at line 2: line, word and lint of each, and line and word
+//!   of its other place.
+//! - `bodies`: the same of the body of a method. If a row asks `instrument`, more is declared around it.
+//! - `messages` and `body_messages`: the message of the first warning.
+//! - `lints`: the lint of a name, or `all of them`.
 
 use crate::playing::NoAnswer;
 use edd_compiler::checked_of;
@@ -10,14 +14,14 @@ use edd_warnings::{LINTS, Lint, Spot, Warning, warnings};
 
 const HEAD: &str = "MANUFACTURER 1 DEVICE_TYPE 2 DEVICE_REVISION 3 DD_REVISION 4\n";
 
-/// What is around a body: a small description, or where an `instrument` is asked one with variables
-/// of several types, an array and a command.
+/// What stands around a body.
 const AROUND: (&str, &str) = (
     "VARIABLE a { TYPE INTEGER { MAX_VALUE r[1]; } } ARRAY OF VARIABLE r { ELEMENTS { 1, a; } }
 METHOD m { DEFINITION {\n",
     "} }",
 );
 
+/// The same with variables of several types, an array and a command.
 const INSTRUMENT: (&str, &str) = (
     "VARIABLE a { TYPE INTEGER; } VARIABLE u { TYPE UNSIGNED_INTEGER (4); } VARIABLE r { HANDLING READ; TYPE INTEGER; }
 VARIABLE e { TYPE ENUMERATED { { 0, \"off\" } { 2, \"on\" } } } ARRAY OF VARIABLE f { ELEMENTS { 1, a; 2, e; 3, r; 4, u; } }
@@ -40,7 +44,7 @@ fn line_and_word(text: &[u8], at: Spot) -> String {
     format!("{} {}", at.line, String::from_utf8_lossy(word))
 }
 
-/// Writes a warning's line, its word, its lint, and the line and the word of its other place.
+/// Writes a warning without its message.
 fn written(text: &[u8], warning: &Warning) -> String {
     let (at, name) = (line_and_word(text, warning.at), warning.lint.name());
     match warning.other {
@@ -58,7 +62,7 @@ pub fn warnings_of_items(items: &str) -> Result<String, NoAnswer> {
     Ok(lines.collect::<Vec<_>>().join("; "))
 }
 
-/// Returns the items of a body.
+/// Puts a body into a method.
 fn items_around(asked: &str, body: &str) -> String {
     let (before, after) = if asked == "instrument" {
         INSTRUMENT
@@ -83,7 +87,7 @@ pub fn first_message(items: &str) -> Result<String, NoAnswer> {
     Ok(first.unwrap_or_default())
 }
 
-/// Lists the names of all lints, each of which names its lint.
+/// Lists the names of all lints, and says which of them names another lint.
 fn all_lints() -> String {
     let names = LINTS.iter().map(|lint| match Lint::from_name(lint.name()) {
         Some(named) if named == *lint => lint.name().to_owned(),

@@ -1,4 +1,6 @@
-//! `widths`: what a width keeps of a number, of a text as `8 128`.
+//! Wraps numbers.
+//!
+//! - `widths`: what so many bits keep of a number, as `8 128`.
 
 use crate::images::number;
 use crate::playing::NoAnswer;

@@ -1,4 +1,4 @@
-//! What an editor is answered, as text: a place is a line and a column, both counted from 1.
+//! Writes the answers to an editor's queries as text. A place is a line and a column, both counted from 1.
 
 use edd_editing::{
     Completion, CompletionKind, Document, RenameFault, Span, completions, declaration, folds,
@@ -7,7 +7,7 @@ use edd_editing::{
 use edd_plain_std::alloc::{AllocError, Global};
 use edd_reports::words::{kind_word, text_in};
 
-/// What is asked.
+/// What an editor asks.
 #[derive(Debug, Clone, Copy, PartialEq, Eq)]
 pub enum Query<'t> {
     Hover,
@@ -20,7 +20,7 @@ pub enum Query<'t> {
     Rename(&'t str),
     Symbols,
     Folds,
-    /// The labels of what is offered.
+    /// The labels of the completions.
     Labels,
     /// The same with kinds and details.
     Details,
@@ -28,7 +28,7 @@ pub enum Query<'t> {
 }
 
 impl<'t> Query<'t> {
-    /// Reads the query that a row of a table asks.
+    /// Parses the query that a row asks.
     pub fn parse(asked: &'t str) -> Option<Self> {
         let (word, name) = asked.split_once(' ').unwrap_or((asked, ""));
         Some(match word {
@@ -56,7 +56,7 @@ pub struct At<'d, 't> {
 }
 
 impl At<'_, '_> {
-    /// Returns what is answered to a query.
+    /// Answers a query.
     pub fn answer(self, query: Query<'_>) -> Result<String, AllocError> {
         let At { document, byte } = self;
         match query {
@@ -135,7 +135,7 @@ impl At<'_, '_> {
         Ok(lines.collect::<Vec<_>>().join("; "))
     }
 
-    /// Writes what is replaced, and each entry.
+    /// Writes the word that is replaced, and each completion.
     fn completions(self, written: fn(&Completion<'_>) -> String) -> Result<String, AllocError> {
         let found = completions(Global, self.document, self.byte)?;
         let mut answer = format!("{}:", text_in(self.document.text(), found.replaced));
@@ -172,7 +172,7 @@ fn kind_name(kind: CompletionKind) -> &'static str {
     }
 }
 
-/// Writes an entry with its kind and detail.
+/// Writes a completion with its kind and detail.
 fn detailed(entry: &Completion<'_>) -> String {
     format!(
         "{} ({}: {})",

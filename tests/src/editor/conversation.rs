@@ -1,4 +1,11 @@
-//! A conversation with the server: what was sent, what it answered, and what it should have.
+//! A conversation with the language server: what is sent, and what the server has to answer.
+//!
+//! - `> MESSAGE` sends a message.
+//! - `- BYTES` sends bytes as they are, with the escapes of `unescaped`.
+//! - `< MESSAGE` is the next message that the server sends.
+//! - `= goes on`, `= clean` or `= unclean` is whether the conversation is over, and how.
+//!
+//! A message of the server that no line names is a failure.
 
 use crate::playing::NoAnswer;
 use crate::table::{Part, unescaped};
@@ -7,8 +14,7 @@ use edd_plain_std::alloc::{AllocError, Global};
 use edd_plain_std::vec::Vec as PlainVec;
 use std::collections::VecDeque;
 
-/// The parameters of `initialize` with which a conversation begins in UTF-8 and in UTF-16. In the
-/// first the editor can all that the server asks for.
+/// The parameters of `initialize` of an editor that supports everything the server asks about.
 const ABLE: &str = concat!(
     r#"{"capabilities":{"general":{"positionEncodings":["utf-16","utf-8"]},"textDocument":{"#,
     r#""publishDiagnostics":{"relatedInformation":true},"rename":{"prepareSupport":true},"#,
@@ -17,20 +23,21 @@ const ABLE: &str = concat!(
     r#"{"parameterInformation":{"labelOffsetSupport":true}}}}}}"#
 );
 
+/// Those of an editor that supports nothing, with columns in UTF-16.
 const PLAIN: &str = r#"{"capabilities":{}}"#;
 
 /// A conversation so far.
 struct Conversation {
     server: Server,
     framing: Framing,
-    /// What the server sent and no line of the table has told so far, a message each.
+    /// The messages of the server that no line has named so far.
     untold: VecDeque<String>,
     next: Next,
-    /// What is wrong so far, a line each.
+    /// What is wrong so far.
     wrong: Vec<String>,
 }
 
-/// Cuts what the server sent into the contents of its messages.
+/// Splits what the server sent into messages.
 fn contents(bytes: &[u8]) -> Result<VecDeque<String>, AllocError> {
     let mut framing = Framing::new(Global);
     let mut contents = VecDeque::new();
@@ -49,7 +56,7 @@ fn contents(bytes: &[u8]) -> Result<VecDeque<String>, AllocError> {
 }
 
 impl Conversation {
-    /// Begins one as a word says: `utf-8`, `utf-16`, or not at all for `-`.
+    /// Begins a conversation of this kind.
     fn begin(word: &str) -> Result<Self, NoAnswer> {
         let mut conversation = Conversation {
             server: Server::new(Global),
@@ -77,7 +84,7 @@ impl Conversation {
         self.send_bytes(framed.as_bytes())
     }
 
-    /// Notes what the table has not told of what was sent before, and sends.
+    /// Sends bytes. Messages that no line has named by then are wrong.
     fn send_bytes(&mut self, bytes: &[u8]) -> Result<(), AllocError> {
         self.note_untold();
         let mut out = PlainVec::new(Global);
@@ -92,7 +99,7 @@ impl Conversation {
             .extend(untold.map(|message| format!("  not told {message}")));
     }
 
-    /// Compares the next message that the server sent with what the table has.
+    /// Compares the next message of the server.
     fn compare(&mut self, message: &str) {
         let came = self
             .untold
@@ -104,7 +111,7 @@ impl Conversation {
         }
     }
 
-    /// Compares whether the server goes on with what the table has.
+    /// Compares whether the conversation is over, and how.
     fn compare_next(&mut self, word: &str) {
         let came = match self.next {
             Next::GoOn => "goes on",
@@ -116,8 +123,7 @@ impl Conversation {
         }
     }
 
-    /// Takes a line of the table: `> ` a message that is sent, `< ` the next that the server sends,
-    /// `- ` bytes that are sent as they are, `= ` how it ends.
+    /// Takes a line of the part.
     fn take(&mut self, line: &str) -> Result<(), NoAnswer> {
         let (sign, rest) = line.split_once(' ').unwrap_or((line, ""));
         match sign {
@@ -135,7 +141,7 @@ impl Conversation {
     }
 }
 
-/// Has the conversation of a part, and returns what of it is not as the table has it.
+/// Plays the conversation of a part, and returns what is wrong with it.
 pub fn wrong_in(part: &Part<'_>) -> Result<Option<String>, NoAnswer> {
     let mut conversation = Conversation::begin(part.kind)?;
     for (number, line) in part.numbered_lines() {

@@ -1,4 +1,4 @@
-//! Texts that are cut anywhere, asked at every byte and past their end.
+//! Asks everything at every byte of a text, and around the end of each of its prefixes.
 
 use super::answered::{At, Query};
 use edd_editing::{Document, Span, declaration, folds, hover, references, symbols};
@@ -26,7 +26,7 @@ const QUERIES: [Query<'static>; 11] = [
     Query::Signature,
 ];
 
-/// A place that was answered and is outside of its text.
+/// An answer with a place outside of the text.
 #[derive(Debug, Clone, Copy, PartialEq, Eq)]
 pub struct Outside {
     length: usize,
@@ -66,7 +66,7 @@ fn places(at: At<'_, '_>) -> Result<Vec<Span>, AllocError> {
     Ok(places)
 }
 
-/// Asks everything at a byte, and returns a place that is outside of the text.
+/// Asks everything at a byte, and returns the first place outside of the text.
 fn outside(at: At<'_, '_>) -> Result<Option<Outside>, AllocError> {
     for query in QUERIES {
         at.answer(query)?;
@@ -81,7 +81,7 @@ fn outside(at: At<'_, '_>) -> Result<Option<Outside>, AllocError> {
     }))
 }
 
-/// Asks everything at these bytes of a text, and returns a place that is outside of it.
+/// Asks everything at these bytes of a text, and returns the first place outside of it.
 fn outside_at(
     text: &[u8],
     bytes: impl IntoIterator<Item = usize>,
@@ -98,8 +98,7 @@ fn outside_at(
     Ok(None)
 }
 
-/// Asks everything at each byte of the text, and around the end of each of its prefixes and past it.
-/// Returns a place that is outside of what was asked.
+/// Asks everything of the text and of its prefixes, and returns the first place outside of them.
 pub fn outside_of_damaged() -> Result<Option<Outside>, AllocError> {
     if let Some(found) = outside_at(TEXT, 0..TEXT.len())? {
         return Ok(Some(found));

@@ -1,7 +1,8 @@
 //! What an editor asks: conversations with the language server, and queries on texts.
 //!
-//! A part `@utf-8 NAME` or `@utf-16 NAME` is a conversation that is initialized, `@- NAME` one that is
-//! not; `@queries NAME` has rows, and `@damaged NAME` none.
+//! - `@utf-8 NAME` and `@utf-16 NAME` begin a conversation that is initialized, `@- NAME` one that is not.
+//! - `@queries NAME` has rows: what is asked, and a text with a `$` where it is asked.
+//! - `@damaged NAME` has no rows: everything is asked of a damaged text.
 
 mod answered;
 mod conversation;
@@ -29,12 +30,12 @@ fn score_one(
     score.row(format_args!("{}, line {}", part.name, part.line), fault);
 }
 
-/// Has the conversation of a part.
+/// Plays a conversation.
 pub fn converse(part: &Part<'_>, score: &mut Score) {
     score_one(part, score, || conversation::wrong_in(part));
 }
 
-/// Asks everything of texts that are cut anywhere.
+/// Asks everything of a damaged text.
 pub fn damage(part: &Part<'_>, score: &mut Score) {
     score_one(part, score, || {
         let outside = damaged::outside_of_damaged()?;

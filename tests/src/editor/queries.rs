@@ -6,7 +6,7 @@ use crate::table::Row;
 use edd_editing::Document;
 use edd_plain_std::alloc::Global;
 
-/// Returns what an editor is answered.
+/// Answers a query.
 pub fn answer(row: &Row<'_>) -> Result<String, NoAnswer> {
     let query = Query::parse(row.asked).ok_or(NoAnswer::Row("no such query"))?;
     let halves = row.text.split_once('$');

@@ -1,4 +1,6 @@
-//! `faults`: the faults of a call on images, as they print.
+//! Prints errors.
+//!
+//! - `faults`: all errors of a call on images, as they print.
 
 use crate::playing::NoAnswer;
 use edd_loader::LoadFault;

@@ -1,4 +1,4 @@
-//! Two hosts: one that reads its answers from a list, and one that computes them.
+//! Two hosts: one reads its answers from a list, the other computes them.
 
 use edd_instructions::Request;
 use edd_plain_std::alloc::Global;
@@ -8,7 +8,7 @@ use edd_syntax::answer::Answer;
 use std::fmt::{self, Display};
 use std::vec::IntoIter;
 
-/// What a host answered, and how often it did not.
+/// What a host has answered, and how often it did not.
 #[derive(Default)]
 struct Book {
     given: Vec<(Request, Answer)>,
@@ -23,7 +23,7 @@ impl Book {
         Reply::Give
     }
 
-    /// The last answer; an abort before the first.
+    /// Returns the last answer, or an abort before the first.
     fn last(&self) -> &Answer {
         self.given
             .last()
@@ -41,7 +41,7 @@ impl Display for Book {
     }
 }
 
-/// A host with a list of answers. It has nothing once they are used up.
+/// A host that gives the answers of a list.
 #[derive(Default)]
 pub struct Script {
     answers: IntoIter<Answer>,
@@ -78,8 +78,7 @@ impl Display for Script {
     }
 }
 
-/// A host that answers each command with seven times its number. Before its first answer it fails
-/// as often as it is told.
+/// A host that answers each command with seven times its number, after some failures.
 #[derive(Default)]
 pub struct Device {
     failures_to_come: u8,

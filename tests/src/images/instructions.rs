@@ -1,5 +1,7 @@
-//! `decoded`: the instruction at a place of code, as `00 at 0`, and the place behind it. `encoded`: an
-//! instruction by its bytes, and code that is emitted with a hole, which is filled where it stands.
+//! Decodes and encodes instructions.
+//!
+//! - `decoded`: the instruction at a place of code, as `00 at 0`, and the place behind it.
+//! - `encoded`: the bytes of an instruction, or of code in which a jump is filled in last.
 
 use super::small::code_of;
 use super::words::number;

@@ -1,10 +1,12 @@
-//! Images that are loaded, or refused with their fault. `loads`: the answer to an image, which has to
-//! give its bytes back, to be shown and to run. `edits`: the answer where bytes are set, as `5=2 of
-//! label`, or also cut, as `5=2 of label to 56`. `prefixes`: the answers to all prefixes, each with the
-//! length from which on it comes. `counts`: how many images and how many of each fault there are where
-//! each byte is set to each other value, as `tools/count_edits` has them. `words`: the name of
-//! variable 0 and the text of string 0 in German of the worked image `label`, or of it where the
-//! string is a key.
+//! Loads images.
+//!
+//! - `loads`: the answer to an image. An image that loads has to return its own bytes, and is shown and run.
+//! - `edits`: the answer after bytes are set, as `5=2 of label`, and the rest is cut, as `5=2 of label to 56`.
+//! - `prefixes`: the answers to all prefixes, each with the first length that has it.
+//! - `counts`: each byte is set to each other value; how many of these edits load, and how many are refused
+//!   with each error. `tools/count_edits` counts them by a second reading of the rules.
+//! - `words`: the name of variable 0 and the German text of string 0, of the worked image `label` or of the
+//!   same image with a key as its string.
 
 use super::small::image_of;
 use super::using::is_usable;
@@ -15,13 +17,13 @@ use edd_loader::{LoadFault, Text, load};
 use edd_plain_std::alloc::Global;
 use edd_syntax::numbers::{ItemNo, StrNo, VarNo};
 
-/// What becomes of bytes that are loaded.
+/// The outcome of a load.
 #[derive(Debug, Clone, Copy, PartialEq, Eq)]
 enum Outcome {
     Image,
-    /// An image that gives other bytes back.
+    /// An image that returns other bytes than its own.
     OtherBytes,
-    /// An image that is not shown or whose methods don't run.
+    /// An image that is not shown, or a method of it that does not run.
     Useless,
     Refused(LoadFault),
 }
@@ -88,8 +90,7 @@ pub fn prefixes(image: &str) -> Result<String, NoAnswer> {
     Ok(answers.join(" "))
 }
 
-/// How many edits have each outcome: images, each fault in the order of its number, and last what
-/// can't be.
+/// How many edits have each outcome: an image, each error by its number, and last what cannot occur.
 #[derive(Debug, Default)]
 struct Counts([u32; 13]);
 
@@ -134,7 +135,7 @@ pub fn counts(image: &str) -> Result<String, NoAnswer> {
     Ok(format!("{:?}", counts.0))
 }
 
-/// Returns the words of an image that is gone when they are used.
+/// Returns words that outlive their image.
 fn words_of(bytes: &[u8]) -> Result<(Option<&str>, Option<Text<'_>>), LoadFault> {
     let image = load(Global, bytes)?;
     let name = image.name(ItemNo::Variable(VarNo(0)));

@@ -1,5 +1,4 @@
-//! The calls on images. Each file says of its kinds of parts what a row asks and what is answered;
-//! `steps` are steps on an image.
+//! The calls on images. The head of each file lists its kinds of parts.
 
 mod faults;
 mod hosts;
@@ -48,9 +47,9 @@ fn answer(kind: &str, row: &Row<'_>) -> Result<String, NoAnswer> {
     }
 }
 
-/// Plays the parts of a table whose names contain all these words, and prints how many rows it played.
+/// Plays the parts whose names contain all these words.
 pub fn play(table: &str, only: &[String], score: &mut Score) {
-    let chosen = parts(table).filter(|part| part.is_named(only));
-    let rows = chosen.map(|part| play_rows(&part, score, |row| answer(part.kind, row)));
-    println!("images: {} rows", rows.sum::<usize>());
+    for part in parts(table).filter(|part| part.is_named(only)) {
+        play_rows(&part, score, |row| answer(part.kind, row));
+    }
 }

@@ -1,6 +1,9 @@
-//! Steps of one session over plain structs, and one value: `start METHOD`, `advance BUDGET`, `turn`,
-//! `answer ANSWER`, `value NUMBER` and the number of a field, as `place 1`, which set them, and
-//! `state`, which shows what is there. An answer is a code or `abort`, and a value for variable 0.
+//! Steps of a session over plain structs, on an image with one variable.
+//!
+//! - `start METHOD`, `advance BUDGET`, `turn` and `answer ANSWER` are calls. An answer is a code or `abort`,
+//!   and a value for variable 0.
+//! - `value NUMBER` sets the variable, and `FIELD NUMBER` a field of the session, as `place 1`.
+//! - `state` shows the session.
 
 use super::words::{first_of, number};
 use crate::playing::NoAnswer;
@@ -11,13 +14,13 @@ use edd_embed::{
 use edd_loader::Image;
 use edd_syntax::numbers::MethNo;
 
-/// The session that was started last, and the value.
+/// A session, and the value of the variable.
 pub struct Bench {
     session: PlainSession,
     values: [i64; 1],
 }
 
-/// What is there where nothing was asked.
+/// A request before the first.
 pub const UNASKED: PlainRequest = PlainRequest {
     first: 0,
     second: 0,
@@ -28,7 +31,7 @@ pub const UNASKED: PlainRequest = PlainRequest {
 };
 
 impl Default for Bench {
-    /// A session that is over, and no more than that, and the value 1.
+    /// A session that is over, and the value 1.
     fn default() -> Self {
         let session = PlainSession {
             taken: 0,
@@ -53,7 +56,7 @@ impl Default for Bench {
     }
 }
 
-/// Reads an answer, which has one setting of its own.
+/// Reads an answer with its one setting.
 pub fn given_of(words: &str) -> Result<(Given, Setting), NoAnswer> {
     let (code, value) = first_of(words);
     let aborts = code == "abort";

@@ -1,6 +1,7 @@
-//! `plain_steps`: the calls over plain structs, as a program in C has them, on an image. A line is a
-//! call, and behind ` -> ` what it answers. The steps of `plain_sessions` are on one session and one
-//! value, those here on nothing but the image.
+//! The calls over plain structs, as a program in C makes them.
+//!
+//! - `plain_steps`: steps on an image. A line is a call, and behind ` -> ` its answer. This file has the calls
+//!   that need the image alone; `plain_sessions.rs` has those of a session.
 
 use super::plain_sessions::{Bench, UNASKED, given_of};
 use super::small::image_of;
@@ -104,7 +105,7 @@ fn played(image: &Image<'_>, words: &str) -> Result<String, NoAnswer> {
     Ok(format!("{ran:?} {requests:?} {after:?}"))
 }
 
-/// The sizes of the structs, which are those of the header.
+/// The sizes of the structs, which are those of include/edd.h.
 const SIZES: [usize; 8] = [
     size_of::<ImageNumbers>(),
     size_of::<PlainRecord>(),

@@ -8,7 +8,7 @@ use edd_port::{Host, Session, Turn, drive};
 use edd_syntax::numbers::{MethNo, VarNo};
 use std::fmt::Display;
 
-/// The session that was started last, and the hosts that were made last.
+/// The last session and hosts.
 #[derive(Default)]
 pub struct Bench<'i, 'b> {
     session: Option<Session<'i, 'b>>,
@@ -17,7 +17,7 @@ pub struct Bench<'i, 'b> {
 }
 
 impl<'i, 'b> Bench<'i, 'b> {
-    /// Starts a session under values that nothing was asked of: `start METHOD NUMBERS`.
+    /// Starts a session under unchecked values: `start METHOD NUMBERS`.
     pub fn start(&mut self, image: &'i Image<'b>, words: &str) -> Result<String, NoAnswer> {
         let (method, numbers) = first_of(words);
         match Session::start(image, MethNo(number(method)?), values_of(numbers)?) {
@@ -29,7 +29,7 @@ impl<'i, 'b> Bench<'i, 'b> {
         }
     }
 
-    /// Takes a step of the session, or one that makes a host, and returns what it answers.
+    /// Takes a step that needs a session, and returns its answer.
     pub fn step(&mut self, kind: &str, words: &str) -> Result<String, NoAnswer> {
         let session = self
             .session
@@ -81,8 +81,7 @@ fn driven(
     Ok(format!("{end:?}, {host}"))
 }
 
-/// Executes so many instructions, one by each call, and gives each request its answer, where there is
-/// one: `singly COUNT : ANSWERS`. Returns the requests, the turn, and how many instructions were taken.
+/// Executes so many instructions, one by each call, and answers requests: `singly COUNT : ANSWERS`.
 fn singly(session: &mut Session<'_, '_>, words: &str) -> Result<String, NoAnswer> {
     let (count, answers) = around_colon(words);
     let mut answers = answers_of(answers)?.into_iter();
@@ -94,7 +93,7 @@ fn singly(session: &mut Session<'_, '_>, words: &str) -> Result<String, NoAnswer
         }
         if let Turn::Asks(request) = turn {
             requests.push(request);
-            // A refused answer leaves the request pending, which the next step tells.
+            // A refused answer leaves the request pending, as the next turn shows.
             let _refused = answers.next().map(|answer| session.answer(&answer));
         }
     }

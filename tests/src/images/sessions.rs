@@ -1,5 +1,7 @@
-//! `driven`: the method 0 of an image whose variable is 5, driven by a device that answers each command
-//! with seven times its number: how it ended, and the variable after.
+//! Drives a method by a device, as docs/EMBEDDING.md does.
+//!
+//! - `driven`: how method 0 ends, and variable 0 after it. The variable begins with 5, and the device answers
+//!   each command with seven times its number.
 
 use super::hosts::Device;
 use super::small::image_of;

@@ -10,7 +10,7 @@ const INTEGER: u8 = 1;
 
 const UNSIGNED: u8 = 2;
 
-/// What the parts of a text give. All names are one letter.
+/// The sections of a small image. Each name is one letter.
 #[derive(Default)]
 struct Sections {
     is_second: bool,
@@ -47,9 +47,12 @@ pub fn code_of(text: &str) -> Result<Vec<u8>, NoAnswer> {
 }
 
 impl Sections {
-    /// Takes a part: `second` is the version, `integer SIZE` and `unsigned SIZE` are variables,
-    /// `methods COUNT` is how many there are, and `ATTRIBUTE POSITION of ITEM : CODE` is a row with
-    /// its code.
+    /// Adds a part.
+    ///
+    /// - `second` is the version.
+    /// - `integer SIZE` and `unsigned SIZE` are variables.
+    /// - `methods COUNT` is how many methods there are.
+    /// - `ATTRIBUTE POSITION of ITEM : CODE` is a row with its code.
     fn take(&mut self, part: &str) -> Result<(), NoAnswer> {
         let (word, rest) = first_of(part);
         match word {
@@ -83,8 +86,7 @@ impl Sections {
         u8::try_from(self.variables.len()).map_err(|_| NoAnswer::Row("more than 255 variables"))
     }
 
-    /// Makes the header of an image with so many names and bytes behind the header; that of the
-    /// second version has 8 bytes more.
+    /// Makes the header of an image with so many names, and so many bytes behind the header.
     fn header(&self, names: u8, behind: usize) -> Result<Vec<u8>, NoAnswer> {
         let (version, length) = if self.is_second {
             (2, 64_usize)
@@ -107,7 +109,7 @@ impl Sections {
     /// Makes the image.
     fn image(&self) -> Result<Vec<u8>, NoAnswer> {
         let names = self.variable_count()?.saturating_add(self.methods);
-        // Each name is the letter at its number.
+        // All names are one letter, each at its own place.
         let name_rows: Vec<_> = (0..names).map(|name| [0, 0, 0, name, 0, 1, 0, 0]).collect();
         let behind = [
             self.variables.concat(),
@@ -121,8 +123,7 @@ impl Sections {
     }
 }
 
-/// Returns the bytes of a worked image by its name, or those of the small image of these parts, which
-/// have a `|` between them.
+/// Returns a worked image by its name, or a small one by its parts with a `|` between them.
 pub fn image_of(text: &str) -> Result<Vec<u8>, NoAnswer> {
     if let Some(bytes) = worked_image(text) {
         return Ok(bytes.to_vec());

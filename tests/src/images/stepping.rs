@@ -1,5 +1,7 @@
-//! `three_steps`: the machine on the method 0 of an image whose variable is 9, after at most three
-//! steps: its place, the variable, the status and what was emitted last.
+//! Steps the machine.
+//!
+//! - `three_steps`: the place, the variable, the status and the last output of method 0 after at most three
+//!   steps. The variable begins with 9.
 
 use super::small::image_of;
 use crate::playing::NoAnswer;

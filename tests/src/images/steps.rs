@@ -1,5 +1,6 @@
-//! Steps on an image, written as a text. A step is a line: a call, and behind ` -> ` what it
-//! answers, as it is printed. Lines that begin with a `#` are comments.
+//! Steps on an image, written as a text.
+//!
+//! - `steps`: a line is a call, and behind ` -> ` its answer. Lines that begin with a `#` are comments.
 
 use super::session::Bench;
 use super::words::{
@@ -12,7 +13,7 @@ use edd_plain_std::alloc::Global;
 use edd_port::play;
 use edd_syntax::numbers::{ArrNo, MethNo, StrNo, VarNo};
 
-/// Takes the steps on the image of these bytes, and returns each with its answer.
+/// Takes steps on an image, and returns each with its answer.
 pub fn steps_on(bytes: &[u8], steps: &str) -> Result<String, NoAnswer> {
     let image = match load(Global, bytes) {
         Ok(image) => image,

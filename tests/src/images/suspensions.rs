@@ -1,8 +1,10 @@
-//! Sessions that are suspended and resumed, of the method 0 of an image with one variable. `resumed`:
-//! each place where what was suspended at the start is resumed with so many operands, as `5/1`; behind
-//! ` while it asks` a session that waits for an answer. `cut`: the variable, the instructions and the
-//! status of a run that is suspended before each instruction. `changed`: whether it is resumed as
-//! another method, with other slots, with a value out of its range, and as it was.
+//! Suspends and resumes sessions of method 0 of an image with one variable.
+//!
+//! - `resumed`: each place, and with how many operands the suspended session is resumed there, as `5/1`.
+//!   Behind ` while it asks` the session waits for an answer.
+//! - `cut`: the variable, the instructions and the status of a run that is suspended before each instruction.
+//! - `changed`: whether the session is resumed as another method, with other slots, with a value out of its
+//!   range, and unchanged.
 
 use super::sessions::started;
 use super::small::image_of;
@@ -14,7 +16,7 @@ use edd_plain_std::alloc::Global;
 use edd_port::{Session, Suspended};
 use edd_syntax::numbers::VarNo;
 
-/// Suspends the method 0 of an image at its start, with this value of the variable, and asks of it.
+/// Suspends method 0 at its start, with this value of the variable, and asks.
 fn asked_of(
     image: &str,
     value: i64,
@@ -35,7 +37,7 @@ fn tried(image: &Image<'_>, suspended: Suspended) -> (Suspended, bool) {
     }
 }
 
-/// Lists the places where it is resumed with so many operands of 0.
+/// Lists the places where a session is resumed, each with the number of operands.
 fn places(image: &Image<'_>, mut suspended: Suspended) -> String {
     let mut found = Vec::new();
     for place in 0..60 {

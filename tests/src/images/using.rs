@@ -1,4 +1,4 @@
-//! What can be done with each image that loads, whoever wrote it.
+//! Uses an image in every way, whoever wrote it.
 
 use super::hosts::Device;
 use edd_display::show;
@@ -9,7 +9,7 @@ use edd_plain_std::vec::Vec as PlainVec;
 use edd_port::{Drive, Session, StartFault, Turn, drive};
 use edd_syntax::numbers::{MethNo, StrNo};
 
-/// The most instructions of a run.
+/// The limit on the instructions of a run.
 const STEPS: u64 = 1000;
 
 /// The values of a device on which each variable is 0.

@@ -1,4 +1,4 @@
-//! The words of a step.
+//! Reads the words of a step.
 
 use crate::playing::NoAnswer;
 use edd_machine::Values;

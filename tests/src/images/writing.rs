@@ -1,4 +1,6 @@
-//! `written`: whether the image that is written from its parts is the one that was worked out.
+//! Writes images.
+//!
+//! - `written`: whether the image that is written from its parts is the one that was worked out by hand.
 
 use super::words::listed;
 use super::worked::{ARRAY, LABEL, LOOP};
