@@ -11,7 +11,9 @@ import sys
 # Debian's packages of the crates that the edition uses, and of what further systems need.
 SOURCES = ("librust-arrayvec-dev", "librust-clap-dev", "librust-serde-dev", "librust-serde-derive-dev", "librust-serde-json-dev",
            "librust-unicode-width-dev")
-# What the tests of the workbench use besides.
+# The same with those of the player of the tables.
+TESTS = (*SOURCES, "librust-thiserror-dev")
+# The same with those of the tests of the workbench.
 WORKBENCH = (*SOURCES, "librust-proptest+std-dev")
 COMPILER = ("rustc-web", "cargo-web")
 # A compiler with the source of its standard library, of which one is made for other systems, and their linkers.
@@ -104,7 +106,7 @@ def install(packages):
 
 
 def settle(out, may_install, sources=SOURCES):
-    """Has the crates for a workspace at hand, so that cargo builds it offline."""
+    """Has the crates for a workspace at hand, so that cargo builds it offline; Debian's packages with their sources are named."""
     command = cargo(may_install)
     configuration = os.path.join(out, ".cargo", "config.toml")
     has_all = lambda *words, **more: command.run(["fetch", "--quiet", *words], out, **more).returncode == 0

@@ -4,18 +4,19 @@ import re
 import shutil
 
 from . import packages, repository, workspace
-from .trials import alike, bare, calls_for_c, disk, elsewhere, example, fuzzing, images, refusals, runs, score, workbench
+from .trials import alike, bare, calls_for_c, disk, elsewhere, example, fuzzing, images, player, refusals, runs, score, workbench
 
 FOLDER = os.path.join(repository.MADE, "edition")
 PROFILE = "checked"
+MADE = os.path.join(FOLDER, "target", PROFILE)
 # So many inputs are fuzzed at each gate.
 AT_EACH_GATE = 50_000
 RESULT = re.compile(r"^test result: .* (\d+) passed; (\d+) failed", re.MULTILINE)
 
 
 def written():
-    """The edition with the fuzzing and the module of the page, in its folder."""
-    edition = workspace.Edition(own=["fuzz", "page"])
+    """The edition with the player of the tables, the fuzzing and the module of the page, in its folder."""
+    edition = workspace.Edition(own=["fuzz", "page", repository.TESTS])
     edition.write(FOLDER)
     return edition
 
@@ -30,7 +31,7 @@ def set_up():
         raise packages.Missing("the tests on other systems need Debian's packages: " + packages.apt_get(lacking))
     if lacking:
         packages.install(lacking)
-    packages.settle(FOLDER, True)
+    packages.settle(FOLDER, True, packages.TESTS)
     workbench.settled(True)
 
 
@@ -63,18 +64,18 @@ def tested(counts):
 
 def own_steps(counts, edition):
     """The steps on this system; gives the program."""
-    made = os.path.join(FOLDER, "target", PROFILE)
-    program = os.path.join(made, "edd")
+    program = os.path.join(MADE, "edd")
     counts.step("the check of tokens", sources, edition)
     counts.step("cargo build", built)
     counts.step("cargo test", tested)
-    counts.step("stored runs", runs.stored, edition, made)
-    counts.step("rows", runs.rows, program)
+    counts.step("stored runs", runs.stored, edition, MADE)
+    counts.step("tables", player.played, MADE, ["rows", "pages", "calls", "images"])
+    counts.step("rows by the program", player.by_program, MADE, program)
     counts.step("outputs that nobody reads", runs.closed_output, program)
     counts.step("files as the system has them", disk.saved, program)
     counts.step("refused memory", refusals.of_program, program)
     counts.step("refused memory of the language server", refusals.of_editor, program)
-    counts.step("refused memory in calls", refusals.of_calls, edition, made)
+    counts.step("refused memory in calls", refusals.of_calls, edition, MADE)
     return program
 
 
@@ -82,7 +83,7 @@ def quick():
     """The steps on this system alone."""
     counts = score.Score()
     edition = written()
-    packages.settle(FOLDER, False)
+    packages.settle(FOLDER, False, packages.TESTS)
     own_steps(counts, edition)
     return counts.end()
 
@@ -91,14 +92,14 @@ def test():
     """All steps; gives the status."""
     counts = score.Score()
     edition = written()
-    packages.settle(FOLDER, False)
+    packages.settle(FOLDER, False, packages.TESTS)
     program = own_steps(counts, edition)
     counts.step("the workbench", workbench.tested, program)
     counts.step("the example in Rust", example.runs, FOLDER, program)
     counts.step("hostile images", images.refused_alike, {"64 bits": program})
-    counts.step("the proved program", alike.same_bytes, program)
+    counts.step("the proved program", alike.same_bytes, program, MADE)
     counts.step("fuzzing", fuzzing.some, FOLDER, PROFILE, AT_EACH_GATE)
-    counts.step("32 bits of Linux", elsewhere.i686, FOLDER, program)
+    counts.step("32 bits of Linux", elsewhere.i686, FOLDER, program, MADE)
     counts.step("WebAssembly", elsewhere.wasm, program)
     counts.step("without a system", bare.thumb)
     counts.step("the library for C", calls_for_c.tests, program)
@@ -108,6 +109,6 @@ def test():
 def fuzz(words, is_on_32_bits):
     """Fuzzes with so many inputs, built for speed, and prints what is seen."""
     written()
-    packages.settle(FOLDER, False)
+    packages.settle(FOLDER, False, packages.TESTS)
     build = fuzzing.built_for_32_bits if is_on_32_bits else fuzzing.built
     return fuzzing.fuzz(build(FOLDER, "fast"), words).returncode

@@ -2,7 +2,7 @@
 use Rattle.std.proofs.Common.{◌≡◌, ℕ, suc, ◌+◌, ◌-◌, ◌<◌, ℤ, Bool, true, false, not, List, [], ◌∷◌, ◌++◌, Option, Some, None, Result, Ok, Err, refl, sym, ap, ◌∙◌, arith, subst, append_assoc, append-nil}
 use Rattle.std.specs.Prelude.{option_map}
 use Rattle.std.proofs.lemmas.List.Sums.{take_while-cons}
-use Rattle.std.specs.List.{flat_map, range_with_len, take_while}
+use Rattle.std.specs.List.{range_with_len, take_while}
 use Rattle.std.specs.Io.KnownBytes.{Appends}
 use Rattle.edd_syntax.specs.declared.answer.Trap.{Trap}
 use Rattle.edd_syntax.specs.declared.numbers.AttrRef.{AttrRef}
@@ -13,7 +13,7 @@ use Rattle.edd_image.specs.Contents.{AttributeFields, Contents, contents_in}
 use Rattle.edd_instructions.specs.declared.records.Record.{Record}
 use Rattle.edd_instructions.specs.Reading.{Reading, NoItem, Records, IsReading, default_records, environment_of, given_within, is_no_item, opening_of, reading_of, row_of}
 use Rattle.edd_display.specs.Shown.{Prints, Row, has_transaction, is_absent, positions_of, reading_line, row_at, transaction_entries}
-use Rattle.edd_display.proofs.Printing.{prints_end, prints_join, prints_numbers, prints_row, range_more}
+use Rattle.edd_display.proofs.Printing.{prints_join, prints_row, range_more}
 
 -- ---- what is read of an attribute that is not there
 
@@ -65,8 +65,10 @@ pub three_printed : (b : List ℕ) (values : List ℤ) (code : List ℕ) (item :
     → Prints b values code (Row reply ∷ []) second new
     → Prints b values code (transaction_entries item sub) old new
 three_printed b values code item sub at request reply r old first second new e f g is one two three =
-    subst (λ (x : AttrRef). Prints b values code (Row x ∷ Row _ ∷ Row _ ∷ []) old new) e
-    (subst (λ (y : AttrRef). Prints b values code (Row at ∷ Row y ∷ Row _ ∷ []) old new) f
+    let asked : AttrRef = row_at item attr.Request sub in
+    let answered : AttrRef = row_at item attr.Reply sub in
+    subst (λ (x : AttrRef). Prints b values code (Row x ∷ Row asked ∷ Row answered ∷ []) old new) e
+    (subst (λ (y : AttrRef). Prints b values code (Row at ∷ Row y ∷ Row answered ∷ []) old new) f
     (subst (λ (z : AttrRef). Prints b values code (Row at ∷ Row request ∷ Row z ∷ []) old new) g
     (prints_join b values code (Row at ∷ []) (Row request ∷ Row reply ∷ []) old first new
     (prints_row b values code at r old first is one)

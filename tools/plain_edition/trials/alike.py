@@ -6,7 +6,7 @@ import subprocess
 import tempfile
 
 from .. import repository
-from . import images
+from . import images, player
 
 METHOD = re.compile(r"^METHOD (\w+)", re.MULTILINE)
 SIZE = 64 * 1024
@@ -52,8 +52,8 @@ def sources(room):
         yield source, []
 
 
-def same_bytes(score, program):
-    """All commands on all of these sources."""
+def same_bytes(score, program, folder):
+    """All commands on all of these sources, and by the player in the folder the rows of five commands and the images of their sources."""
     proved = proved_program()
     if not proved:
         return "no proved program is here to compare with"
@@ -62,4 +62,4 @@ def same_bytes(score, program):
             for words in commands(source, scripts):
                 one, two = outcome(program, words, room), outcome(proved, words, other)
                 score.check(one == two, f"{' '.join(words)}: the plain program gives other bytes than the proved one")
-    return ""
+    return player.by_program(score, folder, program, "--beside", proved)

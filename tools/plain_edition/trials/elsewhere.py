@@ -7,7 +7,7 @@ import subprocess
 import tempfile
 
 from .. import packages, repository, systems, workspace
-from . import images, runs, table
+from . import images, player, table
 
 I686, WASM = "i686-unknown-linux-gnu", "wasm32-unknown-unknown"
 # The commands whose first word is a source.
@@ -15,11 +15,11 @@ ON_SOURCES = ("compile", "view", "try", "check")
 LIBRARIES = ["edd_compiler", "edd_display", "edd_port"]
 
 
-def i686(score, folder, program):
-    """The rows, the hostile and the damaged images by the program of 32 bits."""
+def i686(score, folder, program, own):
+    """The rows, the hostile and the damaged images by the program of 32 bits; the player in the folder `own` plays the rows."""
     made = systems.build(folder, I686, systems.WHOLE, "checked", ["--package", "edd"])
     other = os.path.join(made, "edd")
-    said = runs.rows(score, other)
+    said = player.by_program(score, own, other)
     images.refused_alike(score, {"64 bits": program, "32 bits": other})
     images.damaged_alike(score, program, other)
     return said

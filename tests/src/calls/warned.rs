@@ -1,0 +1,105 @@
+//! Finds warnings.
+//!
+//! - `warnings`: the warnings of items, which begin at line 2: line, word and lint of each, and line and word
+//!   of its other place.
+//! - `bodies`: the same of the body of a method. If a row asks `instrument`, more is declared around it.
+//! - `messages` and `body_messages`: the message of the first warning.
+//! - `lints`: the lint of a name, or `all of them`.
+
+use crate::playing::NoAnswer;
+use edd_compiler::checked_of;
+use edd_lexer::lex;
+use edd_plain_std::alloc::Global;
+use edd_warnings::{LINTS, Lint, Spot, Warning, warnings};
+
+const HEAD: &str = "MANUFACTURER 1 DEVICE_TYPE 2 DEVICE_REVISION 3 DD_REVISION 4\n";
+
+/// What stands around a body.
+const AROUND: (&str, &str) = (
+    "VARIABLE a { TYPE INTEGER { MAX_VALUE r[1]; } } ARRAY OF VARIABLE r { ELEMENTS { 1, a; } }
+METHOD m { DEFINITION {\n",
+    "} }",
+);
+
+/// The same with variables of several types, an array and a command.
+const INSTRUMENT: (&str, &str) = (
+    "VARIABLE a { TYPE INTEGER; } VARIABLE u { TYPE UNSIGNED_INTEGER (4); } VARIABLE r { HANDLING READ; TYPE INTEGER; }
+VARIABLE e { TYPE ENUMERATED { { 0, \"off\" } { 2, \"on\" } } } ARRAY OF VARIABLE f { ELEMENTS { 1, a; 2, e; 3, r; 4, u; } }
+COMMAND c { NUMBER 130; OPERATION READ; TRANSACTION 0 { } } METHOD m { DEFINITION {\n",
+    "} } METHOD n { DEFINITION { a = f[1]; } }",
+);
+
+/// Returns the warnings of a text, unless it is refused.
+fn warnings_of(text: &[u8]) -> Result<Vec<Warning>, NoAnswer> {
+    let refused = NoAnswer::Row("items that are refused");
+    let tokens = lex(Global, text).map_err(|_| refused)?;
+    let checked = checked_of(Global, text).map_err(|_| refused)?;
+    let warnings = warnings(Global, text, &tokens, &checked)?;
+    Ok(warnings.into_real())
+}
+
+/// Writes the line and the word of a place.
+fn line_and_word(text: &[u8], at: Spot) -> String {
+    let word = text.get(at.start..at.end).unwrap_or_default();
+    format!("{} {}", at.line, String::from_utf8_lossy(word))
+}
+
+/// Writes a warning without its message.
+fn written(text: &[u8], warning: &Warning) -> String {
+    let (at, name) = (line_and_word(text, warning.at), warning.lint.name());
+    match warning.other {
+        Some(other) => format!("{at} {name} at {}", line_and_word(text, other)),
+        None => format!("{at} {name}"),
+    }
+}
+
+pub fn warnings_of_items(items: &str) -> Result<String, NoAnswer> {
+    let text = format!("{HEAD}{items}");
+    let warnings = warnings_of(text.as_bytes())?;
+    let lines = warnings
+        .iter()
+        .map(|warning| written(text.as_bytes(), warning));
+    Ok(lines.collect::<Vec<_>>().join("; "))
+}
+
+/// Puts a body into a method.
+fn items_around(asked: &str, body: &str) -> String {
+    let (before, after) = if asked == "instrument" {
+        INSTRUMENT
+    } else {
+        AROUND
+    };
+    format!("{before}{body}\n{after}")
+}
+
+pub fn warnings_of_body(asked: &str, body: &str) -> Result<String, NoAnswer> {
+    warnings_of_items(&items_around(asked, body))
+}
+
+pub fn message_of_body(asked: &str, body: &str) -> Result<String, NoAnswer> {
+    first_message(&items_around(asked, body))
+}
+
+pub fn first_message(items: &str) -> Result<String, NoAnswer> {
+    let text = format!("{HEAD}{items}");
+    let warnings = warnings_of(text.as_bytes())?;
+    let first = warnings.first().map(|first| first.message.to_string());
+    Ok(first.unwrap_or_default())
+}
+
+/// Lists the names of all lints, and says which of them names another lint.
+fn all_lints() -> String {
+    let names = LINTS.iter().map(|lint| match Lint::from_name(lint.name()) {
+        Some(named) if named == *lint => lint.name().to_owned(),
+        _ => format!("{} names another", lint.name()),
+    });
+    names.collect::<Vec<_>>().join("\n")
+}
+
+pub fn lint(name: &str) -> String {
+    match Lint::from_name(name) {
+        _ if name == "all of them" => all_lints(),
+        Some(lint) => lint.name().to_owned(),
+        None => "none".to_owned(),
+    }
+}

@@ -1,0 +1,227 @@
+//! A conversation with the language server: what is sent, and what the server has to answer.
+//!
+//! - `> MESSAGE` sends a message.
+//! - `- BYTES` sends bytes as they are, with the escapes of `unescaped`.
+//! - `< MESSAGE` is the next message that the server sends.
+//! - `= goes on`, `= clean` or `= unclean` is whether the conversation is over, and how.
+//!
+//! A message of the server that no line names is a failure.
+
+use crate::playing::NoAnswer;
+use crate::table::{Part, unescaped};
+use edd_language_server::{Frame, Framing, Next, Server, feed};
+use edd_plain_std::alloc::{AllocError, Global};
+use edd_plain_std::vec::Vec as PlainVec;
+use std::collections::VecDeque;
+
+/// The parameters of `initialize` of an editor that supports everything the server asks about.
+const ABLE: &str = concat!(
+    r#"{"capabilities":{"general":{"positionEncodings":["utf-16","utf-8"]},"textDocument":{"#,
+    r#""publishDiagnostics":{"relatedInformation":true},"rename":{"prepareSupport":true},"#,
+    r#""documentSymbol":{"hierarchicalDocumentSymbolSupport":true},"#,
+    r#""codeAction":{"codeActionLiteralSupport":{}},"signatureHelp":{"signatureInformation":"#,
+    r#"{"parameterInformation":{"labelOffsetSupport":true}}}}}}"#
+);
+
+/// Those of an editor that supports nothing, with columns in UTF-16.
+const PLAIN: &str = r#"{"capabilities":{}}"#;
+
+/// A conversation so far.
+struct Conversation {
+    server: Server,
+    framing: Framing,
+    /// The messages of the server that no line has named so far.
+    untold: VecDeque<String>,
+    next: Next,
+    /// What is wrong so far.
+    wrong: Vec<String>,
+}
+
+/// Splits what the server sent into messages.
+fn contents(bytes: &[u8]) -> Result<VecDeque<String>, AllocError> {
+    let mut framing = Framing::new(Global);
+    let mut contents = VecDeque::new();
+    let mut left = bytes;
+    while !left.is_empty() {
+        let (taken, frame) = framing.take(left)?;
+        left = left.get(taken..).unwrap_or_default();
+        match frame {
+            Frame::Whole => contents.push_back(String::from_utf8_lossy(framing.content()).into()),
+            Frame::Faulty(fault) => contents.push_back(fault.message().to_owned()),
+            Frame::Partial if taken == 0 => break,
+            Frame::Partial => {}
+        }
+    }
+    Ok(contents)
+}
+
+impl Conversation {
+    /// Begins a conversation of this kind.
+    fn begin(word: &str) -> Result<Self, NoAnswer> {
+        let mut conversation = Conversation {
+            server: Server::new(Global),
+            framing: Framing::new(Global),
+            untold: VecDeque::new(),
+            next: Next::GoOn,
+            wrong: Vec::new(),
+        };
+        let params = match word {
+            "utf-8" => ABLE,
+            "utf-16" => PLAIN,
+            "-" => return Ok(conversation),
+            _ => return Err(NoAnswer::Kind),
+        };
+        conversation.send(&format!(
+            r#"{{"jsonrpc":"2.0","id":0,"method":"initialize","params":{params}}}"#
+        ))?;
+        conversation.untold.clear();
+        Ok(conversation)
+    }
+
+    fn send(&mut self, message: &str) -> Result<(), AllocError> {
+        let length = message.len();
+        let framed = format!("Content-Length: {length}\r\n\r\n{message}");
+        self.send_bytes(framed.as_bytes())
+    }
+
+    /// Sends bytes. Messages that no line has named by then are wrong.
+    fn send_bytes(&mut self, bytes: &[u8]) -> Result<(), AllocError> {
+        self.note_untold();
+        let mut out = PlainVec::new(Global);
+        self.next = feed(Global, &mut self.server, &mut self.framing, bytes, &mut out)?;
+        self.untold = contents(&out)?;
+        Ok(())
+    }
+
+    fn note_untold(&mut self) {
+        let untold = self.untold.drain(..);
+        self.wrong
+            .extend(untold.map(|message| format!("  not told {message}")));
+    }
+
+    /// Compares the next message of the server.
+    fn compare(&mut self, message: &str) {
+        let came = self
+            .untold
+            .pop_front()
+            .unwrap_or_else(|| "nothing".to_owned());
+        if came != message {
+            self.wrong
+                .push(format!("  wanted {message}\n  came   {came}"));
+        }
+    }
+
+    /// Compares whether the conversation is over, and how.
+    fn compare_next(&mut self, word: &str) {
+        let came = match self.next {
+            Next::GoOn => "goes on",
+            Next::Exit { is_clean: true } => "clean",
+            Next::Exit { is_clean: false } => "unclean",
+        };
+        if came != word {
+            self.wrong.push(format!("  wanted {word}\n  ends   {came}"));
+        }
+    }
+
+    /// Takes a line of the part.
+    fn take(&mut self, line: &str) -> Result<(), NoAnswer> {
+        let (sign, rest) = line.split_once(' ').unwrap_or((line, ""));
+        match sign {
+            ">" => self.send(rest)?,
+            "<" => self.compare(rest),
+            "-" => {
+                let bytes = unescaped(rest).ok_or(NoAnswer::Row("an escape without its end"))?;
+                self.send_bytes(&bytes)?;
+            }
+            "=" => self.compare_next(rest),
+            "#" => {}
+            _ => return Err(NoAnswer::Row("a line that is none of a conversation")),
+        }
+        Ok(())
+    }
+}
+
+/// Plays the conversation of a part, and returns what is wrong with it.
+pub fn wrong_in(part: &Part<'_>) -> Result<Option<String>, NoAnswer> {
+    let mut conversation = Conversation::begin(part.kind)?;
+    for (number, line) in part.numbered_lines() {
+        let before = conversation.wrong.len();
+        conversation.take(line)?;
+        if conversation.wrong.len() > before {
+            conversation.wrong.push(format!("  at line {number}"));
+        }
+    }
+    conversation.note_untold();
+    let wrong = conversation.wrong.join("\n");
+    Ok(Some(wrong).filter(|wrong| !wrong.is_empty()))
+}
+
+#[cfg(test)]
+mod tests {
+    use super::*;
+
+    fn wrong(kind: &str, lines: &str) -> Result<Option<String>, NoAnswer> {
+        wrong_in(&Part {
+            kind,
+            name: "",
+            lines,
+            line: 1,
+        })
+    }
+
+    const ASK: &str = r#"> {"jsonrpc":"2.0","id":1,"method":"shutdown"}"#;
+
+    const ANSWER: &str = r#"< {"jsonrpc":"2.0","id":1,"result":null}"#;
+
+    #[test]
+    fn what_is_told_is_right() {
+        let lines = format!(
+            "{ASK}\n{ANSWER}\n= goes on\n> {{\"jsonrpc\":\"2.0\",\"method\":\"exit\"}}\n= clean"
+        );
+        assert_eq!(wrong("utf-8", &lines), Ok(None));
+        assert_eq!(wrong("utf-16", &lines), Ok(None));
+    }
+
+    #[test]
+    fn what_is_not_told_is_wrong() {
+        let wrong = wrong("utf-8", ASK).unwrap().unwrap();
+        assert_eq!(wrong, format!("  not told {}", &ANSWER[2..]));
+    }
+
+    #[test]
+    fn what_differs_is_wrong() {
+        let lines = format!("{ASK}\n< {{}}\n= clean");
+        let wrong = wrong("utf-8", &lines).unwrap().unwrap();
+        let answer = &ANSWER[2..];
+        assert_eq!(
+            wrong,
+            format!(
+                "  wanted {{}}\n  came   {answer}\n  at line 3\n  wanted clean\n  ends   goes on\n  at line 4"
+            )
+        );
+        assert!(
+            super::wrong_in(&Part {
+                kind: "-",
+                name: "",
+                lines: "< {}",
+                line: 1
+            })
+            .unwrap()
+            .is_some()
+        );
+    }
+
+    #[test]
+    fn other_lines_are_refused() {
+        assert!(wrong("utf-8", "+ a").is_err());
+        assert!(wrong("utf-8", "- \\x0").is_err());
+        assert_eq!(wrong("utf-32", ""), Err(NoAnswer::Kind));
+    }
+
+    #[test]
+    fn contents_are_cut_out_of_bytes() {
+        let cut =
+            contents(b"Content-Length: 2\r\n\r\nabContent-Length: 1\r\n\r\ncContent").unwrap();
+        assert_eq!(cut, ["ab", "c"]);
+    }
+}

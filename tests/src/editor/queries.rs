@@ -1,0 +1,21 @@
+//! Queries of an editor on texts, with a `$` where each is asked.
+
+use super::answered::{At, Query};
+use crate::playing::NoAnswer;
+use crate::table::Row;
+use edd_editing::Document;
+use edd_plain_std::alloc::Global;
+
+/// Answers a query.
+pub fn answer(row: &Row<'_>) -> Result<String, NoAnswer> {
+    let query = Query::parse(row.asked).ok_or(NoAnswer::Row("no such query"))?;
+    let halves = row.text.split_once('$');
+    let (before, after) = halves.unwrap_or((row.text.as_str(), ""));
+    let text = [before, after].concat();
+    let document = Document::of(Global, text.as_bytes())?;
+    let at = At {
+        document: &document,
+        byte: before.len(),
+    };
+    Ok(at.answer(query)?)
+}
