@@ -4,6 +4,7 @@
 
 use edd::{Answer, Image, ItemNo, Kind, Session, Turn};
 use std::error::Error;
+use std::process::ExitCode;
 
 /// How many instructions are executed at a time; between two times a program may do something else.
 const BUDGET: u32 = 1000;
@@ -11,7 +12,17 @@ const BUDGET: u32 = 1000;
 /// A method that executes more is given up.
 const MOST: u64 = 1_000_000;
 
-fn main() -> Result<(), Box<dyn Error>> {
+fn main() -> ExitCode {
+    match run() {
+        Ok(()) => ExitCode::SUCCESS,
+        Err(error) => {
+            eprintln!("{error}");
+            ExitCode::FAILURE
+        }
+    }
+}
+
+fn run() -> Result<(), Box<dyn Error>> {
     let words: Vec<String> = std::env::args().skip(1).collect();
     let [file, method] = words.as_slice() else {
         return Err("usage: run_method IMAGE METHOD".into());
