@@ -1,4 +1,6 @@
 //! No call panics, whatever it is given, and what it gives is what it promises.
+//!
+//! Each run tries other inputs, 256 for each test; `PROPTEST_CASES` is another count.
 
 #![allow(clippy::expect_used, reason = "a test fails by a panic")]
 
@@ -177,7 +179,6 @@ fn show(panel: &Panel<'_, '_>) {
 
 proptest! {
     #![proptest_config(ProptestConfig {
-        cases: 256,
         failure_persistence: None,
         ..ProptestConfig::default()
     })]
