@@ -257,7 +257,9 @@ proptest! {
             for (budget, answer) in steps {
                 let before = session.taken();
                 let turn = session.advance(budget);
-                assert!(session.taken().saturating_sub(before) <= u64::from(budget));
+                let executed = session.taken().saturating_sub(before);
+                assert!(executed <= u64::from(budget));
+                assert!(turn != Turn::Spent || executed == u64::from(budget));
                 assert_eq!(turn, session.turn());
                 let answered = session.answer(&answer);
                 let is_asking = matches!(turn, Turn::Asks(_));

@@ -3,7 +3,7 @@
 //! Each test names a call of the core and its `requires`, and tries the library's call with what it
 //! must not get. Calls that cannot be written are the `compile_fail` examples in
 //! `src/unwritable.rs`. The calls of the core that the library uses and that are named in neither
-//! ask for nothing.
+//! ask for nothing: `named.rs` reads that in the core's sources.
 
 #![allow(
     clippy::arithmetic_side_effects,
@@ -15,14 +15,13 @@
 
 mod common;
 
-use common::{IMAGES, image_of, methods, sources_in};
+use common::{IMAGES, image_of, methods};
 use edd::{
     Answer, AnswerFault, Attr, AttrRef, CmdNo, Command, Device, DeviceFault, Drive, EditFault,
     Happened, Host, Image, ItemNo, LoadFault, MenuNo, MethNo, Panel, PlayFault, ReadFault, Request,
     Session, SetFault, StartFault, StrNo, Turn, Values, ValuesFault, VarNo, WrongValues, drive,
     play,
 };
-use std::collections::BTreeSet;
 use std::convert::Infallible;
 
 const ASKING: &str = "VARIABLE p { TYPE INTEGER (1); } \
@@ -41,66 +40,6 @@ fn others() -> Values {
 
 fn attribute_of(item: ItemNo, attr: Attr) -> AttrRef {
     AttrRef { item, attr, sub: 0 }
-}
-
-/// The calls of the core with a `requires` that the library uses.
-const TRIED: [&str; 9] = [
-    "attribute_of_device",
-    "element_array",
-    "element_number",
-    "element_variable",
-    "help",
-    "label",
-    "open",
-    "reopen",
-    "reply",
-];
-
-/// Names that such calls share with calls that ask for nothing, which the library uses.
-const SHARED: [&str; 6] = ["counts", "find", "new", "perform", "push", "set"];
-
-/// Whoever uses one more call of the core that asks for something names it, and tries it.
-#[test]
-fn each_call_that_asks_for_something_is_named() {
-    let mut asking = BTreeSet::new();
-    for line in include_str!("../Cargo.toml").lines() {
-        let name = line.split(" = ").next().unwrap_or(line);
-        for source in sources_in(&format!("crates/{name}/src"), "rt") {
-            asking.extend(calls_with_requires(&source));
-        }
-    }
-    assert!(asking.len() > 50, "the core's contracts are read");
-    let library = sources_in("workbench/edd/src", "rs").join("\n");
-    // What stands before each parenthesis.
-    let pieces = library
-        .split('(')
-        .map(|piece| piece.rsplit(is_no_letter).next());
-    let called: BTreeSet<&str> = pieces.flatten().collect();
-    asking.retain(|name| called.contains(name.as_str()));
-    let named = TRIED.iter().chain(&SHARED).map(|name| (*name).to_owned());
-    assert_eq!(asking, named.collect());
-}
-
-fn is_no_letter(letter: char) -> bool {
-    !letter.is_alphanumeric() && letter != '_'
-}
-
-/// The public functions of a source of the core that have a `requires`.
-fn calls_with_requires(source: &str) -> Vec<String> {
-    let mut found = Vec::new();
-    let mut current = None;
-    for line in source.lines().map(str::trim) {
-        if let Some(rest) = line.strip_prefix("pub fn ") {
-            current = rest.split(['(', '<']).next();
-        }
-        if line.starts_with("requires") {
-            found.extend(current.take().map(str::to_owned));
-        }
-        if line.ends_with('{') && !line.contains("ensures") {
-            current = None;
-        }
-    }
-    found
 }
 
 /// `edd_loader::reopen` asks for the bytes of a valid image.
@@ -150,8 +89,8 @@ fn read_all(image: &Image) {
     }
 }
 
-/// `edd_image::element_array` and its like ask for a row that is as long as the bytes from its
-/// place on.
+/// `element_array`, `element_number` and `element_variable` of `edd_image` ask for a row that is
+/// whole.
 #[test]
 fn rows_of_elements_are_whole() {
     for image in IMAGES.iter() {
@@ -304,6 +243,30 @@ fn hosts_that_answer_wrongly() {
     assert_eq!(session.turn(), Turn::Asks(Request::SendCommand(1)));
 }
 
+/// A host that answers with 1, then with 2.
+struct Counting(i32);
+
+impl Host for Counting {
+    type Error = Infallible;
+
+    fn reply(&mut self, _: &Request) -> Result<Option<Answer>, Infallible> {
+        self.0 += 1;
+        Ok(Some(Answer::code(self.0)))
+    }
+}
+
+/// The same: each request gets the answer that was given to it.
+#[test]
+fn hosts_that_answer_twice() {
+    let body = "VARIABLE p { TYPE INTEGER (1); } \
+        METHOD m { DEFINITION { p = send_command(1); p = 10 * p + send_command(2); } }";
+    let image = image_of(body);
+    let mut session = Session::start(&image, METHOD, image.values()).expect("a session");
+    let end = drive(&mut session, &mut Counting(0), 100);
+    assert_eq!(end, Drive::Done(Turn::Ended));
+    assert_eq!(session.into_values().numbers(), [12]);
+}
+
 /// A host that panics leaves the session where it asked, so that its state is still one of the
 /// method.
 #[test]
@@ -403,6 +366,9 @@ fn panels_get_values_of_their_image() {
     let opened = image.open();
     let refused = Panel::open(&opened, "en", others()).expect_err("other values");
     assert_eq!(refused, WrongValues(others()));
+    let fitting = image_of(OTHER).values();
+    let refused = Panel::open(&opened, "en", fitting.clone()).expect_err("other values");
+    assert_eq!(refused, WrongValues(fitting));
     let mut panel = Panel::open(&opened, "", image.values()).expect("a panel");
     assert_eq!(panel.perform(Command::Number(i64::MIN)), Happened::NoEntry);
     assert_eq!(panel.perform(Command::Number(1)), Happened::Moved);
