@@ -12,6 +12,8 @@ PAGE = os.path.join(TOP, "docs", "GATE.md")
 COUNTS = re.compile(r"^(\d+) passed, (\d+) failed$")
 PROVED = re.compile(r"^rt: (\w+)(: its tests are)? (NOT )?(?:PROVED|proved)\b")
 EDIT = re.compile(r"^rt: must-fail \S+: (refused)?")
+# What the table of docs/GATE.md has of each crate.
+COLUMNS = "First check", "Edits", "Program"
 # Minutes on four processors, as measured.
 CARGO_MINUTES = 7
 
@@ -21,17 +23,15 @@ def say(text):
 
 
 def table(text):
-    """The columns of each crate in the table of docs/GATE.md, as numbers."""
-    head = re.search(r"^\| Crate \|(.*)\|$", text, re.M)[1].split("|")
-    rows = re.findall(r"^\| `(\w+)` \|(.*)\|$", text, re.M)
-    return {name: {of.strip(): float(it.strip() or 0) for of, it in zip(head, cells.split("|"))} for name, cells in rows}
+    """The seconds of each crate in the table of docs/GATE.md: of its first check, of its wrong bodies and of its program."""
+    cells = re.findall(r"`(\w+)` \| (\d*) ?\| (\d*) ?\| (\d*) ?\|", text)
+    return {name: {what: int(it or 0) for what, it in zip(COLUMNS, seconds)} for name, *seconds in cells}
 
 
 def measured():
     """The processor seconds of each crate, with its edits and its program, by docs/GATE.md."""
     with open(PAGE, encoding="utf-8") as page:
-        rows = table(page.read())
-    return {name: sum(row.get(it, 0) for it in ("First check", "Tests", "Their checks", "Program")) for name, row in rows.items()}
+        return {name: sum(row.values()) for name, row in table(page.read()).items()}
 
 
 def crates():
