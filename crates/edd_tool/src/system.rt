@@ -44,7 +44,7 @@ fn of_writing(error: &io::Error) -> FileFault {
     }
 }
 
-impl<R: rt::Files + Input + Print + AllocGlobal> Files for ProgramFiles<'_, R> {
+impl<R: rt::Files + Input + Print + Eprint + AllocGlobal> Files for ProgramFiles<'_, R> {
     type Reader = Opened<R::File, R::Reader>;
 
     fn open(&mut self, name: &str) -> Result<Self::Reader, FileFault> {
@@ -78,7 +78,7 @@ impl<R: rt::Files + Input + Print + AllocGlobal> Files for ProgramFiles<'_, R> {
 
 /// Runs the program `edd` on the words of its command line, the program's name first, over the
 /// system's files. Prints to `out`, and answers the exit status.
-pub fn run_on_system<R: rt::Files + Input + Print + AllocGlobal, W: Write>(
+pub fn run_on_system<R: rt::Files + Input + Print + Eprint + AllocGlobal, W: Write>(
     rt: &R,
     words: &[String],
     out: &mut W,

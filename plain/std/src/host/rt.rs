@@ -22,7 +22,7 @@ pub trait Abort {}
 
 impl Abort for HostRuntime {}
 
-/// Prints to the standard output and the standard error.
+/// Prints to the standard output.
 pub trait Print {
     fn print(&self, arguments: fmt::Arguments<'_>) -> Result<()> {
         with_output(|out| real::io::Write::write_fmt(out, arguments))
@@ -31,13 +31,18 @@ pub trait Print {
     fn println(&self, arguments: fmt::Arguments<'_>) -> Result<()> {
         self.print(format_args!("{arguments}\n"))
     }
+}
 
+impl Print for HostRuntime {}
+
+/// Prints to the standard error.
+pub trait Eprint {
     fn eprintln(&self, arguments: fmt::Arguments<'_>) -> Result<()> {
         real::io::Write::write_fmt(&mut real::io::stderr(), format_args!("{arguments}\n"))
     }
 }
 
-impl Print for HostRuntime {}
+impl Eprint for HostRuntime {}
 
 /// Reads the standard input.
 pub trait Input {
