@@ -307,7 +307,8 @@ fn print_identification<W: Write>(
     )
 }
 
-/// Prints the identification, and each item by kind and number, with its attributes by theirs.
+/// Prints the identification, and each item by kind and number, with its attributes by theirs. The
+/// transactions of a command end at the first position without TRANSACTION.
 ///
 /// The fault is `WrongValues` only where the values are not those of a device of this description.
 #[tactic(auto, using(crate::proofs::Printing::prints_after_identification), unfolding(crate::specs::Shown::entries_of),)]
