@@ -1,13 +1,8 @@
-//! Where a rule that is broken is shown, in a text that spells a unit.
-//!
-//! Proved is at which token, and that an item or a collection that is found around one is the one
-//! there; that it is found is not.
+//! Where in a text a broken rule is shown: at which token.
 #![tactic(auto)]
 
-mod kinds;
 mod places;
-mod sources;
+mod span;
 
-pub use kinds::OtherKinds;
-pub use places::shown_at;
-pub use sources::Source;
+pub use places::place_of;
+pub use span::Span;

@@ -3,12 +3,11 @@
 ghost use Rattle.std.specs.Prelude.{◌≡◌, option_map};
 ghost use Rattle.edd_breaches.specs.Told.{told_of};
 ghost use Rattle.edd_breach_places.specs.Places as places;
-ghost use Rattle.edd_breach_places.specs.Places.{IsShownAt, mask_behind, text_of};
+ghost use Rattle.edd_breach_places.specs.Places.{mask_behind};
 
-use crate::sources::Source;
+use crate::span::{Span, span_at, span_of};
 use edd_breaches::{Breach, Rule};
 use edd_lexer::token::{Token, TokenKind};
-use edd_reports::words::{Span, span_of};
 use edd_syntax::operators::Comparison;
 use edd_syntax::symbols::Symbol;
 
@@ -53,27 +52,26 @@ fn mask_of(tokens: &[Token]) -> Option<&Token>
 }
 
 // Where a data item is shown that begins at a token: at its mask in `<` and `>`; a constant has none.
-fn data_item_shown(source: &Source<'_>, at: usize) -> Option<Span>
-    ensures { result ≡ places.mask_at (text_of source.now).tokens at }
+fn data_item_place(tokens: &[Token], at: usize) -> Option<Span>
+    ensures { result ≡ places.mask_at tokens.now at }
 {
-    let tokens = source.tokens();
     let start = at.min(tokens.len());
     match mask_of(last_of_path(&tokens[start..])) {
         Some(mask) => Some(span_of(mask)),
-        None => source.span(at),
+        None => span_at(tokens, at),
     }
 }
 
-/// Where a breach is shown: of a type at its word or its size behind TYPE, of a data item at its mask,
-/// else at the breach's own token.
-pub fn shown_at(source: &Source<'_>, breach: &Breach<'_>) -> Option<Span>
-    ensures { IsShownAt (text_of source.now) (told_of breach.now) result }
+/// Where a breach in a text with these tokens is shown: of a type at its word or its size behind
+/// TYPE, of a data item at its mask, else at the breach's own token. Nowhere, where it has none.
+pub fn place_of(tokens: &[Token], breach: &Breach<'_>) -> Option<Span>
+    ensures sound { result ≡ places.place_of tokens.now (told_of breach.now) }
 {
     let at = breach.place?.0 as usize;
     match breach.rule {
-        Rule::FloatVariable(_) | Rule::OtherType { .. } => source.span(at.saturating_add(1)),
-        Rule::BadSize(_) => source.span(at.saturating_add(3)),
-        Rule::ConstRange => data_item_shown(source, at),
-        _ => source.span(at),
+        Rule::FloatVariable(_) | Rule::OtherType { .. } => span_at(tokens, at.saturating_add(1)),
+        Rule::BadSize(_) => span_at(tokens, at.saturating_add(3)),
+        Rule::ConstRange => data_item_place(tokens, at),
+        _ => span_at(tokens, at),
     }
 }

@@ -1,4 +1,0 @@
-pub mod BreachLaws
-pub mod RefusedLaws
-pub mod SaidLaws
-pub mod ShownLaws

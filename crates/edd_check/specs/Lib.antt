@@ -1,3 +1,0 @@
-pub mod Breaches
-pub mod Said
-pub mod Shown

@@ -1,0 +1,2 @@
+pub mod BreachLaws
+pub mod VerdictLaws

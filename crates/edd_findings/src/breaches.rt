@@ -1,0 +1,46 @@
+//! All rules that a unit breaks.
+
+ghost use Rattle.std.specs.Prelude.{◌≡◌, IfOk, map};
+ghost use Rattle.edd_breaches.specs.Told.{told_of};
+ghost use Rattle.edd_findings.specs.Breaches.{Lists, calls_after};
+
+use edd_breaches::Breach;
+use edd_names::tell_names;
+use edd_syntax::item::Item;
+use edd_syntax::reference::Target;
+use edd_syntax::unit::Unit;
+use edd_types::{Calls, tell_profile};
+use std::alloc::{AllocError, Global};
+
+// Which calls are looked for after these breaches of rules on names. What follows from the name of
+// a function that does not exist is not told.
+fn calls_after(names: &[Breach<'_>]) -> Calls
+    ensures { result ≡ calls_after (map told_of names.now) }
+{
+    match names {
+        [] => Calls::All,
+        _ => Calls::Named,
+    }
+}
+
+/// All rules that a unit breaks, each at its token: those on names, and those of the profile, for
+/// which something stands for each name that means nothing. `items` takes the items with what stands
+/// in the place of names; the answer borrows their names.
+pub fn told_of<'a>(
+    alloc: Global,
+    unit: &'a Unit,
+    items: &'a mut Vec<Item<Target>>,
+) -> Result<Vec<Breach<'a>>, AllocError>
+    ensures { IfOk result (λ told. Lists unit.now (map told_of told.items)) }
+{
+    let mut told = Vec::new(alloc);
+    match tell_names(alloc, unit, &mut told)? {
+        None => Ok(told),
+        Some(named) => {
+            *items = named;
+            let which = calls_after(&told);
+            tell_profile(items, which, alloc, &mut told)?;
+            Ok(told)
+        }
+    }
+}
