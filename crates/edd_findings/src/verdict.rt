@@ -38,6 +38,14 @@ impl Accepted {
         &self.image
     }
 
+    /// The bytes of its image, handed over.
+    pub fn into_image(self) -> Vec<u8>
+        ensures { result ≡ self.image }
+    {
+        let Accepted { image, .. } = self;
+        image
+    }
+
     /// The tokens of the text.
     pub fn tokens(&self) -> &[Token]
         ensures { result.now ≡ self.now.tokens.items }
@@ -74,5 +82,19 @@ impl Refused {
         ensures { result.now ≡ self.now.breaches.items }
     {
         &self.breaches
+    }
+
+    /// The fault, the refusal and all rules that the text breaks, handed over.
+    pub fn into_parts(self) -> (Fault, String, Vec<Found>)
+        ensures fault { result.0 ≡ self.fault }
+        ensures refusal { result.1 ≡ self.refusal }
+        ensures breaches { result.2 ≡ self.breaches }
+    {
+        let Refused {
+            fault,
+            refusal,
+            breaches,
+        } = self;
+        (fault, refusal, breaches)
     }
 }
