@@ -14,4 +14,4 @@ pub use explained::{
     with_script_shown, with_try_named,
 };
 pub use reasons::told;
-pub use reports::{DONE, FILE, MEMORY, report, status};
+pub use reports::{COMMAND_LINE, DONE, FILE, MEMORY, report, status};

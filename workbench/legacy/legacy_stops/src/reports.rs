@@ -15,7 +15,8 @@ pub const DONE: u8 = 0;
 
 const REFUSED: u8 = 1;
 
-const COMMAND_LINE: u8 = 2;
+/// The exit status of a mistake on the command line.
+pub const COMMAND_LINE: u8 = 2;
 
 /// The exit status where a file or the output could not be read or written.
 pub const FILE: u8 = 3;
