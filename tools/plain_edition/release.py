@@ -6,13 +6,14 @@ from . import packages, repository, workspace
 
 PAGE = """# edd, the plain edition
 
-The sources of `edd`, a compiler, image loader and method interpreter for EDDL device descriptions, with the contracts left out under
-which they are proved. They are ordinary Rust: `cargo build --release -p edd` builds the program, and
+The sources of `edd`, a compiler, image loader and method interpreter for EDDL device descriptions: the core with the contracts left
+out under which it is proved, and the ordinary Rust over it, in `cli` and `legacy`. `cargo build --release -p edd-cli` builds the
+program, and
 
     cargo add --path FOLDER/edd_loader
 
-makes a crate of it one of another program, as `examples/rust` shows. What is proved are the sources, not these files: `docs/PLAIN.md`
-says what is promised and what is trusted beside the proofs. `GENERATED_FROM` names the commit of the sources, and `docs/` is theirs.
+makes a crate of it one of another program, as `examples/rust` shows. What is proved are the core's sources, not these files:
+`docs/PLAIN.md` says what is promised and what is trusted beside the proofs. `GENERATED_FROM` names the commit of the sources, and `docs/` is theirs.
 
 | Crate | What it is |
 |---|---|
@@ -40,6 +41,9 @@ def page(edition):
     for crate in edition.crates:
         root = "main" if crate.is_program else "lib"
         rows.append(f"| `{crate.name}` | {summary(edition.files[f'{crate.name}/src/{root}.rs'])} |\n")
+    for place in edition.packages:
+        root = next(name for name in ("lib", "main") if f"{place}/src/{name}.rs" in edition.files)
+        rows.append(f"| `{place}` | {summary(edition.files[f'{place}/src/{root}.rs'])} |\n")
     return PAGE + "".join(rows)
 
 
