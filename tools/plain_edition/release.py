@@ -13,7 +13,8 @@ program, and
     cargo add --path FOLDER/edd_loader
 
 makes a crate of it one of another program, as `examples/rust` shows. What is proved are the core's sources, not these files:
-`docs/PLAIN.md` says what is promised and what is trusted beside the proofs. `GENERATED_FROM` names the commit of the sources, and `docs/` is theirs.
+`docs/PLAIN.md` says what is promised and what is trusted beside the proofs. `GENERATED_FROM` names the commit of the sources, and
+`docs/` is theirs.
 
 | Crate | What it is |
 |---|---|
@@ -36,15 +37,14 @@ def summary(text):
     return said.split(". ")[0].rstrip(".") + "." if said else ""
 
 
+def root(edition, place):
+    """The root of a crate's sources."""
+    return next(edition.files[path] for path in (f"{place}/src/lib.rs", f"{place}/src/main.rs") if path in edition.files)
+
+
 def page(edition):
-    rows = []
-    for crate in edition.crates:
-        root = "main" if crate.is_program else "lib"
-        rows.append(f"| `{crate.name}` | {summary(edition.files[f'{crate.name}/src/{root}.rs'])} |\n")
-    for place in edition.packages:
-        root = next(name for name in ("lib", "main") if f"{place}/src/{name}.rs" in edition.files)
-        rows.append(f"| `{place}` | {summary(edition.files[f'{place}/src/{root}.rs'])} |\n")
-    return PAGE + "".join(rows)
+    places = [it.name for it in edition.crates] + edition.packages
+    return PAGE + "".join(f"| `{place}` | {summary(root(edition, place))} |\n" for place in places)
 
 
 def pages_and_examples():
