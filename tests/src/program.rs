@@ -22,7 +22,7 @@ pub fn run_as_edd(words: impl Iterator<Item = String>) -> u8 {
         .chain(words)
         .map(edd_plain_std::string::String::from_real)
         .collect();
-    edd_tool::run_on_system(
+    legacy_tool::run_on_system(
         &HostRuntime,
         &words,
         &mut edd_plain_std::io::writer(&HostRuntime),

@@ -463,12 +463,11 @@ def looks(counts, browser):
 
 
 def program_at_hand():
-    """The proved program where it is built, else that of the plain edition."""
+    """The ordinary program, built where it has to be."""
     ran = subprocess.run([os.path.join(repository.TOP, "edd"), "--no-install", "--version"], capture_output=True, text=True, check=False)
     if ran.returncode:
         raise packages.Missing(f"there is no program: {ran.stderr}")
-    proved = os.path.join(repository.TOP, "crates", "edd", "out", "edd")
-    return os.path.join(repository.MADE, "edd") if "plain" in ran.stdout else proved
+    return os.path.join(repository.MADE, "edd")
 
 
 def quiet(counts, browser):

@@ -1,28 +1,22 @@
 """The erased core below the workbench: the crates that its packages name, with what these use."""
 import os
-import re
 
-from . import repository, workspace
+from . import ordinary, workspace
 
-WORKBENCH = os.path.join(repository.TOP, "workbench")
+WORKBENCH = ordinary.WORKBENCH
 FOLDER = os.path.join(WORKBENCH, "core")
-# A crate of the core in the manifest of a package.
-NAMED = re.compile(r'path = "\.\./core/(\w+)"')
 
 
-def names():
-    """The crates of the core that the packages of the workbench depend on."""
-    found = set()
-    for package in sorted(os.listdir(WORKBENCH)):
-        manifest = os.path.join(WORKBENCH, package, "Cargo.toml")
-        if package != os.path.basename(FOLDER) and os.path.isfile(manifest):
-            with open(manifest, encoding="utf-8") as file:
-                found.update(NAMED.findall(file.read()))
-    return sorted(found)
+def packages():
+    """The places of all packages of the workbench."""
+    folders = sorted(os.listdir(WORKBENCH))
+    places = [it for it in folders if it != os.path.basename(FOLDER)] + list(ordinary.places().values())
+    return [it for it in dict.fromkeys(places) if os.path.isfile(os.path.join(WORKBENCH, it, "Cargo.toml"))]
 
 
 def write():
     """Writes the core into its folder, and returns it."""
-    edition = workspace.Edition(names())
+    named = ordinary.needs(map(ordinary.manifest, packages()))
+    edition = workspace.Edition(sorted(named.crates), sorted(named.plain))
     edition.write(FOLDER)
     return edition

@@ -1,10 +1,10 @@
-"""Builds the program of the plain edition for `./edd`."""
+"""Builds the ordinary program, of workbench/cli over the erased core, for `./edd`."""
 import fcntl
 import os
 import shutil
 import time
 
-from . import packages, repository, workspace
+from . import ordinary, packages, repository, workspace
 
 PROGRAM = os.path.join(repository.MADE, "edd")
 ROOM = os.path.join(repository.MADE, "program")
@@ -19,23 +19,24 @@ def build(may_install):
         fcntl.flock(lock, fcntl.LOCK_EX)
         started = time.time()
         packages.cargo(may_install)
-        edition = workspace.Edition(["edd"])
+        edition = workspace.Edition([ordinary.CLI])
         edition.write(ROOM)
         command = packages.settle(ROOM, may_install)
-        packages.say("building the plain edition by cargo; later calls start at once")
-        ran = command.run(["build", "--quiet", "--release", "--offline", "--package", "edd"], ROOM)
+        packages.say("building the program by cargo; later calls start at once")
+        ran = command.run(["build", "--quiet", "--release", "--offline", "--package", ordinary.PROGRAM], ROOM)
         if ran.returncode:
-            raise packages.Missing(f"cargo could not build the plain edition:\n{ran.stderr[-3000:]}")
+            raise packages.Missing(f"cargo could not build the program:\n{ran.stderr[-3000:]}")
         place(edition, started)
 
 
 def place(edition, started):
     """Puts the program at its place, dated by the build's start, with the list of what it is made from."""
-    made = os.path.join(ROOM, "target", "release", "edd")
+    made = os.path.join(ROOM, "target", "release", ordinary.BINARY)
     shutil.copy(made, PROGRAM + ".new")
     os.utime(PROGRAM + ".new", (started, started))
     parts = [it for it in OWN if it != "plain"] + edition.own
     parts += [f"crates/{crate.name}/src" for crate in edition.crates]
+    parts += [f"workbench/{place}" for place in edition.packages]
     with open(PROGRAM + ".sources", "w", encoding="utf-8") as file:
         file.write("".join(f"{part}\n" for part in parts))
     os.rename(PROGRAM + ".new", PROGRAM)

@@ -6,13 +6,15 @@ from . import packages, repository, workspace
 
 PAGE = """# edd, the plain edition
 
-The sources of `edd`, a compiler, image loader and method interpreter for EDDL device descriptions, with the contracts left out under
-which they are proved. They are ordinary Rust: `cargo build --release -p edd` builds the program, and
+The sources of `edd`, a compiler, image loader and method interpreter for EDDL device descriptions: the core with the contracts left
+out under which it is proved, and the ordinary Rust over it, in `cli` and `legacy`. `cargo build --release -p edd-cli` builds the
+program, and
 
     cargo add --path FOLDER/edd_loader
 
-makes a crate of it one of another program, as `examples/rust` shows. What is proved are the sources, not these files: `docs/PLAIN.md`
-says what is promised and what is trusted beside the proofs. `GENERATED_FROM` names the commit of the sources, and `docs/` is theirs.
+makes a crate of it one of another program, as `examples/rust` shows. What is proved are the core's sources, not these files:
+`docs/PLAIN.md` says what is promised and what is trusted beside the proofs. `GENERATED_FROM` names the commit of the sources, and
+`docs/` is theirs.
 
 | Crate | What it is |
 |---|---|
@@ -35,12 +37,14 @@ def summary(text):
     return said.split(". ")[0].rstrip(".") + "." if said else ""
 
 
+def root(edition, place):
+    """The root of a crate's sources."""
+    return next(edition.files[path] for path in (f"{place}/src/lib.rs", f"{place}/src/main.rs") if path in edition.files)
+
+
 def page(edition):
-    rows = []
-    for crate in edition.crates:
-        root = "main" if crate.is_program else "lib"
-        rows.append(f"| `{crate.name}` | {summary(edition.files[f'{crate.name}/src/{root}.rs'])} |\n")
-    return PAGE + "".join(rows)
+    places = [it.name for it in edition.crates] + edition.packages
+    return PAGE + "".join(f"| `{place}` | {summary(root(edition, place))} |\n" for place in places)
 
 
 def pages_and_examples():

@@ -1,9 +1,10 @@
-"""Tests the plain edition: its sources, its programs, and what they say against the proved program and on 32 bits."""
+"""Tests the plain edition: its sources, its programs, and what they say against the proved program and on 32 bits. The program
+is the ordinary one, of workbench/cli."""
 import os
 import re
 import shutil
 
-from . import packages, repository, workspace
+from . import ordinary, packages, repository, workspace
 from .trials import alike, bare, calls_for_c, disk, elsewhere, example, fuzzing, images, player, refusals, runs, score, workbench
 
 FOLDER = os.path.join(repository.MADE, "edition")
@@ -64,7 +65,7 @@ def tested(counts):
 
 def own_steps(counts, edition):
     """The steps on this system; gives the program."""
-    program = os.path.join(MADE, "edd")
+    program = os.path.join(MADE, ordinary.BINARY)
     counts.step("the check of tokens", sources, edition)
     counts.step("cargo build", built)
     counts.step("cargo test", tested)

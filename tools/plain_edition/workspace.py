@@ -1,9 +1,10 @@
-"""Writes the plain edition: a cargo workspace of all crates, with the crates of `plain/` beside them."""
+"""Writes the plain edition: a cargo workspace of the erased core and the ordinary packages over it, with the crates of `plain/`
+beside them."""
 import collections
 import os
 import re
 
-from . import erase, left_out, repository, rewrites
+from . import erase, left_out, ordinary, repository, rewrites
 from .tokens import text_of
 
 # Crates of the kit that stand in `plain/`, by the folder there; the macros of errors are in `derive`.
@@ -19,6 +20,12 @@ SYSTEM = re.compile(r"\bHostRuntime\b|\bstd::(?:fs|env|os|path|process|rt)\b|\bu
 RUST = "1.88"
 # Names what was written into a folder.
 LIST = "WRITTEN_BY_TOOLS_PLAIN"
+
+# What the packages of ordinary Rust take from their workspace.
+SHARED = f"""[workspace.package]
+edition = "2024"
+rust-version = "{RUST}"
+"""
 
 LINTS = """[workspace.lints.rust]
 dead_code = "allow"
@@ -61,15 +68,20 @@ class Edition:
     """The files of the plain edition by their paths, and counts of what was left out."""
 
     def __init__(self, names=None, own=()):
-        """All crates, or these and what they use; with these further crates of `plain/`, and `tests` for the player of the tables."""
+        """All crates and ordinary packages, or these and what they use; with these further crates of `plain/`, and `tests` for the
+        player of the tables."""
         # A static library of the kit is for C alone, and takes slices as only the kit passes them: plain/c stands for it.
         every = [it for it in repository.crates() if "staticlib" not in it.kinds]
-        self.crates = repository.below(every, names) if names else every
+        self.packages = ordinary.below(names or ordinary.places())
+        needs = ordinary.needs(map(ordinary.manifest, self.packages))
+        self.crates = repository.below(every, [*names, *needs.crates]) if names else every
         self.known = {it.name for it in every}
         self.files, self.counts = {}, collections.Counter()
         for crate in self.crates:
             self.add(crate)
-        self.add_own(own)
+        for place in self.packages:
+            self.add_package(place)
+        self.add_own({*own, *needs.plain})
         self.add_workspace()
 
     def add(self, crate):
@@ -94,6 +106,8 @@ class Edition:
         """The file of cargo for a crate."""
         features = "" if is_system else ", default-features = false"
         lines = ["[package]", f'name = "{crate.name}"', 'version = "1.0.0"', 'edition = "2024"', f'rust-version = "{RUST}"']
+        if crate.is_program:
+            lines += ["", "[[bin]]", f'name = "{binary(crate)}"', 'path = "src/main.rs"']
         lines += ["", "[dependencies]", f'std = {{ package = "edd_plain_std", path = "../plain/std"{features} }}']
         lines += [f"{used} = {self.dependency(crate, used)}" for used in crate.uses]
         return "\n".join([*lines, "", "[lints]", "workspace = true", ""])
@@ -107,6 +121,11 @@ class Edition:
             return REAL[used]
         raise Stopped(f"crates.txt: {crate.name} uses {used}, for which plain/ has nothing")
 
+    def add_package(self, place):
+        """A package of ordinary Rust, which names the core beside it."""
+        for path, text in folder_files(os.path.join(ordinary.WORKBENCH, place)):
+            self.files[f"{place}/{path}"] = ordinary.in_edition(path, text)
+
     def add_own(self, more):
         """The crates of `plain/` that the crates at hand use, and these more."""
         used = {OWN[name] for crate in self.crates for name in crate.uses if name in OWN} | {"std", "derive", *more}
@@ -116,9 +135,9 @@ class Edition:
                 self.files[f"{folder}/{path}"] = text
 
     def add_workspace(self):
-        members = [it.name for it in self.crates] + self.own
+        members = [it.name for it in self.crates] + self.packages + self.own
         listed = "".join(f'    "{name}",\n' for name in members)
-        self.files["Cargo.toml"] = f'[workspace]\nresolver = "3"\nmembers = [\n{listed}]\n\n{LINTS}\n{PROFILES}'
+        self.files["Cargo.toml"] = f'[workspace]\nresolver = "3"\nmembers = [\n{listed}]\n\n{SHARED}\n{LINTS}\n{PROFILES}'
 
     def check(self):
         """Checks each file against its source by tokens: counts of what was left out and put in, and what differs."""
@@ -163,6 +182,11 @@ def remove(out, path):
         folder = os.path.dirname(folder)
 
 
+def binary(crate):
+    """The name of the binary of a program of the core. That of `edd` stands beside the one of the ordinary program."""
+    return f"{crate.name}_core" if crate.name == ordinary.BINARY else crate.name
+
+
 def is_root(path):
     return path in ("src/lib.rt", "src/main.rt")
 
@@ -175,7 +199,7 @@ def text_at(place):
 
 
 def folder_files(top):
-    """The files of a crate of `plain/`, by their paths."""
+    """The files of a crate of `plain/` or of an ordinary package, by their paths."""
     for folder, folders, names in os.walk(top):
         folders[:] = sorted(it for it in folders if it not in ("out", "target", "tables"))
         for name in sorted(names):

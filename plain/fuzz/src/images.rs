@@ -3,12 +3,12 @@ use crate::counts::Counts;
 use crate::dice::Dice;
 use crate::sessions;
 use edd_display::show;
-use edd_dump::dump;
 use edd_loader::{Image, load};
 use edd_machine::{Values, attribute, set_fault};
 use edd_plain_std::alloc::Global;
 use edd_plain_std::vec::Vec as List;
 use edd_syntax::numbers::{ATTRIBUTES, AttrRef, CmdNo, ItemNo, MenuNo, MethNo, VarNo};
+use legacy_dump::dump;
 
 /// The longest image whose dump is compared; longer ones take most of the time.
 const DUMPED: usize = 1 << 14;

@@ -1,10 +1,10 @@
 //! What has to hold of each text.
 use crate::counts::Counts;
-use edd_check::{Choices, Format, check};
 use edd_compiler::compile;
 use edd_loader::load;
 use edd_plain_std::alloc::Global;
 use edd_plain_std::vec::Vec as List;
+use legacy_check::{Choices, Format, check};
 
 /// The image of a text, or its refusal; else what is wrong.
 pub fn tried(text: &[u8], counts: &mut Counts) -> Result<Result<Vec<u8>, String>, String> {

@@ -3,10 +3,10 @@ use crate::Stop;
 use crate::blocks::{Held, held, new_block};
 use crate::desk::Desk;
 use crate::{editing, json, places, states};
-use edd_check::{Choices, Format, ReportFault};
 use edd_compiler::Fault;
 use edd_display::ShowFault;
 use edd_loader::LoadFault;
+use legacy_check::{Choices, Format, ReportFault};
 use std::alloc::{AllocError, Global};
 use std::vec::Vec;
 
@@ -102,7 +102,7 @@ pub extern "C" fn out_size() -> usize {
 fn check_text(text: &[u8]) -> Result<Vec<u8>, Stop> {
     let mut lines = Vec::new(Global);
     let choices = Choices::new(Global);
-    match edd_check::check(Global, "source", text, &choices, Format::Json, &mut lines) {
+    match legacy_check::check(Global, "source", text, &choices, Format::Json, &mut lines) {
         Ok(_) => Ok(lines),
         Err(ReportFault::Memory | ReportFault::Output) => Err(Stop::Memory),
     }
@@ -179,7 +179,7 @@ pub extern "C" fn load(image: u32) -> u32 {
 
 fn dump_image(image: &[u8]) -> Result<Vec<u8>, Stop> {
     let mut lines = Vec::new(Global);
-    match edd_dump::dump(Global, image, &mut lines) {
+    match legacy_dump::dump(Global, image, &mut lines) {
         Ok(_) => Ok(lines),
         // A list of bytes fails only for lack of memory.
         Err(ShowFault::Memory | ShowFault::Output | ShowFault::WrongValues) => Err(Stop::Memory),
@@ -195,7 +195,7 @@ pub extern "C" fn dump(image: u32) -> u32 {
 /// What a number of a refusal means.
 #[cfg_attr(target_family = "wasm", unsafe(no_mangle))]
 pub extern "C" fn explain(number: u32) -> u32 {
-    let given = match edd_explanations::explain(number) {
+    let given = match legacy_explanations::explain(number) {
         Some(found) => json(&states::Explained::of(found)),
         None => Err(Stop::Unknown),
     };

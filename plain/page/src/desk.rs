@@ -4,19 +4,19 @@ use crate::texts::{device_fault_text, words_text};
 use crate::{Stop, json};
 use core::str::from_utf8;
 use edd_device::{Device, DeviceFault};
-use edd_fault_places::sections::Sections;
-use edd_fault_places::variants::first_variant;
 use edd_instructions::Request;
 use edd_loader::{Image, LoadFault, load};
 use edd_machine::{Values, ValuesFault};
 use edd_panel::{Command, Happened, Panel, start_values};
-use edd_panel_lines::{
-    TextSink, push_answer, push_end, push_happened, push_request, push_start,
-};
 use edd_port::Turn;
-use edd_screens::{Line, Page, help_of, line_of, page_of};
 use edd_syntax::answer::Answer;
 use edd_syntax::numbers::{ItemNo, MethNo, VarNo};
+use legacy_fault_places::sections::Sections;
+use legacy_fault_places::variants::first_variant;
+use legacy_panel_lines::{
+    TextSink, push_answer, push_end, push_happened, push_request, push_start,
+};
+use legacy_screens::{Line, Page, help_of, line_of, page_of};
 use serde::Serialize;
 use std::alloc::Global;
 use std::string::String;

@@ -1,7 +1,7 @@
 //! What the editor of the page asks about a text. Places count bytes.
 use crate::{Stop, json};
-use edd_editing::{Document, completions, hover};
 use edd_lexer::fault::LexFault;
+use legacy_editing::{Document, completions, hover};
 use std::alloc::Global;
 use std::vec::Vec;
 
@@ -30,7 +30,7 @@ struct Told<'a> {
 
 /// The text in the layout of the project.
 pub fn layout(text: &[u8]) -> Result<Vec<u8>, Stop> {
-    edd_layout::laid_out(Global, text)
+    legacy_layout::laid_out(Global, text)
         .map_err(|fault| Stop::of(&fault, matches!(fault, LexFault::Memory)))
 }
 

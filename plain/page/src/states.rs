@@ -1,17 +1,17 @@
 //! What is given of a desk, as the page shows it.
 use crate::texts::{content_text, name_text, optional_text, trap_text, words_text};
-use edd_explanations::Explanation;
 use edd_image::VarKind;
 use edd_instructions::Request;
 use edd_panel::{Field, Panel, text_of_choices};
-use edd_panel_lines::{TextSink, push_kind, push_number, push_text};
 use edd_port::Turn;
-use edd_screens::{
-    Bound, Choice, Content, Leads, Row, Screen, Sheet, page_of, screen_of, sheet_of,
-};
 use edd_syntax::answer::Trap;
 use edd_syntax::numbers::{ItemNo, StrNo, VarNo};
 use edd_syntax::types::VarType;
+use legacy_explanations::Explanation;
+use legacy_panel_lines::{TextSink, push_kind, push_number, push_text};
+use legacy_screens::{
+    Bound, Choice, Content, Leads, Row, Screen, Sheet, page_of, screen_of, sheet_of,
+};
 use serde::Serialize;
 use std::alloc::{AllocError, Global};
 use std::string::String;
@@ -324,7 +324,7 @@ fn asked(panel: &Panel<'_, '_>, request: Request) -> Result<Asked, AllocError> {
         }
         _ => {
             let mut text = TextSink::new(Global);
-            edd_panel_lines::push_request(&mut text, &page_of(panel), request);
+            legacy_panel_lines::push_request(&mut text, &page_of(panel), request);
             asked.text = Some(text.finish()?);
         }
     }

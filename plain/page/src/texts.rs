@@ -1,10 +1,10 @@
 //! Texts of the communicator, as `edd open` prints them.
 use edd_device::{Device, DeviceFault};
 use edd_loader::Image;
-use edd_panel_lines::{TextSink, push_content, push_trap, push_words};
-use edd_screens::{Content, Words};
 use edd_syntax::answer::Trap;
 use edd_syntax::numbers::ItemNo;
+use legacy_panel_lines::{TextSink, push_content, push_trap, push_words};
+use legacy_screens::{Content, Words};
 use std::alloc::{AllocError, Global};
 use std::string::String;
 

@@ -6,9 +6,9 @@
 
 use crate::images::number;
 use crate::playing::NoAnswer;
-use edd_check::{Choices, Format, Lint, check};
 use edd_plain_std::alloc::Global;
 use edd_plain_std::vec::Vec as PlainVec;
+use legacy_check::{Choices, Format, Lint, check};
 use serde_json::Value;
 
 const HEAD: &str = "MANUFACTURER 1, DEVICE_TYPE 2, DEVICE_REVISION 3, DD_REVISION 4\n";

@@ -4,8 +4,8 @@
 
 use super::bytes_of;
 use crate::playing::NoAnswer;
-use edd_layout::laid_out;
 use edd_plain_std::alloc::Global;
+use legacy_layout::laid_out;
 
 /// Returns a layout without its last line feed, or says that it has none.
 fn lines(layout: &[u8]) -> String {

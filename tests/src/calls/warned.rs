@@ -10,7 +10,7 @@ use crate::playing::NoAnswer;
 use edd_compiler::checked_of;
 use edd_lexer::lex;
 use edd_plain_std::alloc::Global;
-use edd_warnings::{LINTS, Lint, Spot, Warning, warnings};
+use legacy_warnings::{LINTS, Lint, Spot, Warning, warnings};
 
 const HEAD: &str = "MANUFACTURER 1 DEVICE_TYPE 2 DEVICE_REVISION 3 DD_REVISION 4\n";
 

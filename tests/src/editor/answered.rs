@@ -1,11 +1,11 @@
 //! Writes the answers to an editor's queries as text. A place is a line and a column, both counted from 1.
 
-use edd_editing::{
+use edd_plain_std::alloc::{AllocError, Global};
+use legacy_editing::{
     Completion, CompletionKind, Document, RenameFault, Span, completions, declaration, folds,
     hover, references, rename, renameable, signature, symbols,
 };
-use edd_plain_std::alloc::{AllocError, Global};
-use edd_reports::words::{kind_word, text_in};
+use legacy_reports::words::{kind_word, text_in};
 
 /// What an editor asks.
 #[derive(Debug, Clone, Copy, PartialEq, Eq)]

@@ -9,9 +9,9 @@
 
 use crate::playing::NoAnswer;
 use crate::table::{Part, unescaped};
-use edd_language_server::{Frame, Framing, Next, Server, feed};
 use edd_plain_std::alloc::{AllocError, Global};
 use edd_plain_std::vec::Vec as PlainVec;
+use legacy_language_server::{Frame, Framing, Next, Server, feed};
 use std::collections::VecDeque;
 
 /// The parameters of `initialize` of an editor that supports everything the server asks about.

@@ -1,8 +1,8 @@
 //! Asks everything at every byte of a text, and around the end of each of its prefixes.
 
 use super::answered::{At, Query};
-use edd_editing::{Document, Span, declaration, folds, hover, references, symbols};
 use edd_plain_std::alloc::{AllocError, Global};
+use legacy_editing::{Document, Span, declaration, folds, hover, references, symbols};
 use std::fmt::{self, Display};
 
 const TEXT: &[u8] =

@@ -3,8 +3,8 @@
 use super::answered::{At, Query};
 use crate::playing::NoAnswer;
 use crate::table::Row;
-use edd_editing::Document;
 use edd_plain_std::alloc::Global;
+use legacy_editing::Document;
 
 /// Answers a query.
 pub fn answer(row: &Row<'_>) -> Result<String, NoAnswer> {

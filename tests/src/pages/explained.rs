@@ -1,7 +1,7 @@
 //! The examples of explanations, tried by the compiler.
 
-use edd_explanations::Explanation;
 use edd_plain_std::alloc::Global;
+use legacy_explanations::Explanation;
 
 const IDENTIFICATION: &str = "MANUFACTURER 1, DEVICE_TYPE 2, DEVICE_REVISION 3, DD_REVISION 4\n";
 
@@ -53,7 +53,7 @@ fn find_source(text: &str, heading: &str) -> Option<String> {
 
 /// Compiles an example: a wrong one is refused with the number and the name of its explanation, a right one is compiled.
 pub fn try_example(explanation: &Explanation, example: &Example) -> Result<(), ExampleFault> {
-    let refusal = edd_tool::compile(Global, example.source.as_bytes())
+    let refusal = legacy_tool::compile(Global, example.source.as_bytes())
         .err()
         .map(|fault| fault.to_string());
     let Some(refusal) = refusal else {

@@ -3,7 +3,7 @@
 use edd_plain_std::alloc::Global;
 use edd_plain_std::io::Read;
 use edd_plain_std::string::String as Word;
-use edd_tool::{FileFault, Files};
+use legacy_tool::{FileFault, Files};
 use std::io;
 
 const IDENTIFICATION: &[u8] = b"MANUFACTURER 1, DEVICE_TYPE 2, DEVICE_REVISION 3, DD_REVISION 4\n";
@@ -89,7 +89,7 @@ pub fn compile(words: &str) -> Option<String> {
     let mut file = parse(words)?;
     let command = COMMAND.map(|word| Word::from_real(word.to_owned()));
     let mut printed = edd_plain_std::vec::Vec::new(Global);
-    let status = edd_tool::run(Global, &command, &mut file, &mut printed);
+    let status = legacy_tool::run(Global, &command, &mut file, &mut printed);
     Some(format!(
         "{}status {status}\n",
         String::from_utf8_lossy(&printed)

@@ -1,6 +1,6 @@
 //! The page docs/REFUSALS.md, which is made from the explanations of the program.
 
-use edd_explanations::{Explanation, explain};
+use legacy_explanations::{Explanation, explain};
 use std::fmt::Write;
 
 const TITLE: &str = "# What each refusal means

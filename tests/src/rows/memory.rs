@@ -2,7 +2,7 @@
 
 use super::row::{File, INPUT};
 use edd_plain_std::io::{Read, Write};
-use edd_tool::{FileFault, Files};
+use legacy_tool::{FileFault, Files};
 use std::cell::Cell;
 use std::fmt::{self, Display};
 use std::io;

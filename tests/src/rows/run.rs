@@ -39,7 +39,7 @@ impl Run {
             printed: Vec::new(),
             calls,
         };
-        let status = edd_tool::run(Global, &words, &mut files, &mut output);
+        let status = legacy_tool::run(Global, &words, &mut files, &mut output);
         Run {
             status,
             printed: output.printed,
@@ -67,7 +67,7 @@ impl Display for Run {
 
 /// The image of a source, if it has one.
 pub fn compile(source: &[u8]) -> Option<Vec<u8>> {
-    edd_tool::compile(Global, source)
+    legacy_tool::compile(Global, source)
         .ok()
         .map(edd_plain_std::vec::Vec::into_real)
 }

@@ -6,7 +6,7 @@ import shutil
 import subprocess
 import tempfile
 
-from .. import packages, repository, systems, workspace
+from .. import ordinary, packages, repository, systems, workspace
 from . import images, player, table
 
 I686, WASM = "i686-unknown-linux-gnu", "wasm32-unknown-unknown"
@@ -17,8 +17,8 @@ LIBRARIES = ["edd_compiler", "edd_display", "edd_port"]
 
 def i686(score, folder, program, own):
     """The rows, the hostile and the damaged images by the program of 32 bits; the player in the folder `own` plays the rows."""
-    made = systems.build(folder, I686, systems.WHOLE, "checked", ["--package", "edd"])
-    other = os.path.join(made, "edd")
+    made = systems.build(folder, I686, systems.WHOLE, "checked", ["--package", ordinary.PROGRAM])
+    other = os.path.join(made, ordinary.BINARY)
     said = player.by_program(score, own, other)
     images.refused_alike(score, {"64 bits": program, "32 bits": other})
     images.damaged_alike(score, program, other)

@@ -3,6 +3,7 @@ import os
 import subprocess
 import tempfile
 
+from .. import workspace
 from . import images
 
 
@@ -11,7 +12,7 @@ def stored(score, edition, folder):
     for crate in edition.crates:
         if crate.is_program:
             expected = kept(crate, "stdout")
-            ran = run_stored(crate, os.path.join(folder, crate.name))
+            ran = run_stored(crate, os.path.join(folder, workspace.binary(crate)))
             status = int(kept(crate, "status") or 0)
             score.check(ran == (status, expected), f"the stored run of {crate.name}: {difference(expected, ran[1])}, status {ran[0]}")
 

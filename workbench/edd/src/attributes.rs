@@ -5,9 +5,9 @@ use crate::screens::Words;
 use crate::{Image, ReadFault, Values};
 use edd_instructions::Record;
 use edd_panel::first_number;
-use edd_screens::Page;
 use edd_syntax::numbers::{Attr, AttrRef, ItemNo};
 use edd_syntax::types::Handling;
+use legacy_screens::Page;
 
 impl Image {
     /// The records of an attribute under these values. docs/IMAGE.md says which records an

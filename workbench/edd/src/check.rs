@@ -1,7 +1,7 @@
 //! What is wrong with a source, and what is almost certainly a mistake.
 
 use crate::memory::{Global, made};
-use edd_check::{Choices, Finding, Span, diagnose};
+use legacy_check::{Choices, Finding, Span, diagnose};
 use std::ops::Range;
 
 /// What `check` reports of a source.
@@ -74,7 +74,7 @@ pub fn check(source: &[u8]) -> Report {
 }
 
 impl Diagnostic {
-    fn from_core(diagnostic: &edd_check::Diagnostic) -> Diagnostic {
+    fn from_core(diagnostic: &legacy_check::Diagnostic) -> Diagnostic {
         let (severity, message) = match &diagnostic.finding {
             Finding::Refused(words) => (Severity::Refused, words),
             Finding::Warned { lint, message, .. } => (Severity::Warning { lint }, message),

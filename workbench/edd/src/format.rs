@@ -19,7 +19,7 @@ use crate::memory::Global;
 /// # Ok::<(), edd::Refusal>(())
 /// ```
 pub fn format(source: &[u8]) -> Result<Vec<u8>, Refusal> {
-    match edd_layout::laid_out(Global, source) {
+    match legacy_layout::laid_out(Global, source) {
         Ok(laid_out) => Ok(laid_out.into_real()),
         Err(fault) => Err(Refusal::of_text(&fault)),
     }

@@ -41,11 +41,14 @@
 //!
 //! # What is proved
 //!
-//! The crate decides nothing. Each call is one of the core's, which is proved with the Rattle kit
-//! to do what its contract says. What stands here is the core with its contracts left out, so what
-//! the contracts ask of callers is kept by types: an [`Image`] is always valid, and [`Values`] are
-//! always values of their image. A call that gets what it must not get returns an error. Tests try
-//! that, and that nothing panics.
+//! The crate decides nothing. The core does, which is proved with the Rattle kit to do what its
+//! contracts say. What stands here is the core with its contracts left out, so what the contracts
+//! ask of callers is kept by types: an [`Image`] is always valid, and [`Values`] are always values
+//! of their image. A call that gets what it must not get returns an error. Tests try that, and that
+//! nothing panics.
+//!
+//! Not proved, but tested, is what stands between this crate and the core: the reports of
+//! [`check()`], the layout of [`format()`], and the screens and lines of a [`Panel`].
 //!
 //! Where memory is refused, the program ends as the rest of Rust does: by
 //! [`handle_alloc_error`](std::alloc::handle_alloc_error).

@@ -4,10 +4,10 @@ use crate::memory::{Global, made};
 use crate::{Answer, AnswerFault, EditFault, Opened, Screen, Sheet, StartFault, Values, Words};
 use core_std::vec::Vec as CoreVec;
 use edd_instructions::Request;
-use edd_panel_lines::{TextSink, prompt_of, push_view};
 use edd_port::Turn;
 use edd_syntax::answer::Trap;
 use edd_syntax::numbers::{CollNo, MenuNo, MethNo, VarNo};
+use legacy_panel_lines::{TextSink, prompt_of, push_view};
 use std::fmt;
 
 /// A communicator over an image: where its user is, the values of the device, and the method that
@@ -257,7 +257,7 @@ impl<'i, 'b> Panel<'i, 'b> {
 
     /// The screen of the menu where the user is.
     pub fn screen(&self) -> Screen<'b> {
-        Screen::from_core(made(edd_screens::screen_of(Global, &self.core)))
+        Screen::from_core(made(legacy_screens::screen_of(Global, &self.core)))
     }
 
     /// What is shown of the variable that a method asks for, or else of the one that is open.
@@ -267,23 +267,25 @@ impl<'i, 'b> Panel<'i, 'b> {
             (None, Some(field)) => (field, false),
             _ => return None,
         };
-        let sheet = made(edd_screens::sheet_of(Global, &self.core, field, is_asked));
+        let sheet = made(legacy_screens::sheet_of(
+            Global, &self.core, field, is_asked,
+        ));
         Some(Sheet::from_core(sheet))
     }
 
     /// The help of the entry of a number, or else of the variable that is open.
     pub fn help(&self, number: Option<i64>) -> Option<Words<'b>> {
-        made(edd_screens::help_of(Global, &self.core, number)).map(Words::from_core)
+        made(legacy_screens::help_of(Global, &self.core, number)).map(Words::from_core)
     }
 
     /// What a line that the user types asks for here. docs/OPEN.md lists the lines.
     pub fn line(&self, line: &str) -> Line {
-        match made(edd_screens::line_of(Global, &self.core, line)) {
-            edd_screens::Line::Command(command) => Line::Command(Command::from_core(command)),
-            edd_screens::Line::Help(number) => Line::Help(number),
-            edd_screens::Line::Commands => Line::Commands,
-            edd_screens::Line::Quit => Line::Quit,
-            edd_screens::Line::Unknown => Line::Unknown,
+        match made(legacy_screens::line_of(Global, &self.core, line)) {
+            legacy_screens::Line::Command(command) => Line::Command(Command::from_core(command)),
+            legacy_screens::Line::Help(number) => Line::Help(number),
+            legacy_screens::Line::Commands => Line::Commands,
+            legacy_screens::Line::Quit => Line::Quit,
+            legacy_screens::Line::Unknown => Line::Unknown,
         }
     }
 

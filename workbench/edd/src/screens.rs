@@ -22,11 +22,11 @@ pub enum Words<'b> {
 }
 
 impl<'b> Words<'b> {
-    pub(crate) fn from_core(words: edd_screens::Words<'b>) -> Words<'b> {
+    pub(crate) fn from_core(words: legacy_screens::Words<'b>) -> Words<'b> {
         match words {
-            edd_screens::Words::Text(text) => Words::Text(text),
-            edd_screens::Words::Name(name) => Words::Name(name),
-            edd_screens::Words::Fault(trap) => Words::Fault(trap),
+            legacy_screens::Words::Text(text) => Words::Text(text),
+            legacy_screens::Words::Name(name) => Words::Name(name),
+            legacy_screens::Words::Fault(trap) => Words::Fault(trap),
         }
     }
 }
@@ -71,13 +71,13 @@ pub struct Format {
 }
 
 impl Format {
-    fn from_core(format: edd_screens::Format) -> Format {
+    fn from_core(format: legacy_screens::Format) -> Format {
         let radix = match format.radix {
-            edd_screens::Radix::Decimal => Radix::Decimal,
-            edd_screens::Radix::Unsigned => Radix::Unsigned,
-            edd_screens::Radix::Octal => Radix::Octal,
-            edd_screens::Radix::Hexadecimal => Radix::Hexadecimal,
-            edd_screens::Radix::UpperHexadecimal => Radix::UpperHexadecimal,
+            legacy_screens::Radix::Decimal => Radix::Decimal,
+            legacy_screens::Radix::Unsigned => Radix::Unsigned,
+            legacy_screens::Radix::Octal => Radix::Octal,
+            legacy_screens::Radix::Hexadecimal => Radix::Hexadecimal,
+            legacy_screens::Radix::UpperHexadecimal => Radix::UpperHexadecimal,
         };
         Format {
             radix,
@@ -120,10 +120,10 @@ pub enum Content<'b> {
 }
 
 impl<'b> Content<'b> {
-    fn from_core(content: edd_screens::Content<'b>) -> Content<'b> {
+    fn from_core(content: legacy_screens::Content<'b>) -> Content<'b> {
         match content {
-            edd_screens::Content::Nothing => Content::Nothing,
-            edd_screens::Content::Number {
+            legacy_screens::Content::Nothing => Content::Nothing,
+            legacy_screens::Content::Number {
                 number,
                 size,
                 format,
@@ -132,12 +132,12 @@ impl<'b> Content<'b> {
                 size,
                 format: Format::from_core(format),
             },
-            edd_screens::Content::Named { number, label } => Content::Named { number, label },
-            edd_screens::Content::Bits { number, labels } => Content::Bits {
+            legacy_screens::Content::Named { number, label } => Content::Named { number, label },
+            legacy_screens::Content::Bits { number, labels } => Content::Bits {
                 number,
                 labels: labels.into_real(),
             },
-            edd_screens::Content::Fault(trap) => Content::Fault(trap),
+            legacy_screens::Content::Fault(trap) => Content::Fault(trap),
         }
     }
 }
@@ -179,10 +179,10 @@ pub enum Row<'b> {
 }
 
 impl<'b> Row<'b> {
-    fn from_core(row: edd_screens::Row<'b>) -> Row<'b> {
+    fn from_core(row: legacy_screens::Row<'b>) -> Row<'b> {
         match row {
-            edd_screens::Row::Text(words) => Row::Text(Words::from_core(words)),
-            edd_screens::Row::Entry { item, label, leads } => Row::Entry {
+            legacy_screens::Row::Text(words) => Row::Text(Words::from_core(words)),
+            legacy_screens::Row::Entry { item, label, leads } => Row::Entry {
                 item,
                 label: Words::from_core(label),
                 leads: Leads::from_core(leads),
@@ -192,9 +192,9 @@ impl<'b> Row<'b> {
 }
 
 impl<'b> Leads<'b> {
-    fn from_core(leads: edd_screens::Leads<'b>) -> Leads<'b> {
+    fn from_core(leads: legacy_screens::Leads<'b>) -> Leads<'b> {
         match leads {
-            edd_screens::Leads::Variable {
+            legacy_screens::Leads::Variable {
                 content,
                 unit,
                 read_only,
@@ -203,9 +203,9 @@ impl<'b> Leads<'b> {
                 unit: unit.map(Words::from_core),
                 read_only,
             },
-            edd_screens::Leads::Menu => Leads::Menu,
-            edd_screens::Leads::Method => Leads::Method,
-            edd_screens::Leads::Fault(trap) => Leads::Fault(trap),
+            legacy_screens::Leads::Menu => Leads::Menu,
+            legacy_screens::Leads::Method => Leads::Method,
+            legacy_screens::Leads::Fault(trap) => Leads::Fault(trap),
         }
     }
 }
@@ -222,7 +222,7 @@ pub struct Screen<'b> {
 }
 
 impl<'b> Screen<'b> {
-    pub(crate) fn from_core(screen: edd_screens::Screen<'b>) -> Screen<'b> {
+    pub(crate) fn from_core(screen: legacy_screens::Screen<'b>) -> Screen<'b> {
         let rows = screen.rows.into_real();
         Screen {
             title: screen.title.map(Words::from_core),
@@ -244,11 +244,11 @@ pub enum Bound {
 }
 
 impl Bound {
-    fn from_core(bound: edd_screens::Bound) -> Bound {
+    fn from_core(bound: legacy_screens::Bound) -> Bound {
         match bound {
-            edd_screens::Bound::None => Bound::None,
-            edd_screens::Bound::Number(number) => Bound::Number(number),
-            edd_screens::Bound::Fault(trap) => Bound::Fault(trap),
+            legacy_screens::Bound::None => Bound::None,
+            legacy_screens::Bound::Number(number) => Bound::Number(number),
+            legacy_screens::Bound::Fault(trap) => Bound::Fault(trap),
         }
     }
 }
@@ -265,7 +265,7 @@ pub struct Choice<'b> {
 }
 
 impl<'b> Choice<'b> {
-    fn from_core(choice: edd_screens::Choice<'b>) -> Choice<'b> {
+    fn from_core(choice: legacy_screens::Choice<'b>) -> Choice<'b> {
         Choice {
             value: choice.value,
             label: choice.label,
@@ -302,7 +302,7 @@ pub struct Sheet<'b> {
 }
 
 impl<'b> Sheet<'b> {
-    pub(crate) fn from_core(sheet: edd_screens::Sheet<'b>) -> Sheet<'b> {
+    pub(crate) fn from_core(sheet: legacy_screens::Sheet<'b>) -> Sheet<'b> {
         let choices = sheet.choices.into_real();
         Sheet {
             label: Words::from_core(sheet.label),
@@ -324,7 +324,7 @@ impl<'b> Sheet<'b> {
 mod tests {
     use super::*;
     use crate::memory::{Global, made};
-    use edd_panel_lines::{TextSink, push_words};
+    use legacy_panel_lines::{TextSink, push_words};
 
     #[test]
     fn words_print_as_those_of_the_core() {
@@ -336,10 +336,10 @@ mod tests {
         ];
         let texts = [Text::Words("Druck"), Text::Key("pressure_label")];
         let words = traps
-            .map(edd_screens::Words::Fault)
+            .map(legacy_screens::Words::Fault)
             .into_iter()
-            .chain(texts.map(edd_screens::Words::Text))
-            .chain([edd_screens::Words::Name("p")]);
+            .chain(texts.map(legacy_screens::Words::Text))
+            .chain([legacy_screens::Words::Name("p")]);
         for words in words {
             let mut line = TextSink::new(Global);
             push_words(&mut line, words);

@@ -116,7 +116,7 @@ fn items_that_are_not_there() {
 }
 
 /// `edd_machine::attribute_of_device`, `edd_panel::read` and `Page::label`, `Page::help` of
-/// `edd_screens` ask for values of a device of the image.
+/// `legacy_screens` ask for values of a device of the image.
 #[test]
 fn attributes_get_values_of_their_image() {
     let image = image_of(ASKING);
@@ -358,7 +358,7 @@ fn odd_requests() -> [Request; 8] {
     ]
 }
 
-/// `edd_panel::read`, `rules_of`, `list_entries` and all of `edd_screens` ask for values of the
+/// `edd_panel::read`, `rules_of`, `list_entries` and all of `legacy_screens` ask for values of the
 /// image: a panel is opened with no others, and `edd_panel::set` gets a variable of a screen alone.
 #[test]
 fn panels_get_values_of_their_image() {

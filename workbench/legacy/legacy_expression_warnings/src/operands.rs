@@ -1,0 +1,322 @@
+//! Operators that bind otherwise than they look, and those whose operands settle what they give.
+use std::prelude::v1::*;
+
+use crate::stores::{check_listed, without_parentheses};
+use crate::walk::Walk;
+use edd_arithmetic::{holds, wrapped};
+use edd_constants::evaluate;
+use edd_instructions::Sort;
+use edd_syntax::expr::Expr;
+use edd_syntax::operators::{Comparison, Operator, UnaryOperator};
+use edd_syntax::reference::Target;
+use edd_syntax::symbols::Symbol;
+use legacy_lints::instrument::variable_of;
+use legacy_lints::lint::Lint;
+use legacy_lints::range::Range;
+use legacy_lints::tokens_left::Mark;
+use legacy_lints::warning::Findings;
+
+/// What is said of equal operands.
+const SAME: &str = "both sides of this sign are the same";
+
+// Whether an expression is a comparison that stands in no parentheses.
+fn is_bare_comparison(e: &Expr<Target>) -> bool {
+    matches!(e, Expr::Compare(_, _, _))
+}
+
+/// Bits of a comparison, as in `a & 2 == 2`, which is `a & (2 == 2)`. Two comparisons, as in
+/// `a == 1 | a == 2`, bind as they look.
+pub fn check_bits(
+    operator: Operator,
+    first: &Expr<Target>,
+    second: &Expr<Target>,
+    at: Mark<'_>,
+    findings: &mut Findings,
+) {
+    let is_of_bits = matches!(operator, Operator::And | Operator::Or | Operator::Xor);
+    if !is_of_bits || is_bare_comparison(first) == is_bare_comparison(second) {
+        return;
+    }
+    let message = "comparisons are evaluated before this sign: parentheses say what is meant";
+    findings.add(Lint::MisreadOperators, at, message)
+}
+
+/// A comparison of what a comparison gives, as in `1 < a < 5`, or of what `!` gives, as in
+/// `!a == 1`; `!a == !b` compares as it looks. Says whether it is one.
+pub fn check_compared(
+    first: &Expr<Target>,
+    second: &Expr<Target>,
+    at: Mark<'_>,
+    findings: &mut Findings,
+) -> bool {
+    let is_negated = |e: &Expr<Target>| matches!(e, Expr::Unary(UnaryOperator::Not, _));
+    let message = if is_bare_comparison(first) {
+        "this compares 0 or 1, which the comparison before it gives"
+    } else if is_negated(first) && !is_negated(second) {
+        "! is evaluated before this sign: parentheses say what is meant"
+    } else {
+        return false;
+    };
+    findings.add(Lint::MisreadOperators, at, message);
+    true
+}
+
+/// What a plain reference refers to.
+pub fn referred(e: &Expr<Target>) -> Option<Target> {
+    match without_parentheses(e) {
+        Expr::Reference(target) => Some(*target),
+        _ => None,
+    }
+}
+
+// Whether both are the same reference, or the same plain number.
+fn are_same_values(first: &Expr<Target>, second: &Expr<Target>) -> bool {
+    match (without_parentheses(first), without_parentheses(second)) {
+        (Expr::Reference(one), Expr::Reference(other)) => one == other,
+        (Expr::Literal(one), Expr::Literal(other)) => one == other,
+        _ => false,
+    }
+}
+
+// Whether both are the same reference, or the same comparison of references and plain numbers.
+fn are_same(first: &Expr<Target>, second: &Expr<Target>) -> bool {
+    match (without_parentheses(first), without_parentheses(second)) {
+        (Expr::Compare(one, a, b), Expr::Compare(other, c, d)) => {
+            one == other && are_same_values(a, c) && are_same_values(b, d)
+        }
+        (Expr::Reference(one), Expr::Reference(other)) => one == other,
+        _ => false,
+    }
+}
+
+/// An operator on bits or a difference, both of whose operands are one reference.
+pub fn check_operands(
+    operator: Operator,
+    first: &Expr<Target>,
+    second: &Expr<Target>,
+    at: Mark<'_>,
+    findings: &mut Findings,
+) {
+    let is_settled = matches!(
+        operator,
+        Operator::Subtract
+            | Operator::Divide
+            | Operator::Remainder
+            | Operator::And
+            | Operator::Or
+            | Operator::Xor
+    );
+    if !is_settled || !are_same(first, second) {
+        return;
+    }
+    findings.add(Lint::EqualOperands, at, SAME)
+}
+
+/// `&&` or `||` of the same twice, or of two comparisons of which never both hold, or always one.
+pub fn check_logical(
+    first: &Expr<Target>,
+    second: &Expr<Target>,
+    sign: Symbol,
+    at: Mark<'_>,
+    sort: Sort,
+    findings: &mut Findings,
+) {
+    let last = last_of(first, sign);
+    if are_same(last, second) {
+        return findings.add(Lint::EqualOperands, at, SAME);
+    }
+    let message = match (compared_with(last, sort), compared_with(second, sort)) {
+        (Some((place, one)), Some((same, other))) if place == same => match sign {
+            Symbol::LogicalAnd if never_both(one, other) => {
+                "the comparisons on both sides of this sign never hold together"
+            }
+            Symbol::LogicalOr if always_one(one, other) => {
+                "one of the comparisons on both sides of this sign always holds"
+            }
+            _ => return,
+        },
+        _ => return,
+    };
+    findings.add(Lint::SettledComparison, at, message)
+}
+
+/// A comparison with a number.
+type Bound = (Comparison, i64);
+
+// A place that is compared with a number, as if the place came first.
+fn compared_with(e: &Expr<Target>, sort: Sort) -> Option<(Target, Bound)> {
+    let Expr::Compare(comparison, first, second) = without_parentheses(e) else {
+        return None;
+    };
+    let (target, comparison, other) = match referred(first) {
+        Some(target) => (target, *comparison, second),
+        None => (referred(second)?, turned(*comparison), first),
+    };
+    Some((target, (comparison, evaluate(other, sort).number()?)))
+}
+
+// The numbers at which one of two comparisons with numbers may change, and those beside them.
+fn steps(one: Bound, other: Bound) -> [i64; 6] {
+    [
+        one.1.saturating_sub(1),
+        one.1,
+        one.1.saturating_add(1),
+        other.1.saturating_sub(1),
+        other.1,
+        other.1.saturating_add(1),
+    ]
+}
+
+fn never_both(one: Bound, other: Bound) -> bool {
+    !steps(one, other)
+        .iter()
+        .any(|number| holds(one.0, *number, one.1) && holds(other.0, *number, other.1))
+}
+
+fn always_one(one: Bound, other: Bound) -> bool {
+    steps(one, other)
+        .iter()
+        .all(|number| holds(one.0, *number, one.1) || holds(other.0, *number, other.1))
+}
+
+/// `? :` that chooses one of the same two.
+pub fn check_chosen(
+    first: &Expr<Target>,
+    second: &Expr<Target>,
+    at: Mark<'_>,
+    findings: &mut Findings,
+) {
+    if are_same_values(first, second) {
+        findings.add(
+            Lint::EqualBranches,
+            at,
+            "this gives the same in either case",
+        );
+    }
+}
+
+// The last operand of a chain of `&&` or of `||`.
+fn last_of(e: &Expr<Target>, sign: Symbol) -> &Expr<Target> {
+    match e {
+        Expr::LogicalAnd(_, last) if sign == Symbol::LogicalAnd => last,
+        Expr::LogicalOr(_, last) if sign == Symbol::LogicalOr => last,
+        _ => e,
+    }
+}
+
+// What a comparison compares with a number.
+fn compared_place(e: &Expr<Target>) -> Option<Target> {
+    match without_parentheses(e) {
+        Expr::Compare(_, first, second) => referred(first).or(referred(second)),
+        _ => None,
+    }
+}
+
+/// What two comparisons that follow each other both compare, as with the ends of a range.
+pub fn ranged_place(first: &Expr<Target>, second: &Expr<Target>, sign: Symbol) -> Option<Target> {
+    let place = compared_place(last_of(first, sign))?;
+    (compared_place(second) == Some(place)).then_some(place)
+}
+
+/// The same comparison with its sides exchanged.
+pub fn turned(comparison: Comparison) -> Comparison {
+    match comparison {
+        Comparison::Equal => Comparison::Equal,
+        Comparison::NotEqual => Comparison::NotEqual,
+        Comparison::Less => Comparison::Greater,
+        Comparison::LessOrEqual => Comparison::GreaterOrEqual,
+        Comparison::Greater => Comparison::Less,
+        Comparison::GreaterOrEqual => Comparison::LessOrEqual,
+    }
+}
+
+// What a comparison with a number gives for all numbers of a range.
+fn settled(comparison: Comparison, range: Range, number: i64) -> Option<bool> {
+    let Range { low, high } = range;
+    let (holds, fails) = match comparison {
+        Comparison::Equal => (false, !range.holds(number)),
+        Comparison::NotEqual => (!range.holds(number), false),
+        Comparison::Less => (high < number, number <= low),
+        Comparison::LessOrEqual => (high <= number, number < low),
+        Comparison::Greater => (number < low, high <= number),
+        Comparison::GreaterOrEqual => (number <= low, high < number),
+    };
+    (holds || fails).then_some(holds)
+}
+
+// The numbers that a variable is read as. With 32 bits those of four octets have a sign.
+fn read_range(variable: u16, walk: &Walk<'_>) -> Option<Range> {
+    let (low, high) = (i64::from(i32::MIN), i64::from(i32::MAX));
+    match walk.instrument.range(variable)? {
+        range if walk.sort == Sort::Method && high < range.high => Some(Range { low, high }),
+        range => Some(range),
+    }
+}
+
+/// A comparison whose type or whose enumerators settle what it gives. Both ends of a range may be
+/// written though one of them is that of the type.
+pub fn check_settled(
+    compared: &Expr<Target>,
+    at: Mark<'_>,
+    walk: &Walk<'_>,
+    findings: &mut Findings,
+) {
+    if let Expr::Compare(_, first, second) = compared {
+        if are_same(first, second) {
+            return findings.add(Lint::EqualOperands, at, SAME);
+        }
+    }
+    let Some((target, (comparison, number))) = compared_with(compared, walk.sort) else {
+        return;
+    };
+    let Some(variable) = variable_of(target) else {
+        return;
+    };
+    let Some(range) = read_range(variable, walk) else {
+        return;
+    };
+    let is_equality = matches!(comparison, Comparison::Equal | Comparison::NotEqual);
+    match settled(comparison, range, number) {
+        Some(_) if !is_equality && walk.ranged == Some(target) => {}
+        Some(gives) => add_settled(range, gives, at, findings),
+        None if is_equality => check_listed(variable, number, "", at, walk, findings),
+        None => {}
+    }
+}
+
+fn add_settled(range: Range, gives: bool, at: Mark<'_>, findings: &mut Findings) {
+    let Range { low, high } = range;
+    findings.add(
+        Lint::SettledComparison,
+        at,
+        format_args!("this is always {gives}: the variable holds {low} to {high}"),
+    )
+}
+
+/// The label of a SELECT or a `switch` over a variable.
+pub fn check_label(
+    variable: u16,
+    label: i64,
+    at: Mark<'_>,
+    walk: &Walk<'_>,
+    findings: &mut Findings,
+) {
+    let Some(range) = read_range(variable, walk) else {
+        return;
+    };
+    let label = wrapped(walk.sort, label);
+    if range.holds(label) {
+        return check_listed(variable, label, "the case ", at, walk, findings);
+    }
+    let Range { low, high } = range;
+    findings.add(
+        Lint::SettledComparison,
+        at,
+        format_args!("the case {label} is never taken: the variable holds {low} to {high}"),
+    )
+}
+
+/// The variable that a SELECT or a `switch` is over.
+pub fn selected_variable(e: &Expr<Target>) -> Option<u16> {
+    variable_of(referred(e)?)
+}

@@ -1,0 +1,37 @@
+//! The words of CLASS that EDDL has.
+use std::prelude::v1::*;
+
+/// The classes of variables and methods.
+pub const CLASSES: [&str; 31] = [
+    "ALARM",
+    "ANALOG_INPUT",
+    "ANALOG_OUTPUT",
+    "COMPUTATION",
+    "CONSTANT",
+    "CONTAINED",
+    "CORRECTION",
+    "DEVICE",
+    "DIAGNOSTIC",
+    "DIGITAL_INPUT",
+    "DIGITAL_OUTPUT",
+    "DISCRETE",
+    "DISCRETE_INPUT",
+    "DISCRETE_OUTPUT",
+    "DYNAMIC",
+    "FACTORY",
+    "FREQUENCY_INPUT",
+    "FREQUENCY_OUTPUT",
+    "HART",
+    "INPUT",
+    "LOCAL",
+    "LOCAL_DISPLAY",
+    "MAINTENANCE",
+    "OPERATE",
+    "OPTIONAL",
+    "OUTPUT",
+    "SERVICE",
+    "SPECIALIST",
+    "TEMPORARY",
+    "TUNE",
+    "USER_INTERFACE",
+];
