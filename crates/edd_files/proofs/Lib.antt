@@ -1,2 +1,1 @@
 pub mod SavesLaws
-pub mod WordsFound

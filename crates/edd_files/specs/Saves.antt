@@ -1,8 +1,12 @@
 -- What the program may save.
-use Rattle.std.specs.Prelude.{◌≡◌, ◌⊎◌, ℕ, Bool, List, [], ◌∷◌, ◌++◌, Option, Some, None, IfSome, IsTrue}
-use Rattle.std.specs.List.{All, Contains}
+use Rattle.std.specs.Prelude.{◌≡◌, ◌⊎◌, ℕ, List, [], ◌∷◌, ◌++◌, Option, Some, None, IfSome, length, option_map}
+use Rattle.std.specs.List.{Contains}
+use Rattle.edd_compiler.specs.Faults.{Explains}
 use Rattle.edd_compiler.specs.Images.{IsImageOf}
 use Rattle.edd_layout.specs.Same.{HaveSameBytes, SameTokens}
+use Rattle.edd_files.specs.declared.compiling.Compiled.{Compiled}
+use Rattle.edd_files.specs.declared.compiling.Compiled.TheVariants.{Saved, Refused}
+use Rattle.edd_files.specs.declared.layouts.Layout.{Layout}
 use Rattle.edd_files.specs.declared.reading.Source.{Source}
 use Rattle.edd_files.specs.Names.{input_name, output_name, record_word, record_word_of, update_word}
 
@@ -21,21 +25,16 @@ pub record Account : Type 0 where
 abbrev pub with_saving : Saving → Account → Account
 with_saving s account = record { saved = account.saved ++ s ∷ []; held = λ _. None }
 
--- after these savings, one after the other
-abbrev pub with_savings : List Saving → Account → Account
-with_savings [] account = account
-with_savings (s ∷ rest) account = with_savings rest (with_saving s account)
-
 -- the file of this name gave these bytes, where it is known what it gives
 abbrev pub Gave : Option Account → (name bytes : List ℕ) → Type 0
 Gave account name bytes = IfSome account (λ it. IfSome (it.held name) (λ known. bytes ≡ known))
 
--- ---- which savings were made
+-- the file of a script gave these bytes; no script is an empty one
+abbrev pub GaveScript : Option Account → (name : Option (List ℕ)) → (bytes : List ℕ) → Type 0
+GaveScript account None bytes = bytes ≡ []
+GaveScript account (Some name) bytes = Gave account (input_name name) bytes
 
--- any number of savings, of which each is such
-abbrev pub SavesEach : (Saving → Type 0) → (before after : Option Account) → Type 0
-SavesEach P before after = IfSome before
-    (λ account. (more : List Saving) × (after ≡ Some (with_savings more account)) × All P more)
+-- ---- which savings were made
 
 -- one such saving, or none
 abbrev pub SavesOne : (Saving → Type 0) → (before after : Option Account) → Type 0
@@ -44,6 +43,14 @@ SavesOne P before after = IfSome before
     ⊎ ((s : Saving) × (after ≡ Some (with_saving s account)) × P s))
 
 -- ---- what a saving is
+
+-- these bytes in the place of the file that the name is read from
+abbrev pub saving_in_place : (name bytes : List ℕ) → Saving
+saving_in_place name bytes = record { name = input_name name; bytes = bytes }
+
+-- a layout in the place of its source
+abbrev pub saving_of : Layout → Saving
+saving_of layout = saving_in_place layout.name.now layout.bytes.items
 
 -- bytes under the name of an image
 abbrev pub image_saving : (image bytes : List ℕ) → Saving
@@ -54,23 +61,19 @@ abbrev pub IsImageSaving : Option Account → (source image : List ℕ) → Savi
 IsImageSaving account source image s = (s.name ≡ output_name image)
     × (text : List ℕ) × Gave account (input_name source) text × IsImageOf text s.bytes
 
+-- What became of a source: it was saved, as an image of so many bytes; or its file gave this text,
+-- which is refused for this fault, and nothing was saved.
+abbrev pub IsTold : (before after : Option Account) → (source image : List ℕ) → Compiled → Type 0
+IsTold before after source image (Saved count) = (bytes : List ℕ) × (length bytes ≡ count)
+    × (after ≡ option_map (with_saving (image_saving image bytes)) before)
+IsTold before after source image (Refused text fault) =
+    Gave before (input_name source) text.items × Explains text.items fault × (after ≡ before)
+
 -- a layout of what a file gave, which has one of these names, in its place
 abbrev pub IsLayoutSaving : Option Account → (names : List (List ℕ)) → Saving → Type 0
 IsLayoutSaving account names s = (name : List ℕ) × Contains names name
     × (s.name ≡ input_name name) × (text : List ℕ) × Gave account (input_name name) text
     × SameTokens text s.bytes × HaveSameBytes text s.bytes
-
--- a file of tests, where they are to be written anew
-abbrev pub IsUpdate : Bool → (names : List (List ℕ)) → Saving → Type 0
-IsUpdate is_update names s = IsTrue is_update × Contains names s.name
-
--- this file of tests, where it is to be written anew
-abbrev pub IsUpdateOf : Bool → (name : List ℕ) → Saving → Type 0
-IsUpdateOf is_update name s = IsTrue is_update × (s.name ≡ name)
-
--- what was typed, where that is to be kept
-abbrev pub IsRecord : Option (List ℕ) → Saving → Type 0
-IsRecord name s = Some s.name ≡ name
 
 -- ---- what the words of a command line let the program save
 
@@ -87,14 +90,6 @@ IsNamedImage words account s = (source image : List ℕ) × Contains words sourc
 -- a file of tests that is among the words, where they say `--update`
 abbrev pub IsNamedUpdate : (words : List (List ℕ)) → Saving → Type 0
 IsNamedUpdate words s = Contains words update_word × Contains words s.name
-
--- One image or none; or layouts of files in their place; or files of tests where the words say
--- `--update`; or a record where they name its file.
-abbrev pub MaySave : (words : List (List ℕ)) → (before after : Option Account) → Type 0
-MaySave words before after = SavesOne (IsNamedImage words before) before after
-    ⊎ (SavesEach (IsLayoutSaving before words) before after
-    ⊎ (SavesEach (IsNamedUpdate words) before after
-    ⊎ SavesEach (λ s. NameRecord words s.name) before after))
 
 -- ---- what was read to be laid out
 

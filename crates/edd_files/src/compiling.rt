@@ -1,14 +1,13 @@
 //! The image of a source, saved.
 
-ghost use Rattle.std.specs.Prelude.{◌≡◌, IfOk, map, string_bytes};
-ghost use Rattle.edd_compiler.specs.Images.{IsImageOf};
+ghost use Rattle.std.specs.Prelude.{◌≡◌, IfOk, OnErr, OnOk, map, option_map, string_bytes};
 ghost use Rattle.edd_files.specs.Names.{output_name};
-ghost use Rattle.edd_files.specs.Saves.{IsImageSaving, IsNamedImage, SavesOne, image_saving};
+ghost use Rattle.edd_files.specs.Saves.{IsImageSaving, IsNamedImage, IsTold, SavesOne, image_saving, with_saving};
 
 use crate::files::{FileFault, Files};
+use crate::named::{NamedFault, of_file};
 use crate::naming::is_word;
-use crate::reading::{STANDARD, of_file, read};
-use crate::stop::Stop;
+use crate::reading::{STANDARD, read};
 use edd_compiler::{Fault, compile};
 use std::alloc::Global;
 
@@ -32,10 +31,14 @@ fn output_of(name: &str) -> &str
 }
 
 // Saves an image under its name.
-#[tactic(auto, using(crate::proofs::SavesLaws::saves_none, crate::proofs::SavesLaws::saves_this))]
-fn save_bytes<'a, F: Files>(image: &'a str, bytes: &[u8], files: &mut F) -> Result<(), Stop<'a>>
-    ensures saves { SavesOne (λ s. s ≡ image_saving image.now bytes.now) (F.account files.old)
-        (F.account files.new) }
+fn save_bytes<'a, F: Files>(
+    image: &'a str,
+    bytes: &[u8],
+    files: &mut F,
+) -> Result<(), NamedFault<'a>>
+    ensures saved { OnOk result (F.account files.new
+        ≡ option_map (with_saving (image_saving image.now bytes.now)) (F.account files.old)) }
+    ensures kept { OnErr result (F.account files.new ≡ F.account files.old) }
 {
     files
         .save(output_of(image), bytes)
@@ -49,32 +52,24 @@ fn save_image<'a, F: Files>(
     source: &'a str,
     image: &'a str,
     files: &mut F,
-) -> Result<Compiled, Stop<'a>>
+) -> Result<Compiled, NamedFault<'a>>
     ensures saves { SavesOne (IsImageSaving (F.account files.old) source.now image.now)
         (F.account files.old) (F.account files.new) }
+    ensures told { IfOk result (IsTold (F.account files.old) (F.account files.new) source.now
+        image.now) }
 {
     let text = read(alloc, files, source)?;
     let bytes = match compile(alloc, &text) {
         Ok(bytes) => bytes,
-        Err(Fault::Memory) => return Err(Stop::Memory),
+        Err(Fault::Memory) => return Err(NamedFault::Memory),
         Err(fault) => return Ok(Compiled::Refused(text, fault)),
     };
     save_bytes(image, &bytes, files)?;
     Ok(Compiled::Saved(bytes.len()))
 }
 
-/// The image of a text.
-pub fn compile_text<'a>(alloc: Global, text: &[u8]) -> Result<Vec<u8>, Stop<'a>>
-    ensures sound { IfOk result (λ bytes. IsImageOf text.now bytes.items) }
-{
-    match compile(alloc, text) {
-        Ok(bytes) => Ok(bytes),
-        Err(Fault::Memory) => Err(Stop::Memory),
-        Err(fault) => Err(Stop::NotCompiled(fault.refusal(alloc, text)?)),
-    }
-}
-
-/// Saves the image of a source, if it has one. Both names are always among the words.
+/// Saves the image of a source, if it has one, and says what became of it. Both names are always
+/// among the words.
 #[tactic(auto, using(crate::proofs::SavesLaws::saves_none, crate::proofs::SavesLaws::saves_this_such))]
 pub fn compile_named<'a, F: Files>(
     alloc: Global,
@@ -82,12 +77,14 @@ pub fn compile_named<'a, F: Files>(
     source: &'a str,
     image: &'a str,
     files: &mut F,
-) -> Result<Compiled, Stop<'a>>
+) -> Result<Compiled, NamedFault<'a>>
     ensures saves { SavesOne (IsNamedImage (map string_bytes words.now) (F.account files.old))
         (F.account files.old) (F.account files.new) }
+    ensures told { IfOk result (IsTold (F.account files.old) (F.account files.new) source.now
+        image.now) }
 {
     if is_word(words, source) && is_word(words, image) {
         return save_image(alloc, source, image, files);
     }
-    Err(Stop::File(image, FileFault::Failed))
+    Err(NamedFault::File(image, FileFault::Failed))
 }

@@ -1,18 +1,21 @@
-//! The files of the program: what it reads, under which names it saves what, and why it ends. Proved is
-//! that what is saved is what the words of the command line ask for.
+//! The files of the program: what it reads, and under which names it saves what. Proved is that what
+//! is saved is what the words of the command line ask for.
 #![tactic(auto)]
 
 mod compiling;
 mod files;
+mod layouts;
+mod named;
 mod naming;
 mod reading;
-mod stop;
+mod saving;
 
-pub use compiling::{Compiled, compile_named, compile_text};
+pub use compiling::{Compiled, compile_named};
 pub use files::{FileFault, Files, MOST_BYTES, read_all};
+pub use layouts::{Layout, layout_of, save_layout};
+pub use named::{NamedFault, of_file};
 pub use naming::{are_words, is_word, name_record};
 pub use reading::{
-    INPUT, STANDARD, Source, input_of, of_file, read, read_bytes, read_marked, read_script,
-    read_sources,
+    INPUT, STANDARD, Source, input_of, read, read_bytes, read_marked, read_script, read_sources,
 };
-pub use stop::Stop;
+pub use saving::{save_record, save_update};

@@ -1,12 +1,12 @@
 //! The bytes of the files that the program reads.
 
-ghost use Rattle.std.specs.Prelude.{◌≡◌, IfOk, List, OnOk, map, ℕ};
+ghost use Rattle.std.specs.Prelude.{◌≡◌, IfOk, List, OnOk, map, option_map, ℕ};
 ghost use Rattle.std.specs.List.{All, Contains};
 ghost use Rattle.edd_files.specs.Names.{input_name};
-ghost use Rattle.edd_files.specs.Saves.{Gave, IsRead};
+ghost use Rattle.edd_files.specs.Saves.{Gave, GaveScript, IsRead};
 
 use crate::files::{FileFault, Files, read_all};
-use crate::stop::Stop;
+use crate::named::{NamedFault, of_file};
 use std::alloc::Global;
 
 /// The name of the file that has the user's lines.
@@ -21,14 +21,6 @@ pub const STANDARD: &str = "-";
 pub struct Source<'a> {
     pub name: &'a str,
     pub text: Vec<u8>,
-}
-
-/// The end of a program whose file failed.
-pub fn of_file<'a>(name: &'a str, fault: FileFault) -> Stop<'a> {
-    match fault {
-        FileFault::Memory => Stop::Memory,
-        fault => Stop::File(name, fault),
-    }
 }
 
 /// The file that a name is read from.
@@ -57,7 +49,11 @@ pub fn read_marked<F: Files>(alloc: Global, files: &mut F, name: &str) -> Result
 }
 
 /// The bytes of a file.
-pub fn read<'a, F: Files>(alloc: Global, files: &mut F, name: &'a str) -> Result<Vec<u8>, Stop<'a>>
+pub fn read<'a, F: Files>(
+    alloc: Global,
+    files: &mut F,
+    name: &'a str,
+) -> Result<Vec<u8>, NamedFault<'a>>
     ensures sound { IfOk result
         (λ bytes. Gave (F.account files.old) (input_name name.now) bytes.items) }
     ensures kept { F.account files.new ≡ F.account files.old }
@@ -71,7 +67,7 @@ fn push_source<'a, F: Files>(
     name: &'a str,
     files: &mut F,
     sources: &mut Vec<Source<'a>>,
-) -> Result<(), Stop<'a>>
+) -> Result<(), NamedFault<'a>>
     ensures sound { (names : List (List ℕ)) → Contains names name.now
         → All (IsRead (F.account files.old) names) sources.old.items
         → OnOk result (All (IsRead (F.account files.old) names) sources.new.items) }
@@ -87,7 +83,7 @@ pub fn read_sources<'a, F: Files>(
     alloc: Global,
     names: &[&'a str],
     files: &mut F,
-) -> Result<Vec<Source<'a>>, Stop<'a>>
+) -> Result<Vec<Source<'a>>, NamedFault<'a>>
     ensures sound { IfOk result (λ sources. All
         (IsRead (F.account files.old) (map (λ name. name.now) names.now)) sources.items) }
     ensures kept { F.account files.new ≡ F.account files.old }
@@ -104,7 +100,9 @@ pub fn read_script<'a, F: Files>(
     alloc: Global,
     files: &mut F,
     name: Option<&'a str>,
-) -> Result<Vec<u8>, Stop<'a>>
+) -> Result<Vec<u8>, NamedFault<'a>>
+    ensures sound { IfOk result (λ bytes. GaveScript (F.account files.old)
+        (option_map (λ name. name.now) name.entry) bytes.items) }
     ensures kept { F.account files.new ≡ F.account files.old }
 {
     match name {

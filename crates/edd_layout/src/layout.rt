@@ -1,4 +1,4 @@
-//! A text in the layout of the project.
+//! A text in the layout that a draft of it has.
 
 ghost use Rattle.std.specs.Prelude.{◌≡◌, ◌⊎◌, List, map, IfOk, IfErr, IfSome, Some, MatchResult};
 ghost use Rattle.edd_lexer.specs.Tokens.{Lexeme, AreTokens};
@@ -10,20 +10,23 @@ ghost use Rattle.edd_layout.specs.Same.{SameTokens, HaveSameBytes};
 
 use crate::kept::{behind_byte_order_mark, differ_in_blanks};
 use crate::same::are_same;
-use edd_drafts::drafted;
 use edd_lexer::fault::LexFault;
 use edd_lexer::lex;
 use edd_lexer::token::Token;
 use std::alloc::Global;
 
-// The layout of a text with these tokens, if it has the same; else the text.
-fn checked(alloc: Global, text: &[u8], tokens: &[Token]) -> Result<Vec<u8>, LexFault>
+// The draft, where a text with these tokens has the same; else the text.
+fn checked(
+    alloc: Global,
+    text: &[u8],
+    tokens: &[Token],
+    draft: Vec<u8>,
+) -> Result<Vec<u8>, LexFault>
     requires { AreTokens text.now (map (lexeme_of text.now) tokens.now) }
     ensures sound { IfOk result (λ laid. SameTokens text.now laid.items) }
     ensures kept { IfOk result (λ laid. HaveSameBytes text.now laid.items) }
     ensures only_memory { IfErr result (λ e. e ≡ Memory) }
 {
-    let draft = drafted(alloc, text, tokens)?;
     match lex(alloc, &draft) {
         Ok(others) => {
             let front = behind_byte_order_mark(text);
@@ -38,12 +41,12 @@ fn checked(alloc: Global, text: &[u8], tokens: &[Token]) -> Result<Vec<u8>, LexF
     Ok(Vec::from_slice(alloc, text)?)
 }
 
-/// The text of a description in the layout of the project: the same tokens, with other blanks and
-/// line ends between them and the same comments and marks. A text stays as it is where its layout
-/// would be longer than a text may be.
+/// The draft of a text, where it is a layout of this text: it has the same tokens, with other blanks
+/// and line ends between them and the same comments and marks. Else the text as it is. The draft may
+/// be any bytes.
 ///
-/// Refused is what `lex` refuses, with its fault.
-pub fn laid_out(alloc: Global, text: &[u8]) -> Result<Vec<u8>, LexFault>
+/// Refused is what `lex` refuses of the text, with its fault.
+pub fn laid_out(alloc: Global, text: &[u8], draft: Vec<u8>) -> Result<Vec<u8>, LexFault>
     ensures sound { IfOk result (λ laid. SameTokens text.now laid.items) }
     ensures kept { IfOk result (λ laid. HaveSameBytes text.now laid.items) }
     ensures refused { IfErr result
@@ -54,7 +57,7 @@ pub fn laid_out(alloc: Global, text: &[u8]) -> Result<Vec<u8>, LexFault>
         → MatchResult result (λ _. ⊥) (λ e. (e ≡ Memory) ⊎ (fault_of e ≡ Some fault)) }
 {
     match lex(alloc, text) {
-        Ok(tokens) => checked(alloc, text, &tokens),
+        Ok(tokens) => checked(alloc, text, &tokens, draft),
         Err(fault) => Err(fault),
     }
 }

@@ -1,7 +1,7 @@
 //! Files in memory.
 
 use crate::rows::Given;
-use edd_tool::{FileFault, Files};
+use edd_program::{FileFault, Files};
 use std::io;
 use std::io::Read;
 

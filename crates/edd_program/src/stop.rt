@@ -1,27 +1,23 @@
 //! Why the program stops before its end.
 
-use crate::files::FileFault;
-use crate::reading::INPUT;
 use edd_command_line::NoRequest;
 use edd_display::ShowFault;
+use edd_files::NamedFault;
 use edd_loader::LoadFault;
 use edd_machine::ValuesFault;
 use edd_port::PlayFault;
-use edd_reports::ReportFault;
 use edd_script::ScriptFault;
-use edd_sitting::SittingFault;
 use std::alloc::{AllocError, AllocFailed};
 
 /// Why the program stops before its end.
 #[derive(Drop)]
 pub enum Stop<'a> {
+    /// The help or the version that was asked for.
     Help(String),
+    /// What is wrong with the words of the command line.
     CommandLine(String),
-    File(&'a str, FileFault),
-    /// The same, and the reason is said.
-    FileAndWhy(&'a str, FileFault),
-    /// A file that a file of tests names.
-    Named(String),
+    /// The file of this name could not be read or written.
+    File(&'a str),
     /// The source is refused, which is told so.
     NotCompiled(String),
     NotLoaded(LoadFault),
@@ -32,18 +28,6 @@ pub enum Stop<'a> {
     /// The image has no method of this name.
     NoMethod(&'a str),
     Play(PlayFault),
-    /// The source of this name, one of several, is refused.
-    NoSource(&'a str, String),
-    /// The image of this name, one of several, is refused.
-    NoImage(&'a str, LoadFault),
-    /// A simulated device had no answer, which is this fault of its own.
-    Device(String),
-    /// No refusal has the number, and neither a refusal nor a lint the name.
-    NoRefusal(&'a str),
-    /// No lint has this name.
-    NoLint(&'a str),
-    /// A refusal or differences that are printed already.
-    Shown,
     /// The output could not be written.
     Output,
     Memory,
@@ -55,6 +39,20 @@ impl From<NoRequest> for Stop<'_> {
             NoRequest::Help(text) => Stop::Help(text),
             NoRequest::Mistake(text) => Stop::CommandLine(text),
             NoRequest::Memory => Stop::Memory,
+        }
+    }
+}
+
+impl<'a> From<NamedFault<'a>> for Stop<'a> {
+    ghost use Rattle.std.specs.Prelude.{◌≡◌, None};
+    ghost use Rattle.edd_program.specs.Refusals.{refusal_in};
+
+    ghost from_gives = { λ _ stop. refusal_in stop ≡ None };
+
+    fn from(fault: NamedFault<'a>) -> Self {
+        match fault {
+            NamedFault::File(name, _) => Stop::File(name),
+            NamedFault::Memory => Stop::Memory,
         }
     }
 }
@@ -96,6 +94,11 @@ impl From<PlayFault> for Stop<'_> {
 }
 
 impl From<ShowFault> for Stop<'_> {
+    ghost use Rattle.std.specs.Prelude.{◌≡◌, None};
+    ghost use Rattle.edd_program.specs.Refusals.{refusal_in};
+
+    ghost from_gives = { λ _ stop. refusal_in stop ≡ None };
+
     fn from(fault: ShowFault) -> Self {
         match fault {
             ShowFault::Memory => Stop::Memory,
@@ -106,6 +109,11 @@ impl From<ShowFault> for Stop<'_> {
 }
 
 impl From<AllocError> for Stop<'_> {
+    ghost use Rattle.std.specs.Prelude.{◌≡◌};
+    ghost use Rattle.edd_program.specs.declared.stop.Stop.TheVariants.{Memory};
+
+    ghost from_gives = { λ _ stop. stop ≡ Memory };
+
     fn from(_error: AllocError) -> Self {
         Stop::Memory
     }
@@ -114,24 +122,5 @@ impl From<AllocError> for Stop<'_> {
 impl<T: Drop> From<AllocFailed<T>> for Stop<'_> {
     fn from(_error: AllocFailed<T>) -> Self {
         Stop::Memory
-    }
-}
-
-impl From<ReportFault> for Stop<'_> {
-    fn from(fault: ReportFault) -> Self {
-        match fault {
-            ReportFault::Memory => Stop::Memory,
-            ReportFault::Output => Stop::Output,
-        }
-    }
-}
-
-impl From<SittingFault> for Stop<'_> {
-    fn from(fault: SittingFault) -> Self {
-        match fault {
-            SittingFault::Input => Stop::File(INPUT, FileFault::Failed),
-            SittingFault::Output => Stop::Output,
-            SittingFault::Memory => Stop::Memory,
-        }
     }
 }

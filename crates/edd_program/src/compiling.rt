@@ -1,0 +1,44 @@
+//! What the program does to make an image of a source.
+
+ghost use Rattle.std.specs.Prelude.{IfErr, IfOk, map, string_bytes};
+ghost use Rattle.edd_compiler.specs.Images.{IsImageOf};
+ghost use Rattle.edd_files.specs.Saves.{IsNamedImage, SavesOne};
+ghost use Rattle.edd_program.specs.Refusals.{TellsRefusal, TellsRefusalOf};
+
+use crate::stop::Stop;
+use edd_compiler::{Fault, compile};
+use edd_display::print;
+use edd_files::{Compiled, Files, compile_named};
+use std::alloc::Global;
+use std::io::Write;
+
+/// Writes the image of a source, and prints its length.
+pub fn write_image<'a, F: Files, W: Write>(
+    alloc: Global,
+    words: &[String],
+    source: &'a str,
+    image: &'a str,
+    files: &mut F,
+    out: &mut W,
+) -> Result<(), Stop<'a>>
+    ensures saves { SavesOne (IsNamedImage (map string_bytes words.now) (F.account files.old))
+        (F.account files.old) (F.account files.new) }
+    ensures refused { IfErr result (TellsRefusalOf (F.account files.old) source.now) }
+{
+    match compile_named(alloc, words, source, image, files)? {
+        Compiled::Saved(length) => Ok(print(alloc, out, format_args!("image {length}"))?),
+        Compiled::Refused(text, fault) => Err(Stop::NotCompiled(fault.refusal(alloc, &text)?)),
+    }
+}
+
+/// The image of a source's text.
+pub fn image_of_source<'a>(alloc: Global, text: &[u8]) -> Result<Vec<u8>, Stop<'a>>
+    ensures sound { IfOk result (λ bytes. IsImageOf text.now bytes.items) }
+    ensures refused { IfErr result (TellsRefusal text.now) }
+{
+    match compile(alloc, text) {
+        Ok(bytes) => Ok(bytes),
+        Err(Fault::Memory) => Err(Stop::Memory),
+        Err(fault) => Err(Stop::NotCompiled(fault.refusal(alloc, text)?)),
+    }
+}

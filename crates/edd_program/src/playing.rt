@@ -1,0 +1,97 @@
+//! What the program does to run a method of a source or an image.
+
+ghost use Rattle.std.specs.Prelude.{◌≡◌, IfOk, OnOk, Some};
+ghost use Rattle.edd_program.specs.Runs.{IsMethodNamed, IsPlayed, IsRun, OfImage, OfSource};
+
+use crate::compiling::image_of_source;
+use crate::stop::Stop;
+use crate::taking::take;
+use edd_command_line::Run;
+use edd_display::show_play;
+use edd_files::Files;
+use edd_loader::{Image, load};
+use edd_machine::Values;
+use edd_port::{Transcript, play};
+use edd_syntax::numbers::{ItemNo, MethNo};
+use std::alloc::Global;
+use std::io::Write;
+
+// The method of this name.
+fn method_named<'a>(image: &Image<'_>, name: &'a str) -> Result<MethNo, Stop<'a>>
+    ensures { IfOk result (IsMethodNamed image.now name.now) }
+{
+    match image.find(name) {
+        Some(ItemNo::Method(number)) => Ok(number),
+        _ => Err(Stop::NoMethod(name)),
+    }
+}
+
+// What the method does under the script.
+#[tactic(auto, using(crate::proofs::RunLaws::run_under))]
+fn played<'a>(
+    alloc: Global,
+    image: &Image<'_>,
+    script: &[u8],
+    run: Run<'a>,
+) -> Result<Transcript, Stop<'a>>
+    ensures { IfOk result (IsRun image.now script.now run.entry.method.now run.entry.steps) }
+{
+    let said = edd_script::parse(alloc, image, script)?;
+    let method = method_named(image, run.method)?;
+    let values = Values::new(alloc, image, &said.values)?;
+    Ok(play(alloc, image, method, values, &said.answers, run.steps)?)
+}
+
+// Runs a method of what may be an image under a script, and prints what it did.
+fn play_bytes<'a, W: Write>(
+    alloc: Global,
+    bytes: &[u8],
+    script: &[u8],
+    run: Run<'a>,
+    out: &mut W,
+) -> Result<(), Stop<'a>>
+    ensures played { OnOk result (IsPlayed bytes.now script.now run.entry.method.now
+        run.entry.language.now run.entry.steps (W.contents out.old) (W.contents out.new)) }
+{
+    let image = load(alloc, bytes)?;
+    let transcript = played(alloc, &image, script, run)?;
+    show_play(alloc, &image, &transcript, run.language, out)?;
+    Ok(())
+}
+
+/// Runs a method of an image.
+pub fn play_image<'a, F: Files, W: Write>(
+    alloc: Global,
+    image: &'a str,
+    run: Run<'a>,
+    files: &mut F,
+    out: &mut W,
+) -> Result<(), Stop<'a>>
+    ensures played { OnOk result (OfImage (F.account files.old) image.now
+        (Some run.entry.script.now) (λ bytes script.
+        IsPlayed bytes script run.entry.method.now run.entry.language.now run.entry.steps
+        (W.contents out.old) (W.contents out.new))) }
+    ensures kept { F.account files.new ≡ F.account files.old }
+{
+    let taken = take(alloc, image, Some(run.script), files)?;
+    play_bytes(alloc, &taken.description, &taken.script, run, out)
+}
+
+/// Compiles a source, and runs a method of it.
+pub fn try_source<'a, F: Files, W: Write>(
+    alloc: Global,
+    source: &'a str,
+    run: Run<'a>,
+    files: &mut F,
+    out: &mut W,
+) -> Result<(), Stop<'a>>
+    ensures played { OnOk result (OfSource (F.account files.old) source.now
+        (Some run.entry.script.now) (λ bytes script.
+        IsPlayed bytes script run.entry.method.now run.entry.language.now run.entry.steps
+        (W.contents out.old) (W.contents out.new))) }
+    ensures kept { F.account files.new ≡ F.account files.old }
+{
+    let taken = take(alloc, source, Some(run.script), files)?;
+    let bytes = image_of_source(alloc, &taken.description)?;
+    play_bytes(alloc, &bytes, &taken.script, run, out)
+}

@@ -1,0 +1,64 @@
+//! What is printed where the program stops, and the exit status.
+
+ghost use Rattle.std.specs.Prelude.{◌≤◌};
+
+use crate::stop::Stop;
+use edd_display::{ShowFault, print, print_text};
+use edd_loader::LoadFault;
+use std::alloc::Global;
+use std::fmt::Display;
+use std::io::Write;
+
+/// The exit status where all was done.
+pub const DONE: u8 = 0;
+
+const REFUSED: u8 = 1;
+
+const COMMAND_LINE: u8 = 2;
+
+/// The exit status where a file or the output could not be read or written.
+pub const FILE: u8 = 3;
+
+/// The exit status where there is no memory.
+pub const MEMORY: u8 = 4;
+
+// Prints that something is refused.
+fn refused<W: Write, T: Display>(alloc: Global, fault: &T, out: &mut W) -> Result<(), ShowFault> {
+    print(alloc, out, format_args!("refused {fault}"))
+}
+
+/// Prints why the program stops.
+pub fn report<W: Write>(alloc: Global, stop: &Stop<'_>, out: &mut W) -> Result<(), ShowFault> {
+    match stop {
+        Stop::Help(text) | Stop::CommandLine(text) => print_text(out, text),
+        Stop::File(name) => print(alloc, out, format_args!("file {name}")),
+        Stop::NotCompiled(fault) => refused(alloc, fault, out),
+        Stop::NotLoaded(fault) => refused(alloc, fault, out),
+        Stop::TextAsImage(_) => refused(alloc, &LoadFault::Magic, out),
+        Stop::Script(fault) => refused(alloc, fault, out),
+        Stop::Values(fault) => refused(alloc, fault, out),
+        Stop::Play(fault) => refused(alloc, fault, out),
+        Stop::NoMethod(name) => { print(alloc, out, format_args!("refused 301 NO_METHOD {name}")) }
+        Stop::Output => Err(ShowFault::Output),
+        Stop::Memory => Err(ShowFault::Memory),
+    }
+}
+
+/// The exit status of the program that stops so, where that could be printed.
+pub fn status(stop: &Stop<'_>) -> u8
+    ensures { result ≤ 4 }
+{
+    match stop {
+        Stop::Help(_) => DONE,
+        Stop::CommandLine(_) => COMMAND_LINE,
+        Stop::NotCompiled(_)
+        | Stop::NotLoaded(_)
+        | Stop::TextAsImage(_)
+        | Stop::Script(_)
+        | Stop::Values(_)
+        | Stop::NoMethod(_)
+        | Stop::Play(_) => REFUSED,
+        Stop::File(_) | Stop::Output => FILE,
+        Stop::Memory => MEMORY,
+    }
+}

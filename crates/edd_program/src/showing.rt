@@ -1,0 +1,88 @@
+//! What the program does to show a source or an image.
+
+ghost use Rattle.std.specs.Prelude.{◌≡◌, OnOk, option_map};
+ghost use Rattle.edd_program.specs.Runs.{IsShown, OfImage, OfSource};
+
+use crate::compiling::image_of_source;
+use crate::hints::with_hint;
+use crate::stop::Stop;
+use crate::taking::take;
+use edd_command_line::Showing;
+use edd_display::show;
+use edd_files::Files;
+use edd_loader::{Image, load};
+use edd_machine::Values;
+use std::alloc::Global;
+use std::io::Write;
+
+// Shows an image under a script.
+#[tactic(auto, using(crate::proofs::RunLaws::shown_under))]
+fn show_under<'a, W: Write>(
+    alloc: Global,
+    image: &Image<'_>,
+    script: &[u8],
+    language: &str,
+    out: &mut W,
+) -> Result<(), Stop<'a>>
+    ensures shown { OnOk result (IsShown image.now script.now language.now (W.contents out.old)
+        (W.contents out.new)) }
+{
+    let said = edd_script::parse(alloc, image, script)?;
+    let values = Values::new(alloc, image, &said.values)?;
+    show(alloc, image, &values, language, out)?;
+    Ok(())
+}
+
+// Shows what may be an image, under a script.
+fn show_bytes<'a, W: Write>(
+    alloc: Global,
+    bytes: &[u8],
+    script: &[u8],
+    language: &str,
+    out: &mut W,
+) -> Result<(), Stop<'a>>
+    ensures shown { OnOk result (IsShown bytes.now script.now language.now (W.contents out.old)
+        (W.contents out.new)) }
+{
+    let image = load(alloc, bytes)?;
+    show_under(alloc, &image, script, language, out)
+}
+
+/// Compiles a source, and shows its image.
+pub fn view_source<'a, F: Files, W: Write>(
+    alloc: Global,
+    showing: Showing<'a>,
+    files: &mut F,
+    out: &mut W,
+) -> Result<(), Stop<'a>>
+    ensures shown { OnOk result (OfSource (F.account files.old) showing.entry.file.now
+        (option_map (λ name. name.now) showing.entry.script) (λ bytes script.
+        IsShown bytes script showing.entry.language.now (W.contents out.old)
+        (W.contents out.new))) }
+    ensures kept { F.account files.new ≡ F.account files.old }
+{
+    let taken = take(alloc, showing.file, showing.script, files)?;
+    let bytes = image_of_source(alloc, &taken.description)?;
+    show_bytes(alloc, &bytes, &taken.script, showing.language, out)
+}
+
+/// Shows an image.
+pub fn show_image<'a, F: Files, W: Write>(
+    alloc: Global,
+    showing: Showing<'a>,
+    files: &mut F,
+    out: &mut W,
+) -> Result<(), Stop<'a>>
+    ensures shown { OnOk result (OfImage (F.account files.old) showing.entry.file.now
+        (option_map (λ name. name.now) showing.entry.script) (λ bytes script.
+        IsShown bytes script showing.entry.language.now (W.contents out.old)
+        (W.contents out.new))) }
+    ensures kept { F.account files.new ≡ F.account files.old }
+{
+    let taken = take(alloc, showing.file, showing.script, files)?;
+    let bytes = taken.description.as_slice();
+    match show_bytes(alloc, bytes, &taken.script, showing.language, out) {
+        Ok(()) => Ok(()),
+        Err(stop) => Err(with_hint(alloc, stop, showing.file, bytes)),
+    }
+}
