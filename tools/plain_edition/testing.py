@@ -63,7 +63,7 @@ def tested(counts):
 
 
 def own_steps(counts, edition):
-    """The steps on this system; gives the program."""
+    """The first steps on this system; gives the program."""
     program = os.path.join(MADE, "edd")
     counts.step("the check of tokens", sources, edition)
     counts.step("cargo build", built)
@@ -73,10 +73,31 @@ def own_steps(counts, edition):
     counts.step("rows by the program", player.by_program, MADE, program)
     counts.step("outputs that nobody reads", runs.closed_output, program)
     counts.step("files as the system has them", disk.saved, program)
-    counts.step("refused memory", refusals.of_program, program)
-    counts.step("refused memory of the language server", refusals.of_editor, program)
-    counts.step("refused memory in calls", refusals.of_calls, edition, MADE)
     return program
+
+
+def refused_memory(edition, program):
+    """Steps that need no others."""
+    return [
+        ("refused memory", refusals.of_program, program),
+        ("refused memory of the language server", refusals.of_editor, program),
+        ("refused memory in calls", refusals.of_calls, edition, MADE),
+    ]
+
+
+def further_steps(program):
+    """Steps that need no others: each builds in a folder of its own."""
+    return [
+        ("the workbench", workbench.tested, program),
+        ("the example in Rust", example.runs, FOLDER, program),
+        ("hostile images", images.refused_alike, {"64 bits": program}),
+        ("the proved program", alike.same_bytes, program, MADE),
+        ("fuzzing", fuzzing.some, FOLDER, PROFILE, AT_EACH_GATE),
+        ("32 bits of Linux", elsewhere.i686, FOLDER, program, MADE),
+        ("WebAssembly", elsewhere.wasm, program),
+        ("without a system", bare.thumb),
+        ("the library for C", calls_for_c.tests, program),
+    ]
 
 
 def quick():
@@ -84,7 +105,8 @@ def quick():
     counts = score.Score()
     edition = written()
     packages.settle(FOLDER, False, packages.TESTS)
-    own_steps(counts, edition)
+    program = own_steps(counts, edition)
+    counts.side_by_side(refused_memory(edition, program))
     return counts.end()
 
 
@@ -94,15 +116,7 @@ def test():
     edition = written()
     packages.settle(FOLDER, False, packages.TESTS)
     program = own_steps(counts, edition)
-    counts.step("the workbench", workbench.tested, program)
-    counts.step("the example in Rust", example.runs, FOLDER, program)
-    counts.step("hostile images", images.refused_alike, {"64 bits": program})
-    counts.step("the proved program", alike.same_bytes, program, MADE)
-    counts.step("fuzzing", fuzzing.some, FOLDER, PROFILE, AT_EACH_GATE)
-    counts.step("32 bits of Linux", elsewhere.i686, FOLDER, program, MADE)
-    counts.step("WebAssembly", elsewhere.wasm, program)
-    counts.step("without a system", bare.thumb)
-    counts.step("the library for C", calls_for_c.tests, program)
+    counts.side_by_side(refused_memory(edition, program) + further_steps(program))
     return counts.end()
 
 
