@@ -96,7 +96,8 @@ def install(packages):
     """Installs these of Debian's packages, as root."""
     say("installing " + " ".join(packages))
     quiet = {**os.environ, "DEBIAN_FRONTEND": "noninteractive"}
-    command = ["apt-get", "install", "-y", "-qq", "--no-install-recommends", *packages]
+    # Another apt-get of the machine ends some time.
+    command = ["apt-get", "install", "-y", "-qq", "--no-install-recommends", "-o", "DPkg::Lock::Timeout=300", *packages]
     steps = (["apt-get", "update", "-qq"], command)
     for words in steps:
         ran = subprocess.run(words, env=quiet, stdin=subprocess.DEVNULL, stdout=subprocess.PIPE, stderr=subprocess.STDOUT, text=True,
