@@ -15,6 +15,7 @@ class Score:
 
     def __init__(self, said=say):
         self.passed = self.failed = 0
+        self.failed_steps = []
         self.say = said
         self.started = time.time()
 
@@ -37,20 +38,26 @@ class Score:
             said = None
             self.check(False, f"{name}: {type(error).__name__}: {error}")
         passed, failed = self.passed - before[0], self.failed - before[1]
+        if failed:
+            self.failed_steps.append(name)
         more = f", {said}" if said else ""
         self.say(f"{name}: {passed} passed, {failed} failed{more} ({time.time() - started:.0f} s)")
 
     def side_by_side(self, steps):
         """Steps that don't need each other, some at once. What a step says comes as one piece, in the order of the list."""
+        self.say(f"side by side, {AT_ONCE} at once: {', '.join(name for name, *_ in steps)}")
         with futures.ThreadPoolExecutor(AT_ONCE) as pool:
             for lines, alone in pool.map(run_alone, steps):
                 self.count(alone.passed, alone.failed)
+                self.failed_steps += alone.failed_steps
                 for line in lines:
                     self.say(line)
 
     def end(self):
-        """The last line, which counts."""
+        """Names the steps that failed. The last line counts."""
         self.say(f"all steps took {time.time() - self.started:.0f} s")
+        if self.failed_steps:
+            self.say(f"steps with failures, which are shown before their lines: {', '.join(self.failed_steps)}")
         self.say(f"{self.passed} passed, {self.failed} failed")
         return int(self.failed > 0 or self.passed == 0)
 
