@@ -62,62 +62,63 @@ def tested(counts):
         counts.check(False, f"cargo test: {ran.stdout[-2000:]}{ran.stderr[-2000:]}")
 
 
-def own_steps(counts, edition):
-    """The first steps on this system; gives the program."""
+def first_steps(counts, edition):
+    """What builds in the edition's folder, and what prepares its processes in a way that allows no threads; gives the program."""
     program = os.path.join(MADE, "edd")
     counts.step("the check of tokens", sources, edition)
     counts.step("cargo build", built)
     counts.step("cargo test", tested)
-    counts.step("stored runs", runs.stored, edition, MADE)
-    counts.step("tables", player.played, MADE, ["rows", "pages", "calls", "images"])
-    counts.step("rows by the program", player.by_program, MADE, program)
     counts.step("outputs that nobody reads", runs.closed_output, program)
     counts.step("files as the system has them", disk.saved, program)
     return program
 
 
-def refused_memory(edition, program):
-    """Steps that need no others."""
+def steps_here(edition, program):
+    """Steps on this system that need no others."""
     return [
+        ("stored runs", runs.stored, edition, MADE),
+        ("tables", player.played, MADE, ["rows", "pages", "calls", "images"]),
+        ("rows by the program", player.by_program, MADE, program),
         ("refused memory", refusals.of_program, program),
         ("refused memory of the language server", refusals.of_editor, program),
         ("refused memory in calls", refusals.of_calls, edition, MADE),
     ]
 
 
-def further_steps(program):
-    """Steps that need no others: each builds in a folder of its own."""
+def steps_beyond(program):
+    """Further steps that need no others, on other systems and with what others build. Each builds in a folder of its own. What
+    takes long comes first, so that nothing is left to do alone at the end."""
     return [
-        ("the workbench", workbench.tested, program),
-        ("the example in Rust", example.runs, FOLDER, program),
-        ("hostile images", images.refused_alike, {"64 bits": program}),
-        ("the proved program", alike.same_bytes, program, MADE),
-        ("fuzzing", fuzzing.some, FOLDER, PROFILE, AT_EACH_GATE),
         ("32 bits of Linux", elsewhere.i686, FOLDER, program, MADE),
+        ("the workbench", workbench.tested, program),
+        ("the library for C", calls_for_c.tests, program),
         ("WebAssembly", elsewhere.wasm, program),
         ("without a system", bare.thumb),
-        ("the library for C", calls_for_c.tests, program),
+        ("the example in Rust", example.runs, FOLDER, program),
+        ("fuzzing", fuzzing.some, FOLDER, PROFILE, AT_EACH_GATE),
+        ("hostile images", images.refused_alike, {"64 bits": program}),
+        ("the proved program", alike.same_bytes, program, MADE),
     ]
+
+
+def run_steps(is_beyond):
+    """The steps on this system, or all; gives the status."""
+    counts = score.Score()
+    edition = written()
+    packages.settle(FOLDER, False, packages.TESTS)
+    program = first_steps(counts, edition)
+    counts.side_by_side(steps_here(edition, program) + (steps_beyond(program) if is_beyond else []))
+    return counts.end()
 
 
 def quick():
     """The steps on this system alone."""
-    counts = score.Score()
-    edition = written()
-    packages.settle(FOLDER, False, packages.TESTS)
-    program = own_steps(counts, edition)
-    counts.side_by_side(refused_memory(edition, program))
-    return counts.end()
+    return run_steps(False)
 
 
 def test():
     """All steps; gives the status."""
-    counts = score.Score()
-    edition = written()
-    packages.settle(FOLDER, False, packages.TESTS)
-    program = own_steps(counts, edition)
-    counts.side_by_side(refused_memory(edition, program) + further_steps(program))
-    return counts.end()
+    return run_steps(True)
 
 
 def fuzz(words, is_on_32_bits):
