@@ -14,8 +14,8 @@ PROVED = re.compile(r"^rt: (\w+)(: its tests are)? (NOT )?(?:PROVED|proved)\b")
 EDIT = re.compile(r"^rt: must-fail \S+: (refused)?")
 # What the table of docs/GATE.md has of each crate.
 COLUMNS = "First check", "Edits", "Program"
-# Minutes on four processors, as measured.
-CARGO_MINUTES = 10
+# Minutes on four idle processors, reckoned from the processor time of the steps.
+CARGO_MINUTES = 7
 
 
 def say(text):
@@ -116,23 +116,34 @@ def by_the_prover():
     return passed, failed + int(bool(status) and not failed)
 
 
-def main():
-    reader = argparse.ArgumentParser(prog="tools/test", description="Passes the tests.")
-    reader.add_argument("--cargo", action="store_true", help="what cargo can try alone, without the proofs")
-    is_proving = not reader.parse_args().cargo and shutil.which("rt") is not None
-    names, seconds = crates(), measured()
+def announce(is_by_cargo, is_proving):
+    """Says what is done and about how long it takes."""
     processors = len(os.sched_getaffinity(0))
-    say(f"tools/test: all that cargo can try, about {CARGO_MINUTES * 4 / min(4, processors):.0f} minutes on {processors} processors")
+    minutes = CARGO_MINUTES * 4 / min(4, processors)
+    say(f"tools/test: installs what is missing, as root on Debian, then builds and tests what cargo can: about {minutes:.0f} minutes "
+        f"on {processors} processors")
     if is_proving:
+        names, seconds = crates(), measured()
         minutes = sum(seconds.get(name, 0) for name in names) / 60 / processors
-        say(f"tools/test: then the proofs of {len(names)} crates, about {minutes:.0f} minutes")
+        say(f"tools/test: then proves {len(names)} crates: about {minutes:.0f} minutes")
+    elif is_by_cargo:
+        say("tools/test: leaves out the proofs, as --cargo says")
     else:
-        say("tools/test: no proofs: they need the Rattle kit, whose command `rt` is looked for on the PATH")
+        say("tools/test: leaves out the proofs, for there is no `rt` on the PATH, the command of the Rattle kit")
+    say("tools/test: a line for each step when it ends; the last line counts")
+
+
+def main():
+    reader = argparse.ArgumentParser(prog="tools/test", description="Passes the tests: what cargo can try, then the proofs.")
+    reader.add_argument("--cargo", action="store_true", help="what cargo can try alone, without the proofs")
+    is_by_cargo = reader.parse_args().cargo
+    is_proving = not is_by_cargo and shutil.which("rt") is not None
+    announce(is_by_cargo, is_proving)
     parts = [("by cargo", by_cargo())]
     if is_proving:
         parts.append(("crates proved and wrong bodies refused", by_the_prover()))
-    for name, (passed, failed) in parts:
-        say(f"{name}: {passed} right, {failed} wrong")
+        for name, (passed, failed) in parts:
+            say(f"{name}: {passed} passed, {failed} failed")
     passed, failed = (sum(counts[at] for _, counts in parts) for at in (0, 1))
     say(f"{passed} passed, {failed} failed")
     return int(failed > 0 or passed == 0)

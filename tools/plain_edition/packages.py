@@ -2,6 +2,7 @@
 
 `install` is the one function that changes the machine. The program's wrapper and `tools/test` call it, and say what it does.
 """
+import functools
 import os
 import re
 import shutil
@@ -95,14 +96,22 @@ def can_install():
 def install(packages):
     """Installs these of Debian's packages, as root."""
     say("installing " + " ".join(packages))
-    quiet = {**os.environ, "DEBIAN_FRONTEND": "noninteractive"}
-    command = ["apt-get", "install", "-y", "-qq", "--no-install-recommends", *packages]
-    steps = (["apt-get", "update", "-qq"], command)
-    for words in steps:
-        ran = subprocess.run(words, env=quiet, stdin=subprocess.DEVNULL, stdout=subprocess.PIPE, stderr=subprocess.STDOUT, text=True,
-                             check=False)
-        if ran.returncode:
-            raise Missing(f"{' '.join(words)} failed:\n{ran.stdout[-1500:]}")
+    update_lists()
+    # Another apt-get of the machine ends some time.
+    apt(["install", "-y", "-qq", "--no-install-recommends", "-o", "DPkg::Lock::Timeout=300", *packages])
+
+
+@functools.cache
+def update_lists():
+    """Reads once which packages there are."""
+    apt(["update", "-qq"])
+
+
+def apt(words):
+    ran = subprocess.run(["apt-get", *words], env={**os.environ, "DEBIAN_FRONTEND": "noninteractive"}, stdin=subprocess.DEVNULL,
+                         stdout=subprocess.PIPE, stderr=subprocess.STDOUT, text=True, check=False)
+    if ran.returncode:
+        raise Missing(f"apt-get {' '.join(words)} failed:\n{ran.stdout[-1500:]}")
 
 
 def settle(out, may_install, sources=SOURCES):

@@ -5,6 +5,7 @@ import glob
 import os
 import shutil
 import subprocess
+import threading
 
 from . import packages, repository
 
@@ -23,6 +24,8 @@ opt-level = 2
 LINKERS = {"wasm32": "wasm-ld", "thumbv7em": "ld.lld"}
 # The systems, by what is made of the standard library for them.
 WHOLE, BARE = "std,panic_unwind", "core,alloc"
+# By folder: two steps that run side by side may want the same standard library.
+MAKING = {}
 
 
 def listed(package, end):
@@ -51,25 +54,36 @@ def run(words, folder, env):
 
 def root(target, parts):
     """The folder of the standard library for a system. It is made once for each version of the compiler."""
+    name = f"{target}-{parts.replace(',', '-')}"
+    made = os.path.join(ROOM, f"root-{name}")
     version = subprocess.run([listed("rustc-web", "/bin/rustc"), "-vV"], capture_output=True, text=True, check=True).stdout
-    made, stamp = os.path.join(ROOM, f"root-{target}"), f"{version}{parts}"
-    if os.path.exists(f"{made}.stamp"):
-        with open(f"{made}.stamp", encoding="utf-8") as file:
-            if file.read() == stamp:
-                return made
-    libraries = os.path.join(made, "lib", "rustlib", target, "lib")
-    shutil.rmtree(made, ignore_errors=True)
-    os.makedirs(libraries)
-    for library in build_standard(target, parts):
-        shutil.copy(library, libraries)
-    with open(f"{made}.stamp", "w", encoding="utf-8") as file:
-        file.write(stamp)
+    with MAKING.setdefault(made, threading.Lock()):
+        if stamp_of(made) != version:
+            make_root(target, parts, made, os.path.join(ROOM, f"standard-{name}"))
+            with open(f"{made}.stamp", "w", encoding="utf-8") as file:
+                file.write(version)
     return made
 
 
-def build_standard(target, parts):
+def stamp_of(made):
+    """The version of the compiler that a standard library was made by, or nothing."""
+    if not os.path.exists(f"{made}.stamp"):
+        return None
+    with open(f"{made}.stamp", encoding="utf-8") as file:
+        return file.read()
+
+
+def make_root(target, parts, made, room):
+    """Puts a new standard library, which is built in a room, where the compiler looks for it below a root."""
+    libraries = os.path.join(made, "lib", "rustlib", target, "lib")
+    shutil.rmtree(made, ignore_errors=True)
+    os.makedirs(libraries)
+    for library in build_standard(target, parts, room):
+        shutil.copy(library, libraries)
+
+
+def build_standard(target, parts, room):
     """Builds the standard library as what an empty crate needs, and gives the paths of its parts."""
-    room = os.path.join(ROOM, f"standard-{target}")
     shutil.rmtree(room, ignore_errors=True)
     os.makedirs(os.path.join(room, "src"))
     files = {"Cargo.toml": MANIFEST, "src/lib.rs": "#![no_std]\n",
@@ -87,7 +101,8 @@ def build_standard(target, parts):
 def build(folder, target, parts, profile, words, flags=""):
     """Builds crates of a workspace for a system, and gives the folder of what was made."""
     rooted = f"--sysroot {root(target, parts)} {flags}".strip()
-    place = os.path.join(ROOM, f"target-{target}")
+    # Each workspace has a folder of its own: cargo lets builds in one folder wait for each other.
+    place = os.path.join(folder, "systems")
     env = environment(target, RUSTFLAGS=rooted, CARGO_TARGET_DIR=place)
     run(["build", "--quiet", "--offline", "--profile", profile, "--target", target, *words], folder, env)
     return os.path.join(place, target, profile)

@@ -63,48 +63,63 @@ def tested(counts):
         counts.check(False, f"cargo test: {ran.stdout[-2000:]}{ran.stderr[-2000:]}")
 
 
-def own_steps(counts, edition):
-    """The steps on this system; gives the program."""
+def first_steps(counts, edition):
+    """What builds in the edition's folder, and what prepares its processes in a way that allows no threads; gives the program."""
     program = os.path.join(MADE, ordinary.BINARY)
     counts.step("the check of tokens", sources, edition)
     counts.step("cargo build", built)
     counts.step("cargo test", tested)
-    counts.step("stored runs", runs.stored, edition, MADE)
-    counts.step("tables", player.played, MADE, ["rows", "pages", "calls", "images"])
-    counts.step("rows by the program", player.by_program, MADE, program)
     counts.step("outputs that nobody reads", runs.closed_output, program)
     counts.step("files as the system has them", disk.saved, program)
-    counts.step("refused memory", refusals.of_program, program)
-    counts.step("refused memory of the language server", refusals.of_editor, program)
-    counts.step("refused memory in calls", refusals.of_calls, edition, MADE)
     return program
+
+
+def steps_here(edition, program):
+    """Steps on this system that need no others."""
+    return [
+        ("stored runs", runs.stored, edition, MADE),
+        ("tables", player.played, MADE, ["rows", "pages", "calls", "images"]),
+        ("rows by the program", player.by_program, MADE, program),
+        ("refused memory", refusals.of_program, program),
+        ("refused memory of the language server", refusals.of_editor, program),
+        ("refused memory in calls", refusals.of_calls, edition, MADE),
+    ]
+
+
+def steps_beyond(program):
+    """Further steps that need no others, on other systems and with what others build. Each builds in a folder of its own. What
+    takes long comes first, so that nothing is left to do alone at the end."""
+    return [
+        ("32 bits of Linux", elsewhere.i686, FOLDER, program, MADE),
+        ("the workbench", workbench.tested, program),
+        ("the library for C", calls_for_c.tests, program),
+        ("WebAssembly", elsewhere.wasm, program),
+        ("without a system", bare.thumb),
+        ("the example in Rust", example.runs, FOLDER, program),
+        ("fuzzing", fuzzing.some, FOLDER, PROFILE, AT_EACH_GATE),
+        ("hostile images", images.refused_alike, {"64 bits": program}),
+        ("the proved program", alike.same_bytes, program, MADE),
+    ]
+
+
+def run_steps(is_beyond):
+    """The steps on this system, or all; gives the status."""
+    counts = score.Score()
+    edition = written()
+    packages.settle(FOLDER, False, packages.TESTS)
+    program = first_steps(counts, edition)
+    counts.side_by_side(steps_here(edition, program) + (steps_beyond(program) if is_beyond else []))
+    return counts.end()
 
 
 def quick():
     """The steps on this system alone."""
-    counts = score.Score()
-    edition = written()
-    packages.settle(FOLDER, False, packages.TESTS)
-    own_steps(counts, edition)
-    return counts.end()
+    return run_steps(False)
 
 
 def test():
     """All steps; gives the status."""
-    counts = score.Score()
-    edition = written()
-    packages.settle(FOLDER, False, packages.TESTS)
-    program = own_steps(counts, edition)
-    counts.step("the workbench", workbench.tested, program)
-    counts.step("the example in Rust", example.runs, FOLDER, program)
-    counts.step("hostile images", images.refused_alike, {"64 bits": program})
-    counts.step("the proved program", alike.same_bytes, program, MADE)
-    counts.step("fuzzing", fuzzing.some, FOLDER, PROFILE, AT_EACH_GATE)
-    counts.step("32 bits of Linux", elsewhere.i686, FOLDER, program, MADE)
-    counts.step("WebAssembly", elsewhere.wasm, program)
-    counts.step("without a system", bare.thumb)
-    counts.step("the library for C", calls_for_c.tests, program)
-    return counts.end()
+    return run_steps(True)
 
 
 def fuzz(words, is_on_32_bits):

@@ -30,7 +30,7 @@ def played(score, folder, suites, *more):
     passed, failed = map(int, counted.groups())
     score.count(passed, failed)
     if failed or ran.returncode:
-        print("\n".join(lines), flush=True)
+        score.say("\n".join(lines))
     return ", ".join(line.strip() for line in lines if line.startswith("    "))
 
 

@@ -41,6 +41,8 @@ def difference(expected, found):
 
 def closed_output(score, program):
     """A command whose output is a pipe that nobody reads ends with status 3, as tools/closed_output has it."""
-    tried = images.tool("closed_output")
-    tried.COMMAND = [program]
-    score.check(tried.main() == 0, "a command whose output nobody reads does not end with status 3")
+    tool = images.tool("closed_output")
+    tool.COMMAND = [program]
+    count, others = tool.tried()
+    score.check(not others, f"commands whose output nobody reads and their statuses: {others}")
+    return f"{count} commands"

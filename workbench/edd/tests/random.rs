@@ -1,16 +1,18 @@
 //! No call panics, whatever it is given, and what it gives is what it promises.
 //!
-//! Each run tries other inputs, 256 for each test; `PROPTEST_CASES` is another count.
+//! Each run tries the same inputs, 256 for each test. `EDD_SEED`, a number, makes other ones, and `PROPTEST_CASES` is another count.
 
-#![allow(clippy::expect_used, reason = "a test fails by a panic")]
+#![allow(clippy::expect_used, clippy::panic, reason = "a test fails by a panic")]
 
 mod common;
+mod inputs;
 
 use common::{IMAGES, methods, sources};
 use edd::{
     Answer, AnswerFault, Attr, AttrRef, Command, Device, Image, ItemNo, Kind, Panel, Refusal,
     Session, Turn, Values, VarNo,
 };
+use inputs::try_inputs;
 use proptest::collection::vec;
 use proptest::prelude::*;
 use proptest::sample::Index;
@@ -177,100 +179,126 @@ fn show(panel: &Panel<'_, '_>) {
     assert!(!format!("{panel:?}").is_empty());
 }
 
-proptest! {
-    #![proptest_config(ProptestConfig {
-        failure_persistence: None,
-        ..ProptestConfig::default()
-    })]
-
-    #[test]
-    fn any_bytes(bytes in vec(any::<u8>(), 0..300)) {
+#[test]
+fn any_bytes() {
+    try_inputs(vec(any::<u8>(), 0..300), |bytes| {
         look_at(&bytes);
         assert!(Image::load(bytes).is_err());
-    }
+    });
+}
 
-    #[test]
-    fn any_words(words in vec(prop::sample::select(&WORDS[..]), 0..60)) {
+#[test]
+fn any_words() {
+    try_inputs(vec(prop::sample::select(&WORDS[..]), 0..60), |words| {
         look_at(words.join(" ").as_bytes());
         look_at(format!("{}{}", common::IDENTIFICATION, words.join(" ")).as_bytes());
-    }
+    });
+}
 
-    #[test]
-    fn damaged_sources(which in any::<Index>(), edits in vec(any::<(Index, u8)>(), 1..4)) {
-        look_at(&damaged(which.get::<Vec<u8>>(&SOURCES), &edits));
-    }
+#[test]
+fn damaged_sources() {
+    try_inputs(
+        (any::<Index>(), vec(any::<(Index, u8)>(), 1..4)),
+        |(which, edits)| {
+            look_at(&damaged(which.get::<Vec<u8>>(&SOURCES), &edits));
+        },
+    );
+}
 
-    #[test]
-    fn damaged_images(which in any::<Index>(), edits in vec(any::<(Index, u8)>(), 1..3)) {
-        if let Ok(image) = Image::load(damaged(which.get(&IMAGES).bytes(), &edits)) {
-            let values = image.start_values();
-            for item in image.items() {
-                let _ = image.label(item.number, "en", &values);
-                let _ = image.validity(item.number, &values);
-            }
-            for method in methods(&image) {
-                if let Ok(mut session) = Session::start(&image, method, image.values()) {
-                    session.advance(1000);
+#[test]
+fn damaged_images() {
+    try_inputs(
+        (any::<Index>(), vec(any::<(Index, u8)>(), 1..3)),
+        |(which, edits)| {
+            if let Ok(image) = Image::load(damaged(which.get(&IMAGES).bytes(), &edits)) {
+                let values = image.start_values();
+                for item in image.items() {
+                    let _ = image.label(item.number, "en", &values);
+                    let _ = image.validity(item.number, &values);
+                }
+                for method in methods(&image) {
+                    if let Ok(mut session) = Session::start(&image, method, image.values()) {
+                        session.advance(1000);
+                    }
                 }
             }
-        }
-    }
+        },
+    );
+}
 
-    #[test]
-    fn any_attributes(
-        which in any::<Index>(),
-        (kind, index) in (1..7u8, 0..20u16),
-        (attr, sub) in (1..23u8, 0..3u16),
-    ) {
-        let image = which.get(&IMAGES);
-        let item = ItemNo::from_numbers(kind, index).expect("a kind");
-        let attr = Attr::from_number(attr).expect("an attribute");
-        let _ = image.attribute(AttrRef { item, attr, sub }, &image.start_values());
-        assert_eq!(image.item(item).is_some(), image.items().any(|other| other.number == item));
-    }
+#[test]
+fn any_attributes() {
+    try_inputs(
+        (any::<Index>(), (1..7u8, 0..20u16), (1..23u8, 0..3u16)),
+        |(which, (kind, index), (attr, sub))| {
+            let image = which.get(&IMAGES);
+            let item = ItemNo::from_numbers(kind, index).expect("a kind");
+            let attr = Attr::from_number(attr).expect("an attribute");
+            let _ = image.attribute(AttrRef { item, attr, sub }, &image.start_values());
+            assert_eq!(
+                image.item(item).is_some(),
+                image.items().any(|other| other.number == item)
+            );
+        },
+    );
+}
 
-    #[test]
-    fn any_values(which in any::<Index>(), sets in vec(any::<(u8, i64, bool)>(), 0..40)) {
-        let image = which.get(&IMAGES);
-        let mut values = image.start_values();
-        for (variable, value, is_small) in sets {
-            let value = if is_small { value % 200 } else { value };
-            let variable = VarNo(u16::from(variable % 20));
-            let before = values.get(variable);
-            let is_set = values.set(variable, value).is_ok();
-            assert_eq!(values.get(variable), if is_set { Some(value) } else { before });
-        }
-        assert_are_values(&values);
-    }
-
-    #[test]
-    fn any_sessions(
-        which in any::<Index>(),
-        method in any::<Index>(),
-        steps in vec((0..2000u32, answers()), 1..20),
-    ) {
-        let image = which.get(&IMAGES);
-        let all = methods(image);
-        if let Some(method) = all.get(method.index(all.len().max(1))) {
-            let started = Session::start(image, *method, image.start_values());
-            let mut session = started.expect("a session");
-            for (budget, answer) in steps {
-                let before = session.taken();
-                let turn = session.advance(budget);
-                let executed = session.taken().saturating_sub(before);
-                assert!(executed <= u64::from(budget));
-                assert!(turn != Turn::Spent || executed == u64::from(budget));
-                assert_eq!(turn, session.turn());
-                let answered = session.answer(&answer);
-                let is_asking = matches!(turn, Turn::Asks(_));
-                assert_eq!(answered == Err(AnswerFault::NotAsking), !is_asking);
+#[test]
+fn any_values() {
+    try_inputs(
+        (any::<Index>(), vec(any::<(u8, i64, bool)>(), 0..40)),
+        |(which, sets)| {
+            let image = which.get(&IMAGES);
+            let mut values = image.start_values();
+            for (variable, value, is_small) in sets {
+                let value = if is_small { value % 200 } else { value };
+                let variable = VarNo(u16::from(variable % 20));
+                let before = values.get(variable);
+                let is_set = values.set(variable, value).is_ok();
+                assert_eq!(
+                    values.get(variable),
+                    if is_set { Some(value) } else { before }
+                );
             }
-            assert_are_values(session.values());
-        }
-    }
+            assert_are_values(&values);
+        },
+    );
+}
 
-    #[test]
-    fn any_panels(which in any::<Index>(), acts in vec(acts(), 1..40)) {
+#[test]
+fn any_sessions() {
+    try_inputs(
+        (
+            any::<Index>(),
+            any::<Index>(),
+            vec((0..2000u32, answers()), 1..20),
+        ),
+        |(which, method, steps)| {
+            let image = which.get(&IMAGES);
+            let all = methods(image);
+            if let Some(method) = all.get(method.index(all.len().max(1))) {
+                let started = Session::start(image, *method, image.start_values());
+                let mut session = started.expect("a session");
+                for (budget, answer) in steps {
+                    let before = session.taken();
+                    let turn = session.advance(budget);
+                    let executed = session.taken().saturating_sub(before);
+                    assert!(executed <= u64::from(budget));
+                    assert!(turn != Turn::Spent || executed == u64::from(budget));
+                    assert_eq!(turn, session.turn());
+                    let answered = session.answer(&answer);
+                    let is_asking = matches!(turn, Turn::Asks(_));
+                    assert_eq!(answered == Err(AnswerFault::NotAsking), !is_asking);
+                }
+                assert_are_values(session.values());
+            }
+        },
+    );
+}
+
+#[test]
+fn any_panels() {
+    try_inputs((any::<Index>(), vec(acts(), 1..40)), |(which, acts)| {
         let opened = which.get(&IMAGES).open();
         let values = opened.image().start_values();
         let mut panel = Panel::open(&opened, "de", values).expect("a panel");
@@ -278,17 +306,22 @@ proptest! {
             act_on(&mut panel, act);
             show(&panel);
         }
-    }
+    });
+}
 
-    #[test]
-    fn any_devices(one in any::<Index>(), other in any::<Index>(), script in vec(answers(), 0..5)) {
-        let (instrument, simulation) = (one.get(&IMAGES).open(), other.get(&IMAGES).open());
-        let mut device = Device::start(&instrument, &simulation);
-        for item in instrument.image().items_of(Kind::Method) {
-            if let ItemNo::Method(method) = item.number {
-                let values = instrument.image().start_values();
-                let _ = device.play(method, values, &script, 2000);
+#[test]
+fn any_devices() {
+    try_inputs(
+        (any::<Index>(), any::<Index>(), vec(answers(), 0..5)),
+        |(one, other, script)| {
+            let (instrument, simulation) = (one.get(&IMAGES).open(), other.get(&IMAGES).open());
+            let mut device = Device::start(&instrument, &simulation);
+            for item in instrument.image().items_of(Kind::Method) {
+                if let ItemNo::Method(method) = item.number {
+                    let values = instrument.image().start_values();
+                    let _ = device.play(method, values, &script, 2000);
+                }
             }
-        }
-    }
+        },
+    );
 }
