@@ -1,8 +1,8 @@
 //! Why the program stops before its end.
 use std::prelude::v1::*;
 
-use crate::files::FileFault;
-use crate::reading::INPUT;
+use edd_compiler::{Fault, compile};
+use edd_files::{FileFault, INPUT, NamedFault};
 use edd_display::ShowFault;
 use edd_loader::LoadFault;
 use edd_machine::ValuesFault;
@@ -11,7 +11,7 @@ use edd_script::ScriptFault;
 use legacy_command_line::NoRequest;
 use legacy_reports::ReportFault;
 use legacy_sitting::SittingFault;
-use std::alloc::{AllocError, AllocFailed};
+use std::alloc::{AllocError, AllocFailed, Global};
 
 /// Why the program stops before its end.
 pub enum Stop<'a> {
@@ -133,5 +133,28 @@ impl From<SittingFault> for Stop<'_> {
             SittingFault::Output => Stop::Output,
             SittingFault::Memory => Stop::Memory,
         }
+    }
+}
+
+impl<'a> From<NamedFault<'a>> for Stop<'a> {
+    fn from(fault: NamedFault<'a>) -> Self {
+        match fault {
+            NamedFault::Memory => Stop::Memory,
+            NamedFault::File(name, fault) => Stop::File(name, fault),
+        }
+    }
+}
+
+/// The end of a program whose file failed.
+pub fn of_file<'a>(name: &'a str, fault: FileFault) -> Stop<'a> {
+    Stop::from(edd_files::of_file(name, fault))
+}
+
+/// The image of a text.
+pub fn compile_text<'a>(alloc: Global, text: &[u8]) -> Result<Vec<u8>, Stop<'a>> {
+    match compile(alloc, text) {
+        Ok(bytes) => Ok(bytes),
+        Err(Fault::Memory) => Err(Stop::Memory),
+        Err(fault) => Err(Stop::NotCompiled(fault.refusal(alloc, text)?)),
     }
 }

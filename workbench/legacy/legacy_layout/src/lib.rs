@@ -5,8 +5,6 @@
 extern crate std;
 use std::prelude::v1::*;
 
-mod kept;
 mod layout;
-mod same;
 
-pub use layout::laid_out;
+pub use layout::{draft_of, laid_out};

@@ -4,26 +4,20 @@ use std::prelude::v1::*;
 use edd_display::print;
 use edd_lexer::fault::LexFault;
 use legacy_files::{
-    FileFault, Files, INPUT, STANDARD, Source, Stop, are_words, input_of, of_file, read,
-    read_sources,
+    FileFault, Files, INPUT, Layout, STANDARD, Source, Stop, are_words, layout_of, read,
+    read_sources, save_layout,
 };
-use legacy_layout::laid_out;
+use legacy_layout::draft_of;
 use std::alloc::Global;
 use std::io::Write;
 
-/// A layout, which is another one than its source has.
-pub struct Layout<'a> {
-    pub name: &'a str,
-    pub bytes: Vec<u8>,
-}
-
-// What the layout of a source is, where it is another one than the source has.
-fn layout_of<'a>(alloc: Global, name: &'a str, text: &[u8]) -> Result<Option<Vec<u8>>, Stop<'a>> {
-    match laid_out(alloc, text) {
-        Ok(layout) if layout.as_slice() == text => Ok(None),
-        Ok(layout) => Ok(Some(layout)),
+// The layout of a source, where it is another one than the source has.
+fn changed<'a>(alloc: Global, source: &Source<'a>) -> Result<Option<Layout<'a>>, Stop<'a>> {
+    let draft = draft_of(alloc, &source.text);
+    match draft.and_then(|draft| layout_of(alloc, source, draft)) {
+        Ok(found) => Ok(found),
         Err(LexFault::Memory) => Err(Stop::Memory),
-        Err(fault) => Err(Stop::NoSource(name, fault.to_string(alloc)?)),
+        Err(fault) => Err(Stop::NoSource(source.name, fault.to_string(alloc)?)),
     }
 }
 
@@ -33,11 +27,9 @@ fn push_layout<'a>(
     source: &Source<'a>,
     layouts: &mut Vec<Layout<'a>>,
 ) -> Result<(), Stop<'a>> {
-    let name = source.name;
-    let Some(bytes) = layout_of(alloc, name, &source.text)? else {
-        return Ok(());
-    };
-    layouts.push(Layout { name, bytes })?;
+    if let Some(layout) = changed(alloc, source)? {
+        layouts.push(layout)?;
+    }
     Ok(())
 }
 
@@ -57,11 +49,8 @@ fn write_layout<'a, F: Files, W: Write>(
     files: &mut F,
     out: &mut W,
 ) -> Result<(), Stop<'a>> {
-    let name = layout.name;
-    files
-        .renew(input_of(name), &layout.bytes)
-        .map_err(|fault| of_file(name, fault))?;
-    print(alloc, out, format_args!("laid out {name}"))?;
+    save_layout(layout, files)?;
+    print(alloc, out, format_args!("laid out {}", layout.name))?;
     Ok(())
 }
 
@@ -102,10 +91,11 @@ fn filter<'a, F: Files, W: Write>(
     out: &mut W,
 ) -> Result<(), Stop<'a>> {
     let text = read(alloc, files, name)?;
-    let layout = layout_of(alloc, name, &text)?;
+    let source = Source { name, text };
+    let layout = changed(alloc, &source)?;
     let written = match &layout {
-        Some(layout) => out.write_all(layout),
-        None => out.write_all(&text),
+        Some(layout) => out.write_all(&layout.bytes),
+        None => out.write_all(&source.text),
     };
     written.map_err(|_| Stop::Output)
 }

@@ -9,7 +9,7 @@ use edd_machine::ValuesFault;
 use edd_panel::{Panel, start_values};
 use edd_script::parse_sets;
 use legacy_command_line::{Opening, RawTerminal};
-use legacy_files::{FileFault, Files, INPUT, Stop, compile_text, name_record, of_file};
+use legacy_files::{Files, INPUT, Stop, compile_text, of_file, save_record};
 use legacy_panel_lines::push_start;
 use legacy_sitting::{Console, Lines, Size, Terminal, converse, converse_by_keys};
 use std::alloc::Global;
@@ -124,43 +124,9 @@ fn open_taken<'a, R: Read + Drop, W: Write>(
     open_bytes(alloc, &bytes, taken, manner, input, out)
 }
 
-// Saves what was set and answered, where that is to be kept.
-fn save_record<'a, F: Files>(
-    name: Option<&'a str>,
-    noted: &str,
-    files: &mut F,
-) -> Result<(), Stop<'a>> {
-    let Some(name) = name else {
-        return Ok(());
-    };
-    files
-        .save(name, noted.as_bytes())
-        .map_err(|fault| of_file(name, fault))
-}
-
-// Opens a source or an image, and does what the lines of the standard input say. All files are
-// opened before anything else is done, and the record is written at the end.
-fn open<'a, F: Files, W: Write>(
-    alloc: Global,
-    opening: Opening<'a>,
-    files: &mut F,
-    out: &mut W,
-) -> Result<(), Stop<'a>> {
-    let taken = take(alloc, opening.file, opening.device, opening.script, files)?;
-    let input = files.open(INPUT).map_err(|fault| of_file(INPUT, fault))?;
-    let noted = open_taken(alloc, &taken, opening, input, out)?;
-    save_record(opening.record_file, &noted, files)
-}
-
-// Whether the words name the file for a record, if there is to be one.
-fn is_named(words: &[String], name: Option<&str>) -> bool {
-    match name {
-        Some(name) => name_record(words, name),
-        None => true,
-    }
-}
-
-/// Opens a source or an image. The name of the record's file is always among the words.
+/// Opens a source or an image, and does what the lines of the standard input say. All files are
+/// opened before anything else is done, and the record is written at the end. The name of its file is
+/// always among the words.
 pub fn open_named<'a, F: Files, W: Write>(
     alloc: Global,
     words: &[String],
@@ -168,8 +134,11 @@ pub fn open_named<'a, F: Files, W: Write>(
     files: &mut F,
     out: &mut W,
 ) -> Result<(), Stop<'a>> {
-    if !is_named(words, opening.record_file) {
-        return Err(Stop::File(opening.file, FileFault::Failed));
+    let taken = take(alloc, opening.file, opening.device, opening.script, files)?;
+    let input = files.open(INPUT).map_err(|fault| of_file(INPUT, fault))?;
+    let noted = open_taken(alloc, &taken, opening, input, out)?;
+    if let Some(name) = opening.record_file {
+        save_record(words, name, &noted, files)?;
     }
-    open(alloc, opening, files, out)
+    Ok(())
 }

@@ -13,8 +13,8 @@ use edd_display::{print, print_text};
 use edd_outcomes::{Ended, Tally, compare, ending_of, refusal_in};
 use legacy_command_line::Run;
 use legacy_files::{
-    FileFault, Files, INPUT, Source, Stop, are_words, compile_text, is_word, of_file, read_bytes,
-    read_sources,
+    FileFault, Files, INPUT, Source, Stop, are_words, compile_text, read_bytes, read_sources,
+    save_update,
 };
 use legacy_stops::report;
 use std::alloc::Global;
@@ -22,15 +22,16 @@ use std::io::Write;
 
 // A file of tests, and what is to be done with it.
 #[derive(Clone, Copy)]
-struct Given<'a> {
+struct Given<'a, 'w> {
     name: &'a str,
+    words: &'w [String],
     is_update: bool,
 }
 
 // The bytes of a file that the file of tests names.
 fn read_beside<'a, F: Files>(
     alloc: Global,
-    given: Given<'_>,
+    given: Given<'_, '_>,
     name: &str,
     files: &mut F,
 ) -> Result<Vec<u8>, Stop<'a>> {
@@ -45,7 +46,7 @@ fn read_beside<'a, F: Files>(
 // The source of the device of a test that has one, under the name that the test gives.
 fn device_of<'a, F: Files>(
     alloc: Global,
-    given: Given<'_>,
+    given: Given<'_, '_>,
     case: &Case<'a>,
     files: &mut F,
 ) -> Result<Option<(&'a str, Vec<u8>)>, Stop<'a>> {
@@ -58,7 +59,7 @@ fn device_of<'a, F: Files>(
 // Reads what a test takes.
 fn take_case<'a, F: Files>(
     alloc: Global,
-    given: Given<'_>,
+    given: Given<'_, '_>,
     case: &Case<'a>,
     files: &mut F,
 ) -> Result<Taken<'a>, Stop<'a>> {
@@ -118,7 +119,7 @@ fn run_image<'a>(
 // Runs a test. A source is compiled first.
 fn run_case<'a, F: Files>(
     alloc: Global,
-    given: Given<'_>,
+    given: Given<'_, '_>,
     case: &Case<'a>,
     files: &mut F,
     out: &mut Printed,
@@ -137,7 +138,7 @@ fn run_case<'a, F: Files>(
 // can't be read.
 fn output_of<'a, F: Files>(
     alloc: Global,
-    given: Given<'a>,
+    given: Given<'a, '_>,
     case: &Case<'_>,
     files: &mut F,
 ) -> Result<Printed, Stop<'a>> {
@@ -156,7 +157,7 @@ fn output_of<'a, F: Files>(
 // that is written anew has passed.
 fn test_case<'a, F: Files, W: Write>(
     alloc: Global,
-    given: Given<'a>,
+    given: Given<'a, '_>,
     case: &Case<'_>,
     files: &mut F,
     out: &mut W,
@@ -179,7 +180,7 @@ fn test_case<'a, F: Files, W: Write>(
 // Runs the tests of a file, and writes it anew where what was seen in it differs.
 fn test_all<'a, F: Files, W: Write>(
     alloc: Global,
-    given: Given<'a>,
+    given: Given<'a, '_>,
     bytes: &[u8],
     tests: &Tests<'_>,
     files: &mut F,
@@ -192,9 +193,7 @@ fn test_all<'a, F: Files, W: Write>(
         tally.count(test_case(alloc, given, case, files, out, &mut file)?);
     }
     if given.is_update && file.as_bytes() != bytes {
-        files
-            .renew(given.name, file.as_bytes())
-            .map_err(|fault| of_file(given.name, fault))?;
+        save_update(given.words, given.name, &file, files)?;
         print(alloc, out, format_args!("updated {}", given.name))?;
     }
     Ok(())
@@ -203,7 +202,7 @@ fn test_all<'a, F: Files, W: Write>(
 // Runs the tests of a file, or says why it is not read.
 fn test_file<'a, F: Files, W: Write>(
     alloc: Global,
-    given: Given<'a>,
+    given: Given<'a, '_>,
     bytes: &[u8],
     files: &mut F,
     out: &mut W,
@@ -228,6 +227,7 @@ fn test_file<'a, F: Files, W: Write>(
 // Runs the tests of files that were read.
 fn test_each<'a, F: Files, W: Write>(
     alloc: Global,
+    words: &[String],
     sources: &[Source<'a>],
     is_update: bool,
     files: &mut F,
@@ -237,6 +237,7 @@ fn test_each<'a, F: Files, W: Write>(
     for source in sources {
         let given = Given {
             name: source.name,
+            words,
             is_update,
         };
         test_file(alloc, given, &source.text, files, out, &mut tally)?;
@@ -247,42 +248,32 @@ fn test_each<'a, F: Files, W: Write>(
 // Reads all files, and runs their tests then.
 fn tally_of<'a, F: Files, W: Write>(
     alloc: Global,
+    words: &[String],
     names: &[&'a str],
     is_update: bool,
     files: &mut F,
     out: &mut W,
 ) -> Result<Tally, Stop<'a>> {
     let sources = read_sources(alloc, names, files)?;
-    test_each(alloc, &sources, is_update, files, out)
+    test_each(alloc, words, &sources, is_update, files, out)
 }
 
 // Runs the tests of all files, and says which of them passed. With `is_update` what was seen is
 // written in place of what was expected.
 fn test_files<'a, F: Files, W: Write>(
     alloc: Global,
+    words: &[String],
     names: &[&'a str],
     is_update: bool,
     files: &mut F,
     out: &mut W,
 ) -> Result<(), Stop<'a>> {
-    let tally = tally_of(alloc, names, is_update, files, out)?;
+    let tally = tally_of(alloc, words, names, is_update, files, out)?;
     print_text(out, &tally.line(alloc)?)?;
     if tally.has_passed() {
         Ok(())
     } else {
         Err(Stop::Shown)
-    }
-}
-
-/// The option that has files of tests written anew.
-const UPDATE: &str = "--update";
-
-// Whether the words say that files are to be written anew, if they are.
-fn is_asked(words: &[String], is_update: bool) -> bool {
-    if is_update {
-        is_word(words, UPDATE)
-    } else {
-        true
     }
 }
 
@@ -299,8 +290,5 @@ pub fn test_named<'a, F: Files, W: Write>(
     if !are_words(words, names) {
         return Err(Stop::File(INPUT, FileFault::Failed));
     }
-    if !is_asked(words, is_update) {
-        return Err(Stop::File(INPUT, FileFault::Failed));
-    }
-    test_files(alloc, names, is_update, files, out)
+    test_files(alloc, words, names, is_update, files, out)
 }
