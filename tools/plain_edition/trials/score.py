@@ -6,17 +6,17 @@ import time
 AT_ONCE = 4
 
 
-def say(text):
+def print_line(text):
     print(text, flush=True)
 
 
 class Score:
     """How many checks passed and failed, said step by step."""
 
-    def __init__(self, said=say):
+    def __init__(self, say=print_line):
         self.passed = self.failed = 0
         self.failed_steps = []
-        self.say = said
+        self.say = say
         self.started = time.time()
 
     def check(self, is_right, what):
