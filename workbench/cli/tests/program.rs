@@ -1,5 +1,7 @@
 //! The program as a process: its words, its standard input and output, and its status.
 
+#![allow(clippy::expect_used, reason = "a test fails by a panic")]
+
 use std::ffi::{OsStr, OsString};
 use std::io::Write;
 use std::os::unix::ffi::OsStringExt;
@@ -17,17 +19,17 @@ fn run(words: impl IntoIterator<Item = impl AsRef<OsStr>>, typed: &str) -> Outpu
         .stdout(Stdio::piped())
         .stderr(Stdio::piped())
         .spawn()
-        .unwrap();
-    let mut stdin = child.stdin.take().unwrap();
+        .expect("the program");
+    let mut stdin = child.stdin.take().expect("its standard input");
     // A program that ends early leaves what is typed.
     let _ = stdin.write_all(typed.as_bytes());
     drop(stdin);
-    child.wait_with_output().unwrap()
+    child.wait_with_output().expect("its output")
 }
 
 fn printed(output: &Output) -> (&str, Option<i32>) {
     (
-        std::str::from_utf8(&output.stdout).unwrap(),
+        std::str::from_utf8(&output.stdout).expect("text"),
         output.status.code(),
     )
 }
