@@ -2,8 +2,8 @@
 use std::prelude::v1::*;
 
 use edd_compiler::{Fault, compile};
-use edd_files::{FileFault, INPUT, NamedFault};
 use edd_display::ShowFault;
+use edd_files::{FileFault, INPUT, NamedFault};
 use edd_loader::LoadFault;
 use edd_machine::ValuesFault;
 use edd_port::PlayFault;
