@@ -1,5 +1,6 @@
 """Writes the edition for others: laid out, with its lock, a page that says what it is, and the commit that it was made from."""
 import os
+import shutil
 import subprocess
 
 from . import packages, repository, workspace
@@ -19,6 +20,8 @@ makes a crate of it one of another program, as `examples/rust` shows. What is pr
 | Crate | What it is |
 |---|---|
 """
+# What is copied as it is, since it is no text.
+PICTURE = ".png"
 
 
 def git(*words):
@@ -50,12 +53,17 @@ def page(edition):
 def pages_and_examples():
     """The pages and the examples, of which the one in Rust is over the crates of the release."""
     found = {}
-    for path in git("ls-files", "docs", "examples").splitlines():
+    for path in git("ls-files", "docs", "examples", f":!*{PICTURE}").splitlines():
         with open(os.path.join(repository.TOP, path), encoding="utf-8") as file:
             found[path] = file.read()
     manifest = "examples/rust/Cargo.toml"
     found[manifest] = found[manifest].replace('"edition/', '"../../')
     return found
+
+
+def copy_pictures(out):
+    for path in git("ls-files", f"docs/*{PICTURE}").splitlines():
+        shutil.copy(os.path.join(repository.TOP, path), os.path.join(out, path))
 
 
 def write(out):
@@ -70,6 +78,7 @@ def write(out):
     edition.files["GENERATED_FROM"] = git("rev-parse", "HEAD") + "\n"
     edition.files.update(pages_and_examples())
     edition.write(out)
+    copy_pictures(out)
     lay_out(edition, out)
     lock(out)
 

@@ -2,7 +2,7 @@
 //! `requirements.rs`.
 //!
 //! The sources of the core say which of its calls ask: those with a `requires`. The sources of
-//! `workbench/legacy` have no contracts, so what those calls ask is listed here.
+//! `workbench/legacy` have no contracts, so the calls there that ask are listed here.
 
 #![allow(clippy::expect_used, reason = "a test fails by a panic")]
 
@@ -11,24 +11,27 @@ mod common;
 use common::sources_in;
 use std::collections::BTreeSet;
 
-/// The calls of the core with a `requires` that the library uses.
-const TRIED: [&str; 7] = [
+/// The calls that ask for something and that the library uses.
+const TRIED: [&str; 9] = [
     "attribute_of_device",
     "element_array",
     "element_number",
     "element_variable",
+    "help",
+    "label",
     "open",
     "reopen",
     "reply",
 ];
 
-/// The calls of `legacy_screens` that the library uses and that ask for values of the image.
-const TRIED_OF_LEGACY: [&str; 2] = ["help", "label"];
+/// The calls of `legacy_screens` that ask for values of the image. No other public call of the
+/// legacy packages that the library depends on asks for anything.
+const ASKING_OF_LEGACY: [&str; 3] = ["help", "label", "words"];
 
 /// Names that such calls share with calls that ask for nothing, which the library uses.
 const SHARED: [&str; 6] = ["counts", "find", "new", "perform", "push", "set"];
 
-/// Whoever uses one more call of the core that asks for something names it, and tries it.
+/// Whoever uses one more call that asks for something names it, and tries it.
 #[test]
 fn each_call_that_asks_for_something_is_named() {
     let mut asking = BTreeSet::new();
@@ -40,6 +43,7 @@ fn each_call_that_asks_for_something_is_named() {
         }
     }
     assert!(asking.len() > 50, "the core's contracts are read");
+    asking.extend(ASKING_OF_LEGACY.map(str::to_owned));
     let library = sources_in("workbench/edd/src", "rs").join("\n");
     // What stands before each parenthesis.
     let pieces = library
@@ -50,8 +54,7 @@ fn each_call_that_asks_for_something_is_named() {
     let named = TRIED.iter().chain(&SHARED).map(|name| (*name).to_owned());
     assert_eq!(asking, named.collect());
     let tests = include_str!("requirements.rs");
-    for name in TRIED.iter().chain(&TRIED_OF_LEGACY) {
-        assert!(called.contains(name), "{name} is called");
+    for name in TRIED {
         assert!(tests.contains(name), "{name} is tried");
     }
 }
