@@ -5,10 +5,9 @@ use Rattle.std.specs.Option.{option_map}
 use Rattle.std.specs.List.{All, Contains}
 use Rattle.std.proofs.lemmas.List.{get_or-map, length-map}
 use Rattle.std.proofs.lemmas.List.Elements.{All-push, Contains-get_or}
-use Rattle.edd_compiler.specs.Images.{IsImageOf}
 use Rattle.edd_layout.specs.Same.{HaveSameBytes, SameTokens}
 use Rattle.edd_files.specs.Names.{input_name}
-use Rattle.edd_files.specs.Saves.{Account, Gave, IsImageSaving, IsLayoutSaving, Saving, SavesOne, image_saving, saving_in_place, with_saving}
+use Rattle.edd_files.specs.Saves.{Account, Gave, IsLayoutSaving, Saving, SavesOne, saving_in_place, with_saving}
 
 -- one more such
 pub all_pushed : {X : Type 0} (P : X → Type 0) (xs ys : List X) (x : X) → ys ≡ xs ++ x ∷ []
@@ -39,13 +38,6 @@ pub saves_this_such : (P Q : Saving → Type 0) (before after : Option Account)
 saves_this_such P Q None after more saves = search rules
 saves_this_such P Q (Some a) after more (inl same) = inl same
 saves_this_such P Q (Some a) after more (inr (s, is, such)) = inr (s, is, more s such)
-
--- an image of what the source gave
-pub image_saved : (account : Option Account) (source image text bytes : List ℕ)
-    → Gave account (input_name source) text → IsImageOf text bytes → (s : Saving)
-    → s ≡ image_saving image bytes → IsImageSaving account source image s
-image_saved account source image text bytes gave is s same =
-    subst (IsImageSaving account source image) (sym same) (refl, text, gave, is)
 
 -- a layout of what the file of a name gave
 pub layout_saved : (account : Option Account) (names : List (List ℕ)) (name text bytes : List ℕ)
