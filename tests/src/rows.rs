@@ -7,6 +7,7 @@ mod fault;
 mod images;
 mod memory;
 mod program;
+mod random_texts;
 mod row;
 mod run;
 mod trial;

@@ -2,6 +2,7 @@
 
 use super::damaged::SOURCE;
 use super::program::run_row;
+use super::random_texts::{COUNT, random_text};
 use super::row::Row;
 use crate::folder::TempFolder;
 use crate::parallel::{self, Panicked};
@@ -13,6 +14,9 @@ use std::{fs, io};
 
 /// The commands whose rows are compared.
 const COMMANDS: [&str; 5] = ["compile", "view", "show", "play", "try"];
+
+/// The options of these commands that the proved program has not.
+const OPTIONS_OF_ONE: [&str; 5] = ["--explain", "--device", "--trace", "--quiet", "-q"];
 
 /// The image that the sources of rows are compiled to.
 const IMAGE: &str = "i";
@@ -40,36 +44,55 @@ struct Trace {
     files: Files,
 }
 
-/// Compares the programs on the rows of five commands, and on the image of each source of a row, which is shown: same
-/// status, same output, same files.
+/// Compares the programs on the rows of five commands, and on the image of each source of a row and of random texts,
+/// which is shown: same status, same output, same files.
 pub fn compare_programs(rows: &[Row<'_>], programs: [&Program; 2], score: &mut Score) {
-    let is_compared = |row: &&Row<'_>| {
-        row.words()
-            .next()
-            .is_some_and(|word| COMMANDS.contains(&word))
-    };
-    let compared: Vec<_> = rows.iter().filter(is_compared).collect();
+    let compared: Vec<_> = rows.iter().filter(|row| is_for_both(row)).collect();
     let results = parallel::map(&compared, |row| compare_row(row, programs));
     for (row, result) in compared.iter().zip(results) {
         score.row(row.title(), flatten(result).err());
     }
     let sources: BTreeSet<_> = rows.iter().filter_map(|row| row.file(SOURCE)).collect();
     let sources: Vec<_> = sources.into_iter().collect();
-    let results = parallel::map(&sources, |source| compare_images(source, programs));
+    let images = compare_texts(&sources, programs, score);
+    let random: Vec<_> = (0..COUNT)
+        .map(|number| random_text(&sources, number))
+        .collect();
+    let random: Vec<_> = random.iter().map(Vec::as_slice).collect();
+    let more_images = compare_texts(&random, programs, score);
+    score.note(format!(
+        "{} rows, {} sources, {images} images, {} random texts, {more_images} images of these",
+        compared.len(),
+        sources.len(),
+        random.len()
+    ));
+}
+
+/// Whether both programs have the command of a row and its options.
+fn is_for_both(row: &Row<'_>) -> bool {
+    let is_option_of_one = |word: &str| {
+        let name = word.split_once('=').map_or(word, |(name, _)| name);
+        OPTIONS_OF_ONE.contains(&name)
+    };
+    row.words()
+        .next()
+        .is_some_and(|word| COMMANDS.contains(&word))
+        && !row.words().any(is_option_of_one)
+}
+
+/// Compares the programs on the image of each text, and gives the number of images.
+fn compare_texts(texts: &[&[u8]], programs: [&Program; 2], score: &mut Score) -> usize {
+    let results = parallel::map(texts, |text| compare_images(text, programs));
     let mut images = 0_usize;
-    for (source, result) in sources.iter().zip(results) {
+    for (text, result) in texts.iter().zip(results) {
         let result = flatten(result);
         images = images.saturating_add(usize::from(matches!(result, Ok(true))));
         score.row(
-            format!("the image of\n{}", String::from_utf8_lossy(source)),
+            format!("the image of\n{}", String::from_utf8_lossy(text)),
             result.err(),
         );
     }
-    score.note(format!(
-        "{} rows, {} sources, {images} images",
-        compared.len(),
-        sources.len()
-    ));
+    images
 }
 
 fn flatten<T>(result: Result<Result<T, Difference>, Panicked>) -> Result<T, Difference> {
