@@ -82,10 +82,16 @@ abbrev pub NameRecord : (words : List (List ℕ)) → (name : List ℕ) → Type
 NameRecord words name = Contains words (record_word_of name)
     ⊎ (Contains words record_word × Contains words name)
 
--- the image of a file that is among the words, under a name that is
+-- a word is the first name, and one after it the second
+abbrev pub AreInOrder : (words : List (List ℕ)) → (first second : List ℕ) → Type 0
+AreInOrder [] first second = ⊥
+AreInOrder (word ∷ rest) first second =
+    ((word ≡ first) × Contains rest second) ⊎ AreInOrder rest first second
+
+-- the image of a file that a word names, under the name that a word after it is
 abbrev pub IsNamedImage : (words : List (List ℕ)) → Option Account → Saving → Type 0
-IsNamedImage words account s = (source image : List ℕ) × Contains words source
-    × Contains words image × IsImageSaving account source image s
+IsNamedImage words account s = (source image : List ℕ) × AreInOrder words source image
+    × IsImageSaving account source image s
 
 -- a file of tests that is among the words, where they say `--update`
 abbrev pub IsNamedUpdate : (words : List (List ℕ)) → Saving → Type 0

@@ -6,7 +6,7 @@ ghost use Rattle.edd_files.specs.Saves.{IsImageSaving, IsNamedImage, IsTold, Sav
 
 use crate::files::{FileFault, Files};
 use crate::named::{NamedFault, of_file};
-use crate::naming::is_word;
+use crate::naming::are_in_order;
 use crate::reading::{STANDARD, read};
 use edd_compiler::{Fault, compile};
 use std::alloc::Global;
@@ -69,7 +69,7 @@ fn save_image<'a, F: Files>(
 }
 
 /// Saves the image of a source, if it has one, and says what became of it. Both names are always
-/// among the words.
+/// among the words, the source's first.
 #[tactic(auto, using(crate::proofs::SavesLaws::saves_none, crate::proofs::SavesLaws::saves_this_such))]
 pub fn compile_named<'a, F: Files>(
     alloc: Global,
@@ -83,7 +83,7 @@ pub fn compile_named<'a, F: Files>(
     ensures told { IfOk result (IsTold (F.account files.old) (F.account files.new) source.now
         image.now) }
 {
-    if is_word(words, source) && is_word(words, image) {
+    if are_in_order(words, source, image) {
         return save_image(alloc, source, image, files);
     }
     Err(NamedFault::File(image, FileFault::Failed))

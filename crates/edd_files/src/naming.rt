@@ -4,7 +4,7 @@
 ghost use Rattle.std.specs.Prelude.{◌≡◌, IfSome, IsTrue, map, string_bytes};
 ghost use Rattle.std.specs.List.{All, Contains};
 ghost use Rattle.edd_files.specs.Names.{record_word_of};
-ghost use Rattle.edd_files.specs.Saves.{NameRecord};
+ghost use Rattle.edd_files.specs.Saves.{AreInOrder, NameRecord};
 
 fn is_same(word: &str, name: &str) -> bool
     ensures { IsTrue result → word.now ≡ name.now }
@@ -35,6 +35,20 @@ pub fn are_words(words: &[String], names: &[&str]) -> bool
         }
     }
     true
+}
+
+/// Whether a word is the first name, and one after it the second.
+pub fn are_in_order(words: &[String], first: &str, second: &str) -> bool
+    ensures { IsTrue result → AreInOrder (map string_bytes words.now) first.now second.now }
+{
+    let mut rest = words;
+    while let [word, behind @ ..] = rest {
+        if is_same(word.as_str(), first) {
+            return is_word(behind, second);
+        }
+        rest = behind;
+    }
+    false
 }
 
 /// The option for a record.

@@ -40,13 +40,13 @@ IsTranscript bytes number said steps t =
     ≡ Some (ending_shown t.ending))
 
 -- what the method of the name does under the script
-abbrev pub IsRun : (bytes script method : List ℕ) → (steps : ℕ) → Transcript → Type 0
+unfoldable pub IsRun : (bytes script method : List ℕ) → (steps : ℕ) → Transcript → Type 0
 IsRun bytes script method steps t = (said : Said) × (number : MethNo)
     × (script_of (contents_in bytes) script ≡ Ok said) × IsMethodNamed bytes method number
     × IsTranscript bytes number said steps t
 
 -- the lines of what the method of the name does under the script
-abbrev pub IsPlayed : (bytes script method language : List ℕ) → (steps : ℕ)
+unfoldable pub IsPlayed : (bytes script method language : List ℕ) → (steps : ℕ)
     → (before after : Option (List ℕ)) → Type 0
 IsPlayed bytes script method language steps before after = (t : Transcript)
     × IsRun bytes script method steps t

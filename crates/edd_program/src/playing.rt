@@ -32,30 +32,34 @@ fn played<'a>(
     alloc: Global,
     image: &Image<'_>,
     script: &[u8],
-    run: Run<'a>,
+    method: &'a str,
+    steps: u64,
 ) -> Result<Transcript, Stop<'a>>
-    ensures { IfOk result (IsRun image.now script.now run.entry.method.now run.entry.steps) }
+    ensures { IfOk result (IsRun image.now script.now method.now steps) }
 {
     let said = edd_script::parse(alloc, image, script)?;
-    let method = method_named(image, run.method)?;
+    let number = method_named(image, method)?;
     let values = Values::new(alloc, image, &said.values)?;
-    Ok(play(alloc, image, method, values, &said.answers, run.steps)?)
+    Ok(play(alloc, image, number, values, &said.answers, steps)?)
 }
 
 // Runs a method of what may be an image under a script, and prints what it did.
+#[tactic(auto, using(crate::proofs::RunLaws::played_under))]
 fn play_bytes<'a, W: Write>(
     alloc: Global,
     bytes: &[u8],
     script: &[u8],
-    run: Run<'a>,
+    method: &'a str,
+    language: &str,
+    steps: u64,
     out: &mut W,
 ) -> Result<(), Stop<'a>>
-    ensures played { OnOk result (IsPlayed bytes.now script.now run.entry.method.now
-        run.entry.language.now run.entry.steps (W.contents out.old) (W.contents out.new)) }
+    ensures played { OnOk result (IsPlayed bytes.now script.now method.now language.now steps
+        (W.contents out.old) (W.contents out.new)) }
 {
     let image = load(alloc, bytes)?;
-    let transcript = played(alloc, &image, script, run)?;
-    show_play(alloc, &image, &transcript, run.language, out)?;
+    let transcript = played(alloc, &image, script, method, steps)?;
+    show_play(alloc, &image, &transcript, language, out)?;
     Ok(())
 }
 
@@ -73,8 +77,15 @@ pub fn play_image<'a, F: Files, W: Write>(
         (W.contents out.old) (W.contents out.new))) }
     ensures kept { F.account files.new ≡ F.account files.old }
 {
-    let taken = take(alloc, image, Some(run.script), files)?;
-    play_bytes(alloc, &taken.description, &taken.script, run, out)
+    let Run {
+        method,
+        script,
+        language,
+        steps,
+    } = run;
+    let taken = take(alloc, image, Some(script), files)?;
+    let bytes = taken.description.as_slice();
+    play_bytes(alloc, bytes, &taken.script, method, language, steps, out)
 }
 
 /// Compiles a source, and runs a method of it.
@@ -91,7 +102,13 @@ pub fn try_source<'a, F: Files, W: Write>(
         (W.contents out.old) (W.contents out.new))) }
     ensures kept { F.account files.new ≡ F.account files.old }
 {
-    let taken = take(alloc, source, Some(run.script), files)?;
+    let Run {
+        method,
+        script,
+        language,
+        steps,
+    } = run;
+    let taken = take(alloc, source, Some(script), files)?;
     let bytes = image_of_source(alloc, &taken.description)?;
-    play_bytes(alloc, &bytes, &taken.script, run, out)
+    play_bytes(alloc, &bytes, &taken.script, method, language, steps, out)
 }
