@@ -14,9 +14,14 @@ def packages():
     return [it for it in dict.fromkeys(places) if os.path.isfile(os.path.join(WORKBENCH, it, "Cargo.toml"))]
 
 
+def edition():
+    """The core that the packages of the workbench name, with what it stands on."""
+    named = ordinary.needs(map(ordinary.manifest, packages()))
+    return workspace.Edition(sorted(named.crates), sorted(named.plain))
+
+
 def write():
     """Writes the core into its folder, and returns it."""
-    named = ordinary.needs(map(ordinary.manifest, packages()))
-    edition = workspace.Edition(sorted(named.crates), sorted(named.plain))
-    edition.write(FOLDER)
-    return edition
+    made = edition()
+    made.write(FOLDER)
+    return made

@@ -1,27 +1,28 @@
-"""Writes the edition for others: laid out, with its lock, a page that says what it is, and the commit that it was made from."""
+"""Writes a release: a git repository of ordinary Rust from which cargo takes the library and the program. It has the workbench with
+the erased core laid out below it, the lock, a page that says what it is, and the commit that it was made from."""
 import os
 import shutil
 import subprocess
 
-from . import packages, repository, workspace
+from . import core, packages, repository, workspace
 
-PAGE = """# edd, the plain edition
+PAGE = """# edd, a release
 
-The sources of `edd`, a compiler, image loader and method interpreter for EDDL device descriptions: the core with the contracts left
-out under which it is proved, and the ordinary Rust over it, in `cli` and `legacy`. `cargo build --release -p edd-cli` builds the
-program, and
+A compiler, image loader and method interpreter for EDDL device descriptions, as ordinary Rust: `core` is the core with the contracts
+left out under which it is proved, and the other packages stand over it. From a repository with these files
 
-    cargo add --path FOLDER/edd_loader
+    cargo add --git REPOSITORY edd
+    cargo install --git REPOSITORY edd-cli
 
-makes a crate of it one of another program, as `examples/rust` shows. What is proved are the core's sources, not these files:
+take the library, which `docs/RUST.md` describes, and the program `edd`. What is proved are the core's sources, not these files:
 `docs/PLAIN.md` says what is promised and what is trusted beside the proofs. `GENERATED_FROM` names the commit of the sources, and
 `docs/` is theirs.
 
-| Crate | What it is |
+| Package | What it is |
 |---|---|
 """
-# What is copied as it is, since it is no text.
-PICTURE = ".png"
+# Who a release is by, as git asks.
+AUTHOR = ["-c", "user.name=tools/plain", "-c", "user.email=tools@localhost"]
 
 
 def git(*words):
@@ -40,51 +41,75 @@ def summary(text):
     return said.split(". ")[0].rstrip(".") + "." if said else ""
 
 
-def root(edition, place):
-    """The root of a crate's sources."""
-    return next(edition.files[path] for path in (f"{place}/src/lib.rs", f"{place}/src/main.rs") if path in edition.files)
+def committed(*places):
+    """The files of the commit at these places of the checkout, by their paths."""
+    return git("ls-files", *places).splitlines()
 
 
-def page(edition):
-    places = [it.name for it in edition.crates] + edition.packages
-    return PAGE + "".join(f"| `{place}` | {summary(root(edition, place))} |\n" for place in places)
+def root(out, place):
+    """The text of the root of a package's sources."""
+    for name in ("lib.rs", "main.rs"):
+        path = os.path.join(out, place, "src", name)
+        if os.path.isfile(path):
+            with open(path, encoding="utf-8") as file:
+                return file.read()
+    return ""
 
 
-def pages_and_examples():
-    """The pages and the examples, of which the one in Rust is over the crates of the release."""
-    found = {}
-    for path in git("ls-files", "docs", "examples", f":!*{PICTURE}").splitlines():
-        with open(os.path.join(repository.TOP, path), encoding="utf-8") as file:
-            found[path] = file.read()
-    manifest = "examples/rust/Cargo.toml"
-    found[manifest] = found[manifest].replace('"edition/', '"../../')
-    return found
+def page(out, edition):
+    places = [*core.packages(), *(f"core/{it.name}" for it in edition.crates)]
+    return PAGE + "".join(f"| `{place}` | {summary(root(out, place))} |\n" for place in places)
 
 
-def copy_pictures(out):
-    for path in git("ls-files", f"docs/*{PICTURE}").splitlines():
-        shutil.copy(os.path.join(repository.TOP, path), os.path.join(out, path))
+def copy(paths, out, skipped=""):
+    """Copies files of the checkout, without what their paths begin with."""
+    for path in paths:
+        place = os.path.join(out, path.removeprefix(skipped))
+        os.makedirs(os.path.dirname(place), exist_ok=True)
+        shutil.copy(os.path.join(repository.TOP, path), place)
+
+
+def put(out, path, text):
+    with open(os.path.join(out, path), "w", encoding="utf-8") as file:
+        file.write(text)
 
 
 def write(out):
     """Writes a new folder. Sources that are not committed can't be named, so they are refused."""
-    if os.path.exists(out):
-        raise workspace.Stopped(f"{out} is there already")
     changed = git("status", "--porcelain")
     if changed:
         raise workspace.Stopped(f"there are changes that no commit has:\n{changed}")
-    edition = workspace.Edition()
-    edition.files["README.md"] = page(edition)
-    edition.files["GENERATED_FROM"] = git("rev-parse", "HEAD") + "\n"
-    edition.files.update(pages_and_examples())
-    edition.write(out)
-    copy_pictures(out)
-    lay_out(edition, out)
+    write_files(out)
+    commit(out)
+
+
+def write_files(out):
+    """Writes all files into a new folder."""
+    if os.path.exists(out):
+        raise workspace.Stopped(f"{out} is there already")
+    edition = core.edition()
+    edition.write(os.path.join(out, "core"))
+    lay_out(edition, os.path.join(out, "core"))
+    copy(committed("workbench"), out, "workbench/")
+    copy(committed("docs", "examples"), out)
+    example = "examples/rust/Cargo.toml"
+    with open(os.path.join(repository.TOP, example), encoding="utf-8") as file:
+        put(out, example, file.read().replace('"edition/', '"../../core/'))
+    put(out, "README.md", page(out, edition))
+    put(out, "GENERATED_FROM", git("rev-parse", "HEAD") + "\n")
     lock(out)
 
 
+def commit(out):
+    """Makes the folder a repository with one commit."""
+    for words in (["init", "--quiet"], ["add", "--all"], [*AUTHOR, "commit", "--quiet", "--message", "A release of edd"]):
+        ran = subprocess.run(["git", "-C", out, *words], capture_output=True, text=True, check=False)
+        if ran.returncode:
+            raise workspace.Stopped(f"git {words[-1]}: {ran.stderr[-2000:]}")
+
+
 def lay_out(edition, out):
-    """Lays all sources out as rustfmt does."""
+    """Lays the sources of the core out as rustfmt does."""
     roots = [path for path in edition.files if path.endswith(("src/lib.rs", "src/main.rs"))]
     ran = subprocess.run(["rustfmt", "--edition", "2024", *roots], cwd=out, capture_output=True, text=True, check=False)
     if ran.returncode:
@@ -93,7 +118,7 @@ def lay_out(edition, out):
 
 def lock(out):
     """Leaves a lock that names versions; sums of what the registry did not give are none."""
-    packages.settle(out, False)
+    packages.settle(out, False, packages.WORKBENCH)
     place = os.path.join(out, "Cargo.lock")
     with open(place, encoding="utf-8") as file:
         lines = [line for line in file if not (line.startswith("checksum = ") and " " in line.split('"')[1])]
