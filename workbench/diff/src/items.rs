@@ -1,0 +1,302 @@
+//! The items of two descriptions, found again by their kinds and names.
+
+use crate::attributes::Comparison;
+use crate::content::Content;
+use crate::description::{Description, Pair};
+use crate::difference::{Change, Difference, Differences, Item, Note, Value, What};
+use crate::methods::{changes, is_same_code};
+use edd_dump::AttributeRow;
+use edd_loader::Image;
+use edd_syntax::numbers::{Attr, AttrRef, ItemNo, KINDS, Kind, VarNo};
+use edd_syntax::symbols::Keyword;
+use std::collections::{BTreeMap, HashMap};
+
+impl<'i> Differences<'i> {
+    /// What differs between an old and a new image.
+    pub fn between(old: &Image<'i>, new: &Image<'i>) -> Differences<'i> {
+        let pair = Description::of(old).zip(Description::of(new));
+        let all = pair.map_or(Vec::new(), |(old, new)| {
+            let pair = Pair { old, new };
+            let mut comparing = Comparing {
+                pair: &pair,
+                found: Vec::new(),
+            };
+            comparing.compare_identification();
+            for kind in KINDS {
+                comparing.compare_kind(kind);
+            }
+            comparing.found
+        });
+        Differences::new(all)
+    }
+}
+
+/// The items of one kind in a description.
+struct Items<'i> {
+    kind: Kind,
+    /// By number. Of two items with one name it has the first.
+    in_order: Vec<(&'i str, u16)>,
+    numbers: HashMap<&'i str, u16>,
+    /// The attribute rows by the numbers of their items.
+    rows: HashMap<u16, Vec<AttributeRow>>,
+}
+
+impl<'i> Items<'i> {
+    fn of(description: &Description<'_, 'i>, kind: Kind) -> Items<'i> {
+        let mut items = Items {
+            kind,
+            in_order: Vec::new(),
+            numbers: HashMap::new(),
+            rows: HashMap::new(),
+        };
+        for item in description.sections.items_of(kind) {
+            let name = description.image.name(item).unwrap_or_default();
+            if !items.numbers.contains_key(name) {
+                items.numbers.insert(name, item.index());
+                items.in_order.push((name, item.index()));
+            }
+        }
+        for row in description
+            .sections
+            .rows()
+            .filter(|row| row.kind == kind.number())
+        {
+            items.rows.entry(row.item).or_default().push(row);
+        }
+        items
+    }
+
+    fn number(&self, name: &str) -> Option<u16> {
+        self.numbers.get(name).copied()
+    }
+
+    fn rows_of(&self, number: u16) -> &[AttributeRow] {
+        self.rows.get(&number).map_or(&[], Vec::as_slice)
+    }
+}
+
+/// Items of a kind that moved together, each by as much: their numbers from the first to the last.
+struct Run<'i> {
+    item: Item<'i>,
+    old: (u16, u16),
+    new: (u16, u16),
+}
+
+impl<'i> Run<'i> {
+    fn new(item: Item<'i>, old: u16, new: u16) -> Run<'i> {
+        Run {
+            item,
+            old: (old, old),
+            new: (new, new),
+        }
+    }
+
+    /// Adds an item, if it is the next one in both descriptions.
+    fn extend(&mut self, name: &'i str, old: u16, new: u16) -> bool {
+        let is_next = |before: u16, number| before.checked_add(1) == Some(number);
+        let fits = is_next(self.old.1, old) && is_next(self.new.1, new);
+        if fits {
+            self.item.last_name = Some(name);
+            (self.old.1, self.new.1) = (old, new);
+        }
+        fits
+    }
+}
+
+/// Two descriptions and the differences so far.
+struct Comparing<'c, 'i> {
+    pair: &'c Pair<'c, 'i>,
+    found: Vec<Difference<'i>>,
+}
+
+impl<'i> Comparing<'_, 'i> {
+    fn add(&mut self, item: Option<Item<'i>>, what: What<'i>, change: Change<'i>) {
+        self.found.push(Difference {
+            item,
+            what,
+            change,
+            condition: String::new(),
+            note: None,
+        });
+    }
+
+    fn compare_identification(&mut self) {
+        let (old, new) = (self.pair.old.image.counts(), self.pair.new.image.counts());
+        let numbers = [
+            (Keyword::Manufacturer, old.manufacturer, new.manufacturer),
+            (Keyword::DeviceType, old.device_type, new.device_type),
+            (
+                Keyword::DeviceRevision,
+                old.device_revision,
+                new.device_revision,
+            ),
+            (Keyword::DdRevision, old.dd_revision, new.dd_revision),
+        ];
+        for (word, old, new) in numbers {
+            if old != new {
+                let (old, new) = (Value::Number(old), Value::Number(new));
+                let change = Change::Replaced { old, new };
+                self.add(None, What::Identification(word), change);
+            }
+        }
+    }
+
+    fn compare_kind(&mut self, kind: Kind) {
+        let old = Items::of(&self.pair.old, kind);
+        let new = Items::of(&self.pair.new, kind);
+        self.add_missing(&old, &new, false);
+        self.add_missing(&new, &old, true);
+        self.compare_numbers(&old, &new);
+        for (name, after) in &new.in_order {
+            if let Some(before) = old.number(name) {
+                let item = Item::new(kind, name);
+                self.compare_types(item, before, *after);
+                self.compare_attributes(item, (&old, before), (&new, *after));
+            }
+        }
+    }
+
+    /// Adds the items that the others lack.
+    fn add_missing(&mut self, items: &Items<'i>, others: &Items<'i>, is_new: bool) {
+        for (name, number) in &items.in_order {
+            if others.number(name).is_none() {
+                let item = Item::new(items.kind, name);
+                let number = Value::Numbers(*number, *number);
+                self.add(Some(item), What::Existence, Change::of_one(number, is_new));
+            }
+        }
+    }
+
+    /// Adds the items whose number is another one, those beside each other together.
+    fn compare_numbers(&mut self, old: &Items<'i>, new: &Items<'i>) {
+        let mut runs: Vec<Run<'i>> = Vec::new();
+        for (name, before) in &old.in_order {
+            let Some(after) = new.number(name).filter(|after| after != before) else {
+                continue;
+            };
+            let last = runs.last_mut();
+            if !last.is_some_and(|run| run.extend(name, *before, after)) {
+                runs.push(Run::new(Item::new(old.kind, name), *before, after));
+            }
+        }
+        for Run { item, old, new } in runs {
+            let (old, new) = (Value::Numbers(old.0, old.1), Value::Numbers(new.0, new.1));
+            self.add(Some(item), What::Number, Change::Replaced { old, new });
+        }
+    }
+
+    fn compare_types(&mut self, item: Item<'i>, old: u16, new: u16) {
+        if item.kind != Kind::Variable {
+            return;
+        }
+        let old = self.pair.old.image.variable(VarNo(old));
+        let new = self.pair.new.image.variable(VarNo(new));
+        if let (Some(old), Some(new)) = (old, new)
+            && old != new
+        {
+            let (old, new) = (Value::Type(old), Value::Type(new));
+            self.add(Some(item), What::Type, Change::Replaced { old, new });
+        }
+    }
+
+    /// Compares the attributes of an item, in the order of their numbers.
+    fn compare_attributes(
+        &mut self,
+        item: Item<'i>,
+        (old, before): (&Items<'_>, u16),
+        (new, after): (&Items<'_>, u16),
+    ) {
+        let mut rows: BTreeMap<_, (Option<&AttributeRow>, Option<&AttributeRow>)> = BTreeMap::new();
+        for row in old.rows_of(before) {
+            rows.entry(rank(row)).or_default().0 = Some(row);
+        }
+        for row in new.rows_of(after) {
+            rows.entry(rank(row)).or_default().1 = Some(row);
+        }
+        let (before, after) = (item.kind.item(before), item.kind.item(after));
+        for ((number, position), rows) in rows {
+            let Some(attribute) = Attr::from_number(number) else {
+                continue;
+            };
+            let what = if attribute.is_of_transaction() {
+                What::Transaction(attribute, position)
+            } else {
+                What::Attribute(attribute)
+            };
+            let mut comparison = Comparison {
+                pair: self.pair,
+                item,
+                attribute,
+                what,
+                found: &mut self.found,
+            };
+            match rows {
+                (Some(old), Some(new)) => comparison.compare_rows(old, new),
+                (Some(old), None) => comparison.add_row(&self.pair.old, old, after, false),
+                (None, Some(new)) => comparison.add_row(&self.pair.new, new, before, true),
+                (None, None) => {}
+            }
+        }
+    }
+}
+
+/// By what the rows of an item are ordered. The number of a method's slots belongs to its code.
+fn rank(row: &AttributeRow) -> (u8, u16) {
+    let is_body = row.attribute == Attr::Definition.number();
+    (row.attribute, if is_body { 0 } else { row.sub })
+}
+
+impl<'i> Comparison<'_, 'i> {
+    /// Compares an attribute that both descriptions have.
+    fn compare_rows(&mut self, old: &AttributeRow, new: &AttributeRow) {
+        let old_code = self.pair.old.sections.unit(old).unwrap_or_default();
+        let new_code = self.pair.new.sections.unit(new).unwrap_or_default();
+        if self.attribute == Attr::Definition {
+            return match changes(self.pair, old_code, new_code) {
+                Some(changes) if old.sub == new.sub => self.add_changes(&changes),
+                _ => self.add_note(Note::Code),
+            };
+        }
+        let old = Content::read(&self.pair.old.sections, self.attribute, old_code);
+        let new = Content::read(&self.pair.new.sections, self.attribute, new_code);
+        match (old, new) {
+            (Some(old), Some(new)) => self.compare(&old, &new),
+            _ if is_same_code(self.pair, old_code, new_code) => {}
+            _ => self.add_note(Note::MayDiffer),
+        }
+    }
+
+    /// Compares an attribute that only one description has with what is read of the other's item
+    /// without it.
+    fn add_row(
+        &mut self,
+        description: &Description<'_, 'i>,
+        row: &AttributeRow,
+        other_item: ItemNo,
+        is_new: bool,
+    ) {
+        if self.attribute == Attr::Definition {
+            return self.add_note(Note::Code);
+        }
+        let code = description.sections.unit(row).unwrap_or_default();
+        let Some(content) = Content::read(&description.sections, self.attribute, code) else {
+            return self.add_note(Note::MayDiffer);
+        };
+        let other = if is_new {
+            &self.pair.old
+        } else {
+            &self.pair.new
+        };
+        let unwritten = other.unwritten(AttrRef {
+            item: other_item,
+            attr: self.attribute,
+            sub: row.sub,
+        });
+        let unwritten = unwritten.map(|number| Content::of_number(self.attribute, number));
+        match unwritten {
+            Some(unwritten) if is_new => self.compare(&unwritten, &content),
+            Some(unwritten) => self.compare(&content, &unwritten),
+            None => self.add_all(&content, is_new),
+        }
+    }
+}

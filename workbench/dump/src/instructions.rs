@@ -1,0 +1,205 @@
+//! Instructions with the names and texts of what their numbers stand for.
+
+use crate::sections::Sections;
+use crate::strings::excerpt;
+use crate::words::{data_qualifiers, menu_qualifiers};
+use edd_display::class_word;
+use edd_instructions::{Ask, Instruction, RequestArgument, decode};
+use edd_syntax::numbers::{ItemNo, StrNo, VarNo};
+use std::fmt;
+
+/// An image, and what its strings say beside their numbers.
+pub(crate) struct Page<'p, 'b> {
+    sections: &'p Sections<'b>,
+    excerpts: Vec<Option<String>>,
+}
+
+impl<'p, 'b> Page<'p, 'b> {
+    pub(crate) fn new(sections: &'p Sections<'b>) -> Page<'p, 'b> {
+        let excerpts = sections.strings().map(excerpt).collect();
+        Page { sections, excerpts }
+    }
+
+    /// Prints the instructions of a unit with their places, up to a place where there is none.
+    pub(crate) fn write_unit(&self, f: &mut fmt::Formatter<'_>, code: &[u8]) -> fmt::Result {
+        let mut place = 0;
+        while let Some((instruction, next)) = decode(code, place) {
+            writeln!(f, "  {place} {}", self.shown(instruction))?;
+            place = next;
+        }
+        Ok(())
+    }
+
+    /// An instruction as it is printed.
+    pub(crate) fn shown(&self, instruction: Instruction) -> impl fmt::Display {
+        Shown {
+            page: self,
+            instruction,
+        }
+    }
+
+    /// The number of a variable or another item, and its name.
+    fn numbered(&self, item: ItemNo) -> String {
+        numbered(self.sections, item)
+    }
+
+    fn variable(&self, variable: VarNo) -> String {
+        self.numbered(ItemNo::Variable(variable))
+    }
+
+    /// The number of a string and what it says.
+    fn string(&self, string: StrNo) -> String {
+        match self.excerpts.get(usize::from(string.0)) {
+            Some(Some(excerpt)) => format!("{} {excerpt}", string.0),
+            _ => string.0.to_string(),
+        }
+    }
+
+    /// A text that may be missing, behind its word and a blank.
+    fn optional(&self, word: &str, text: Option<StrNo>) -> String {
+        text.map_or(String::new(), |text| {
+            format!(" {word} {}", self.string(text))
+        })
+    }
+}
+
+/// The number of an item, and its name where there is such an item.
+pub(crate) fn numbered(sections: &Sections<'_>, item: ItemNo) -> String {
+    match sections.name(item) {
+        Some(name) => format!("{} {name}", item.index()),
+        None => item.index().to_string(),
+    }
+}
+
+/// The kind of an item, its number and its name.
+pub(crate) fn item_text(sections: &Sections<'_>, item: ItemNo) -> String {
+    format!("{} {}", item.kind().word(), numbered(sections, item))
+}
+
+struct Shown<'s, 'p, 'b> {
+    page: &'s Page<'p, 'b>,
+    instruction: Instruction,
+}
+
+impl fmt::Display for Shown<'_, '_, '_> {
+    fn fmt(&self, f: &mut fmt::Formatter<'_>) -> fmt::Result {
+        let page = self.page;
+        match self.instruction {
+            // Without operands the word is the name of the variant.
+            Instruction::Operate(operator) => write!(f, "{operator:?}"),
+            Instruction::Compare(comparison) => write!(f, "{comparison:?}"),
+            Instruction::End
+            | Instruction::Pop
+            | Instruction::Duplicate
+            | Instruction::Negate
+            | Instruction::Not
+            | Instruction::Complement
+            | Instruction::Number
+            | Instruction::Abort => write!(f, "{:?}", self.instruction),
+            Instruction::Push(number) => write!(f, "Push {number}"),
+            Instruction::Variable(variable) => write!(f, "Variable {}", page.variable(variable)),
+            Instruction::Store(variable) => write!(f, "Store {}", page.variable(variable)),
+            Instruction::GetLocal(slot) => write!(f, "GetLocal {slot}"),
+            Instruction::SetLocal(slot) => write!(f, "SetLocal {slot}"),
+            Instruction::ReadElement(array) => {
+                write!(f, "ReadElement {}", page.numbered(ItemNo::Array(array)))
+            }
+            Instruction::Jump(target) => write!(f, "Jump to {target}"),
+            Instruction::JumpIfZero(target) => write!(f, "JumpIfZero to {target}"),
+            Instruction::JumpIfNotZero(target) => write!(f, "JumpIfNotZero to {target}"),
+            Instruction::Case { label, target } => write!(f, "Case {label} to {target}"),
+            Instruction::Ask(ask) => page.write_ask(f, ask),
+            Instruction::AddAbortMethod(method) => {
+                write!(
+                    f,
+                    "AddAbortMethod {}",
+                    page.numbered(ItemNo::Method(method))
+                )
+            }
+            Instruction::Text(_)
+            | Instruction::Item { .. }
+            | Instruction::DataConst(_)
+            | Instruction::DataVar { .. }
+            | Instruction::Enumerator { .. }
+            | Instruction::Response { .. }
+            | Instruction::Member { .. }
+            | Instruction::Element { .. } => page.write_record(f, self.instruction),
+        }
+    }
+}
+
+impl Page<'_, '_> {
+    fn write_ask(&self, f: &mut fmt::Formatter<'_>, ask: Ask) -> fmt::Result {
+        write!(f, "Ask {}", ask.kind.name())?;
+        for argument in ask.request(0, 0).arguments() {
+            match argument {
+                RequestArgument::Text(text) => write!(f, " {}", self.string(text))?,
+                RequestArgument::Variable(variable) => write!(f, " {}", self.variable(variable))?,
+                RequestArgument::Number(_) => {}
+            }
+        }
+        Ok(())
+    }
+
+    /// An instruction that records something.
+    fn write_record(&self, f: &mut fmt::Formatter<'_>, instruction: Instruction) -> fmt::Result {
+        match instruction {
+            Instruction::Text(text) => write!(f, "Text {}", self.string(text)),
+            Instruction::Item { item, quals } => {
+                let item = item_text(self.sections, item);
+                write!(f, "Item {item}{}", menu_qualifiers(quals))
+            }
+            Instruction::DataConst(number) => write!(f, "DataConst {number}"),
+            Instruction::DataVar { var, mask, quals } => {
+                write!(f, "DataVar {}", self.variable(var))?;
+                if mask != 0 {
+                    write!(f, "<{mask}>")?;
+                }
+                f.write_str(&data_qualifiers(quals))
+            }
+            Instruction::Enumerator { value, text, help } => {
+                write!(f, "Enumerator {value} {}", self.string(text))?;
+                f.write_str(&self.optional("help", help))
+            }
+            Instruction::Response {
+                number,
+                class,
+                text,
+            } => {
+                let (class, text) = (class_word(class), self.string(text));
+                write!(f, "Response {number} {class} {text}")
+            }
+            Instruction::Member {
+                name,
+                item,
+                label,
+                help,
+            } => {
+                let item = item_text(self.sections, item);
+                write!(f, "Member {} {item}", self.string(name))?;
+                self.write_texts(f, label, help)
+            }
+            Instruction::Element {
+                number,
+                var,
+                label,
+                help,
+            } => {
+                let variable = item_text(self.sections, ItemNo::Variable(var));
+                write!(f, "Element {number} {variable}")?;
+                self.write_texts(f, label, help)
+            }
+            _ => Ok(()),
+        }
+    }
+
+    fn write_texts(
+        &self,
+        f: &mut fmt::Formatter<'_>,
+        label: Option<StrNo>,
+        help: Option<StrNo>,
+    ) -> fmt::Result {
+        f.write_str(&self.optional("label", label))?;
+        f.write_str(&self.optional("help", help))
+    }
+}

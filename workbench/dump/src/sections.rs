@@ -1,0 +1,274 @@
+//! The sections of bytes whose lengths add up, and the rows in them.
+
+use edd_image::{
+    ATTRIBUTE_ROW, Counts, ELEMENT_ROW, HEADER_LENGTH, NAME_ROW, STRING_ROW, VARIABLE_ROW, VarKind,
+    Version, attribute_item, attribute_kind, attribute_length, attribute_number,
+    attribute_rows_start, attribute_start, attribute_sub, code_start, counts, element_array,
+    element_number, element_rows_start, element_variable, name_bytes_start, name_length,
+    name_rows_start, name_start, sections_end, string_bytes_start, string_length,
+    string_rows_start, string_start, type_of, variable_padding, variable_rows_start, variable_size,
+    variable_type, version,
+};
+use edd_syntax::numbers::{ArrNo, Attr, Element, ItemNo, KINDS, Kind, StrNo, VarNo};
+use std::fmt;
+
+/// The longest name that is read. Rows of damaged images could name the same bytes again and again.
+const LONGEST_NAME: u32 = 255;
+
+/// The sections of an image, read as far as they make sense: rows may break the rules of images.
+///
+/// ```
+/// use edd_dump::{Sections, variants};
+/// use edd_syntax::numbers::{ItemNo, VarNo};
+///
+/// let source = br#"MANUFACTURER 1, DEVICE_TYPE 2, DEVICE_REVISION 3, DD_REVISION 4
+/// VARIABLE p { LABEL "Pressure"; TYPE INTEGER (2); }"#;
+/// let image = edd_compiler::compile(core_std::alloc::Global, source).unwrap();
+/// let sections = Sections::read(&image).unwrap();
+/// assert_eq!(sections.name(ItemNo::Variable(VarNo(0))), Some("p"));
+/// assert_eq!(variants(sections.strings().next().unwrap()).next().unwrap().text, "Pressure");
+/// ```
+#[derive(Clone, Copy, Debug)]
+pub struct Sections<'b> {
+    counts: Counts,
+    pub(crate) has_elements: bool,
+    pub(crate) variable_rows: Section<'b>,
+    pub(crate) name_rows: Section<'b>,
+    pub(crate) attribute_rows: Section<'b>,
+    pub(crate) element_rows: Section<'b>,
+    pub(crate) code: Section<'b>,
+    pub(crate) string_rows: Section<'b>,
+    pub(crate) names: Section<'b>,
+    pub(crate) strings: Section<'b>,
+}
+
+/// A section: its bytes and the place of the first one.
+#[derive(Clone, Copy, Debug)]
+pub(crate) struct Section<'b> {
+    pub(crate) start: usize,
+    pub(crate) bytes: &'b [u8],
+}
+
+/// A part of a section, which may lie outside of it.
+#[derive(Clone, Copy, Debug, PartialEq, Eq)]
+pub struct Span {
+    /// Its place in the section.
+    pub start: u32,
+    /// How many bytes it has.
+    pub length: u32,
+}
+
+/// The fields of a variable row.
+pub(crate) struct VariableRow {
+    pub(crate) kind: u8,
+    pub(crate) size: u8,
+    pub(crate) zero: u16,
+}
+
+/// The fields of an attribute row.
+#[derive(Clone, Copy, Debug, PartialEq, Eq)]
+pub struct AttributeRow {
+    /// The number of the item's kind.
+    pub kind: u8,
+    /// The number of the attribute.
+    pub attribute: u8,
+    /// The item's number among those of its kind.
+    pub item: u16,
+    /// The position of a transaction, the slots of a method, or 0.
+    pub sub: u16,
+    /// Its unit in the code.
+    pub unit: Span,
+}
+
+impl<'b> Sections<'b> {
+    /// The sections, where there is a whole header of a known version, and they lie inside the bytes.
+    pub fn read(bytes: &'b [u8]) -> Option<Sections<'b>> {
+        if bytes.len() < HEADER_LENGTH {
+            return None;
+        }
+        let version = version(bytes)?;
+        let section = |start: u64, end: u64| {
+            let (start, end) = (usize::try_from(start).ok()?, usize::try_from(end).ok()?);
+            let bytes = bytes.get(start..end)?;
+            Some(Section { start, bytes })
+        };
+        let variables = u64::try_from(variable_rows_start(bytes)).ok()?;
+        let names = u64::try_from(name_rows_start(bytes)).ok()?;
+        let attributes = u64::try_from(attribute_rows_start(bytes)).ok()?;
+        let (elements, code) = (element_rows_start(bytes), code_start(bytes));
+        let (strings, name_bytes) = (string_rows_start(bytes), name_bytes_start(bytes));
+        let string_bytes = string_bytes_start(bytes);
+        Some(Sections {
+            counts: counts(bytes),
+            has_elements: version == Version::Two,
+            variable_rows: section(variables, names)?,
+            name_rows: section(names, attributes)?,
+            attribute_rows: section(attributes, elements)?,
+            element_rows: section(elements, code)?,
+            code: section(code, strings)?,
+            string_rows: section(strings, name_bytes)?,
+            names: section(name_bytes, string_bytes)?,
+            strings: section(string_bytes, sections_end(bytes))?,
+        })
+    }
+
+    /// The identification and the counts of the header.
+    pub fn counts(&self) -> Counts {
+        self.counts
+    }
+
+    /// The items, by kind and number.
+    pub fn items(&self) -> impl Iterator<Item = ItemNo> + use<> {
+        let counts = self.counts;
+        KINDS.into_iter().flat_map(move |kind| {
+            let numbers = 0..count_of(counts, kind);
+            numbers.map(move |number| kind.item(number))
+        })
+    }
+
+    /// The items of one kind, by their numbers.
+    pub fn items_of(&self, kind: Kind) -> impl Iterator<Item = ItemNo> + use<> {
+        (0..count_of(self.counts, kind)).map(move |number| kind.item(number))
+    }
+
+    /// The name of an item, where there is such an item and its name is text.
+    pub fn name(&self, item: ItemNo) -> Option<&'b str> {
+        if !self.counts.has_item(item) {
+            return None;
+        }
+        let before = KINDS.iter().take_while(|kind| **kind != item.kind());
+        let before = before.map(|kind| usize::from(count_of(self.counts, *kind)));
+        let place = before.fold(usize::from(item.index()), usize::saturating_add);
+        let span = self.name_span(place)?;
+        if LONGEST_NAME < span.length {
+            return None;
+        }
+        str::from_utf8(self.names.part(span)?).ok()
+    }
+
+    /// The type and the size of a variable, where its row has a valid one.
+    pub fn variable(&self, number: VarNo) -> Option<VarKind> {
+        let row = self.variable_row(usize::from(number.0))?;
+        let var_type = type_of(row.kind)?;
+        let is_valid = row.zero == 0 && (1..=4).contains(&row.size);
+        is_valid.then_some(VarKind {
+            var_type,
+            size: row.size,
+        })
+    }
+
+    /// The attribute rows in their order.
+    pub fn rows(&self) -> impl Iterator<Item = AttributeRow> + use<'b> {
+        let rows = self.attribute_rows.bytes.chunks_exact(ATTRIBUTE_ROW);
+        rows.map(AttributeRow::read)
+    }
+
+    /// The code of a row, where it lies inside of the section.
+    pub fn unit(&self, row: &AttributeRow) -> Option<&'b [u8]> {
+        self.code.part(row.unit)
+    }
+
+    /// The bytes of a string, where there is such a string and it lies inside of the section.
+    pub fn string(&self, number: StrNo) -> Option<&'b [u8]> {
+        self.strings.part(self.string_span(usize::from(number.0))?)
+    }
+
+    /// The strings by their numbers; one that lies outside of the section is empty.
+    pub fn strings(&self) -> impl Iterator<Item = &'b [u8]> {
+        let numbers = (0..self.counts.strings).map(StrNo);
+        numbers.map(|number| self.string(number).unwrap_or_default())
+    }
+
+    pub(crate) fn variable_row(&self, number: usize) -> Option<VariableRow> {
+        let row = self.variable_rows.row(VARIABLE_ROW, number)?;
+        Some(VariableRow {
+            kind: variable_type(row, 0),
+            size: variable_size(row, 0),
+            zero: variable_padding(row, 0),
+        })
+    }
+
+    /// Where the name at a place is, counted over the items of all kinds.
+    pub(crate) fn name_span(&self, place: usize) -> Option<Span> {
+        let row = self.name_rows.row(NAME_ROW, place)?;
+        Some(Span {
+            start: name_start(row, 0),
+            length: u32::from(name_length(row, 0)),
+        })
+    }
+
+    pub(crate) fn attribute_row(&self, number: usize) -> Option<AttributeRow> {
+        let row = self.attribute_rows.row(ATTRIBUTE_ROW, number)?;
+        Some(AttributeRow::read(row))
+    }
+
+    /// The fields of an element row, whether or not there are such an array and such a variable.
+    pub(crate) fn element(&self, number: usize) -> Option<Element> {
+        let row = self.element_rows.row(ELEMENT_ROW, number)?;
+        Some(Element {
+            array: ArrNo(element_array(row, 0)),
+            number: element_number(row, 0),
+            var: VarNo(element_variable(row, 0)),
+        })
+    }
+
+    pub(crate) fn string_span(&self, number: usize) -> Option<Span> {
+        let row = self.string_rows.row(STRING_ROW, number)?;
+        Some(Span {
+            start: string_start(row, 0),
+            length: string_length(row, 0),
+        })
+    }
+}
+
+/// How many items of a kind there are.
+fn count_of(counts: Counts, kind: Kind) -> u16 {
+    match kind {
+        Kind::Variable => counts.variables,
+        Kind::Command => counts.commands,
+        Kind::Menu => counts.menus,
+        Kind::Collection => counts.collections,
+        Kind::Method => counts.methods,
+        Kind::Array => counts.arrays,
+    }
+}
+
+impl<'b> Section<'b> {
+    fn row(&self, width: usize, number: usize) -> Option<&'b [u8]> {
+        self.bytes.chunks_exact(width).nth(number)
+    }
+
+    fn part(&self, span: Span) -> Option<&'b [u8]> {
+        let start = usize::try_from(span.start).ok()?;
+        let length = usize::try_from(span.length).ok()?;
+        self.bytes.get(start..start.checked_add(length)?)
+    }
+}
+
+impl AttributeRow {
+    /// The fields of a whole row.
+    fn read(row: &[u8]) -> AttributeRow {
+        AttributeRow {
+            kind: attribute_kind(row, 0),
+            attribute: attribute_number(row, 0),
+            item: attribute_item(row, 0),
+            sub: attribute_sub(row, 0),
+            unit: Span {
+                start: attribute_start(row, 0),
+                length: attribute_length(row, 0),
+            },
+        }
+    }
+
+    /// The item and the attribute, where there are such a kind and such an attribute.
+    pub fn names(&self) -> Option<(ItemNo, Attr)> {
+        let item = ItemNo::from_numbers(self.kind, self.item)?;
+        Some((item, Attr::from_number(self.attribute)?))
+    }
+}
+
+impl fmt::Display for Span {
+    fn fmt(&self, f: &mut fmt::Formatter<'_>) -> fmt::Result {
+        write!(f, "start {} length {}", self.start, self.length)
+    }
+}
