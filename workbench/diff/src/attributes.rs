@@ -1,11 +1,12 @@
 //! One attribute of an item that both descriptions have.
 
 use crate::content::{Content, Entry, EntryKind, Shape};
-use crate::description::{Pair, named};
+use crate::description::{Description, Pair, named};
 use crate::difference::{Change, Difference, Item, Note, Value, What};
-use edd_dump::variants;
+use crate::methods::{changes, is_same_code};
+use edd_dump::{AttributeRow, variants};
 use edd_instructions::{Ask, Instruction, RequestArgument};
-use edd_syntax::numbers::{Attr, StrNo};
+use edd_syntax::numbers::{Attr, AttrRef, ItemNo, StrNo};
 
 /// An attribute, and where its differences go.
 pub(crate) struct Comparison<'c, 'i> {
@@ -17,8 +18,57 @@ pub(crate) struct Comparison<'c, 'i> {
 }
 
 impl<'i> Comparison<'_, 'i> {
+    /// Compares an attribute that both descriptions have.
+    pub(crate) fn compare_rows(&mut self, old: &AttributeRow, new: &AttributeRow) {
+        let old_code = self.pair.old.sections.unit(old).unwrap_or_default();
+        let new_code = self.pair.new.sections.unit(new).unwrap_or_default();
+        if self.attribute == Attr::Definition {
+            return match changes(self.pair, old_code, new_code) {
+                Some(changes) if old.sub == new.sub => self.add_changes(&changes),
+                _ => self.add_note(Note::Code),
+            };
+        }
+        let old = Content::read(&self.pair.old.sections, self.attribute, old_code);
+        let new = Content::read(&self.pair.new.sections, self.attribute, new_code);
+        match (old, new) {
+            (Some(old), Some(new)) => self.compare(&old, &new),
+            _ if is_same_code(self.pair, old_code, new_code) => {}
+            _ => self.add_note(Note::MayDiffer),
+        }
+    }
+
+    /// Compares an attribute that only one description has with what is read of the other's item
+    /// without it.
+    pub(crate) fn add_row(
+        &mut self,
+        description: &Description<'_, 'i>,
+        row: &AttributeRow,
+        other_item: ItemNo,
+        is_new: bool,
+    ) {
+        if self.attribute == Attr::Definition {
+            return self.add_note(Note::Code);
+        }
+        let code = description.sections.unit(row).unwrap_or_default();
+        let Some(content) = Content::read(&description.sections, self.attribute, code) else {
+            return self.add_note(Note::MayDiffer);
+        };
+        let (pair, attribute) = (self.pair, self.attribute);
+        let other = if is_new { &pair.old } else { &pair.new };
+        let unwritten = other.unwritten(AttrRef {
+            item: other_item,
+            attr: attribute,
+            sub: row.sub,
+        });
+        match unwritten.map(|number| Content::of_number(attribute, number)) {
+            Some(unwritten) if is_new => self.compare(&unwritten, &content),
+            Some(unwritten) => self.compare(&content, &unwritten),
+            None => self.add_all(&content, is_new),
+        }
+    }
+
     /// Compares two contents.
-    pub(crate) fn compare(&mut self, old: &Content, new: &Content) {
+    fn compare(&mut self, old: &Content, new: &Content) {
         match Shape::of(self.attribute) {
             Shape::Value => self.compare_values(old, new),
             Shape::List => self.compare_lists(old, new),
@@ -27,7 +77,7 @@ impl<'i> Comparison<'_, 'i> {
     }
 
     /// Adds all entries of an attribute that only one of the descriptions has.
-    pub(crate) fn add_all(&mut self, content: &Content, is_new: bool) {
+    fn add_all(&mut self, content: &Content, is_new: bool) {
         let is_limit = matches!(self.attribute, Attr::MinValue | Attr::MaxValue);
         let note = if is_new { Note::Narrower } else { Note::Wider };
         for entry in &content.entries {
@@ -41,7 +91,7 @@ impl<'i> Comparison<'_, 'i> {
     }
 
     /// Adds the instructions of a method that differ in a number or in texts.
-    pub(crate) fn add_changes(&mut self, changes: &[(Instruction, Instruction)]) {
+    fn add_changes(&mut self, changes: &[(Instruction, Instruction)]) {
         for change in changes {
             match *change {
                 (Instruction::Push(old), Instruction::Push(new)) => {
@@ -110,9 +160,12 @@ impl<'i> Comparison<'_, 'i> {
     fn compare_each(&mut self, old: &Content, new: &Content) {
         for number in 0..old.entries.len().max(new.entries.len()) {
             if let (Some(first), Some(second)) = (old.entry(number), new.entry(number)) {
-                let conditions = [&second.condition, &first.condition];
-                let condition = conditions.into_iter().find(|it| !it.is_empty());
-                self.compare_entries(condition.map_or("", |it| it), first, second);
+                let condition = if second.condition.is_empty() {
+                    &first.condition
+                } else {
+                    &second.condition
+                };
+                self.compare_entries(condition, first, second);
             }
         }
     }

@@ -11,7 +11,7 @@ use edd_syntax::numbers::{AttrRef, ItemNo, StrNo, VarNo};
 pub(crate) struct Description<'d, 'i> {
     pub(crate) image: &'d Image<'i>,
     pub(crate) sections: Sections<'i>,
-    /// Values of a device, of which an attribute without code makes nothing.
+    /// Any values of a device: an attribute without code reads the same under all of them.
     values: Values,
 }
 

@@ -156,6 +156,15 @@ impl<'i> Item<'i> {
 }
 
 impl What<'_> {
+    /// An attribute whose row has this `sub`, which is the position where it is of a transaction.
+    pub(crate) fn attribute(attribute: Attr, sub: u16) -> Self {
+        if attribute.is_of_transaction() {
+            What::Transaction(attribute, sub)
+        } else {
+            What::Attribute(attribute)
+        }
+    }
+
     /// The word of the language for it, where there is one.
     pub fn word(self) -> &'static str {
         match self {

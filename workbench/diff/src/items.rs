@@ -1,13 +1,11 @@
 //! The items of two descriptions, found again by their kinds and names.
 
 use crate::attributes::Comparison;
-use crate::content::Content;
 use crate::description::{Description, Pair};
-use crate::difference::{Change, Difference, Differences, Item, Note, Value, What};
-use crate::methods::{changes, is_same_code};
+use crate::difference::{Change, Difference, Differences, Item, Value, What};
 use edd_dump::AttributeRow;
 use edd_loader::Image;
-use edd_syntax::numbers::{Attr, AttrRef, ItemNo, KINDS, Kind, VarNo};
+use edd_syntax::numbers::{Attr, KINDS, Kind, VarNo};
 use edd_syntax::symbols::Keyword;
 use std::collections::{BTreeMap, HashMap};
 
@@ -214,20 +212,15 @@ impl<'i> Comparing<'_, 'i> {
             rows.entry(rank(row)).or_default().1 = Some(row);
         }
         let (before, after) = (item.kind.item(before), item.kind.item(after));
-        for ((number, position), rows) in rows {
-            let Some(attribute) = Attr::from_number(number) else {
+        for ((attribute, position), rows) in rows {
+            let Some(attribute) = Attr::from_number(attribute) else {
                 continue;
-            };
-            let what = if attribute.is_of_transaction() {
-                What::Transaction(attribute, position)
-            } else {
-                What::Attribute(attribute)
             };
             let mut comparison = Comparison {
                 pair: self.pair,
                 item,
                 attribute,
-                what,
+                what: What::attribute(attribute, position),
                 found: &mut self.found,
             };
             match rows {
@@ -244,59 +237,4 @@ impl<'i> Comparing<'_, 'i> {
 fn rank(row: &AttributeRow) -> (u8, u16) {
     let is_body = row.attribute == Attr::Definition.number();
     (row.attribute, if is_body { 0 } else { row.sub })
-}
-
-impl<'i> Comparison<'_, 'i> {
-    /// Compares an attribute that both descriptions have.
-    fn compare_rows(&mut self, old: &AttributeRow, new: &AttributeRow) {
-        let old_code = self.pair.old.sections.unit(old).unwrap_or_default();
-        let new_code = self.pair.new.sections.unit(new).unwrap_or_default();
-        if self.attribute == Attr::Definition {
-            return match changes(self.pair, old_code, new_code) {
-                Some(changes) if old.sub == new.sub => self.add_changes(&changes),
-                _ => self.add_note(Note::Code),
-            };
-        }
-        let old = Content::read(&self.pair.old.sections, self.attribute, old_code);
-        let new = Content::read(&self.pair.new.sections, self.attribute, new_code);
-        match (old, new) {
-            (Some(old), Some(new)) => self.compare(&old, &new),
-            _ if is_same_code(self.pair, old_code, new_code) => {}
-            _ => self.add_note(Note::MayDiffer),
-        }
-    }
-
-    /// Compares an attribute that only one description has with what is read of the other's item
-    /// without it.
-    fn add_row(
-        &mut self,
-        description: &Description<'_, 'i>,
-        row: &AttributeRow,
-        other_item: ItemNo,
-        is_new: bool,
-    ) {
-        if self.attribute == Attr::Definition {
-            return self.add_note(Note::Code);
-        }
-        let code = description.sections.unit(row).unwrap_or_default();
-        let Some(content) = Content::read(&description.sections, self.attribute, code) else {
-            return self.add_note(Note::MayDiffer);
-        };
-        let other = if is_new {
-            &self.pair.old
-        } else {
-            &self.pair.new
-        };
-        let unwritten = other.unwritten(AttrRef {
-            item: other_item,
-            attr: self.attribute,
-            sub: row.sub,
-        });
-        let unwritten = unwritten.map(|number| Content::of_number(self.attribute, number));
-        match unwritten {
-            Some(unwritten) if is_new => self.compare(&unwritten, &content),
-            Some(unwritten) => self.compare(&content, &unwritten),
-            None => self.add_all(&content, is_new),
-        }
-    }
 }

@@ -3,23 +3,25 @@
 use crate::attributes::Comparison;
 use crate::content::{Content, Entry};
 use crate::difference::Note;
-use std::collections::{HashMap, VecDeque};
+use std::collections::{HashMap, HashSet, VecDeque};
 use std::hash::Hash;
+use std::iter;
 
-/// The numbers of entries by a key, in the order of the list.
-struct Queues<K>(HashMap<K, VecDeque<usize>>);
+/// The entries of a list with their numbers, by a key and in their order.
+struct Queues<'c, K>(HashMap<K, VecDeque<(usize, &'c Entry)>>);
 
-impl<'c, K: Eq + Hash> Queues<K> {
-    fn of(content: &'c Content, key: impl Fn(&'c Entry) -> K) -> Queues<K> {
-        let mut queues: HashMap<K, VecDeque<usize>> = HashMap::new();
-        for (number, entry) in content.entries.iter().enumerate() {
-            queues.entry(key(entry)).or_default().push_back(number);
+impl<'c, K: Eq + Hash> Queues<'c, K> {
+    fn of(content: &'c Content, key: impl Fn(&'c Entry) -> K) -> Queues<'c, K> {
+        let mut queues: HashMap<K, VecDeque<(usize, &Entry)>> = HashMap::new();
+        for numbered in content.entries.iter().enumerate() {
+            let queue = queues.entry(key(numbered.1)).or_default();
+            queue.push_back(numbered);
         }
         Queues(queues)
     }
 
     /// The next entry of a key, which is not found again.
-    fn take(&mut self, key: &K) -> Option<usize> {
+    fn take(&mut self, key: &K) -> Option<(usize, &'c Entry)> {
         self.0.get_mut(key)?.pop_front()
     }
 }
@@ -34,25 +36,23 @@ impl Comparison<'_, '_> {
     /// that stand under another one or are gone, and last those that are new.
     pub(crate) fn compare_lists(&mut self, old: &Content, new: &Content) {
         let mut by_place = Queues::of(new, place);
-        let mut is_found = vec![false; new.entries.len()];
+        let mut found = HashSet::new();
         let mut left = Vec::new();
         let mut last = 0;
         let mut is_in_order = true;
         for entry in &old.entries {
-            let number = by_place.take(&place(entry));
-            let Some((number, other)) = number.and_then(|it| Some((it, new.entries.get(it)?)))
-            else {
+            let Some((number, other)) = by_place.take(&place(entry)) else {
                 left.push(entry);
                 continue;
             };
-            mark(&mut is_found, number);
+            found.insert(number);
             is_in_order &= last <= number;
             last = number;
             self.compare_entries(&other.condition, entry, other);
         }
-        self.add_left(&left, new, &mut is_found);
-        for (entry, is_found) in new.entries.iter().zip(is_found) {
-            if !is_found {
+        self.add_left(&left, new, &mut found);
+        for (number, entry) in new.entries.iter().enumerate() {
+            if !found.contains(&number) {
                 self.add_one(entry, true, None);
             }
         }
@@ -63,25 +63,17 @@ impl Comparison<'_, '_> {
 
     /// The old entries that are not in their place: they stand under another condition, which may be
     /// the same one in another form, or are gone.
-    fn add_left(&mut self, left: &[&Entry], new: &Content, is_found: &mut [bool]) {
+    fn add_left(&mut self, left: &[&Entry], new: &Content, found: &mut HashSet<usize>) {
         let mut by_key = Queues::of(new, |entry| entry.key.as_str());
         for entry in left {
-            let mut others = std::iter::from_fn(|| by_key.take(&entry.key.as_str()));
-            let other = others.find(|number| is_found.get(*number) == Some(&false));
-            match other.and_then(|number| Some((number, new.entries.get(number)?))) {
-                Some((number, other)) => {
-                    mark(is_found, number);
+            let mut others = iter::from_fn(|| by_key.take(&entry.key.as_str()));
+            match others.find(|(number, _)| found.insert(*number)) {
+                Some((_, other)) => {
                     let (old, new) = (entry.with_condition(), other.with_condition());
                     self.add_replaced("", old, new, Some(Note::MayDiffer));
                 }
                 None => self.add_one(entry, false, None),
             }
         }
-    }
-}
-
-fn mark(is_found: &mut [bool], number: usize) {
-    if let Some(is_found) = is_found.get_mut(number) {
-        *is_found = true;
     }
 }

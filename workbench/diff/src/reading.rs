@@ -165,17 +165,14 @@ impl Reader<'_, '_> {
                 let value = self.stack.pop()?;
                 self.give(instruction, Some(value));
             }
-            other => match self.expression(other)? {
-                Some(value) => self.stack.push(value),
-                None => self.give(other, None),
-            },
+            other => self.compute(other)?,
         }
         Some(())
     }
 
-    /// The value that an instruction computes; what computes none gives a record.
-    fn expression(&mut self, instruction: Instruction) -> Option<Option<Expression>> {
-        Some(Some(match instruction {
+    /// Computes the value of an instruction; one that has none gives a record.
+    fn compute(&mut self, instruction: Instruction) -> Option<()> {
+        let value = match instruction {
             Instruction::Push(number) => Expression::number(i64::from(number)),
             Instruction::Variable(variable) => {
                 Expression::operand(self.name(ItemNo::Variable(variable))?)
@@ -196,8 +193,13 @@ impl Reader<'_, '_> {
             Instruction::Negate => Expression::negated(&self.stack.pop()?),
             Instruction::Not => Expression::not(&self.stack.pop()?),
             Instruction::Complement => Expression::complement(&self.stack.pop()?),
-            _ => return Some(None),
-        }))
+            record => {
+                self.give(record, None);
+                return Some(());
+            }
+        };
+        self.stack.push(value);
+        Some(())
     }
 
     fn pop_two(&mut self) -> Option<(Expression, Expression)> {

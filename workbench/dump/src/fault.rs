@@ -8,6 +8,7 @@ use crate::sections::{Section, Sections, Span};
 use edd_image::{ATTRIBUTE_ROW, ELEMENT_ROW, NAME_ROW, STRING_ROW, VARIABLE_ROW};
 use edd_instructions::decode;
 use edd_loader::{Site, Spot};
+use edd_syntax::numbers::Element;
 use std::fmt::{self, Formatter};
 
 /// The fault of a header of these bytes.
@@ -22,63 +23,84 @@ pub(crate) fn write_header_fault(
     }
 }
 
-/// The fault of a row, a name, a string or an instruction. The row after the last one stands for the
-/// end of its section, and has no fields.
+/// The fault of a row, a name, a string or an instruction: its place, what is there, and what that
+/// holds. The row after the last one stands for the end of its section, and holds nothing.
 pub(crate) fn write_fault(
     f: &mut Formatter<'_>,
     sections: &Sections<'_>,
     spot: Spot,
 ) -> fmt::Result {
-    match spot {
+    let (place, word, number, held) = match spot {
         Spot::VariableRow(number) => {
             let place = row_place(sections.variable_rows, VARIABLE_ROW, number);
-            write!(f, "fault {place} variable_row {number}")?;
-            if let Some(row) = sections.variable_row(number) {
-                let (kind, size, zero) = (row.kind, row.size, row.zero);
-                write!(f, " type {kind} size {size} zero {zero}")?;
-            }
+            (
+                place,
+                "variable_row",
+                number,
+                text(sections.variable_row(number)),
+            )
         }
         Spot::NameRow(number) => {
             let place = row_place(sections.name_rows, NAME_ROW, number);
-            write!(f, "fault {place} name_row {number}")?;
-            write_span(f, sections.name_span(number))?;
+            (place, "name_row", number, text(sections.name_span(number)))
         }
         Spot::AttributeRow(number) => {
             let place = row_place(sections.attribute_rows, ATTRIBUTE_ROW, number);
-            write!(f, "fault {place} attribute_row {number}")?;
-            if let Some(row) = sections.attribute_row(number) {
-                write!(f, " kind {} attribute {}", row.kind, row.attribute)?;
-                write!(f, " item {} sub {} {}", row.item, row.sub, row.unit)?;
-            }
+            (
+                place,
+                "attribute_row",
+                number,
+                text(sections.attribute_row(number)),
+            )
         }
         Spot::ElementRow(number) => {
             let place = row_place(sections.element_rows, ELEMENT_ROW, number);
-            write!(f, "fault {place} element_row {number}")?;
-            if let Some(row) = sections.element(number) {
-                let (array, variable, number) = (row.array.0, row.var.0, row.number);
-                write!(f, " array {array} variable {variable} number {number}")?;
-            }
+            let held = sections.element(number).map(element_text);
+            (place, "element_row", number, held)
         }
         Spot::StringRow(number) => {
             let place = row_place(sections.string_rows, STRING_ROW, number);
-            write!(f, "fault {place} string_row {number}")?;
-            write_span(f, sections.string_span(number))?;
+            (
+                place,
+                "string_row",
+                number,
+                text(sections.string_span(number)),
+            )
         }
         Spot::Name(number) => {
             let span = sections.name_span(number);
-            write!(f, "fault {} name {number}", place_in(sections.names, span))?;
-            write_span(f, span)?;
+            (place_in(sections.names, span), "name", number, text(span))
         }
         Spot::String(number) => {
             let span = sections.string_span(number);
-            let place = place_in(sections.strings, span);
-            write!(f, "fault {place} string {number}")?;
-            write_span(f, span)?;
+            (
+                place_in(sections.strings, span),
+                "string",
+                number,
+                text(span),
+            )
         }
-        Spot::Instruction(site) => write_instruction(f, sections, site)?,
-        Spot::Header | Spot::Zero | Spot::SecondZero => f.write_str("fault 0 header 0")?,
+        Spot::Instruction(site) => {
+            let unit = sections.attribute_row(site.row).map(|row| row.unit);
+            let place = place_in(sections.code, unit).saturating_add(site.place);
+            (
+                place,
+                "row",
+                site.row,
+                Some(instruction_text(sections, site)),
+            )
+        }
+        Spot::Header | Spot::Zero | Spot::SecondZero => (0, "header", 0, None),
+    };
+    write!(f, "fault {place} {word} {number}")?;
+    match held {
+        Some(held) => writeln!(f, " {held}"),
+        None => writeln!(f),
     }
-    writeln!(f)
+}
+
+fn text(held: Option<impl ToString>) -> Option<String> {
+    held.map(|held| held.to_string())
 }
 
 /// The place of a row in the image, each row having this width.
@@ -92,22 +114,24 @@ fn place_in(section: Section<'_>, span: Option<Span>) -> usize {
     section.start.saturating_add(start.unwrap_or(0))
 }
 
-fn write_span(f: &mut Formatter<'_>, span: Option<Span>) -> fmt::Result {
-    span.map_or(Ok(()), |span| write!(f, " {span}"))
+fn element_text(element: Element) -> String {
+    let (array, variable, number) = (element.array.0, element.var.0, element.number);
+    format!("array {array} variable {variable} number {number}")
 }
 
-/// The row of an instruction, its place in the unit, how many operands it finds, and itself, where
-/// one can be read.
-fn write_instruction(f: &mut Formatter<'_>, sections: &Sections<'_>, site: Site) -> fmt::Result {
-    let Site { row: number, place } = site;
-    let row = sections.attribute_row(number);
+/// The place of an instruction in its unit, how many operands it finds, and itself, where one can be
+/// read.
+fn instruction_text(sections: &Sections<'_>, site: Site) -> String {
+    let Site { row, place } = site;
+    let row = sections.attribute_row(row);
     let code = row.and_then(|row| sections.unit(&row)).unwrap_or_default();
-    let start = place_in(sections.code, row.map(|row| row.unit));
-    write!(f, "fault {} row {number}", start.saturating_add(place))?;
-    write!(f, " place {place} depth {} ", depth_at(code, place))?;
+    let depth = depth_at(code, place);
     let found = (place <= code.len()).then(|| decode(code, place)).flatten();
     match found {
-        Some((instruction, _)) => write!(f, "{}", Page::new(sections).shown(instruction)),
-        None => f.write_str("none"),
+        Some((instruction, _)) => {
+            let page = Page::new(sections);
+            format!("place {place} depth {depth} {}", page.shown(instruction))
+        }
+        None => format!("place {place} depth {depth} none"),
     }
 }

@@ -85,17 +85,6 @@ impl fmt::Display for Shown<'_, '_, '_> {
     fn fmt(&self, f: &mut fmt::Formatter<'_>) -> fmt::Result {
         let page = self.page;
         match self.instruction {
-            // Without operands the word is the name of the variant.
-            Instruction::Operate(operator) => write!(f, "{operator:?}"),
-            Instruction::Compare(comparison) => write!(f, "{comparison:?}"),
-            Instruction::End
-            | Instruction::Pop
-            | Instruction::Duplicate
-            | Instruction::Negate
-            | Instruction::Not
-            | Instruction::Complement
-            | Instruction::Number
-            | Instruction::Abort => write!(f, "{:?}", self.instruction),
             Instruction::Push(number) => write!(f, "Push {number}"),
             Instruction::Variable(variable) => write!(f, "Variable {}", page.variable(variable)),
             Instruction::Store(variable) => write!(f, "Store {}", page.variable(variable)),
@@ -110,20 +99,10 @@ impl fmt::Display for Shown<'_, '_, '_> {
             Instruction::Case { label, target } => write!(f, "Case {label} to {target}"),
             Instruction::Ask(ask) => page.write_ask(f, ask),
             Instruction::AddAbortMethod(method) => {
-                write!(
-                    f,
-                    "AddAbortMethod {}",
-                    page.numbered(ItemNo::Method(method))
-                )
+                let method = page.numbered(ItemNo::Method(method));
+                write!(f, "AddAbortMethod {method}")
             }
-            Instruction::Text(_)
-            | Instruction::Item { .. }
-            | Instruction::DataConst(_)
-            | Instruction::DataVar { .. }
-            | Instruction::Enumerator { .. }
-            | Instruction::Response { .. }
-            | Instruction::Member { .. }
-            | Instruction::Element { .. } => page.write_record(f, self.instruction),
+            other => page.write_record(f, other),
         }
     }
 }
@@ -141,7 +120,7 @@ impl Page<'_, '_> {
         Ok(())
     }
 
-    /// An instruction that records something.
+    /// An instruction that records something, or that has no operands.
     fn write_record(&self, f: &mut fmt::Formatter<'_>, instruction: Instruction) -> fmt::Result {
         match instruction {
             Instruction::Text(text) => write!(f, "Text {}", self.string(text)),
@@ -189,7 +168,10 @@ impl Page<'_, '_> {
                 write!(f, "Element {number} {variable}")?;
                 self.write_texts(f, label, help)
             }
-            _ => Ok(()),
+            // Of the others the word is the core's name.
+            Instruction::Operate(operator) => write!(f, "{operator:?}"),
+            Instruction::Compare(comparison) => write!(f, "{comparison:?}"),
+            other => write!(f, "{other:?}"),
         }
     }
 

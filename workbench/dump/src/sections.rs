@@ -120,15 +120,14 @@ impl<'b> Sections<'b> {
     /// The items, by kind and number.
     pub fn items(&self) -> impl Iterator<Item = ItemNo> + use<> {
         let counts = self.counts;
-        KINDS.into_iter().flat_map(move |kind| {
-            let numbers = 0..count_of(counts, kind);
-            numbers.map(move |number| kind.item(number))
-        })
+        KINDS
+            .into_iter()
+            .flat_map(move |kind| items_of(counts, kind))
     }
 
     /// The items of one kind, by their numbers.
     pub fn items_of(&self, kind: Kind) -> impl Iterator<Item = ItemNo> + use<> {
-        (0..count_of(self.counts, kind)).map(move |number| kind.item(number))
+        items_of(self.counts, kind)
     }
 
     /// The name of an item, where there is such an item and its name is text.
@@ -221,6 +220,10 @@ impl<'b> Sections<'b> {
     }
 }
 
+fn items_of(counts: Counts, kind: Kind) -> impl Iterator<Item = ItemNo> {
+    (0..count_of(counts, kind)).map(move |number| kind.item(number))
+}
+
 /// How many items of a kind there are.
 fn count_of(counts: Counts, kind: Kind) -> u16 {
     match kind {
@@ -264,6 +267,20 @@ impl AttributeRow {
     pub fn names(&self) -> Option<(ItemNo, Attr)> {
         let item = ItemNo::from_numbers(self.kind, self.item)?;
         Some((item, Attr::from_number(self.attribute)?))
+    }
+}
+
+impl fmt::Display for VariableRow {
+    fn fmt(&self, f: &mut fmt::Formatter<'_>) -> fmt::Result {
+        let VariableRow { kind, size, zero } = self;
+        write!(f, "type {kind} size {size} zero {zero}")
+    }
+}
+
+impl fmt::Display for AttributeRow {
+    fn fmt(&self, f: &mut fmt::Formatter<'_>) -> fmt::Result {
+        write!(f, "kind {} attribute {}", self.kind, self.attribute)?;
+        write!(f, " item {} sub {} {}", self.item, self.sub, self.unit)
     }
 }
 
