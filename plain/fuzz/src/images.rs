@@ -18,7 +18,7 @@ pub fn tried(bytes: &[u8], dice: &mut Dice, counts: &mut Counts) -> Result<bool,
     let loaded = load(Global, bytes);
     let said = loaded.as_ref().err().map(ToString::to_string);
     if bytes.len() <= DUMPED {
-        let dump = Dump::of(bytes);
+        let dump = Dump::new(bytes);
         let lines = dump.to_string();
         let fault = dump.fault().as_ref().map(ToString::to_string);
         if fault != said || lines.contains("\nfault ") != fault.is_some() {

@@ -181,7 +181,7 @@ pub extern "C" fn load(image: u32) -> u32 {
 
 fn dump_image(image: &[u8]) -> Result<Vec<u8>, Stop> {
     let mut lines = String::new(Global);
-    match fmt::write(&mut lines, format_args!("{}", Dump::of(image))) {
+    match fmt::write(&mut lines, format_args!("{}", Dump::new(image))) {
         Ok(()) => Ok(lines.into_bytes()),
         // A text fails only for lack of memory.
         Err(fmt::Error) => Err(Stop::Memory),

@@ -1,4 +1,4 @@
-//! One attribute of an item that both descriptions have.
+//! Compares one attribute of an item that both descriptions have.
 
 use crate::content::{Content, Entry, EntryKind, Shape};
 use crate::description::{Description, Pair, named};
@@ -8,7 +8,7 @@ use edd_dump::{AttributeRow, variants};
 use edd_instructions::{Ask, Instruction, RequestArgument};
 use edd_syntax::numbers::{Attr, AttrRef, ItemNo, StrNo};
 
-/// An attribute, and where its differences go.
+/// The comparison of one attribute, and the differences found so far.
 pub(crate) struct Comparison<'c, 'i> {
     pub(crate) pair: &'c Pair<'c, 'i>,
     pub(crate) item: Item<'i>,
@@ -37,8 +37,7 @@ impl<'i> Comparison<'_, 'i> {
         }
     }
 
-    /// Compares an attribute that only one description has with what is read of the other's item
-    /// without it.
+    /// Compares an attribute that only one description has with its default in the other.
     pub(crate) fn add_row(
         &mut self,
         description: &Description<'_, 'i>,
@@ -55,14 +54,14 @@ impl<'i> Comparison<'_, 'i> {
         };
         let (pair, attribute) = (self.pair, self.attribute);
         let other = if is_new { &pair.old } else { &pair.new };
-        let unwritten = other.unwritten(AttrRef {
+        let default = other.default_of(AttrRef {
             item: other_item,
             attr: attribute,
             sub: row.sub,
         });
-        match unwritten.map(|number| Content::of_number(attribute, number)) {
-            Some(unwritten) if is_new => self.compare(&unwritten, &content),
-            Some(unwritten) => self.compare(&content, &unwritten),
+        match default.map(|number| Content::of_number(attribute, number)) {
+            Some(default) if is_new => self.compare(&default, &content),
+            Some(default) => self.compare(&content, &default),
             None => self.add_all(&content, is_new),
         }
     }
@@ -76,7 +75,7 @@ impl<'i> Comparison<'_, 'i> {
         }
     }
 
-    /// Adds all entries of an attribute that only one of the descriptions has.
+    /// Adds all entries of an attribute that has no default.
     fn add_all(&mut self, content: &Content, is_new: bool) {
         let is_limit = matches!(self.attribute, Attr::MinValue | Attr::MaxValue);
         let note = if is_new { Note::Narrower } else { Note::Wider };
@@ -85,12 +84,12 @@ impl<'i> Comparison<'_, 'i> {
         }
     }
 
-    /// Adds that the attribute differs in a way that has no values.
+    /// Adds a difference without values.
     pub(crate) fn add_note(&mut self, note: Note) {
         self.add("", Change::Unshown, Some(note));
     }
 
-    /// Adds the instructions of a method that differ in a number or in texts.
+    /// Adds the numbers and texts that differ in the body of a method.
     fn add_changes(&mut self, changes: &[(Instruction, Instruction)]) {
         for change in changes {
             match *change {
@@ -114,13 +113,13 @@ impl<'i> Comparison<'_, 'i> {
         });
     }
 
-    /// Adds an entry that only one of the descriptions has.
+    /// Adds an entry that only one description has.
     pub(crate) fn add_one(&mut self, entry: &Entry, is_new: bool, note: Option<Note>) {
-        let change = Change::of_one(Value::Given(entry.text.clone()), is_new);
+        let change = Change::of_one(Value::Source(entry.text.clone()), is_new);
         self.add(&entry.condition, change, note);
     }
 
-    /// Adds two texts that are not the same.
+    /// Adds a value that was replaced.
     pub(crate) fn add_replaced(
         &mut self,
         condition: &str,
@@ -128,11 +127,11 @@ impl<'i> Comparison<'_, 'i> {
         new: String,
         note: Option<Note>,
     ) {
-        let (old, new) = (Value::Given(old), Value::Given(new));
+        let (old, new) = (Value::Source(old), Value::Source(new));
         self.add(condition, Change::Replaced { old, new }, note);
     }
 
-    /// Compares an entry with that in its place.
+    /// Compares two entries that correspond to each other.
     pub(crate) fn compare_entries(&mut self, condition: &str, old: &Entry, new: &Entry) {
         if old.text == new.text {
             return;
@@ -156,7 +155,7 @@ impl<'i> Comparison<'_, 'i> {
         }
     }
 
-    /// Compares entry by entry, under the condition that one of the two has.
+    /// Compares entry by entry. Where one of the two has no condition, that of the other holds.
     fn compare_each(&mut self, old: &Content, new: &Content) {
         for number in 0..old.entries.len().max(new.entries.len()) {
             if let (Some(first), Some(second)) = (old.entry(number), new.entry(number)) {
@@ -170,7 +169,7 @@ impl<'i> Comparison<'_, 'i> {
         }
     }
 
-    /// A change of the form of a condition may change nothing in a message.
+    /// Compares messages as a whole. Conditions of another form may mean the same.
     fn compare_messages(&mut self, old: &Content, new: &Content) {
         let have_none = !old.has_conditions && !new.has_conditions;
         let is_certain = have_none || old.has_conditions_of(new);
@@ -184,8 +183,8 @@ impl<'i> Comparison<'_, 'i> {
         }
     }
 
-    /// Compares two texts language by language. A key of a dictionary has none; then it adds nothing
-    /// and returns false.
+    /// Compares two strings language by language. Returns false, and adds nothing, if one of them is
+    /// a key of a dictionary.
     fn compare_strings(&mut self, condition: &str, old: StrNo, new: StrNo) -> bool {
         let old = self.pair.old.sections.string(old).unwrap_or_default();
         let new = self.pair.new.sections.string(new).unwrap_or_default();
@@ -197,8 +196,8 @@ impl<'i> Comparison<'_, 'i> {
         have_variants
     }
 
-    /// Compares each text with that of its language in the other string; of two of one language the
-    /// first counts there. Those of the new string are only looked for.
+    /// Adds each text that the other string lacks, and from the old string's side each one that it
+    /// replaces. If the other has several of a language, the first counts.
     fn compare_variants(&mut self, condition: &str, of: &'i [u8], others: &'i [u8], is_new: bool) {
         for text in variants(of) {
             let other = variants(others).find(|other| other.code == text.code);
@@ -231,7 +230,7 @@ impl<'i> Comparison<'_, 'i> {
     }
 }
 
-/// What it means that one value is in the place of another.
+/// What the replacement of one value by another means.
 fn note_of_change(attribute: Attr, old: EntryKind, new: EntryKind) -> Option<Note> {
     match (old, new) {
         (EntryKind::Expression, _) | (_, EntryKind::Expression) => Some(Note::MayDiffer),

@@ -1,4 +1,4 @@
-//! What an attribute gives, in a form that can be compared.
+//! The value of an attribute, in a form that can be compared.
 
 use crate::reading::Reading;
 use crate::records::{Records, number_text};
@@ -13,9 +13,9 @@ use std::rc::Rc;
 pub(crate) enum Shape {
     /// One value, or one for each condition.
     Value,
-    /// Entries, which are found again by their keys.
+    /// Entries that are matched by their keys.
     List,
-    /// Entries whose places count.
+    /// Entries whose order matters.
     Message,
 }
 
@@ -34,9 +34,9 @@ impl Shape {
     }
 }
 
-/// What an attribute gives.
+/// What an attribute has.
 pub(crate) struct Content {
-    /// In the order of the source.
+    /// In source order.
     pub(crate) entries: Vec<Entry>,
     /// Whether the code has conditions.
     pub(crate) has_conditions: bool,
@@ -44,15 +44,15 @@ pub(crate) struct Content {
 
 /// One record of an attribute.
 pub(crate) struct Entry {
-    /// When it is given, as an expression; empty where it always is.
+    /// The condition under which the attribute has it, as an expression; empty where it always does.
     pub(crate) condition: Rc<str>,
-    /// By what it is found again among the entries of a list.
+    /// What identifies it in a list.
     pub(crate) key: String,
     pub(crate) text: String,
     pub(crate) kind: EntryKind,
 }
 
-/// What an entry is beyond its text.
+/// What an entry is, beyond its text.
 #[derive(Clone, Copy, Debug, PartialEq, Eq)]
 pub(crate) enum EntryKind {
     Number(i64),
@@ -63,32 +63,34 @@ pub(crate) enum EntryKind {
 }
 
 impl Content {
-    /// What the code of an attribute gives. None where the code has no form that is known.
+    /// Reads the code of an attribute. Returns None for code that the compiler does not write.
     pub(crate) fn read(sections: &Sections<'_>, attribute: Attr, code: &[u8]) -> Option<Content> {
-        let mut reading = Reading::of(sections, code)?;
+        let mut reading = Reading::read(sections, code)?;
         if Shape::of(attribute) == Shape::Value {
-            // The code of a DEFAULT comes before those of the cases.
-            reading.given.sort_by_key(|given| given.condition);
+            // The code of DEFAULT precedes that of the cases.
+            reading.emitted.sort_by_key(|emitted| emitted.condition);
         } else {
-            // A list without an entry under a condition says nothing of it.
+            // That a list has no entry under some condition is no entry.
             let is_entry = |instruction| instruction != Instruction::End;
-            reading.given.retain(|given| is_entry(given.instruction));
+            reading
+                .emitted
+                .retain(|emitted| is_entry(emitted.instruction));
         }
         let records = Records {
             sections,
             attribute,
         };
         let mut conditions: HashMap<usize, Rc<str>> = HashMap::new();
-        let entries = reading.given.iter().map(|given| {
-            let number = given.condition;
+        let entries = reading.emitted.iter().map(|emitted| {
+            let number = emitted.condition;
             let condition = conditions.entry(number);
             let condition = condition.or_insert_with(|| reading.condition(number).into());
-            let value = given.value.as_ref().map(|value| value.constant);
+            let value = emitted.value.as_ref().map(|value| value.constant);
             Entry {
                 condition: Rc::clone(condition),
-                key: records.key(given),
-                text: records.text(given),
-                kind: match (value, given.instruction) {
+                key: records.key(emitted),
+                text: records.text(emitted),
+                kind: match (value, emitted.instruction) {
                     (Some(Some(number)), _) => EntryKind::Number(number),
                     (Some(None), _) => EntryKind::Expression,
                     (None, Instruction::Text(string)) => EntryKind::Text(string),
@@ -102,7 +104,7 @@ impl Content {
         })
     }
 
-    /// An attribute that always gives this number.
+    /// An attribute that always is this number.
     pub(crate) fn of_number(attribute: Attr, number: i64) -> Content {
         Content {
             entries: vec![Entry {
@@ -115,7 +117,7 @@ impl Content {
         }
     }
 
-    /// The only entry, if there is one and it has no condition.
+    /// The single entry, if there is just one and it has no condition.
     pub(crate) fn only(&self) -> Option<&Entry> {
         match self.entries.as_slice() {
             [entry] if entry.condition.is_empty() => Some(entry),
@@ -123,12 +125,12 @@ impl Content {
         }
     }
 
-    /// The entry of a number. An only one stands for each.
+    /// The entry at an index. A single one stands for each.
     pub(crate) fn entry(&self, number: usize) -> Option<&Entry> {
         self.only().or_else(|| self.entries.get(number))
     }
 
-    /// All entries with their conditions.
+    /// All entries with their conditions, as one text.
     pub(crate) fn whole_text(&self) -> String {
         if self.entries.is_empty() {
             return "nothing".to_owned();
@@ -137,7 +139,7 @@ impl Content {
         entries.join(", ")
     }
 
-    /// Whether the entries of both stand under the same conditions, one by one.
+    /// Whether both have the same conditions, entry by entry.
     pub(crate) fn has_conditions_of(&self, other: &Content) -> bool {
         let conditions = self.entries.iter().map(|entry| &entry.condition);
         conditions.eq(other.entries.iter().map(|entry| &entry.condition))
@@ -145,7 +147,7 @@ impl Content {
 }
 
 impl Entry {
-    /// Its text and its condition, where it has one.
+    /// The text with the condition.
     pub(crate) fn with_condition(&self) -> String {
         if self.condition.is_empty() {
             self.text.clone()

@@ -1,4 +1,4 @@
-//! One of the two descriptions, and what is the same in both.
+//! The two descriptions, and which of their parts are the same.
 
 use core_std::alloc::Global;
 use edd_dump::Sections;
@@ -7,11 +7,11 @@ use edd_loader::Image;
 use edd_machine::{Values, attribute};
 use edd_syntax::numbers::{AttrRef, ItemNo, StrNo, VarNo};
 
-/// A description, by its image.
+/// One of the two descriptions.
 pub(crate) struct Description<'d, 'i> {
     pub(crate) image: &'d Image<'i>,
     pub(crate) sections: Sections<'i>,
-    /// Any values of a device: an attribute without code reads the same under all of them.
+    /// Any device values: an attribute without code has the same default under all of them.
     values: Values,
 }
 
@@ -22,8 +22,8 @@ pub(crate) struct Pair<'d, 'i> {
 }
 
 impl<'d, 'i> Description<'d, 'i> {
-    /// None for bytes that are no image, which a loaded image never has.
-    pub(crate) fn of(image: &'d Image<'i>) -> Option<Description<'d, 'i>> {
+    /// Returns None for bytes that are no image. A loaded image never has such.
+    pub(crate) fn open(image: &'d Image<'i>) -> Option<Description<'d, 'i>> {
         let zeros = vec![0; usize::from(image.counts().variables)];
         Some(Description {
             image,
@@ -32,8 +32,8 @@ impl<'d, 'i> Description<'d, 'i> {
         })
     }
 
-    /// What is read of an attribute that has no row, where that is a number.
-    pub(crate) fn unwritten(&self, asked: AttrRef) -> Option<i64> {
+    /// The default of an attribute that has no row here, where that is a number.
+    pub(crate) fn default_of(&self, asked: AttrRef) -> Option<i64> {
         let records = attribute(Global, self.image, asked, &self.values).ok()?;
         match records.as_slice() {
             [Record::Number(number)] => Some(*number),
@@ -55,8 +55,7 @@ impl Pair<'_, '_> {
         self.old.sections.string(old) == self.new.sections.string(new)
     }
 
-    /// Whether two requests are the same, but for the numbers that come from the operands, and for
-    /// their texts where these do not count.
+    /// Whether two requests name the same variables and, where these count, the same texts.
     fn is_same_request(&self, old: Ask, new: Ask, with_texts: bool) -> bool {
         let mut arguments = named(old).zip(named(new));
         old.kind == new.kind
@@ -71,7 +70,7 @@ impl Pair<'_, '_> {
             })
     }
 
-    /// Whether two instructions do the same with what they name.
+    /// Whether two instructions do the same. Numbers of items and strings may differ.
     pub(crate) fn is_same_instruction(&self, old: Instruction, new: Instruction) -> bool {
         match (old, new) {
             (Instruction::Variable(old), Instruction::Variable(new))
@@ -87,7 +86,7 @@ impl Pair<'_, '_> {
         }
     }
 
-    /// Whether two instructions differ in a number or in texts at most.
+    /// Whether two instructions differ at most in a number or in texts.
     pub(crate) fn is_same_form(&self, old: Instruction, new: Instruction) -> bool {
         match (old, new) {
             (Instruction::Push(_), Instruction::Push(_)) => true,
@@ -97,7 +96,7 @@ impl Pair<'_, '_> {
     }
 }
 
-/// The arguments of a request. Its instruction does not have the numbers, which are 0 here.
+/// The arguments of a request. Its numbers come from the stack, and are 0 here.
 pub(crate) fn named(ask: Ask) -> impl Iterator<Item = RequestArgument> {
     ask.request(0, 0).arguments().into_iter()
 }

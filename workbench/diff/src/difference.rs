@@ -1,4 +1,4 @@
-//! What a difference is.
+//! Differences as data.
 
 use edd_display::type_word;
 use edd_image::VarKind;
@@ -6,8 +6,8 @@ use edd_syntax::numbers::{Attr, Kind};
 use edd_syntax::symbols::Keyword;
 use std::fmt;
 
-/// The differences of two descriptions: of the identification, and then by kind, items that are gone,
-/// items that are new, numbers that are others, and the attributes of each item that both have.
+/// The differences between two descriptions: those of the identification, and then for each kind the
+/// items that are gone, new or renumbered, and the attributes of each item that both have.
 #[derive(Clone, Debug, PartialEq, Eq)]
 pub struct Differences<'i> {
     all: Vec<Difference<'i>>,
@@ -16,24 +16,24 @@ pub struct Differences<'i> {
 /// One difference.
 #[derive(Clone, Debug, PartialEq, Eq)]
 pub struct Difference<'i> {
-    /// The item, or none where the identification differs.
+    /// The item. None for the identification.
     pub item: Option<Item<'i>>,
-    /// What of it differs.
+    /// What differs.
     pub what: What<'i>,
     /// The old and the new value.
     pub change: Change<'i>,
-    /// The condition under which it is so, as an expression; empty where it always is.
+    /// The condition under which they differ, as an expression. Empty if they always do.
     pub condition: String,
-    /// What is to be said besides.
+    /// What the difference means beyond its values.
     pub note: Option<Note>,
 }
 
-/// An item, or several that moved together.
+/// An item, or several adjacent ones.
 #[derive(Clone, Copy, Debug, PartialEq, Eq)]
 pub struct Item<'i> {
     /// The kind.
     pub kind: Kind,
-    /// The name of the item, or of the first one.
+    /// The name of the item, or of the first of several.
     pub name: &'i str,
     /// The name of the last of several.
     pub last_name: Option<&'i str>,
@@ -44,17 +44,17 @@ pub struct Item<'i> {
 pub enum What<'i> {
     /// A number of the identification.
     Identification(Keyword),
-    /// Whether there is the item.
+    /// The item itself, which is gone or new.
     Existence,
-    /// The number of the item among those of its kind.
+    /// The number of the item among the items of its kind.
     Number,
     /// The type and the size of a variable.
     Type,
     /// An attribute.
     Attribute(Attr),
-    /// An attribute of the transaction at a position.
+    /// An attribute of the transaction at this position.
     Transaction(Attr, u16),
-    /// The text of an attribute in the language of this code.
+    /// The text of an attribute in the language with this code.
     Text(Attr, &'i str),
 }
 
@@ -72,23 +72,23 @@ pub enum Change<'i> {
         /// In the new description.
         new: Value<'i>,
     },
-    /// Both have it, and the note says what differs.
+    /// Both have it. The values are not shown, and the note says what differs.
     Unshown,
 }
 
-/// One of two values.
+/// A value of one description.
 #[derive(Clone, Debug, PartialEq, Eq)]
 pub enum Value<'i> {
     /// A number.
     Number(u32),
-    /// The first and the last number of items beside each other.
+    /// The first and the last number of adjacent items.
     Numbers(u16, u16),
     /// A type and a size.
     Type(VarKind),
     /// A text in one language.
     Text(&'i str),
-    /// What an attribute gives, as a maker would write it.
-    Given(String),
+    /// The value of an attribute in the form of a source.
+    Source(String),
 }
 
 /// What a difference means beyond its two values.
@@ -98,11 +98,11 @@ pub enum Note {
     Narrower,
     /// More values are allowed.
     Wider,
-    /// The form differs, and whether the meaning does depends on the values of the device.
+    /// The form differs. Whether the meaning does depends on the values of the device.
     MayDiffer,
     /// The entries are the same, in another order.
     Order,
-    /// The body of a method is another one.
+    /// The body of a method has other code.
     Code,
 }
 
@@ -118,8 +118,8 @@ impl<'i> Differences<'i> {
 }
 
 impl Difference<'_> {
-    /// Whether an older host, or values that are stored, are wrong after the change. What may mean the
-    /// same breaks nothing, and neither does what is only new.
+    /// Whether the change makes an older host or stored values wrong. What is only new breaks nothing,
+    /// and neither does what may mean the same.
     pub fn is_breaking(&self) -> bool {
         let is_relied_on = match self.what {
             What::Identification(_) | What::Text(..) => false,
@@ -131,7 +131,7 @@ impl Difference<'_> {
     }
 }
 
-/// Whether hosts and stored values rely on an attribute.
+/// Whether hosts or stored values rely on an attribute.
 fn is_relied_on(attribute: Attr) -> bool {
     matches!(
         attribute,
@@ -156,7 +156,7 @@ impl<'i> Item<'i> {
 }
 
 impl What<'_> {
-    /// An attribute whose row has this `sub`, which is the position where it is of a transaction.
+    /// An attribute. Its `sub` is a position if it belongs to a transaction.
     pub(crate) fn attribute(attribute: Attr, sub: u16) -> Self {
         if attribute.is_of_transaction() {
             What::Transaction(attribute, sub)
@@ -165,7 +165,7 @@ impl What<'_> {
         }
     }
 
-    /// The word of the language for it, where there is one.
+    /// The keyword, or a word of this program where EDDL has none.
     pub fn word(self) -> &'static str {
         match self {
             What::Identification(word) => word.spelling(),
@@ -180,7 +180,7 @@ impl What<'_> {
 }
 
 impl<'i> Change<'i> {
-    /// A value that only one of the descriptions has.
+    /// A value that only one description has.
     pub(crate) fn of_one(value: Value<'i>, is_new: bool) -> Change<'i> {
         if is_new {
             Change::New(value)
@@ -214,13 +214,13 @@ impl fmt::Display for Value<'_> {
             Value::Numbers(first, last) => write!(f, "{first} to {last}"),
             Value::Type(kind) => write!(f, "{} {}", type_word(kind.var_type), kind.size),
             Value::Text(text) => f.write_str(text),
-            Value::Given(text) => f.write_str(text),
+            Value::Source(text) => f.write_str(text),
         }
     }
 }
 
 impl Note {
-    /// How it is said.
+    /// How it is printed.
     pub fn word(self) -> &'static str {
         match self {
             Note::Narrower => "narrower",

@@ -3,13 +3,13 @@
 use edd_syntax::operators::{Comparison, Operator};
 use std::borrow::Cow;
 
-/// An expression, as its text: valid code can nest deeper than the stack of a recursive type.
+/// An expression, as text. A tree would be too deep to drop for some valid code.
 #[derive(Clone, Debug)]
 pub(crate) struct Expression {
     pub(crate) text: String,
-    /// Its value, where it is a number.
+    /// Its value, if it is a constant.
     pub(crate) constant: Option<i64>,
-    /// Whether it stands beside an operator without parentheses.
+    /// Whether it needs no parentheses beside an operator.
     is_operand: bool,
 }
 
@@ -22,7 +22,7 @@ impl Expression {
         }
     }
 
-    /// What stands beside an operator without parentheses, as the name of a variable.
+    /// An expression that needs no parentheses, as the name of a variable.
     pub(crate) fn operand(text: impl Into<String>) -> Expression {
         Expression {
             text: text.into(),
@@ -39,7 +39,7 @@ impl Expression {
         }
     }
 
-    /// A sign before an operand.
+    /// A unary operator and its operand.
     fn signed(sign: char, of: &Expression) -> Expression {
         Expression::operand(format!("{sign}{}", of.as_operand()))
     }
@@ -48,19 +48,19 @@ impl Expression {
         Expression::signed('!', of)
     }
 
-    /// A negated number is a number.
+    /// The negation; of a constant it is a constant.
     pub(crate) fn negated(of: &Expression) -> Expression {
         let constant = of.constant.and_then(i64::checked_neg);
         constant.map_or_else(|| Expression::signed('-', of), Expression::number)
     }
 
-    /// The complement of a number is a number.
+    /// The complement; of a constant it is a constant.
     pub(crate) fn complement(of: &Expression) -> Expression {
         let constant = of.constant.map(|constant| !constant);
         constant.map_or_else(|| Expression::signed('~', of), Expression::number)
     }
 
-    /// An operator between two operands; between numbers it is a number, where nothing wraps.
+    /// An operator and its operands. Constants are folded, except where the value would wrap.
     pub(crate) fn operation(
         operator: Operator,
         left: &Expression,
@@ -86,7 +86,7 @@ impl Expression {
         Expression::infix(sign, left, right)
     }
 
-    /// A sign between two operands.
+    /// A binary operator and its operands.
     pub(crate) fn infix(sign: &str, left: &Expression, right: &Expression) -> Expression {
         let (left, right) = (left.as_operand(), right.as_operand());
         Expression::compound(format!("{left} {sign} {right}"))
@@ -98,7 +98,7 @@ impl Expression {
         Expression::compound(format!("{test} ? {first} : {second}"))
     }
 
-    /// An operand of `&&` or `||`, of which the code makes 0 or 1 by two negations.
+    /// An operand of `&&` or `||` without the two negations by which the code makes it 0 or 1.
     pub(crate) fn without_truth(self) -> Expression {
         match self.text.strip_prefix("!!") {
             Some(text) => Expression::operand(text),
@@ -106,7 +106,7 @@ impl Expression {
         }
     }
 
-    /// Its text beside an operator.
+    /// Its text as the operand of an operator.
     pub(crate) fn as_operand(&self) -> Cow<'_, str> {
         if self.is_operand {
             Cow::Borrowed(&self.text)

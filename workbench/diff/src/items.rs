@@ -1,4 +1,4 @@
-//! The items of two descriptions, found again by their kinds and names.
+//! Compares the items of two descriptions, which are matched by kind and name.
 
 use crate::attributes::Comparison;
 use crate::description::{Description, Pair};
@@ -10,9 +10,9 @@ use edd_syntax::symbols::Keyword;
 use std::collections::{BTreeMap, HashMap};
 
 impl<'i> Differences<'i> {
-    /// What differs between an old and a new image.
+    /// Compares an old and a new image.
     pub fn between(old: &Image<'i>, new: &Image<'i>) -> Differences<'i> {
-        let pair = Description::of(old).zip(Description::of(new));
+        let pair = Description::open(old).zip(Description::open(new));
         let all = pair.map_or(Vec::new(), |(old, new)| {
             let pair = Pair { old, new };
             let mut comparing = Comparing {
@@ -32,15 +32,15 @@ impl<'i> Differences<'i> {
 /// The items of one kind in a description.
 struct Items<'i> {
     kind: Kind,
-    /// By number. Of two items with one name it has the first.
+    /// Names and numbers, in the order of numbers. Of items with the same name the first counts.
     in_order: Vec<(&'i str, u16)>,
     numbers: HashMap<&'i str, u16>,
-    /// The attribute rows by the numbers of their items.
+    /// The attribute rows of each item.
     rows: HashMap<u16, Vec<AttributeRow>>,
 }
 
 impl<'i> Items<'i> {
-    fn of(description: &Description<'_, 'i>, kind: Kind) -> Items<'i> {
+    fn read(description: &Description<'_, 'i>, kind: Kind) -> Items<'i> {
         let mut items = Items {
             kind,
             in_order: Vec::new(),
@@ -73,7 +73,7 @@ impl<'i> Items<'i> {
     }
 }
 
-/// Items of a kind that moved together, each by as much: their numbers from the first to the last.
+/// Adjacent items that moved together: the first and the last of their numbers.
 struct Run<'i> {
     item: Item<'i>,
     old: (u16, u16),
@@ -89,7 +89,7 @@ impl<'i> Run<'i> {
         }
     }
 
-    /// Adds an item, if it is the next one in both descriptions.
+    /// Adds an item if it is the next one in both descriptions, and returns whether it is.
     fn extend(&mut self, name: &'i str, old: u16, new: u16) -> bool {
         let is_next = |before: u16, number| before.checked_add(1) == Some(number);
         let fits = is_next(self.old.1, old) && is_next(self.new.1, new);
@@ -140,8 +140,8 @@ impl<'i> Comparing<'_, 'i> {
     }
 
     fn compare_kind(&mut self, kind: Kind) {
-        let old = Items::of(&self.pair.old, kind);
-        let new = Items::of(&self.pair.new, kind);
+        let old = Items::read(&self.pair.old, kind);
+        let new = Items::read(&self.pair.new, kind);
         self.add_missing(&old, &new, false);
         self.add_missing(&new, &old, true);
         self.compare_numbers(&old, &new);
@@ -154,7 +154,7 @@ impl<'i> Comparing<'_, 'i> {
         }
     }
 
-    /// Adds the items that the others lack.
+    /// Adds the items that the other description lacks.
     fn add_missing(&mut self, items: &Items<'i>, others: &Items<'i>, is_new: bool) {
         for (name, number) in &items.in_order {
             if others.number(name).is_none() {
@@ -165,7 +165,7 @@ impl<'i> Comparing<'_, 'i> {
         }
     }
 
-    /// Adds the items whose number is another one, those beside each other together.
+    /// Adds the items that have another number. Adjacent ones are one difference.
     fn compare_numbers(&mut self, old: &Items<'i>, new: &Items<'i>) {
         let mut runs: Vec<Run<'i>> = Vec::new();
         for (name, before) in &old.in_order {
@@ -233,7 +233,7 @@ impl<'i> Comparing<'_, 'i> {
     }
 }
 
-/// By what the rows of an item are ordered. The number of a method's slots belongs to its code.
+/// What identifies a row of an item. The `sub` of a body is its number of slots, and no part of that.
 fn rank(row: &AttributeRow) -> (u8, u16) {
     let is_body = row.attribute == Attr::Definition.number();
     (row.attribute, if is_body { 0 } else { row.sub })

@@ -3,7 +3,7 @@
 use crate::difference::{Difference, Differences, Note, Value, What};
 use serde::Serialize;
 
-/// A difference as an object. `null` stands for what there is none of.
+/// A difference as an object, with `null` for what does not apply.
 #[derive(Serialize)]
 struct Object<'d> {
     kind: Option<&'static str>,
@@ -47,7 +47,7 @@ impl Differences<'_> {
     ///
     /// # Errors
     ///
-    /// None that is known: each member is a text, a number or a truth.
+    /// None is known: a struct of strings, numbers and booleans can always be serialized.
     pub fn to_json_lines(&self) -> serde_json::Result<String> {
         let mut lines = String::new();
         for difference in self.all() {

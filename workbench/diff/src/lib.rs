@@ -1,7 +1,7 @@
 //! What differs between two descriptions: what `edd diff` prints.
 //!
-//! [`Differences::between`] compares two images. Items are found again by kind and name, the code of
-//! attributes is read back as expressions and conditions, and texts are compared language by language:
+//! [`Differences::between`] compares two images. It matches items by kind and name, decompiles the code
+//! of attributes to expressions and conditions, and compares texts language by language:
 //!
 //! ```
 //! use core_std::alloc::Global;
@@ -21,15 +21,14 @@
 //! let differences = Differences::between(&old, &new);
 //! let [difference] = differences.all() else { panic!("one difference") };
 //! assert_eq!(difference.note, Some(Note::Narrower));
-//! assert_eq!(difference.change.new_value(), Some(&Value::Given("90".into())));
+//! assert_eq!(difference.change.new_value(), Some(&Value::Source("90".into())));
 //! assert_eq!(
 //!     differences.to_string(),
 //!     "variable flow\n  MAX_VALUE 100 -> 90, narrower\ndifferences 1, breaking 0\n",
 //! );
 //! ```
 //!
-//! A difference says nothing of the form of a source, as its layout or its comments: two sources with
-//! one image do not differ.
+//! Two sources with the same image do not differ, whatever their layout and their comments.
 
 mod attributes;
 mod content;

@@ -1,10 +1,10 @@
 //! Differences as lines for a reader.
 
 use crate::difference::{Change, Difference, Differences, Item, Value, What};
-use edd_dump::words::quoted;
+use edd_dump::core_format::quoted;
 use std::fmt;
 
-/// The differences below their items, and last how many there are.
+/// The differences below their items, and at the end their counts.
 impl fmt::Display for Differences<'_> {
     fn fmt(&self, f: &mut fmt::Formatter<'_>) -> fmt::Result {
         for group in self.all().chunk_by(|one, next| one.item == next.item) {
@@ -21,7 +21,7 @@ impl fmt::Display for Differences<'_> {
     }
 }
 
-/// Begins with `!` where an older host or stored values are wrong after the change.
+/// A line, which begins with `!` for a breaking change.
 impl fmt::Display for Difference<'_> {
     fn fmt(&self, f: &mut fmt::Formatter<'_>) -> fmt::Result {
         let mark = if self.is_breaking() { '!' } else { ' ' };
@@ -64,7 +64,7 @@ impl fmt::Display for Change<'_> {
     }
 }
 
-/// A value in a line, where texts have quotes.
+/// A value in a line, where texts are quoted.
 fn shown(value: &Value<'_>) -> String {
     match value {
         Value::Text(text) => quoted(text),

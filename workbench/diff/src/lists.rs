@@ -1,4 +1,4 @@
-//! The entries of two lists, found again by their keys.
+//! Compares two lists, whose entries are matched by their keys.
 
 use crate::attributes::Comparison;
 use crate::content::{Content, Entry};
@@ -7,11 +7,11 @@ use std::collections::{HashMap, HashSet, VecDeque};
 use std::hash::Hash;
 use std::iter;
 
-/// The entries of a list with their numbers, by a key and in their order.
+/// The entries of a list with their indices, by a key. Those of one key are in list order.
 struct Queues<'c, K>(HashMap<K, VecDeque<(usize, &'c Entry)>>);
 
 impl<'c, K: Eq + Hash> Queues<'c, K> {
-    fn of(content: &'c Content, key: impl Fn(&'c Entry) -> K) -> Queues<'c, K> {
+    fn new(content: &'c Content, key: impl Fn(&'c Entry) -> K) -> Queues<'c, K> {
         let mut queues: HashMap<K, VecDeque<(usize, &Entry)>> = HashMap::new();
         for numbered in content.entries.iter().enumerate() {
             let queue = queues.entry(key(numbered.1)).or_default();
@@ -20,7 +20,7 @@ impl<'c, K: Eq + Hash> Queues<'c, K> {
         Queues(queues)
     }
 
-    /// The next entry of a key, which is not found again.
+    /// Removes the next entry of a key.
     fn take(&mut self, key: &K) -> Option<(usize, &'c Entry)> {
         self.0.get_mut(key)?.pop_front()
     }
@@ -32,10 +32,10 @@ fn place(entry: &Entry) -> (&str, &str) {
 }
 
 impl Comparison<'_, '_> {
-    /// Compares two lists: first the entries that stand under the same condition in both, then those
-    /// that stand under another one or are gone, and last those that are new.
+    /// Compares two lists. First come the entries with the same condition in both, then those that
+    /// moved to another one or are gone, and last the new ones.
     pub(crate) fn compare_lists(&mut self, old: &Content, new: &Content) {
-        let mut by_place = Queues::of(new, place);
+        let mut by_place = Queues::new(new, place);
         let mut found = HashSet::new();
         let mut left = Vec::new();
         let mut last = 0;
@@ -61,10 +61,10 @@ impl Comparison<'_, '_> {
         }
     }
 
-    /// The old entries that are not in their place: they stand under another condition, which may be
-    /// the same one in another form, or are gone.
+    /// Adds the old entries without a counterpart under the same condition. One under another
+    /// condition may mean the same, since conditions are compared by their form.
     fn add_left(&mut self, left: &[&Entry], new: &Content, found: &mut HashSet<usize>) {
-        let mut by_key = Queues::of(new, |entry| entry.key.as_str());
+        let mut by_key = Queues::new(new, |entry| entry.key.as_str());
         for entry in left {
             let mut others = iter::from_fn(|| by_key.take(&entry.key.as_str()));
             match others.find(|(number, _)| found.insert(*number)) {

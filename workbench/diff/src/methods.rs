@@ -1,10 +1,10 @@
-//! The bodies of methods, instruction by instruction.
+//! Compares code instruction by instruction.
 
 use crate::description::Pair;
 use edd_instructions::{Instruction, decode};
 
-/// The instructions that differ between two units, which are else the same but for numbers and
-/// texts. None where the units differ in more.
+/// The pairs of instructions that differ in a number or in texts. Returns None for units that differ
+/// in more.
 pub(crate) fn changes(
     pair: &Pair<'_, '_>,
     old: &[u8],
@@ -29,7 +29,7 @@ pub(crate) fn changes(
     Some(changes)
 }
 
-/// Whether two units have the same instructions.
+/// Whether two units do the same, instruction by instruction.
 pub(crate) fn is_same_code(pair: &Pair<'_, '_>, old: &[u8], new: &[u8]) -> bool {
     changes(pair, old, new).is_some_and(|changes| changes.is_empty())
 }

@@ -1,7 +1,7 @@
-//! The code of an attribute, read back as what it gives under which conditions.
+//! Decompiles the code of an attribute: which records it emits under which conditions.
 //!
-//! The code of conditionals and expressions is in regions, one inside the other, whose ends are
-//! targets of jumps forward. One pass with a stack of open regions finds them. Valid code can have
+//! The compiler writes conditionals and expressions as nested regions. A forward jump leads to the end
+//! of each. One pass with a stack of open regions finds them. Valid code from elsewhere can have
 //! another form, and is not read.
 
 use crate::expression::Expression;
@@ -10,38 +10,38 @@ use edd_instructions::{Instruction, decode};
 use edd_syntax::numbers::ItemNo;
 use edd_syntax::operators::Comparison;
 
-/// The number of the condition that is none: what is under it is always given.
+/// The index of the empty condition: what stands under it is always emitted.
 pub(crate) const ALWAYS: usize = 0;
 
-/// What the code of an attribute gives, in the order of the code.
+/// The records that the code of an attribute emits, in the order of the code.
 pub(crate) struct Reading {
-    /// In the order of the source. The first is `ALWAYS`.
+    /// In source order. The first is `ALWAYS`.
     conditions: Vec<Condition>,
-    pub(crate) given: Vec<Given>,
+    pub(crate) emitted: Vec<Emitted>,
 }
 
-/// A test inside of another condition.
+/// A test, and the condition that it is nested in.
 struct Condition {
-    /// The number of the condition around it.
+    /// The index of the enclosing condition.
     around: usize,
-    /// The test beside an operator, with its `!` where it is not to hold.
+    /// The test as an operand, with `!` where it must not hold.
     test: String,
-    /// The test alone, where it is to hold.
+    /// The test without parentheses, where it must hold.
     alone: Option<String>,
 }
 
-/// What an instruction gives. `End` stands for a condition under which nothing is given.
-pub(crate) struct Given {
-    /// The number of its condition.
+/// A record. `End` stands for a condition under which nothing is emitted.
+pub(crate) struct Emitted {
+    /// The index of its condition.
     pub(crate) condition: usize,
     pub(crate) instruction: Instruction,
-    /// The number that is given.
+    /// The number of a `Number` record.
     pub(crate) value: Option<Expression>,
 }
 
 impl Reading {
-    /// Reads the code of an attribute. None where it has another form than that of descriptions.
-    pub(crate) fn of(sections: &Sections<'_>, code: &[u8]) -> Option<Reading> {
+    /// Reads the code of an attribute. Returns None for code that the compiler does not write.
+    pub(crate) fn read(sections: &Sections<'_>, code: &[u8]) -> Option<Reading> {
         let always = Condition {
             around: ALWAYS,
             test: String::new(),
@@ -56,19 +56,19 @@ impl Reading {
             is_dropped: false,
             reading: Reading {
                 conditions: vec![always],
-                given: Vec::new(),
+                emitted: Vec::new(),
             },
         };
-        reader.read(code)?;
+        reader.read_code(code)?;
         Some(reader.reading)
     }
 
-    /// Whether anything in it stands under a condition.
+    /// Whether the code has any condition.
     pub(crate) fn has_conditions(&self) -> bool {
         self.conditions.len() > 1
     }
 
-    /// A condition with those around it, as an expression. `ALWAYS` is empty.
+    /// A condition with its enclosing ones, as an expression. `ALWAYS` is empty.
     pub(crate) fn condition(&self, number: usize) -> String {
         let mut chain = Vec::new();
         let mut at = number;
@@ -89,54 +89,55 @@ impl Reading {
     }
 }
 
-/// A part of the code with an end of its own.
+/// A piece of code with its own end.
 enum Region {
     /// The right side of `&&` or `||`.
     Right {
         left: Expression,
         sign: &'static str,
     },
-    /// What is done where a test is not 0, and where the rest of it begins.
+    /// The branch for a test that is not 0.
     Then { test: Expression },
-    /// What is done where the test is 0; `first` is the value that the other part had.
+    /// The branch for a test that is 0. `first` is the value that the other branch left.
     Otherwise {
         test: Expression,
         first: Option<Expression>,
     },
-    /// The cases after this one, whose body has the condition `body`. What they choose by is on the
-    /// stack; `select` is the condition around all of them.
+    /// The cases after one whose body has the condition `body`. The selector is on the stack, and
+    /// `select` is the condition around the whole SELECT.
     Rest { body: usize, select: usize },
-    /// What is done where the label fits.
+    /// The body of a case.
     Body,
 }
 
+/// A region whose end is not reached yet.
 struct Open {
     region: Region,
-    /// The place where it ends.
+    /// The place of its end.
     end: usize,
-    /// How many values were there before it.
+    /// The height of the stack before it.
     height: usize,
-    /// How much was given before the part of it that is read.
-    given: usize,
+    /// How many records were emitted before it.
+    emitted: usize,
     /// The condition around it.
     around: usize,
 }
 
-/// A reader of one attribute. Its calls give None for code of another form.
+/// Reads one attribute. Its methods return None for code that the compiler does not write.
 struct Reader<'s, 'i> {
     sections: &'s Sections<'i>,
     stack: Vec<Expression>,
     open: Vec<Open>,
     condition: usize,
-    /// The instruction before was `Duplicate`, which only tests of `&&` and `||` have.
+    /// The previous instruction was `Duplicate`, which only `&&` and `||` use.
     is_duplicated: bool,
-    /// The next `Pop` drops what was duplicated, and is already gone here.
+    /// The next `Pop` drops the duplicated value, which this stack never had.
     is_dropped: bool,
     reading: Reading,
 }
 
 impl Reader<'_, '_> {
-    fn read(&mut self, code: &[u8]) -> Option<()> {
+    fn read_code(&mut self, code: &[u8]) -> Option<()> {
         let mut place = 0;
         while place < code.len() {
             let (instruction, next) = decode(code, place)?;
@@ -150,7 +151,7 @@ impl Reader<'_, '_> {
         (self.open.is_empty() && self.stack.is_empty()).then_some(())
     }
 
-    /// One instruction, and the place of the next one.
+    /// Interprets one instruction; `next` is the place of the one after it.
     fn step(&mut self, instruction: Instruction, next: usize) -> Option<()> {
         match instruction {
             Instruction::Duplicate => self.is_duplicated = true,
@@ -163,14 +164,14 @@ impl Reader<'_, '_> {
             Instruction::End => {}
             Instruction::Number => {
                 let value = self.stack.pop()?;
-                self.give(instruction, Some(value));
+                self.emit(instruction, Some(value));
             }
             other => self.compute(other)?,
         }
         Some(())
     }
 
-    /// Computes the value of an instruction; one that has none gives a record.
+    /// Pushes the value of an instruction. One without a value emits a record.
     fn compute(&mut self, instruction: Instruction) -> Option<()> {
         let value = match instruction {
             Instruction::Push(number) => Expression::number(i64::from(number)),
@@ -194,7 +195,7 @@ impl Reader<'_, '_> {
             Instruction::Not => Expression::not(&self.stack.pop()?),
             Instruction::Complement => Expression::complement(&self.stack.pop()?),
             record => {
-                self.give(record, None);
+                self.emit(record, None);
                 return Some(());
             }
         };
@@ -207,20 +208,20 @@ impl Reader<'_, '_> {
         Some((self.stack.pop()?, right))
     }
 
-    /// The name of an item; a valid image has one for each item that it names.
+    /// The name of an item. A valid image names only items that exist.
     fn name(&self, item: ItemNo) -> Option<&str> {
         self.sections.name(item)
     }
 
-    fn give(&mut self, instruction: Instruction, value: Option<Expression>) {
-        self.reading.given.push(Given {
+    fn emit(&mut self, instruction: Instruction, value: Option<Expression>) {
+        self.reading.emitted.push(Emitted {
             condition: self.condition,
             instruction,
             value,
         });
     }
 
-    /// The number of a new condition inside of another one.
+    /// Adds a condition nested in another one, and returns its index.
     fn under(&mut self, around: usize, test: &Expression, is_negated: bool) -> usize {
         let number = self.reading.conditions.len();
         let operand = test.as_operand();
@@ -245,13 +246,13 @@ impl Reader<'_, '_> {
             region,
             end: usize::try_from(end).ok()?,
             height: self.stack.len(),
-            given: self.reading.given.len(),
+            emitted: self.reading.emitted.len(),
             around,
         });
         Some(())
     }
 
-    /// A jump where a test is 0, or where it is not, if `sign` is that of `||`.
+    /// A conditional jump: the left side of `&&` or `||`, or the test of a conditional.
     fn test(&mut self, target: u32, sign: &'static str) -> Option<()> {
         let test = self.stack.pop()?;
         let around = self.condition;
@@ -268,7 +269,7 @@ impl Reader<'_, '_> {
         self.enter(Region::Then { test }, target, around)
     }
 
-    /// The value on top is compared with a label; it stays for the cases after it.
+    /// Compares the selector on top of the stack with a label. It stays for the cases after this.
     fn case(&mut self, label: i64, target: u32) -> Option<()> {
         let on = self.stack.pop()?;
         let select = self.around_cases(self.stack.len());
@@ -281,7 +282,7 @@ impl Reader<'_, '_> {
         Some(())
     }
 
-    /// The condition around all cases of which this is the next one.
+    /// The condition around the SELECT that the next case belongs to.
     fn around_cases(&self, height: usize) -> usize {
         match self.open.last() {
             Some(Open {
@@ -293,10 +294,10 @@ impl Reader<'_, '_> {
         }
     }
 
-    /// A jump ends the first part of a region, and the other begins behind it.
+    /// A jump ends the first branch of a region. The second one follows it.
     fn switch(&mut self, next: usize, target: u32) -> Option<()> {
         let open = self.open.pop().filter(|open| open.end == next)?;
-        let first = self.end_part(open.height, open.given)?;
+        let first = self.end_branch(open.height, open.emitted)?;
         match open.region {
             Region::Then { test } => {
                 self.condition = self.under(open.around, &test, true);
@@ -310,7 +311,7 @@ impl Reader<'_, '_> {
         }
     }
 
-    /// Closes the regions that end at a place.
+    /// Closes all regions that end at a place.
     fn close_at(&mut self, place: usize) -> Option<()> {
         while let Some(open) = self.open.pop_if(|open| open.end == place) {
             self.close(open)?;
@@ -319,7 +320,7 @@ impl Reader<'_, '_> {
     }
 
     fn close(&mut self, open: Open) -> Option<()> {
-        let last = self.end_part(open.height, open.given)?;
+        let last = self.end_branch(open.height, open.emitted)?;
         self.condition = open.around;
         match (open.region, last) {
             (Region::Right { left, sign }, Some(right)) => {
@@ -341,12 +342,12 @@ impl Reader<'_, '_> {
         Some(())
     }
 
-    /// The value that a part of a conditional left, if it left one. Where it gave nothing either,
-    /// that is noted.
-    fn end_part(&mut self, height: usize, given: usize) -> Option<Option<Expression>> {
+    /// Returns the value that a branch left, if it left one. A branch that emitted nothing either is
+    /// recorded as such.
+    fn end_branch(&mut self, height: usize, emitted: usize) -> Option<Option<Expression>> {
         if self.stack.len() == height {
-            if self.reading.given.len() == given {
-                self.give(Instruction::End, None);
+            if self.reading.emitted.len() == emitted {
+                self.emit(Instruction::End, None);
             }
             return Some(None);
         }

@@ -1,20 +1,20 @@
-//! The words of what an attribute gives, with its texts in all languages.
+//! Records as text, in the form of a source and in all languages.
 
 use crate::expression::Expression;
-use crate::reading::Given;
+use crate::reading::Emitted;
 use edd_display::class_word;
-use edd_dump::words::{data_qualifiers, menu_qualifiers, quoted};
+use edd_dump::core_format::{data_qualifiers, menu_qualifiers, quoted};
 use edd_dump::{Sections, string_text, variants};
 use edd_instructions::Instruction;
 use edd_syntax::numbers::{Attr, ItemNo, StrNo};
 
-/// What says the records of an attribute.
+/// Formats the records of an attribute.
 pub(crate) struct Records<'s, 'i> {
     pub(crate) sections: &'s Sections<'i>,
     pub(crate) attribute: Attr,
 }
 
-/// A number of an attribute, by the word of the language that it stands for, if it does.
+/// A number, or the word that it stands for in this attribute.
 pub(crate) fn number_text(attribute: Attr, number: i64) -> String {
     let word = match (attribute, number) {
         (Attr::Handling | Attr::Operation, 1) => "READ",
@@ -29,23 +29,23 @@ pub(crate) fn number_text(attribute: Attr, number: i64) -> String {
 }
 
 impl Records<'_, '_> {
-    /// By what an entry of a list is found again, as the value of an enumerator or the name of a
-    /// member; what has no such key is its own.
-    pub(crate) fn key(&self, given: &Given) -> String {
-        match given.instruction {
+    /// What identifies an entry of a list, as the value of an enumerator or the name of a member. A
+    /// record without such a part identifies itself.
+    pub(crate) fn key(&self, emitted: &Emitted) -> String {
+        match emitted.instruction {
             Instruction::Enumerator { value, .. } => value.to_string(),
             Instruction::Response { number, .. } | Instruction::Element { number, .. } => {
                 number.to_string()
             }
             Instruction::Member { name, .. } => self.member_name(name),
             Instruction::Item { item, .. } => self.name(item).to_owned(),
-            _ => self.plain(given),
+            _ => self.plain(emitted),
         }
     }
 
-    /// What is given; an entry that has a key is in braces.
-    pub(crate) fn text(&self, given: &Given) -> String {
-        let rest = match given.instruction {
+    /// A record. An entry with a key stands in braces.
+    pub(crate) fn text(&self, emitted: &Emitted) -> String {
+        let rest = match emitted.instruction {
             Instruction::Enumerator { text, help, .. } => self.texts([Some(text), help]),
             Instruction::Response { class, text, .. } => {
                 let text = self.texts([Some(text), None]);
@@ -60,16 +60,16 @@ impl Records<'_, '_> {
             Instruction::Member {
                 item, label, help, ..
             } => format!(" {}{}", self.name(item), self.texts([label, help])),
-            _ => return self.plain(given),
+            _ => return self.plain(emitted),
         };
-        format!("{{{}{rest}}}", self.key(given))
+        format!("{{{}{rest}}}", self.key(emitted))
     }
 
-    /// What has no braces.
-    fn plain(&self, given: &Given) -> String {
-        match given.instruction {
+    /// A record without braces.
+    fn plain(&self, emitted: &Emitted) -> String {
+        match emitted.instruction {
             Instruction::Text(text) => self.string(text),
-            Instruction::Number => given
+            Instruction::Number => emitted
                 .value
                 .as_ref()
                 .map_or(String::new(), |value| self.number(value)),
@@ -106,7 +106,7 @@ impl Records<'_, '_> {
         self.sections.string(string).unwrap_or_default()
     }
 
-    /// A string; a text in English alone stands without its language.
+    /// A string. A text in English alone stands without its language.
     fn string(&self, string: StrNo) -> String {
         let bytes = self.bytes(string);
         let mut texts = variants(bytes);
@@ -116,7 +116,7 @@ impl Records<'_, '_> {
         }
     }
 
-    /// Texts of which each may be missing, each after a blank.
+    /// The texts that are there, each after a blank.
     fn texts(&self, texts: [Option<StrNo>; 2]) -> String {
         let texts = texts.into_iter().flatten();
         texts
@@ -124,7 +124,7 @@ impl Records<'_, '_> {
             .collect()
     }
 
-    /// The name of a member, which has no quotes.
+    /// The name of a member, without quotes.
     fn member_name(&self, string: StrNo) -> String {
         let name = variants(self.bytes(string)).next();
         name.map_or(String::new(), |name| name.text.to_owned())

@@ -1,10 +1,10 @@
-//! How many operands there are at a place of a unit that may break the rules.
+//! The depth of the stack in a unit that may break the rules.
 
 use edd_instructions::decode;
 use std::collections::HashMap;
 
-/// How many operands the instruction before leaves at a place, else the first jump to it, else 0.
-/// It judges nothing: what lacks an operand takes none.
+/// The number of operands that the previous instruction leaves at a place. If that one never goes on,
+/// it is the number that the first jump to the place leaves, or else 0. Underflow is ignored.
 pub(crate) fn depth_at(code: &[u8], place: usize) -> u8 {
     let mut by_jump = HashMap::new();
     let mut brought = Some(0);

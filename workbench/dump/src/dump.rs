@@ -1,4 +1,4 @@
-//! The whole dump.
+//! The dump as a whole.
 
 use crate::fault::{write_fault, write_header_fault};
 use crate::header::Header;
@@ -11,22 +11,22 @@ use edd_loader::{LoadFault, Spot, fault_in};
 use std::alloc::{Layout, handle_alloc_error};
 use std::fmt::{self, Formatter};
 
-/// Bytes that are printed as an image, and the first rule of images that they break.
+/// An image in printed form. `Display` prints its lines.
 pub struct Dump<'b> {
     bytes: &'b [u8],
     broken: Option<(LoadFault, Spot)>,
 }
 
 impl<'b> Dump<'b> {
-    /// Asks the core whether the bytes are an image, and where not.
-    pub fn of(bytes: &'b [u8]) -> Dump<'b> {
+    /// Asks the core for the fault of the bytes, if they have one.
+    pub fn new(bytes: &'b [u8]) -> Dump<'b> {
         match fault_in(Global, bytes) {
             Ok(broken) => Dump { bytes, broken },
             Err(AllocError) => handle_alloc_error(Layout::new::<u8>()),
         }
     }
 
-    /// The fault for which the bytes are no image, if they are none.
+    /// The fault for which `load` refuses the bytes, if it does.
     pub fn fault(&self) -> Option<LoadFault> {
         self.broken.map(|(fault, _)| fault)
     }
@@ -52,7 +52,7 @@ impl fmt::Display for Dump<'_> {
         if let Some(fault) = in_header {
             return write_header_fault(f, self.bytes, &fault);
         }
-        // Where the fault is behind the header the sections lie inside the bytes.
+        // The header is sound here, so the sections are inside the bytes.
         let Some(sections) = Sections::read(self.bytes) else {
             return Ok(());
         };
@@ -63,8 +63,8 @@ impl fmt::Display for Dump<'_> {
     }
 }
 
-/// Items, rows, elements and strings before a spot. Rows that are not all sound are not followed
-/// into the code: where they overlap an image of a few bytes would be printed at any length.
+/// Prints the items, rows, elements and strings before a fault, or all of them. Units are printed only
+/// if all rows are sound: overlapping rows could print a short piece of code any number of times.
 fn write_before(f: &mut Formatter<'_>, sections: &Sections<'_>, spot: Option<Spot>) -> fmt::Result {
     let all = usize::MAX;
     match spot {

@@ -1,5 +1,4 @@
-//! The last line of a dump of bytes that are no image: the place of the first byte that is wrong, and
-//! what should be there.
+//! Prints where the fault is: the last line of a dump of bytes that are no image.
 
 use crate::depth::depth_at;
 use crate::header::HeaderFault;
@@ -11,7 +10,7 @@ use edd_loader::{Site, Spot};
 use edd_syntax::numbers::Element;
 use std::fmt::{self, Formatter};
 
-/// The fault of a header of these bytes.
+/// Prints a fault in the header.
 pub(crate) fn write_header_fault(
     f: &mut Formatter<'_>,
     bytes: &[u8],
@@ -23,14 +22,14 @@ pub(crate) fn write_header_fault(
     }
 }
 
-/// The fault of a row, a name, a string or an instruction: its place, what is there, and what that
-/// holds. The row after the last one stands for the end of its section, and holds nothing.
+/// Prints a fault in a row, a name, a string or an instruction: its place, what is there, and its
+/// fields. The row after the last one stands for the end of its section, and has no fields.
 pub(crate) fn write_fault(
     f: &mut Formatter<'_>,
     sections: &Sections<'_>,
     spot: Spot,
 ) -> fmt::Result {
-    let (place, word, number, held) = match spot {
+    let (place, word, number, fields) = match spot {
         Spot::VariableRow(number) => {
             let place = row_place(sections.variable_rows, VARIABLE_ROW, number);
             (
@@ -55,8 +54,8 @@ pub(crate) fn write_fault(
         }
         Spot::ElementRow(number) => {
             let place = row_place(sections.element_rows, ELEMENT_ROW, number);
-            let held = sections.element(number).map(element_text);
-            (place, "element_row", number, held)
+            let fields = sections.element(number).map(element_text);
+            (place, "element_row", number, fields)
         }
         Spot::StringRow(number) => {
             let place = row_place(sections.string_rows, STRING_ROW, number);
@@ -93,17 +92,17 @@ pub(crate) fn write_fault(
         Spot::Header | Spot::Zero | Spot::SecondZero => (0, "header", 0, None),
     };
     write!(f, "fault {place} {word} {number}")?;
-    match held {
-        Some(held) => writeln!(f, " {held}"),
+    match fields {
+        Some(fields) => writeln!(f, " {fields}"),
         None => writeln!(f),
     }
 }
 
-fn text(held: Option<impl ToString>) -> Option<String> {
-    held.map(|held| held.to_string())
+fn text(fields: Option<impl ToString>) -> Option<String> {
+    fields.map(|fields| fields.to_string())
 }
 
-/// The place of a row in the image, each row having this width.
+/// The place of a row in the image.
 fn row_place(section: Section<'_>, width: usize, number: usize) -> usize {
     section.start.saturating_add(width.saturating_mul(number))
 }
@@ -119,7 +118,7 @@ fn element_text(element: Element) -> String {
     format!("array {array} variable {variable} number {number}")
 }
 
-/// The place of an instruction in its unit, how many operands it finds, and itself, where one can be
+/// The place of an instruction in its unit, the depth of the stack, and the instruction, if it can be
 /// read.
 fn instruction_text(sections: &Sections<'_>, site: Site) -> String {
     let Site { row, place } = site;

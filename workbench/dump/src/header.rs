@@ -1,11 +1,10 @@
-//! The header, field by field, also where the bytes end within it.
+//! The fields of the header, which may be incomplete.
 
 use edd_image::{CODE_LIMIT, HEADER_LENGTH, Version, code_length, total_length, version};
 use edd_loader::{LoadFault, Spot};
 use std::fmt;
 
-/// The fields in their order, and how many bytes each has. The last three are in the second version
-/// alone.
+/// The names and widths of the fields, in order. Only version 2 has the last three.
 const FIELDS: [(&str, usize); 21] = [
     ("magic", 4),
     ("version", 2),
@@ -30,7 +29,7 @@ const FIELDS: [(&str, usize); 21] = [
     ("element_rows", 4),
 ];
 
-/// A field of the header whose bytes are all there.
+/// A field of the header that is there as a whole.
 #[derive(Clone, Copy, Debug)]
 pub(crate) struct Field<'b> {
     name: &'static str,
@@ -38,7 +37,7 @@ pub(crate) struct Field<'b> {
     bytes: &'b [u8],
 }
 
-/// The fields of the header that are there as a whole.
+/// The header, as far as the bytes reach.
 pub(crate) struct Header<'b> {
     bytes: &'b [u8],
     fields: Vec<Field<'b>>,
@@ -47,14 +46,14 @@ pub(crate) struct Header<'b> {
 
 /// What is wrong with the header.
 pub(crate) enum HeaderFault<'b> {
-    /// The bytes end before it does.
+    /// The bytes end within it.
     Ends,
-    /// A field has a wrong value.
+    /// This field is wrong.
     Field(Field<'b>),
 }
 
 impl<'b> Header<'b> {
-    /// Reads the fields from the first one on, as far as the bytes reach.
+    /// Reads all fields that are there as a whole.
     pub(crate) fn read(bytes: &'b [u8]) -> Header<'b> {
         let length = header_length(bytes);
         let mut fields = Vec::new();
@@ -74,7 +73,7 @@ impl<'b> Header<'b> {
         }
     }
 
-    /// The fields to be shown before a fault. What follows a wrong magic or version means nothing.
+    /// The fields to print before a fault. After a wrong magic or version the rest means nothing.
     pub(crate) fn fields_before(&self, fault: Option<LoadFault>) -> &[Field<'b>] {
         let count = match fault {
             Some(LoadFault::Magic) => 1,
@@ -84,7 +83,7 @@ impl<'b> Header<'b> {
         self.fields.get(..count).unwrap_or(&self.fields)
     }
 
-    /// What is wrong with the header, if the fault is in it.
+    /// What is wrong, if the fault is in the header.
     pub(crate) fn fault(&self, fault: LoadFault, spot: Spot) -> Option<HeaderFault<'b>> {
         let wrong = match (fault, spot) {
             (LoadFault::Short, _) => None,
@@ -99,8 +98,8 @@ impl<'b> Header<'b> {
         Some(field.map_or(HeaderFault::Ends, |field| HeaderFault::Field(*field)))
     }
 
-    /// Which length is wrong: that of the whole, that of the code, or those of the sections, which
-    /// are laid to the count of attribute rows. None where the header is not complete.
+    /// The field with a wrong length: that of the whole, that of the code, or else the count of
+    /// attribute rows, which stands for all sections. None if the header is incomplete.
     fn wrong_length(&self) -> Option<&'static str> {
         if !self.is_complete {
             return None;
@@ -115,9 +114,9 @@ impl<'b> Header<'b> {
     }
 }
 
-/// How many bytes the header has, by the version that stands in it.
+/// The length of the header of this version.
 fn header_length(bytes: &[u8]) -> usize {
-    // The core reads the version from the bytes 4 and 5.
+    // The version is in bytes 4 and 5.
     let version = bytes.get(..6).and_then(version);
     version.map_or(HEADER_LENGTH, Version::header_size)
 }
@@ -134,7 +133,7 @@ impl Field<'_> {
     }
 }
 
-/// The name and the number; of the magic, which is made of characters, its bytes.
+/// The name and the value. The magic is printed as bytes.
 impl fmt::Display for Field<'_> {
     fn fmt(&self, f: &mut fmt::Formatter<'_>) -> fmt::Result {
         match *self.bytes {

@@ -1,14 +1,14 @@
-//! Instructions with the names and texts of what their numbers stand for.
+//! Prints instructions with the names of items and the beginnings of strings.
 
+use crate::core_format::{data_qualifiers, menu_qualifiers};
 use crate::sections::Sections;
 use crate::strings::excerpt;
-use crate::words::{data_qualifiers, menu_qualifiers};
 use edd_display::class_word;
 use edd_instructions::{Ask, Instruction, RequestArgument, decode};
 use edd_syntax::numbers::{ItemNo, StrNo, VarNo};
 use std::fmt;
 
-/// An image, and what its strings say beside their numbers.
+/// An image, and an excerpt of each string.
 pub(crate) struct Page<'p, 'b> {
     sections: &'p Sections<'b>,
     excerpts: Vec<Option<String>>,
@@ -20,7 +20,7 @@ impl<'p, 'b> Page<'p, 'b> {
         Page { sections, excerpts }
     }
 
-    /// Prints the instructions of a unit with their places, up to a place where there is none.
+    /// Prints the instructions of a unit with their places, up to the first unreadable one.
     pub(crate) fn write_unit(&self, f: &mut fmt::Formatter<'_>, code: &[u8]) -> fmt::Result {
         let mut place = 0;
         while let Some((instruction, next)) = decode(code, place) {
@@ -30,7 +30,7 @@ impl<'p, 'b> Page<'p, 'b> {
         Ok(())
     }
 
-    /// An instruction as it is printed.
+    /// An instruction in its printed form.
     pub(crate) fn shown(&self, instruction: Instruction) -> impl fmt::Display {
         Shown {
             page: self,
@@ -38,7 +38,7 @@ impl<'p, 'b> Page<'p, 'b> {
         }
     }
 
-    /// The number of a variable or another item, and its name.
+    /// The number and the name of an item.
     fn numbered(&self, item: ItemNo) -> String {
         numbered(self.sections, item)
     }
@@ -47,7 +47,7 @@ impl<'p, 'b> Page<'p, 'b> {
         self.numbered(ItemNo::Variable(variable))
     }
 
-    /// The number of a string and what it says.
+    /// The number of a string, and its excerpt.
     fn string(&self, string: StrNo) -> String {
         match self.excerpts.get(usize::from(string.0)) {
             Some(Some(excerpt)) => format!("{} {excerpt}", string.0),
@@ -55,7 +55,7 @@ impl<'p, 'b> Page<'p, 'b> {
         }
     }
 
-    /// A text that may be missing, behind its word and a blank.
+    /// An optional text, preceded by its word.
     fn optional(&self, word: &str, text: Option<StrNo>) -> String {
         text.map_or(String::new(), |text| {
             format!(" {word} {}", self.string(text))
@@ -63,7 +63,7 @@ impl<'p, 'b> Page<'p, 'b> {
     }
 }
 
-/// The number of an item, and its name where there is such an item.
+/// The number of an item, and its name if it exists.
 pub(crate) fn numbered(sections: &Sections<'_>, item: ItemNo) -> String {
     match sections.name(item) {
         Some(name) => format!("{} {name}", item.index()),
@@ -71,7 +71,7 @@ pub(crate) fn numbered(sections: &Sections<'_>, item: ItemNo) -> String {
     }
 }
 
-/// The kind of an item, its number and its name.
+/// The kind, the number and the name of an item.
 pub(crate) fn item_text(sections: &Sections<'_>, item: ItemNo) -> String {
     format!("{} {}", item.kind().word(), numbered(sections, item))
 }
@@ -120,7 +120,7 @@ impl Page<'_, '_> {
         Ok(())
     }
 
-    /// An instruction that records something, or that has no operands.
+    /// Prints an instruction that emits a record, or that has no operands in the code.
     fn write_record(&self, f: &mut fmt::Formatter<'_>, instruction: Instruction) -> fmt::Result {
         match instruction {
             Instruction::Text(text) => write!(f, "Text {}", self.string(text)),
@@ -168,7 +168,7 @@ impl Page<'_, '_> {
                 write!(f, "Element {number} {variable}")?;
                 self.write_texts(f, label, help)
             }
-            // Of the others the word is the core's name.
+            // The name of the variant is the whole line.
             Instruction::Operate(operator) => write!(f, "{operator:?}"),
             Instruction::Compare(comparison) => write!(f, "{comparison:?}"),
             other => write!(f, "{other:?}"),

@@ -1,4 +1,4 @@
-//! The lines of a dump but for those of faults and instructions.
+//! Prints sections, items, elements, strings and attribute rows.
 
 use crate::instructions::{Page, item_text};
 use crate::sections::{AttributeRow, Sections};
@@ -7,7 +7,7 @@ use edd_display::type_word;
 use edd_syntax::numbers::{Attr, ItemNo};
 use std::fmt::{self, Formatter};
 
-/// The sections: where each starts, and how many bytes it has.
+/// Prints the start and the length of each section.
 pub(crate) fn write_sections(f: &mut Formatter<'_>, sections: &Sections<'_>) -> fmt::Result {
     let elements = sections.has_elements.then_some(sections.element_rows);
     let all = [
@@ -29,7 +29,7 @@ pub(crate) fn write_sections(f: &mut Formatter<'_>, sections: &Sections<'_>) -> 
     Ok(())
 }
 
-/// The first `count` items, by kind and number.
+/// Prints the first `count` items.
 pub(crate) fn write_items(
     f: &mut Formatter<'_>,
     sections: &Sections<'_>,
@@ -50,7 +50,7 @@ pub(crate) fn write_items(
     Ok(())
 }
 
-/// The first `count` elements of arrays.
+/// Prints the first `count` elements of arrays.
 pub(crate) fn write_elements(
     f: &mut Formatter<'_>,
     sections: &Sections<'_>,
@@ -66,7 +66,7 @@ pub(crate) fn write_elements(
     Ok(())
 }
 
-/// The first `count` strings.
+/// Prints the first `count` strings.
 pub(crate) fn write_strings(
     f: &mut Formatter<'_>,
     sections: &Sections<'_>,
@@ -83,7 +83,7 @@ pub(crate) fn write_strings(
     Ok(())
 }
 
-/// The first `count` attribute rows without their units, which may overlap.
+/// Prints the first `count` attribute rows without their units, which may overlap.
 pub(crate) fn write_rows(
     f: &mut Formatter<'_>,
     sections: &Sections<'_>,
@@ -95,7 +95,7 @@ pub(crate) fn write_rows(
     Ok(())
 }
 
-/// All attribute rows, and the instructions of each one's unit.
+/// Prints all attribute rows, each with the instructions of its unit.
 pub(crate) fn write_units(f: &mut Formatter<'_>, sections: &Sections<'_>) -> fmt::Result {
     let page = Page::new(sections);
     for (number, row) in sections.rows().enumerate() {

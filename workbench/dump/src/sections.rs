@@ -1,4 +1,4 @@
-//! The sections of bytes whose lengths add up, and the rows in them.
+//! The sections of an image and their rows.
 
 use edd_image::{
     ATTRIBUTE_ROW, Counts, ELEMENT_ROW, HEADER_LENGTH, NAME_ROW, STRING_ROW, VARIABLE_ROW, VarKind,
@@ -12,10 +12,10 @@ use edd_image::{
 use edd_syntax::numbers::{ArrNo, Attr, Element, ItemNo, KINDS, Kind, StrNo, VarNo};
 use std::fmt;
 
-/// The longest name that is read. Rows of damaged images could name the same bytes again and again.
+/// The longest name that is read. In a damaged image many rows may refer to the same long bytes.
 const LONGEST_NAME: u32 = 255;
 
-/// The sections of an image, read as far as they make sense: rows may break the rules of images.
+/// The sections of an image. Their rows may break the rules of images.
 ///
 /// ```
 /// use edd_dump::{Sections, variants};
@@ -42,19 +42,19 @@ pub struct Sections<'b> {
     pub(crate) strings: Section<'b>,
 }
 
-/// A section: its bytes and the place of the first one.
+/// A section: its place in the image, and its bytes.
 #[derive(Clone, Copy, Debug)]
 pub(crate) struct Section<'b> {
     pub(crate) start: usize,
     pub(crate) bytes: &'b [u8],
 }
 
-/// A part of a section, which may lie outside of it.
+/// A part of a section, as a row claims it. It may lie outside.
 #[derive(Clone, Copy, Debug, PartialEq, Eq)]
 pub struct Span {
-    /// Its place in the section.
+    /// The place of its first byte in the section.
     pub start: u32,
-    /// How many bytes it has.
+    /// The number of bytes.
     pub length: u32,
 }
 
@@ -72,16 +72,17 @@ pub struct AttributeRow {
     pub kind: u8,
     /// The number of the attribute.
     pub attribute: u8,
-    /// The item's number among those of its kind.
+    /// The number of the item among those of its kind.
     pub item: u16,
-    /// The position of a transaction, the slots of a method, or 0.
+    /// The position of a transaction, the number of slots of a method, or 0.
     pub sub: u16,
-    /// Its unit in the code.
+    /// The unit in the code.
     pub unit: Span,
 }
 
 impl<'b> Sections<'b> {
-    /// The sections, where there is a whole header of a known version, and they lie inside the bytes.
+    /// Locates the sections. Returns None if the header is incomplete, its version unknown, or a
+    /// section outside of the bytes.
     pub fn read(bytes: &'b [u8]) -> Option<Sections<'b>> {
         if bytes.len() < HEADER_LENGTH {
             return None;
@@ -117,7 +118,7 @@ impl<'b> Sections<'b> {
         self.counts
     }
 
-    /// The items, by kind and number.
+    /// All items, by kind and number.
     pub fn items(&self) -> impl Iterator<Item = ItemNo> + use<> {
         let counts = self.counts;
         KINDS
@@ -130,7 +131,7 @@ impl<'b> Sections<'b> {
         items_of(self.counts, kind)
     }
 
-    /// The name of an item, where there is such an item and its name is text.
+    /// The name of an item. None if there is no such item, or its name cannot be read.
     pub fn name(&self, item: ItemNo) -> Option<&'b str> {
         if !self.counts.has_item(item) {
             return None;
@@ -145,7 +146,7 @@ impl<'b> Sections<'b> {
         str::from_utf8(self.names.part(span)?).ok()
     }
 
-    /// The type and the size of a variable, where its row has a valid one.
+    /// The type and the size of a variable. None if there is no such variable, or its row is invalid.
     pub fn variable(&self, number: VarNo) -> Option<VarKind> {
         let row = self.variable_row(usize::from(number.0))?;
         let var_type = type_of(row.kind)?;
@@ -156,23 +157,23 @@ impl<'b> Sections<'b> {
         })
     }
 
-    /// The attribute rows in their order.
+    /// The attribute rows, in order.
     pub fn rows(&self) -> impl Iterator<Item = AttributeRow> + use<'b> {
         let rows = self.attribute_rows.bytes.chunks_exact(ATTRIBUTE_ROW);
         rows.map(AttributeRow::read)
     }
 
-    /// The code of a row, where it lies inside of the section.
+    /// The code of a row. None if it lies outside of the section.
     pub fn unit(&self, row: &AttributeRow) -> Option<&'b [u8]> {
         self.code.part(row.unit)
     }
 
-    /// The bytes of a string, where there is such a string and it lies inside of the section.
+    /// The bytes of a string. None if there is no such string, or it lies outside of the section.
     pub fn string(&self, number: StrNo) -> Option<&'b [u8]> {
         self.strings.part(self.string_span(usize::from(number.0))?)
     }
 
-    /// The strings by their numbers; one that lies outside of the section is empty.
+    /// All strings, by number. One that lies outside of the section is empty.
     pub fn strings(&self) -> impl Iterator<Item = &'b [u8]> {
         let numbers = (0..self.counts.strings).map(StrNo);
         numbers.map(|number| self.string(number).unwrap_or_default())
@@ -187,7 +188,7 @@ impl<'b> Sections<'b> {
         })
     }
 
-    /// Where the name at a place is, counted over the items of all kinds.
+    /// The span of a name, by its index among the items of all kinds.
     pub(crate) fn name_span(&self, place: usize) -> Option<Span> {
         let row = self.name_rows.row(NAME_ROW, place)?;
         Some(Span {
@@ -201,7 +202,7 @@ impl<'b> Sections<'b> {
         Some(AttributeRow::read(row))
     }
 
-    /// The fields of an element row, whether or not there are such an array and such a variable.
+    /// The fields of an element row. Its array and its variable need not exist.
     pub(crate) fn element(&self, number: usize) -> Option<Element> {
         let row = self.element_rows.row(ELEMENT_ROW, number)?;
         Some(Element {
@@ -263,7 +264,7 @@ impl AttributeRow {
         }
     }
 
-    /// The item and the attribute, where there are such a kind and such an attribute.
+    /// The item and the attribute. None if there is no such kind or attribute; the item need not exist.
     pub fn names(&self) -> Option<(ItemNo, Attr)> {
         let item = ItemNo::from_numbers(self.kind, self.item)?;
         Some((item, Attr::from_number(self.attribute)?))

@@ -1,23 +1,22 @@
 //! The strings of an image: variants by language, or a key of a dictionary.
 
-use crate::words::quoted;
+use crate::core_format::quoted;
 use edd_loader::variant_from;
 use std::iter;
 
-/// How many bytes of a text are shown beside an instruction. Code can name one string millions of
-/// times.
+/// The longest excerpt in bytes. Code can refer to one long string millions of times.
 const LONGEST_EXCERPT: usize = 60;
 
 /// The text of a string in one language.
 #[derive(Clone, Copy, Debug, PartialEq, Eq)]
 pub struct Variant<'b> {
-    /// The code of the language, as `en`.
+    /// The code of the language, such as `en`.
     pub code: &'b str,
     /// The text.
     pub text: &'b str,
 }
 
-/// The variants of a string, up to the first that cannot be read. A key has none.
+/// The variants of a string, up to the first unreadable one. A key has none.
 pub fn variants(string: &[u8]) -> impl Iterator<Item = Variant<'_>> {
     let mut rest = string.strip_prefix(&[0]).unwrap_or_default();
     iter::from_fn(move || {
@@ -29,13 +28,13 @@ pub fn variants(string: &[u8]) -> impl Iterator<Item = Variant<'_>> {
     })
 }
 
-/// The key of a string that has no variants.
+/// The key that a string is, if it is one.
 fn key(string: &[u8]) -> Option<&str> {
     let key = string.strip_prefix(&[1])?;
     Some(str::from_utf8(key).unwrap_or_default())
 }
 
-/// The texts of a string with their languages, or its key in brackets.
+/// The texts of a string with their languages, or the key in brackets.
 ///
 /// ```
 /// assert_eq!(edd_dump::string_text(b"\0\x02en\0\0\0\x01Y"), r#"en "Y""#);
@@ -49,8 +48,7 @@ pub fn string_text(string: &[u8]) -> String {
     texts.collect::<Vec<_>>().join(" ")
 }
 
-/// What stands beside the number of a string: the beginning of its text in English, or else of its
-/// first one, or its key.
+/// The beginning of the English text, or else of the first one; or the key.
 pub(crate) fn excerpt(string: &[u8]) -> Option<String> {
     if let Some(key) = key(string) {
         return Some(format!("[{key}]"));

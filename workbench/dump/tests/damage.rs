@@ -70,7 +70,7 @@ fn image() -> Vec<u8> {
 
 /// Dumps bytes and compares the fault with that of `load`.
 fn check(bytes: &[u8]) {
-    let dump = Dump::of(bytes);
+    let dump = Dump::new(bytes);
     let wanted = load(Global, bytes).err();
     assert_eq!(dump.fault(), wanted);
     let lines = dump.to_string();
@@ -85,7 +85,7 @@ fn check(bytes: &[u8]) {
 fn a_whole_image_has_no_fault() {
     let image = image();
     check(&image);
-    let lines = Dump::of(&image).to_string();
+    let lines = Dump::new(&image).to_string();
     for line in [
         "header version 2",
         "variable 0 flow INTEGER 2",

@@ -90,7 +90,7 @@ fn dump_file<'a, F: Files, W: Write>(
     out: &mut W,
 ) -> Result<(), Stop<'a>> {
     let bytes = read(alloc, files, image)?;
-    let dump = Dump::of(&bytes);
+    let dump = Dump::new(&bytes);
     print(&dump, out)?;
     match dump.fault() {
         Some(fault) => Err(Stop::from(fault)),

@@ -1,8 +1,8 @@
-//! What the core prints of texts and qualifiers, as std strings.
+//! The core's format of texts and qualifiers, as std strings.
 //!
 //! ```
-//! assert_eq!(edd_dump::words::quoted("10\t\"bar\""), r#""10\t\"bar\"""#);
-//! assert_eq!(edd_dump::words::menu_qualifiers(6), "(READ_ONLY HIDDEN)");
+//! assert_eq!(edd_dump::core_format::quoted("10\t\"bar\""), r#""10\t\"bar\"""#);
+//! assert_eq!(edd_dump::core_format::menu_qualifiers(6), "(READ_ONLY HIDDEN)");
 //! ```
 
 use core_std::alloc::Global;
@@ -25,7 +25,7 @@ pub fn data_qualifiers(bits: u8) -> String {
     printed(|line| push_qualifiers(line, u16::from(bits), &DATA_QUALIFIERS))
 }
 
-/// What the core appends to a line, which fails for lack of memory alone.
+/// What the core appends to a line. It fails only when it is out of memory.
 fn printed<E>(print: impl FnOnce(&mut CoreString) -> Result<(), E>) -> String {
     let mut line = CoreString::new(Global);
     match print(&mut line) {
