@@ -4,14 +4,12 @@ import os
 from . import ordinary, workspace
 
 WORKBENCH = ordinary.WORKBENCH
-FOLDER = os.path.join(WORKBENCH, "core")
+FOLDER = os.path.join(WORKBENCH, ordinary.CORE)
 
 
 def packages():
     """The places of all packages of the workbench."""
-    folders = sorted(os.listdir(WORKBENCH))
-    places = [it for it in folders if it != os.path.basename(FOLDER)] + list(ordinary.places().values())
-    return [it for it in dict.fromkeys(places) if os.path.isfile(os.path.join(WORKBENCH, it, "Cargo.toml"))]
+    return [*ordinary.places().values(), ordinary.LIBRARY]
 
 
 def edition():

@@ -1,4 +1,5 @@
-"""The packages of ordinary Rust over the core: the program in `workbench/cli`, and the crates of `workbench/legacy`.
+"""The packages of ordinary Rust over the core: the program in `workbench/cli` and the packages beside it, and those of
+`workbench/legacy`.
 
 In the checkout they name the core by its place in `workbench/core`. In an edition its crates stand beside them.
 """
@@ -9,8 +10,10 @@ from typing import NamedTuple
 from . import repository
 
 WORKBENCH = os.path.join(repository.TOP, "workbench")
-# The package of the program, its folder and its binary, and the folder of the other packages.
-PROGRAM, CLI, BINARY, LEGACY = "edd-cli", "cli", "edd", "legacy"
+# The package of the program, its folder and its binary.
+PROGRAM, CLI, BINARY = "edd-cli", "cli", "edd"
+# The folders of the core, of the packages that were written for the prover, and of the library, which is in no edition.
+CORE, LEGACY, LIBRARY = "core", "legacy", "edd"
 # What a manifest names by a path, without the way up.
 NAMED = re.compile(r'path = "(?:\.\./)+([\w/]+)"')
 # The way to the core in the checkout.
@@ -26,9 +29,11 @@ class Needs(NamedTuple):
 
 
 def places():
-    """The places of the packages below the workbench, by their names: that of the program is its folder's."""
+    """The places of the packages below the workbench, by the names of their folders."""
+    tops = [it for it in sorted(os.listdir(WORKBENCH)) if it not in (CORE, LEGACY, LIBRARY)]
     legacy = sorted(os.listdir(os.path.join(WORKBENCH, LEGACY)))
-    return {CLI: CLI, **{name: f"{LEGACY}/{name}" for name in legacy}}
+    found = {**{name: name for name in tops}, **{name: f"{LEGACY}/{name}" for name in legacy}}
+    return {name: place for name, place in found.items() if os.path.isfile(os.path.join(WORKBENCH, place, "Cargo.toml"))}
 
 
 def manifest(place):

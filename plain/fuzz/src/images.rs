@@ -3,12 +3,12 @@ use crate::counts::Counts;
 use crate::dice::Dice;
 use crate::sessions;
 use edd_display::show;
+use edd_dump::Dump;
 use edd_loader::{Image, load};
 use edd_machine::{Values, attribute, set_fault};
 use edd_plain_std::alloc::Global;
 use edd_plain_std::vec::Vec as List;
 use edd_syntax::numbers::{ATTRIBUTES, AttrRef, CmdNo, ItemNo, MenuNo, MethNo, VarNo};
-use legacy_dump::dump;
 
 /// The longest image whose dump is compared; longer ones take most of the time.
 const DUMPED: usize = 1 << 14;
@@ -18,11 +18,11 @@ pub fn tried(bytes: &[u8], dice: &mut Dice, counts: &mut Counts) -> Result<bool,
     let loaded = load(Global, bytes);
     let said = loaded.as_ref().err().map(ToString::to_string);
     if bytes.len() <= DUMPED {
-        let mut lines = List::new(Global);
-        match dump(Global, bytes, &mut lines) {
-            Ok(fault) if fault.as_ref().map(ToString::to_string) == said => {}
-            Ok(fault) => return Err(format!("dump says {fault:?}, load {said:?}")),
-            Err(fault) => return Err(format!("dump has no answer: {fault:?}")),
+        let dump = Dump::new(bytes);
+        let lines = dump.to_string();
+        let fault = dump.fault().as_ref().map(ToString::to_string);
+        if fault != said || lines.contains("\nfault ") != fault.is_some() {
+            return Err(format!("dump says {fault:?}, load {said:?}"));
         }
     }
     let Ok(image) = loaded else {

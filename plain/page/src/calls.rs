@@ -4,10 +4,12 @@ use crate::blocks::{Held, held, new_block};
 use crate::desk::Desk;
 use crate::{editing, json, places, states};
 use edd_compiler::Fault;
-use edd_display::ShowFault;
+use edd_dump::Dump;
 use edd_loader::LoadFault;
 use legacy_check::{Choices, Format, ReportFault};
 use std::alloc::{AllocError, Global};
+use std::fmt;
+use std::string::String;
 use std::vec::Vec;
 
 /// The statuses of calls: it gives something, a line that says why not, or nothing since there was no
@@ -178,11 +180,11 @@ pub extern "C" fn load(image: u32) -> u32 {
 }
 
 fn dump_image(image: &[u8]) -> Result<Vec<u8>, Stop> {
-    let mut lines = Vec::new(Global);
-    match legacy_dump::dump(Global, image, &mut lines) {
-        Ok(_) => Ok(lines),
-        // A list of bytes fails only for lack of memory.
-        Err(ShowFault::Memory | ShowFault::Output | ShowFault::WrongValues) => Err(Stop::Memory),
+    let mut lines = String::new(Global);
+    match fmt::write(&mut lines, format_args!("{}", Dump::new(image))) {
+        Ok(()) => Ok(lines.into_bytes()),
+        // A text fails only for lack of memory.
+        Err(fmt::Error) => Err(Stop::Memory),
     }
 }
 

@@ -4,6 +4,7 @@ use crate::texts::{device_fault_text, words_text};
 use crate::{Stop, json};
 use core::str::from_utf8;
 use edd_device::{Device, DeviceFault};
+use edd_dump::{Sections, variants};
 use edd_instructions::Request;
 use edd_loader::{Image, LoadFault, load};
 use edd_machine::{Values, ValuesFault};
@@ -11,8 +12,6 @@ use edd_panel::{Command, Happened, Panel, start_values};
 use edd_port::Turn;
 use edd_syntax::answer::Answer;
 use edd_syntax::numbers::{ItemNo, MethNo, VarNo};
-use legacy_fault_places::sections::Sections;
-use legacy_fault_places::variants::first_variant;
 use legacy_panel_lines::{
     TextSink, push_answer, push_end, push_happened, push_request, push_start,
 };
@@ -279,19 +278,12 @@ impl Desk {
 
     pub fn languages(&self) -> Result<Vec<&'static str>, Stop> {
         let mut codes: Vec<&'static str> = Vec::new(Global);
-        let Some(sections) = Sections::of(self.panel.image().bytes()) else {
+        let Some(sections) = Sections::read(self.panel.image().bytes()) else {
             return Ok(codes);
         };
-        for number in 0..sections.string_count() {
-            let Some([0, rest @ ..]) = sections.string(number) else {
-                continue;
-            };
-            let mut rest: &'static [u8] = rest;
-            while let Some(found) = first_variant(rest) {
-                if !codes.contains(&found.code) && codes.len() < MOST_LANGUAGES {
-                    codes.push(found.code)?;
-                }
-                rest = found.behind;
+        for found in sections.strings().flat_map(variants) {
+            if !codes.contains(&found.code) && codes.len() < MOST_LANGUAGES {
+                codes.push(found.code)?;
             }
         }
         Ok(codes)

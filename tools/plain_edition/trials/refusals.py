@@ -59,7 +59,7 @@ def commands(examples):
     yield from ((["try", source, "calibrate", "--device", device], (1, 4)), (["test", "one.test"], (1,)))
     yield from ((["compile", source, "made"], (1,)), (["view", source, script], (1, 2)), (["check", source], (1,)))
     yield from ((["check", "wrong"], (1,)), (["check", "wrong", "--format", "json"], (1,)), (["show", "image"], (1,)))
-    yield from ((["dump", "image"], (1,)), (["play", "image", "calibrate", script], (1, 3)), (["try", source, "calibrate", script], (1, 3)))
+    yield from ((["play", "image", "calibrate", script], (1, 3)), (["try", source, "calibrate", script], (1, 3)))
 
 
 def of_program(score, program):

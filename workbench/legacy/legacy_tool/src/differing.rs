@@ -3,9 +3,10 @@ use std::prelude::v1::*;
 
 use crate::devices::compiled;
 use crate::opening::is_image;
+use crate::printing::print;
+use edd_diff::Differences;
 use edd_loader::{Image, LoadFault, load};
 use legacy_command_line::Form;
-use legacy_differences::{differences, print_lines, print_objects};
 use legacy_files::{Files, Stop, read};
 use std::alloc::Global;
 use std::io::Write;
@@ -28,18 +29,21 @@ fn loaded<'a, 'b>(alloc: Global, name: &'a str, bytes: &'b [u8]) -> Result<Image
 
 // Prints what differs between two images.
 fn print_differences<'a, W: Write>(
-    alloc: Global,
     old: &Image<'_>,
     new: &Image<'_>,
     form: Form,
     out: &mut W,
 ) -> Result<(), Stop<'a>> {
-    let found = differences(alloc, old, new)?;
+    let differences = Differences::between(old, new);
     match form {
-        Form::Json => print_objects(alloc, &found, out)?,
-        Form::Text | Form::Sarif => print_lines(alloc, &found, out)?,
+        // Writing JSON into a text fails for want of memory at most.
+        Form::Json => match differences.to_json_lines() {
+            Ok(lines) => print(&lines, out)?,
+            Err(_) => return Err(Stop::Memory),
+        },
+        Form::Text | Form::Sarif => print(&differences, out)?,
     }
-    if found.is_empty() {
+    if differences.all().is_empty() {
         Ok(())
     } else {
         Err(Stop::Shown)
@@ -59,7 +63,7 @@ fn diff_bytes<'a, W: Write>(
     let new_bytes = image_bytes(alloc, new_name, new.1)?;
     let old_image = loaded(alloc, old_name, &old_bytes)?;
     let new_image = loaded(alloc, new_name, &new_bytes)?;
-    print_differences(alloc, &old_image, &new_image, form, out)
+    print_differences(&old_image, &new_image, form, out)
 }
 
 /// Prints what differs between two sources or images.

@@ -13,6 +13,7 @@ mod explaining;
 mod formatting;
 mod opening;
 mod playing;
+mod printing;
 mod requests;
 mod running;
 mod serving;

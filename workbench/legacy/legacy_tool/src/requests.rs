@@ -7,15 +7,16 @@ use crate::differing::diff_files;
 use crate::explaining::print_asked;
 use crate::formatting::format_named;
 use crate::opening::open_named;
+use crate::printing::print;
 use crate::running::{play_file, try_source};
 use crate::serving::serve;
 use crate::taking::take;
 use crate::testing::test_named;
 use edd_display::show;
+use edd_dump::Dump;
 use edd_loader::{Image, load};
 use edd_machine::Values;
 use legacy_command_line::{Request, Showing};
-use legacy_dump::dump;
 use legacy_files::{Files, Stop, read};
 use legacy_stops::{image_of_source, told, with_hint, with_script_shown};
 use std::alloc::Global;
@@ -89,7 +90,9 @@ fn dump_file<'a, F: Files, W: Write>(
     out: &mut W,
 ) -> Result<(), Stop<'a>> {
     let bytes = read(alloc, files, image)?;
-    match dump(alloc, &bytes, out)? {
+    let dump = Dump::new(&bytes);
+    print(&dump, out)?;
+    match dump.fault() {
         Some(fault) => Err(Stop::from(fault)),
         None => Ok(()),
     }
