@@ -38,7 +38,8 @@ SLIPS = (
     ("what is held back is lost", "plain/std/src/io.rs", "let done = self.out.write_all(&self.held);", "let done = Ok(());"),
     ("a mistake of the output is overlooked", "plain/std/src/host/rt.rs", "        with_output(|out| real::io::Write::write(out, bytes))",
      "        with_output(|out| real::io::Write::write(out, bytes)).or(Ok(bytes.len()))"),
-    ("the status of a mistake in the words is 0", "plain/clap/src/lib.rs", "{ 2 } else { 0 }", "{ 0 } else { 0 }"),
+    ("the status of a mistake in the words is 0", "workbench/cli/src/lib.rs",
+     "Ok(()) if error.use_stderr() => COMMAND_LINE", "Ok(()) if error.use_stderr() => DONE"),
     ("the fields of an error are exchanged", "plain/derive/src/error.rs", "names.join(\", \")",
      "names.iter().rev().cloned().collect::<Vec<_>>().join(\", \")"),
 )

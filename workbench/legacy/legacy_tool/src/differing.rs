@@ -3,8 +3,8 @@ use std::prelude::v1::*;
 
 use crate::devices::compiled;
 use crate::opening::is_image;
+use crate::request::Form;
 use edd_loader::{Image, LoadFault, load};
-use legacy_command_line::Form;
 use legacy_differences::{differences, print_lines, print_objects};
 use legacy_files::{Files, Stop, read};
 use std::alloc::Global;
