@@ -1,4 +1,5 @@
-"""The packages of ordinary Rust over the core: the program in `workbench/cli`, and the crates of `workbench/legacy`.
+"""The packages of ordinary Rust over the core: the program in `workbench/cli`, what it is made of beside it, and the crates of
+`workbench/legacy`.
 
 In the checkout they name the core by its place in `workbench/core`. In an edition its crates stand beside them.
 """
@@ -11,6 +12,8 @@ from . import repository
 WORKBENCH = os.path.join(repository.TOP, "workbench")
 # The package of the program, its folder and its binary, and the folder of the other packages.
 PROGRAM, CLI, BINARY, LEGACY = "edd-cli", "cli", "edd", "legacy"
+# Further packages that the program is made of.
+BESIDE = ("explain",)
 # What a manifest names by a path, without the way up.
 NAMED = re.compile(r'path = "(?:\.\./)+([\w/]+)"')
 # The way to the core in the checkout.
@@ -26,9 +29,9 @@ class Needs(NamedTuple):
 
 
 def places():
-    """The places of the packages below the workbench, by their names: that of the program is its folder's."""
+    """The places of the packages below the workbench, by their names: those outside of `legacy` have their folder's."""
     legacy = sorted(os.listdir(os.path.join(WORKBENCH, LEGACY)))
-    return {CLI: CLI, **{name: f"{LEGACY}/{name}" for name in legacy}}
+    return {name: name for name in (CLI, *BESIDE)} | {name: f"{LEGACY}/{name}" for name in legacy}
 
 
 def manifest(place):

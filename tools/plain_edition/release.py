@@ -8,7 +8,7 @@ from . import packages, repository, workspace
 PAGE = """# edd, the plain edition
 
 The sources of `edd`, a compiler, image loader and method interpreter for EDDL device descriptions: the core with the contracts left
-out under which it is proved, and the ordinary Rust over it, in `cli` and `legacy`. `cargo build --release -p edd-cli` builds the
+out under which it is proved, and the ordinary Rust over it, in `cli`, `explain` and `legacy`. `cargo build --release -p edd-cli` builds the
 program, and
 
     cargo add --path FOLDER/edd_loader

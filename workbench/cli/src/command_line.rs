@@ -1,7 +1,7 @@
 //! The command line as types.
 //!
-//! A doc comment of a command or an argument is its line of the help. No struct is a group of clap's: an error would
-//! list the whole group in its usage.
+//! The doc comment of a command or an argument is its line of the help. Each struct has
+//! `group(skip)`: the usage in an error would list all arguments of a group.
 
 mod opening;
 mod running;

@@ -1,7 +1,7 @@
-//! The command line of the program `edd`, and the program over given files.
+//! The program `edd` over given files: its command line, and what each command line asks for.
 //!
-//! `clap` parses the words into [`CommandLine`], and `legacy_tool` has the commands. What they compile, refuse, run
-//! and save is decided by the core.
+//! `clap` parses the command line and prints helps and mistakes. `legacy_tool` has the commands.
+//! The core decides what they compile, refuse, run and save.
 
 mod command_line;
 mod request;
@@ -16,28 +16,27 @@ use legacy_stops::DONE;
 pub use legacy_stops::{COMMAND_LINE, FILE};
 use legacy_tool::{Files, program_files};
 
-/// Runs the program over the system's files on the words of a command line, of which the first is the program's name.
-/// Prints to `output`, and returns the exit status.
+/// Runs a command line over the system's files, as [`run`] does.
 pub fn run_on_system<W: Write>(words: Vec<String>, output: &mut W) -> u8 {
     run(words, &mut program_files(&HostRuntime), output)
 }
 
-/// Runs the program over these files on the words of a command line, of which the first is the program's name. Prints
-/// to `output`, and returns the exit status.
+/// Runs a command line over these files, prints to `output`, and returns the exit status. The first
+/// of the words is the program's name.
 pub fn run<F: Files, W: Write>(words: Vec<String>, files: &mut F, output: &mut W) -> u8 {
     let command_line = match CommandLine::try_parse_from(&words) {
         Ok(command_line) => command_line,
         Err(error) => return print_instead(&error, output),
     };
-    // The core compares each name with these before it saves under it.
+    // The core saves under a name only if these words contain it.
     let words: Vec<CoreString> = words.into_iter().map(CoreString::from_real).collect();
     legacy_tool::run(Global, &words, request::of(&command_line), files, output)
 }
 
-/// Prints a mistake in the words, or the help or the version that they ask for, and returns the exit status.
+/// Prints a mistake, a help or the version, and returns the exit status.
 fn print_instead(error: &clap::Error, output: &mut impl Write) -> u8 {
     let mut text = error.to_string();
-    // Some versions of clap leave the end of the last line out.
+    // Some versions of clap do not end the last line.
     if !text.ends_with('\n') {
         text.push('\n');
     }

@@ -17,7 +17,7 @@ fn main() -> ExitCode {
     ExitCode::from(status)
 }
 
-/// Prints that the arguments are not text, which is a mistake on the command line, and returns the exit status.
+/// Prints that the arguments are not text, and returns the exit status.
 fn report_no_words(output: &mut impl Write) -> u8 {
     match output.write_all(b"error: the arguments are not text\n") {
         Ok(()) => COMMAND_LINE,

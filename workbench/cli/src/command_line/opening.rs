@@ -35,10 +35,20 @@ pub(crate) struct Terminal {
     #[arg(long)]
     pub(crate) keys: bool,
     /// The rows of the terminal, for --keys
-    #[arg(long, value_name = "N", default_value = "24", value_parser = value_parser!(u32).range(..=MOST))]
+    #[arg(
+        long,
+        value_name = "N",
+        default_value = "24",
+        value_parser = value_parser!(u32).range(..=MOST)
+    )]
     pub(crate) rows: u32,
     /// The columns of the terminal, for --keys
-    #[arg(long, value_name = "N", default_value = "80", value_parser = value_parser!(u32).range(..=MOST))]
+    #[arg(
+        long,
+        value_name = "N",
+        default_value = "80",
+        value_parser = value_parser!(u32).range(..=MOST)
+    )]
     pub(crate) columns: u32,
     /// A read that gives nothing says that a second has passed, for --keys
     #[arg(long)]

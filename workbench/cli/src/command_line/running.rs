@@ -45,7 +45,12 @@ pub(crate) struct Run {
     #[arg(long)]
     pub(crate) device: Option<String>,
     /// The most instructions that are executed
-    #[arg(long, value_name = "N", default_value = "1000000", value_parser = value_parser!(u32).range(..=MOST_STEPS))]
+    #[arg(
+        long,
+        value_name = "N",
+        default_value = "1000000",
+        value_parser = value_parser!(u32).range(..=MOST_STEPS)
+    )]
     pub(crate) steps: u32,
     #[command(flatten)]
     pub(crate) language: Language,
