@@ -1,4 +1,4 @@
-"""Slips that are planted in the eraser and in plain/, one at a time in a copy of the checkout, and what notices each."""
+"""Slips that are planted in the eraser, in plain/ and in the program, one at a time in a copy of the checkout, and what notices each."""
 import os
 import shutil
 import signal
