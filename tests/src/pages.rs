@@ -192,7 +192,9 @@ impl Stage {
 
 /// Tries the examples of `edd explain`.
 fn try_examples(options: &Options, counts: &mut Counts, score: &mut Score) {
-    for explanation in list_explanations().filter(|explanation| options.selects(explanation.text)) {
+    let explanations =
+        list_explanations().filter(|explanation| options.selects(&explanation.to_string()));
+    for explanation in explanations {
         for example in list_examples(explanation) {
             counts.examples = counts.examples.saturating_add(1);
             let name = format!(

@@ -18,15 +18,8 @@ const NOBODY: u32 = 65534;
 
 /// Runs the program `edd` with these words after its name, over the system's files.
 pub fn run_as_edd(words: impl Iterator<Item = String>) -> u8 {
-    let words: Vec<_> = std::iter::once("edd".to_owned())
-        .chain(words)
-        .map(edd_plain_std::string::String::from_real)
-        .collect();
-    legacy_tool::run_on_system(
-        &HostRuntime,
-        &words,
-        &mut edd_plain_std::io::writer(&HostRuntime),
-    )
+    let words = std::iter::once("edd".to_owned()).chain(words).collect();
+    edd_cli::run_on_system(words, &mut edd_plain_std::io::writer(&HostRuntime))
 }
 
 /// How a process ended, and what it printed to its output and to the standard error.

@@ -1,4 +1,4 @@
-"""Slips that are planted in the eraser and in plain/, one at a time in a copy of the checkout, and what notices each."""
+"""Slips that are planted in the eraser, in plain/ and in the program, one at a time in a copy of the checkout, and what notices each."""
 import os
 import shutil
 import signal
@@ -38,7 +38,8 @@ SLIPS = (
     ("what is held back is lost", "plain/std/src/io.rs", "let done = self.out.write_all(&self.held);", "let done = Ok(());"),
     ("a mistake of the output is overlooked", "plain/std/src/host/rt.rs", "        with_output(|out| real::io::Write::write(out, bytes))",
      "        with_output(|out| real::io::Write::write(out, bytes)).or(Ok(bytes.len()))"),
-    ("the status of a mistake in the words is 0", "plain/clap/src/lib.rs", "{ 2 } else { 0 }", "{ 0 } else { 0 }"),
+    ("the status of a mistake in the words is 0", "workbench/cli/src/lib.rs",
+     "Ok(()) if error.use_stderr() => COMMAND_LINE", "Ok(()) if error.use_stderr() => DONE"),
     ("the fields of an error are exchanged", "plain/derive/src/error.rs", "names.join(\", \")",
      "names.iter().rev().cloned().collect::<Vec<_>>().join(\", \")"),
 )

@@ -5,6 +5,7 @@ use crate::desk::Desk;
 use crate::{editing, json, places, states};
 use edd_compiler::Fault;
 use edd_dump::Dump;
+use edd_explain::Explanation;
 use edd_loader::LoadFault;
 use legacy_check::{Choices, Format, ReportFault};
 use std::alloc::{AllocError, Global};
@@ -194,11 +195,15 @@ pub extern "C" fn dump(image: u32) -> u32 {
     with_bytes(image, dump_image)
 }
 
+fn explained(found: &Explanation) -> Result<Vec<u8>, Stop> {
+    json(&states::Explained::of(found)?)
+}
+
 /// What a number of a refusal means.
 #[cfg_attr(target_family = "wasm", unsafe(no_mangle))]
 pub extern "C" fn explain(number: u32) -> u32 {
-    let given = match legacy_explanations::explain(number) {
-        Some(found) => json(&states::Explained::of(found)),
+    let given = match edd_explain::by_number(number) {
+        Some(found) => explained(found),
         None => Err(Stop::Unknown),
     };
     answer(held(), given)

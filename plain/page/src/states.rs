@@ -1,5 +1,6 @@
 //! What is given of a desk, as the page shows it.
 use crate::texts::{content_text, name_text, optional_text, trap_text, words_text};
+use edd_explain::Explanation;
 use edd_image::VarKind;
 use edd_instructions::Request;
 use edd_panel::{Field, Panel, text_of_choices};
@@ -7,7 +8,6 @@ use edd_port::Turn;
 use edd_syntax::answer::Trap;
 use edd_syntax::numbers::{ItemNo, StrNo, VarNo};
 use edd_syntax::types::VarType;
-use legacy_explanations::Explanation;
 use legacy_panel_lines::{TextSink, push_kind, push_number, push_text};
 use legacy_screens::{
     Bound, Choice, Content, Leads, Row, Screen, Sheet, page_of, screen_of, sheet_of,
@@ -95,16 +95,16 @@ pub struct ValueText {
 pub struct Explained {
     number: u32,
     name: &'static str,
-    text: &'static str,
+    text: String,
 }
 
 impl Explained {
-    pub fn of(found: &Explanation) -> Explained {
-        Explained {
+    pub fn of(found: &Explanation) -> Result<Explained, AllocError> {
+        Ok(Explained {
             number: found.number,
             name: found.name,
-            text: found.text,
-        }
+            text: std::format!(in Global; "{found}\n")?,
+        })
     }
 }
 

@@ -1,7 +1,7 @@
 //! The examples of explanations, tried by the compiler.
 
+use edd_explain::Explanation;
 use edd_plain_std::alloc::Global;
-use legacy_explanations::Explanation;
 
 const IDENTIFICATION: &str = "MANUFACTURER 1, DEVICE_TYPE 2, DEVICE_REVISION 3, DD_REVISION 4\n";
 
@@ -31,24 +31,14 @@ pub fn list_examples(explanation: &Explanation) -> Vec<Example> {
     if explanation.number > LAST_OF_SOURCES {
         return Vec::new();
     }
-    let find = |(heading, is_wrong)| {
-        find_source(explanation.text, heading).map(|source| Example { source, is_wrong })
-    };
-    [("Wrong:\n\n", true), ("Right:\n\n", false)]
+    [(explanation.wrong, true), (explanation.right, false)]
         .into_iter()
-        .filter_map(find)
+        .filter_map(|(example, is_wrong)| {
+            let code = example.filter(|it| it.setting.is_none())?.code;
+            let source = format!("{IDENTIFICATION}{code}\n");
+            Some(Example { source, is_wrong })
+        })
         .collect()
-}
-
-/// The indented lines below a heading, as a source.
-fn find_source(text: &str, heading: &str) -> Option<String> {
-    let (_, below) = text.split_once(heading)?;
-    let code = below
-        .split('\n')
-        .map_while(|line| line.strip_prefix("    "));
-    Some(code.fold(IDENTIFICATION.to_owned(), |source, line| {
-        source + line + "\n"
-    }))
 }
 
 /// Compiles an example: a wrong one is refused with the number and the name of its explanation, a right one is compiled.
@@ -75,11 +65,21 @@ pub fn try_example(explanation: &Explanation, example: &Example) -> Result<(), E
 mod tests {
     use super::*;
 
-    fn faults_of(text: &'static str, name: &'static str) -> Vec<Result<(), ExampleFault>> {
+    fn faults_of(
+        name: &'static str,
+        wrong: &'static str,
+        right: &'static str,
+    ) -> Vec<Result<(), ExampleFault>> {
+        let example = |code| {
+            let setting = None;
+            Some(edd_explain::Example { setting, code })
+        };
         let explanation = Explanation {
             number: 10,
             name,
-            text,
+            meaning: "It is a test.",
+            wrong: example(wrong),
+            right: example(right),
         };
         list_examples(&explanation)
             .iter()
@@ -89,14 +89,8 @@ mod tests {
 
     #[test]
     fn examples_do_what_is_said() {
-        assert_eq!(
-            faults_of("Wrong:\n\n    VARIABLE\n\nRight:\n\n    \n", "SYNTAX"),
-            [Ok(()), Ok(())]
-        );
-        let faults = faults_of(
-            "Wrong:\n\n    VARIABLE\n\nRight:\n\n    VARIABLE\n",
-            "OTHER",
-        );
+        assert_eq!(faults_of("SYNTAX", "VARIABLE", ""), [Ok(()), Ok(())]);
+        let faults = faults_of("OTHER", "VARIABLE", "VARIABLE");
         assert!(matches!(
             faults.as_slice(),
             [
@@ -105,8 +99,8 @@ mod tests {
             ]
         ));
         assert_eq!(
-            faults_of("Wrong:\n\nno source\n", "SYNTAX"),
-            [Err(ExampleFault::Compiled)]
+            faults_of("SYNTAX", "", ""),
+            [Err(ExampleFault::Compiled), Ok(())]
         );
     }
 }

@@ -2,7 +2,6 @@
 
 use edd_plain_std::alloc::Global;
 use edd_plain_std::io::Read;
-use edd_plain_std::string::String as Word;
 use legacy_tool::{FileFault, Files};
 use std::io;
 
@@ -87,9 +86,9 @@ fn parse(words: &str) -> Option<OneFile> {
 /// Compiles the file that the words of a step say. Gives the lines and the status, if the words are right.
 pub fn compile(words: &str) -> Option<String> {
     let mut file = parse(words)?;
-    let command = COMMAND.map(|word| Word::from_real(word.to_owned()));
+    let words = COMMAND.map(str::to_owned).to_vec();
     let mut printed = edd_plain_std::vec::Vec::new(Global);
-    let status = legacy_tool::run(Global, &command, &mut file, &mut printed);
+    let status = edd_cli::run(words, &mut file, &mut printed);
     Some(format!(
         "{}status {status}\n",
         String::from_utf8_lossy(&printed)

@@ -1,6 +1,6 @@
 //! The page docs/REFUSALS.md, which is made from the explanations of the program.
 
-use legacy_explanations::{Explanation, explain};
+use edd_explain::{Explanation, all, by_number};
 use std::fmt::Write;
 
 const TITLE: &str = "# What each refusal means
@@ -49,7 +49,7 @@ const NUMBERS: u32 = 1000;
 
 /// The explanations, by their numbers.
 pub fn list_explanations() -> impl Iterator<Item = &'static Explanation> {
-    (0..NUMBERS).filter_map(explain)
+    all().into_iter()
 }
 
 /// The page.
@@ -65,8 +65,9 @@ pub fn write_refusals() -> String {
             // A text takes all that is written.
             write!(page, "\n{heading}").unwrap_or_default();
         }
-        if let Some(Explanation { name, text, .. }) = explain(number) {
-            write!(page, "\n### {number} {name}\n\n{text}").unwrap_or_default();
+        if let Some(explanation) = by_number(number) {
+            let name = explanation.name;
+            writeln!(page, "\n### {number} {name}\n\n{explanation}").unwrap_or_default();
         }
     }
     page

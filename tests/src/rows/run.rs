@@ -3,7 +3,6 @@
 use super::memory::{Calls, MemoryFiles, MemoryOutput};
 use super::row::File;
 use edd_plain_std::alloc::Global;
-use edd_plain_std::string::String as Word;
 use std::fmt::{self, Display};
 
 /// How a run ended, what it printed, what it told beside that, and what it saved last.
@@ -25,10 +24,7 @@ impl Run {
     /// assert_eq!((run.status, run.text()), (1, "refused 10 SYNTAX line 1\n".into()));
     /// ```
     pub fn in_memory(command: &str, files: &[File], calls: &Calls) -> Run {
-        let words: Vec<_> = command
-            .split(' ')
-            .map(|word| Word::from_real(word.to_owned()))
-            .collect();
+        let words = command.split(' ').map(str::to_owned).collect();
         let mut files = MemoryFiles {
             files,
             calls,
@@ -39,7 +35,7 @@ impl Run {
             printed: Vec::new(),
             calls,
         };
-        let status = legacy_tool::run(Global, &words, &mut files, &mut output);
+        let status = edd_cli::run(words, &mut files, &mut output);
         Run {
             status,
             printed: output.printed,

@@ -8,15 +8,12 @@ use edd_loader::LoadFault;
 use edd_machine::ValuesFault;
 use edd_port::PlayFault;
 use edd_script::ScriptFault;
-use legacy_command_line::NoRequest;
 use legacy_reports::ReportFault;
 use legacy_sitting::SittingFault;
 use std::alloc::{AllocError, AllocFailed, Global};
 
 /// Why the program stops before its end.
 pub enum Stop<'a> {
-    Help(String),
-    CommandLine(String),
     File(&'a str, FileFault),
     /// The same, and the reason is said.
     FileAndWhy(&'a str, FileFault),
@@ -47,16 +44,6 @@ pub enum Stop<'a> {
     /// The output could not be written.
     Output,
     Memory,
-}
-
-impl From<NoRequest> for Stop<'_> {
-    fn from(none: NoRequest) -> Self {
-        match none {
-            NoRequest::Help(text) => Stop::Help(text),
-            NoRequest::Mistake(text) => Stop::CommandLine(text),
-            NoRequest::Memory => Stop::Memory,
-        }
-    }
 }
 
 impl From<LoadFault> for Stop<'_> {

@@ -2,7 +2,7 @@
 use std::prelude::v1::*;
 
 use crate::reasons::reason_of;
-use edd_display::{ShowFault, print, print_text, printed};
+use edd_display::{ShowFault, print, printed};
 use edd_loader::LoadFault;
 use legacy_check::LINTS;
 use legacy_files::Stop;
@@ -66,7 +66,6 @@ fn refused_of<W: Write, T: Display>(
 /// Prints why the program stops.
 pub fn report<W: Write>(alloc: Global, stop: &Stop<'_>, out: &mut W) -> Result<(), ShowFault> {
     match stop {
-        Stop::Help(text) | Stop::CommandLine(text) => print_text(out, text),
         Stop::Shown => Ok(()),
         Stop::File(name, _) => print(alloc, out, format_args!("file {name}")),
         Stop::FileAndWhy(name, fault) => {
@@ -93,8 +92,7 @@ pub fn report<W: Write>(alloc: Global, stop: &Stop<'_>, out: &mut W) -> Result<(
 /// The exit status of the program that stops so, where that could be printed.
 pub fn status(stop: &Stop<'_>) -> u8 {
     match stop {
-        Stop::Help(_) => DONE,
-        Stop::CommandLine(_) | Stop::NoRefusal(_) | Stop::NoLint(_) => COMMAND_LINE,
+        Stop::NoRefusal(_) | Stop::NoLint(_) => COMMAND_LINE,
         Stop::Shown
         | Stop::NotCompiled(_)
         | Stop::NotLoaded(_)

@@ -1,8 +1,8 @@
 //! What the program does to check a source.
 use std::prelude::v1::*;
 
+use crate::request::{Checking, Form, Lints};
 use legacy_check::{Choices, Format, LINTS, Lint, Look, print_document};
-use legacy_command_line::{Checking, Form, Lints};
 use legacy_files::{Files, Source, Stop, read_sources};
 use legacy_stops::add_originals;
 use std::alloc::Global;

@@ -1,8 +1,8 @@
 //! What the program does to write an image.
 use std::prelude::v1::*;
 
+use crate::request::Writing;
 use edd_display::print;
-use legacy_command_line::Writing;
 use legacy_files::{Compiled, Files, Stop, compile_named};
 use legacy_stops::explain_refusal;
 use std::alloc::Global;

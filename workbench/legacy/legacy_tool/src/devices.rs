@@ -2,12 +2,12 @@
 use std::prelude::v1::*;
 
 use crate::playing::method_named;
+use crate::request::Run;
 use edd_compiler::{Fault, compile};
 use edd_device::{Device, Trial};
 use edd_display::show_play;
 use edd_loader::{Image, load};
 use edd_machine::Values;
-use legacy_command_line::Run;
 use legacy_files::Stop;
 use legacy_sitting::fault_text;
 use std::alloc::Global;

@@ -2,19 +2,15 @@
 use std::prelude::v1::*;
 
 use edd_display::Printer;
+use edd_explain::{Explanation, all, by_name, by_number};
 use legacy_check::{LINTS, Lint};
-use legacy_explanations::{Explanation, explain, explain_name};
 use legacy_files::Stop;
 use std::alloc::Global;
 use std::io::Write;
 
-/// No refusal has a greater number.
-const LAST: u32 = 399;
-
 fn print_refusal<W: Write>(explanation: &Explanation, printer: &mut Printer<'_, W>) {
     let (number, name) = (explanation.number, explanation.name);
-    printer.print(format_args!("{number} {name}\n"));
-    printer.print_text(explanation.text)
+    printer.print(format_args!("{number} {name}\n\n{explanation}"))
 }
 
 fn print_lint<W: Write>(lint: Lint, printer: &mut Printer<'_, W>) {
@@ -29,18 +25,16 @@ fn print_lints<W: Write>(printer: &mut Printer<'_, W>) {
 
 // The numbers and names of all refusals.
 fn print_refusals<W: Write>(printer: &mut Printer<'_, W>) {
-    for number in 1..=LAST {
-        if let Some(one) = explain(number) {
-            printer.print(format_args!("{number} {}", one.name));
-        }
+    for Explanation { number, name, .. } in all() {
+        printer.print(format_args!("{number} {name}"));
     }
 }
 
 // The refusal with a number or a name.
 fn refusal_of(what: &str) -> Option<&'static Explanation> {
     match what.parse::<u32>() {
-        Ok(number) => explain(number),
-        Err(_) => explain_name(what),
+        Ok(number) => by_number(number),
+        Err(_) => by_name(what),
     }
 }
 

@@ -2,13 +2,13 @@
 use std::prelude::v1::*;
 
 use crate::devices::compiled;
+use crate::request::{Opening, RawTerminal};
 use crate::taking::{Taken, take};
 use edd_device::Device;
 use edd_loader::{Image, load};
 use edd_machine::ValuesFault;
 use edd_panel::{Panel, start_values};
 use edd_script::parse_sets;
-use legacy_command_line::{Opening, RawTerminal};
 use legacy_files::{Files, INPUT, Stop, compile_text, of_file, save_record};
 use legacy_panel_lines::push_start;
 use legacy_sitting::{Console, Lines, Size, Terminal, converse, converse_by_keys};

@@ -1,12 +1,12 @@
 //! What the program does to run a method.
 use std::prelude::v1::*;
 
+use crate::request::Run;
 use edd_display::show_play;
 use edd_loader::{Image, load};
 use edd_machine::Values;
 use edd_port::{Transcript, play};
 use edd_syntax::numbers::{ItemNo, MethNo};
-use legacy_command_line::Run;
 use legacy_files::Stop;
 use std::alloc::Global;
 use std::io::Write;

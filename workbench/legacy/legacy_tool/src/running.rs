@@ -3,11 +3,11 @@ use std::prelude::v1::*;
 
 use crate::devices::{compiled, play_with_device};
 use crate::playing::{method_named, play_bytes};
+use crate::request::Run;
 use crate::taking::{Taken, take};
 use edd_device::Device;
 use edd_loader::{Image, load};
 use edd_script::parse;
-use legacy_command_line::Run;
 use legacy_files::{Files, Stop};
 use legacy_stops::{image_of_source, with_device_shown, with_script_shown, with_try_named};
 use legacy_tracing::{Followed, trace};

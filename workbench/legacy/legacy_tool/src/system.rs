@@ -1,15 +1,25 @@
-//! The program over the files of the system.
+//! The files of the system, as the program reads and saves them.
 use std::prelude::v1::*;
 
 use crate::{FileFault, Files};
 use edd_system::{DiskFiles, Opened, SystemDisk};
 use legacy_files::INPUT;
-use std::io::Write;
 use std::{io, rt};
 
-struct ProgramFiles<'a, R> {
+/// The files of the system, and the hints that go to its standard error.
+pub struct ProgramFiles<'a, R> {
     rt: &'a R,
     files: DiskFiles<SystemDisk<'a, R>>,
+}
+
+/// The files of the system, of which none is open.
+pub fn program_files<R: rt::Files + Input + Print + Eprint + AllocGlobal>(
+    rt: &R,
+) -> ProgramFiles<'_, R> {
+    ProgramFiles {
+        rt,
+        files: system_files(rt),
+    }
 }
 
 // The files of the system, of which none is open.
@@ -72,18 +82,4 @@ impl<R: rt::Files + Input + Print + Eprint + AllocGlobal> Files for ProgramFiles
         // There is nowhere to say that the standard error takes nothing.
         let _ = eprintln!(self.rt; "{line}");
     }
-}
-
-/// Runs the program `edd` on the words of its command line, the program's name first, over the
-/// system's files. Prints to `out`, and answers the exit status.
-pub fn run_on_system<R: rt::Files + Input + Print + Eprint + AllocGlobal, W: Write>(
-    rt: &R,
-    words: &[String],
-    out: &mut W,
-) -> u8 {
-    let mut files = ProgramFiles {
-        rt,
-        files: system_files(rt),
-    };
-    crate::run(rt.alloc(), words, &mut files, out)
 }

@@ -1,8 +1,9 @@
 //! What the program does to run the tests of a maker.
 use std::prelude::v1::*;
 
+use crate::commands::show_bytes;
 use crate::opening::{Manner, open_bytes};
-use crate::requests::show_bytes;
+use crate::request::Run;
 use crate::running::run_method;
 use crate::taking::Taken;
 use edd_cases::{
@@ -11,7 +12,6 @@ use edd_cases::{
 };
 use edd_display::{print, print_text};
 use edd_outcomes::{Ended, Tally, compare, ending_of, refusal_in};
-use legacy_command_line::Run;
 use legacy_files::{
     FileFault, Files, INPUT, Source, Stop, are_words, compile_text, read_bytes, read_sources,
     save_update,

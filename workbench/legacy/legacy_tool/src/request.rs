@@ -1,15 +1,5 @@
-//! The command line of the program `edd`: its commands, their arguments and options, as one value.
-#![no_std]
-#[macro_use]
-extern crate std;
+//! What a command line asks for, as the commands take it.
 use std::prelude::v1::*;
-
-mod arguments;
-mod forms;
-mod keys;
-mod words;
-
-use std::alloc::{AllocError, AllocFailed, Global};
 
 /// The run of a method that is asked for: at most `steps` instructions, 0 to 1,000,000,000. There is
 /// a script where there is no device.
@@ -141,35 +131,4 @@ pub enum Request<'a> {
         what: Option<&'a str>,
         is_of_lints: bool,
     },
-}
-
-/// Why a command line asks for nothing.
-pub enum NoRequest {
-    /// The help or the version that was asked for.
-    Help(String),
-    /// What is wrong with the words, for the user.
-    Mistake(String),
-    /// No memory was left.
-    Memory,
-}
-
-impl From<AllocError> for NoRequest {
-    fn from(_error: AllocError) -> NoRequest {
-        NoRequest::Memory
-    }
-}
-
-impl<T: Drop> From<AllocFailed<T>> for NoRequest {
-    fn from(_error: AllocFailed<T>) -> NoRequest {
-        NoRequest::Memory
-    }
-}
-
-/// Reads a command line, of which the first word is the program's name.
-pub fn parse<'a>(alloc: Global, words: &'a [String]) -> Result<Request<'a>, NoRequest> {
-    let command = words::command(alloc)?;
-    match command.try_get_matches_from(words) {
-        Ok(matches) => words::request(alloc, &matches),
-        Err(error) => Err(words::no_request(alloc, &error)),
-    }
 }

@@ -8,6 +8,7 @@ use crate::explaining::print_asked;
 use crate::formatting::format_named;
 use crate::opening::open_named;
 use crate::printing::print;
+use crate::request::{Request, Showing};
 use crate::running::{play_file, try_source};
 use crate::serving::serve;
 use crate::taking::take;
@@ -16,7 +17,6 @@ use edd_display::show;
 use edd_dump::Dump;
 use edd_loader::{Image, load};
 use edd_machine::Values;
-use legacy_command_line::{Request, Showing};
 use legacy_files::{Files, Stop, read};
 use legacy_stops::{image_of_source, told, with_hint, with_script_shown};
 use std::alloc::Global;
@@ -103,10 +103,11 @@ fn dump_file<'a, F: Files, W: Write>(
 pub fn answer<'a, F: Files, W: Write>(
     alloc: Global,
     words: &'a [String],
+    request: Request<'a>,
     files: &mut F,
     out: &mut W,
 ) -> Result<(), Stop<'a>> {
-    match legacy_command_line::parse(alloc, words)? {
+    match request {
         Request::Compile(writing) => told(
             write_image(alloc, words, writing, files, out),
             writing.is_explained,
