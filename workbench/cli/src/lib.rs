@@ -15,6 +15,7 @@ use core_std::string::String as CoreString;
 use legacy_stops::DONE;
 pub use legacy_stops::{COMMAND_LINE, FILE};
 use legacy_tool::{Files, program_files};
+use request::to_request;
 
 /// Runs a command line over the system's files, as [`run`] does.
 pub fn run_on_system<W: Write>(words: Vec<String>, output: &mut W) -> u8 {
@@ -30,7 +31,7 @@ pub fn run<F: Files, W: Write>(words: Vec<String>, files: &mut F, output: &mut W
     };
     // The core saves under a name only if these words contain it.
     let words: Vec<CoreString> = words.into_iter().map(CoreString::from_real).collect();
-    legacy_tool::run(Global, &words, request::of(&command_line), files, output)
+    legacy_tool::run(Global, &words, to_request(&command_line), files, output)
 }
 
 /// Prints a mistake, a help or the version, and returns the exit status.

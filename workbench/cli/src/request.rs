@@ -1,7 +1,8 @@
 //! What a command line asks for, as the commands take it.
 
 use crate::command_line::{
-    Check, CheckForm, Color, Command, CommandLine, DeviceState, DiffForm, Open, Run, Terminal,
+    Check, CheckForm, Color, Command, CommandLine, Compile, DeviceState, DiffForm, Open, Run,
+    Terminal,
 };
 use core_std::vec::Vec as CoreVec;
 use legacy_tool::{Checking, Form, Lints, Opening, RawTerminal, Request, Showing, Size, Writing};
@@ -12,58 +13,60 @@ const USUAL: Size = Size {
     columns: 80,
 };
 
-/// The request of a command line.
-pub(crate) fn of(command_line: &CommandLine) -> Request<'_> {
+/// Returns what a command line asks for.
+pub(crate) fn to_request(command_line: &CommandLine) -> Request<'_> {
     match &command_line.command {
-        Command::Compile(given) => Request::Compile(Writing {
-            source: &given.source,
-            image: &given.image,
-            is_quiet: given.quiet,
-            is_explained: given.explain,
-        }),
-        Command::View(given) => {
-            Request::View(showing(&given.source, &given.device_state, given.explain))
+        Command::Compile(args) => Request::Compile(writing(args)),
+        Command::View(args) => {
+            Request::View(showing(&args.source, &args.device_state, args.explain))
         }
-        Command::Show(given) => {
-            Request::Show(showing(&given.image, &given.device_state, given.explain))
+        Command::Show(args) => {
+            Request::Show(showing(&args.image, &args.device_state, args.explain))
         }
-        Command::Play(given) => Request::Play {
-            image: &given.image,
-            run: run(&given.run, given.explain),
+        Command::Play(args) => Request::Play {
+            image: &args.image,
+            run: run(&args.run, args.explain),
         },
-        Command::Try(given) => Request::Try {
-            source: &given.source,
-            run: run(&given.run, given.explain),
-            is_traced: given.trace,
+        Command::Try(args) => Request::Try {
+            source: &args.source,
+            run: run(&args.run, args.explain),
+            is_traced: args.trace,
         },
-        Command::Open(given) => Request::Open(opening(given)),
-        Command::Test(given) => Request::Test {
-            names: list(&given.files),
-            is_update: given.update,
+        Command::Open(args) => Request::Open(opening(args)),
+        Command::Test(args) => Request::Test {
+            names: to_list(&args.files),
+            is_update: args.update,
         },
-        Command::Check(given) => Request::Check(checking(given)),
-        Command::Fmt(given) => Request::Format {
-            names: list(&given.sources),
-            is_check: given.check,
+        Command::Check(args) => Request::Check(checking(args)),
+        Command::Fmt(args) => Request::Format {
+            names: to_list(&args.sources),
+            is_check: args.check,
         },
-        Command::Diff(given) => Request::Diff {
-            old: &given.old,
-            new: &given.new,
-            form: given.format.into(),
+        Command::Diff(args) => Request::Diff {
+            old: &args.old,
+            new: &args.new,
+            form: args.format.into(),
         },
-        Command::Dump(given) => Request::Dump {
-            image: &given.image,
-        },
-        Command::Explain(given) => Request::Explain {
-            what: given.what.as_deref(),
-            is_of_lints: given.lints,
+        Command::Dump(args) => Request::Dump { image: &args.image },
+        Command::Explain(args) => Request::Explain {
+            what: args.what.as_deref(),
+            is_of_lints: args.lints,
         },
         Command::Lsp => Request::Serve,
     }
 }
 
-fn list(texts: &[String]) -> CoreVec<&str> {
+fn to_list(texts: &[String]) -> CoreVec<&str> {
     CoreVec::from_real(texts.iter().map(String::as_str).collect())
+}
+
+fn writing(args: &Compile) -> Writing<'_> {
+    Writing {
+        source: &args.source,
+        image: &args.image,
+        is_quiet: args.quiet,
+        is_explained: args.explain,
+    }
 }
 
 fn showing<'a>(file: &'a str, state: &'a DeviceState, is_explained: bool) -> Showing<'a> {
@@ -75,36 +78,36 @@ fn showing<'a>(file: &'a str, state: &'a DeviceState, is_explained: bool) -> Sho
     }
 }
 
-fn run(given: &Run, is_explained: bool) -> legacy_tool::Run<'_> {
+fn run(args: &Run, is_explained: bool) -> legacy_tool::Run<'_> {
     legacy_tool::Run {
-        method: &given.method,
-        device: given.device.as_deref(),
-        script: given.script.as_deref(),
-        language: &given.language.code,
-        steps: given.steps.into(),
+        method: &args.method,
+        device: args.device.as_deref(),
+        script: args.script.as_deref(),
+        language: &args.language.code,
+        steps: args.steps.into(),
         is_explained,
     }
 }
 
-fn opening(given: &Open) -> Opening<'_> {
+fn opening(args: &Open) -> Opening<'_> {
     Opening {
-        file: &given.file,
-        device: given.device.as_deref(),
-        script: given.script.as_deref(),
-        language: &given.language.code,
-        record_file: given.record.as_deref(),
-        keys: raw_terminal(&given.terminal),
+        file: &args.file,
+        device: args.device.as_deref(),
+        script: args.script.as_deref(),
+        language: &args.language.code,
+        record_file: args.record.as_deref(),
+        keys: raw_terminal(&args.terminal),
     }
 }
 
 /// The terminal whose keys are read, unless lines are read.
-fn raw_terminal(given: &Terminal) -> Option<RawTerminal> {
-    (given.keys && !given.lines).then(|| RawTerminal {
+fn raw_terminal(args: &Terminal) -> Option<RawTerminal> {
+    (args.keys && !args.lines).then(|| RawTerminal {
         size: Size {
-            rows: at_least(given.rows, 2, USUAL.rows),
-            columns: at_least(given.columns, 1, USUAL.columns),
+            rows: at_least(args.rows, 2, USUAL.rows),
+            columns: at_least(args.columns, 1, USUAL.columns),
         },
-        has_seconds: given.seconds,
+        has_seconds: args.seconds,
     })
 }
 
@@ -116,15 +119,15 @@ fn at_least(count: u32, least: usize, usual: usize) -> usize {
     }
 }
 
-fn checking(given: &Check) -> Checking<'_> {
+fn checking(args: &Check) -> Checking<'_> {
     Checking {
-        names: list(&given.sources),
+        names: to_list(&args.sources),
         lints: Lints {
-            allowed: list(&given.allow),
-            denied: list(&given.deny),
+            allowed: to_list(&args.allow),
+            denied: to_list(&args.deny),
         },
-        form: given.format.into(),
-        is_coloured: given.color == Color::Always,
+        form: args.format.into(),
+        is_coloured: args.color == Color::Always,
     }
 }
 
@@ -158,7 +161,7 @@ mod tests {
 
     fn keys(words: &str) -> Option<(usize, usize)> {
         let command_line = parse(words);
-        let Request::Open(opening) = of(&command_line) else {
+        let Request::Open(opening) = to_request(&command_line) else {
             panic!("{words} opens nothing");
         };
         opening.keys.map(|keys| (keys.size.rows, keys.size.columns))
@@ -183,7 +186,7 @@ mod tests {
     #[test]
     fn lists_keep_their_order() {
         let line = parse("edd check a --deny x b --allow y --deny z --color always");
-        let Request::Check(checking) = of(&line) else {
+        let Request::Check(checking) = to_request(&line) else {
             panic!("nothing is checked");
         };
         assert_eq!(checking.names.as_slice(), ["a", "b"]);
@@ -195,7 +198,7 @@ mod tests {
     #[test]
     fn a_device_stands_for_a_script() {
         let line = parse("edd try s m --device d --lang -x");
-        let Request::Try { source, run, .. } = of(&line) else {
+        let Request::Try { source, run, .. } = to_request(&line) else {
             panic!("nothing is tried");
         };
         assert_eq!((source, run.method, run.language), ("s", "m", "-x"));
