@@ -3,7 +3,7 @@
 use crate::expression::Expression;
 use crate::reading::Emitted;
 use edd_display::class_word;
-use edd_dump::core_format::{data_qualifiers, menu_qualifiers, quoted};
+use edd_dump::core_format::{mask_and_qualifiers, menu_qualifiers, quoted};
 use edd_dump::{Sections, string_text, variants};
 use edd_instructions::Instruction;
 use edd_syntax::numbers::{Attr, ItemNo, StrNo};
@@ -69,32 +69,25 @@ impl Records<'_, '_> {
     fn plain(&self, emitted: &Emitted) -> String {
         match emitted.instruction {
             Instruction::Text(text) => self.string(text),
-            Instruction::Number => emitted
-                .value
-                .as_ref()
-                .map_or(String::new(), |value| self.number(value)),
+            Instruction::Number => self.number(emitted.value.as_ref()),
             Instruction::Item { item, quals } => {
                 format!("{}{}", self.name(item), menu_qualifiers(quals))
             }
             Instruction::DataConst(number) => number.to_string(),
             Instruction::DataVar { var, mask, quals } => {
                 let name = self.name(ItemNo::Variable(var));
-                let mask = if mask == 0 {
-                    String::new()
-                } else {
-                    format!("<{mask}>")
-                };
-                format!("{name}{mask}{}", data_qualifiers(quals))
+                format!("{name}{}", mask_and_qualifiers(mask, quals))
             }
             Instruction::End => "nothing".to_owned(),
             _ => String::new(),
         }
     }
 
-    fn number(&self, value: &Expression) -> String {
-        match value.constant {
-            Some(constant) => number_text(self.attribute, constant),
-            None => value.text.clone(),
+    fn number(&self, value: Option<&Expression>) -> String {
+        match value.map(|value| (value.constant, &value.text)) {
+            Some((Some(constant), _)) => number_text(self.attribute, constant),
+            Some((None, text)) => text.clone(),
+            None => String::new(),
         }
     }
 

@@ -3,6 +3,7 @@
 //! ```
 //! assert_eq!(edd_dump::core_format::quoted("10\t\"bar\""), r#""10\t\"bar\"""#);
 //! assert_eq!(edd_dump::core_format::menu_qualifiers(6), "(READ_ONLY HIDDEN)");
+//! assert_eq!(edd_dump::core_format::mask_and_qualifiers(15, 1), "<15>(INFO)");
 //! ```
 
 use core_std::alloc::Global;
@@ -20,9 +21,13 @@ pub fn menu_qualifiers(bits: u16) -> String {
     printed(|line| push_qualifiers(line, bits, &MENU_QUALIFIERS))
 }
 
-/// The qualifiers of a variable in a message in parentheses; empty where it has none.
-pub fn data_qualifiers(bits: u8) -> String {
-    printed(|line| push_qualifiers(line, u16::from(bits), &DATA_QUALIFIERS))
+/// What follows the name of a variable in a message: its mask and its qualifiers, if it has some.
+pub fn mask_and_qualifiers(mask: u32, bits: u8) -> String {
+    let qualifiers = printed(|line| push_qualifiers(line, u16::from(bits), &DATA_QUALIFIERS));
+    match mask {
+        0 => qualifiers,
+        mask => format!("<{mask}>{qualifiers}"),
+    }
 }
 
 /// What the core appends to a line. It fails only when it is out of memory.

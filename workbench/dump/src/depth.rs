@@ -13,8 +13,8 @@ pub(crate) fn depth_at(code: &[u8], place: usize) -> u8 {
         let Some((instruction, next)) = decode(code, here) else {
             break;
         };
-        let depth = brought.or(by_jump.get(&here).copied()).unwrap_or(0);
-        let rest = u8::saturating_sub(depth, instruction.takes());
+        let depth: u8 = brought.or(by_jump.get(&here).copied()).unwrap_or(0);
+        let rest = depth.saturating_sub(instruction.takes());
         if let Some(way) = instruction.jump() {
             by_jump.entry(way.to).or_insert(rest);
         }

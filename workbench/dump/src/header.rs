@@ -57,9 +57,9 @@ impl<'b> Header<'b> {
     pub(crate) fn read(bytes: &'b [u8]) -> Header<'b> {
         let length = header_length(bytes);
         let mut fields = Vec::new();
-        let mut place = 0;
+        let mut place: usize = 0;
         for (name, width) in FIELDS {
-            let end = usize::saturating_add(place, width);
+            let end = place.saturating_add(width);
             match bytes.get(place..end) {
                 Some(bytes) if end <= length => fields.push(Field { name, place, bytes }),
                 _ => break,

@@ -1,6 +1,6 @@
 //! Prints instructions with the names of items and the beginnings of strings.
 
-use crate::core_format::{data_qualifiers, menu_qualifiers};
+use crate::core_format::{mask_and_qualifiers, menu_qualifiers};
 use crate::sections::Sections;
 use crate::strings::excerpt;
 use edd_display::class_word;
@@ -130,11 +130,8 @@ impl Page<'_, '_> {
             }
             Instruction::DataConst(number) => write!(f, "DataConst {number}"),
             Instruction::DataVar { var, mask, quals } => {
-                write!(f, "DataVar {}", self.variable(var))?;
-                if mask != 0 {
-                    write!(f, "<{mask}>")?;
-                }
-                f.write_str(&data_qualifiers(quals))
+                let suffix = mask_and_qualifiers(mask, quals);
+                write!(f, "DataVar {}{suffix}", self.variable(var))
             }
             Instruction::Enumerator { value, text, help } => {
                 write!(f, "Enumerator {value} {}", self.string(text))?;

@@ -113,11 +113,6 @@ impl<'b> Sections<'b> {
         })
     }
 
-    /// The identification and the counts of the header.
-    pub fn counts(&self) -> Counts {
-        self.counts
-    }
-
     /// All items, by kind and number.
     pub fn items(&self) -> impl Iterator<Item = ItemNo> + use<> {
         let counts = self.counts;
