@@ -51,6 +51,11 @@ class Cargo:
         return subprocess.run([self.command, *words], cwd=folder, env=environment, stdin=subprocess.DEVNULL, capture_output=True,
                               text=True, check=False)
 
+    def compiler(self):
+        """What the compiler says of its version."""
+        words = [self.environment.get("RUSTC", "rustc"), "--version"]
+        return subprocess.run(words, stdin=subprocess.DEVNULL, capture_output=True, text=True, check=False).stdout
+
     def is_new(self):
         number = re.search(r"(\d+)\.(\d+)", self.run(["--version"]).stdout)
         return number is not None and tuple(map(int, number.groups())) >= LEAST
