@@ -1,7 +1,7 @@
 //! Layouts of sources, which are saved in their place.
 
-ghost use Rattle.std.specs.Prelude.{◌≡◌, IfOk, IfSome, List, Option, ℕ};
-ghost use Rattle.edd_files.specs.Saves.{Account, IsLayoutSaving, IsRead, SavesOne, saving_of};
+ghost use Rattle.std.specs.Prelude.{◌≡◌, IfOk, IfSome, List, OnErr, OnOk, Option, option_map, ℕ};
+ghost use Rattle.edd_files.specs.Saves.{Account, IsLayoutSaving, IsRead, saving_of, with_saving};
 
 use crate::files::Files;
 use crate::named::{NamedFault, of_file};
@@ -38,10 +38,10 @@ pub fn layout_of<'a>(
 }
 
 /// Saves a layout in the place of its source.
-#[tactic(auto, using(crate::proofs::SavesLaws::saves_none, crate::proofs::SavesLaws::saves_this))]
 pub fn save_layout<'a, F: Files>(layout: &Layout<'a>, files: &mut F) -> Result<(), NamedFault<'a>>
-    ensures saves { SavesOne (λ s. s ≡ saving_of layout.now) (F.account files.old)
-        (F.account files.new) }
+    ensures saved { OnOk result (F.account files.new
+        ≡ option_map (with_saving (saving_of layout.now)) (F.account files.old)) }
+    ensures kept { OnErr result (F.account files.new ≡ F.account files.old) }
 {
     let name = layout.name;
     files

@@ -1,8 +1,8 @@
 //! Files of tests that are written anew, and records of what was typed. Each is saved only where the
 //! words of the command line ask for it.
 
-ghost use Rattle.std.specs.Prelude.{map, string_bytes};
-ghost use Rattle.edd_files.specs.Saves.{IsNamedUpdate, NameRecord, SavesOne};
+ghost use Rattle.std.specs.Prelude.{◌≡◌, OnErr, OnOk, map, option_map, string_bytes};
+ghost use Rattle.edd_files.specs.Saves.{IsNamedUpdate, NameRecord, SavesOne, with_saving};
 
 use crate::files::{FileFault, Files};
 use crate::named::{NamedFault, of_file};
@@ -22,6 +22,9 @@ pub fn save_update<'a, F: Files>(
 ) -> Result<(), NamedFault<'a>>
     ensures saves { SavesOne (IsNamedUpdate (map string_bytes words.now)) (F.account files.old)
         (F.account files.new) }
+    ensures saved { OnOk result (F.account files.new ≡ option_map
+        (with_saving (record { name = name.now; bytes = text.now })) (F.account files.old)) }
+    ensures kept { OnErr result (F.account files.new ≡ F.account files.old) }
 {
     if !is_word(words, UPDATE) || !is_word(words, name) {
         return Err(NamedFault::File(name, FileFault::Failed));
@@ -41,6 +44,9 @@ pub fn save_record<'a, F: Files>(
 ) -> Result<(), NamedFault<'a>>
     ensures saves { SavesOne (λ s. NameRecord (map string_bytes words.now) s.name)
         (F.account files.old) (F.account files.new) }
+    ensures saved { OnOk result (F.account files.new ≡ option_map
+        (with_saving (record { name = name.now; bytes = text.now })) (F.account files.old)) }
+    ensures kept { OnErr result (F.account files.new ≡ F.account files.old) }
 {
     if !name_record(words, name) {
         return Err(NamedFault::File(name, FileFault::Failed));
