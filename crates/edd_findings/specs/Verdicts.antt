@@ -21,20 +21,21 @@ use Rattle.edd_lexer.specs.Views.{lexeme_of}
 use Rattle.edd_names.specs.Units.{unit_view}
 use Rattle.edd_syntax.specs.declared.unit.Unit.{Unit}
 
--- The text spells a unit, and all rules that it breaks are found, each with its words and its place.
+-- The text spells a unit, and the rules that it breaks are found, each with its words and its place;
+-- `Lists` says which these are.
 abbrev pub FindsRules : (text : List ℕ) → List Found → Type 0
 FindsRules text found = (unit : Unit) × IsUnitOf text (unit_view unit)
     × (tokens : List Token) × AreTokens text (map (lexeme_of text) tokens)
     × (told : List Told) × Lists unit told
     × (map said_of found ≡ map (said_in text tokens) told)
 
--- where a broken rule is the fault, all of them are found; else none is looked for
+-- where a broken rule is the fault, they are found; else none is looked for
 abbrev pub FindsRest : (text : List ℕ) → Fault → List Found → Type 0
 FindsRest text (fault.Rule e) found = FindsRules text found
 FindsRest text _ found = found ≡ []
 
 -- The fault is the text's own, the refusal is what the compiler prints of it, and of a broken rule
--- all are found.
+-- the others are found too.
 abbrev pub Refuses : (text : List ℕ) → Refused → Type 0
 Refuses text r = (r.fault ≢ fault.Memory) × Explains text r.fault
     × IsRefusalOf text r.fault (string_bytes r.refusal)

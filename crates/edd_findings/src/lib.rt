@@ -1,9 +1,9 @@
-//! What is found in a text: the image that it has, or why it has none and every rule that it breaks,
+//! What is found in a text: the image that it has, or why it has none and the rules that it breaks,
 //! each at its place.
 //!
 //! Proved is that a text is accepted with its image, or refused for a fault of its own, in the words
-//! that the compiler prints; and that of a text that breaks a rule all breaches are listed, each with
-//! its words, its line and its place.
+//! that the compiler prints; and that of a text that breaks a rule the breaches are listed, but for
+//! what only follows from another one, each with its words, its line and its place.
 #![tactic(auto)]
 
 mod breaches;

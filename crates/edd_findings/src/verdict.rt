@@ -77,14 +77,15 @@ impl Refused {
         self.refusal.as_str()
     }
 
-    /// All rules that the text breaks, those on names first; none where it spells no description.
+    /// The rules that the text breaks, those on names first, without what only follows from another
+    /// one; none where it spells no description.
     pub fn breaches(&self) -> &[Found]
         ensures { result.now ≡ self.now.breaches.items }
     {
         &self.breaches
     }
 
-    /// The fault, the refusal and all rules that the text breaks, handed over.
+    /// The fault, the refusal and the rules that the text breaks, handed over.
     pub fn into_parts(self) -> (Fault, String, Vec<Found>)
         ensures fault { result.0 ≡ self.fault }
         ensures refusal { result.1 ≡ self.refusal }
