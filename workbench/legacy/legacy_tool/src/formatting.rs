@@ -2,18 +2,18 @@
 use std::prelude::v1::*;
 
 use edd_display::print;
+use edd_fmt::draft;
 use edd_lexer::fault::LexFault;
 use legacy_files::{
     FileFault, Files, INPUT, Layout, STANDARD, Source, Stop, are_words, layout_of, read,
     read_sources, save_layout,
 };
-use legacy_layout::draft_of;
 use std::alloc::Global;
 use std::io::Write;
 
 // The layout of a source, where it is another one than the source has.
 fn changed<'a>(alloc: Global, source: &Source<'a>) -> Result<Option<Layout<'a>>, Stop<'a>> {
-    let draft = draft_of(alloc, &source.text);
+    let draft = draft(&source.text).map(Vec::from_real);
     match draft.and_then(|draft| layout_of(alloc, source, draft)) {
         Ok(found) => Ok(found),
         Err(LexFault::Memory) => Err(Stop::Memory),
