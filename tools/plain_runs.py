@@ -13,7 +13,7 @@ def built():
     """The player, built where it has to be."""
     try:
         workspace.Edition(own=[repository.TESTS]).write(ROOM)
-        cargo = packages.settle(ROOM, False, packages.TESTS)
+        cargo = packages.settle(ROOM, False)
     except (packages.Missing, workspace.Stopped) as stopped:
         sys.exit(f"the plain edition: {stopped}")
     ran = cargo.run(["build", "--quiet", "--offline", "--package", player.PACKAGE], ROOM)

@@ -32,7 +32,7 @@ def set_up():
         raise packages.Missing("the tests on other systems need Debian's packages: " + packages.apt_get(lacking))
     if lacking:
         packages.install(lacking)
-    packages.settle(FOLDER, True, packages.TESTS)
+    packages.settle(FOLDER, True)
     workbench.settled(True)
 
 
@@ -106,7 +106,7 @@ def run_steps(is_beyond):
     """The steps on this system, or all; gives the status."""
     counts = score.Score()
     edition = written()
-    packages.settle(FOLDER, False, packages.TESTS)
+    packages.settle(FOLDER, False)
     program = first_steps(counts, edition)
     counts.side_by_side(steps_here(edition, program) + (steps_beyond(program) if is_beyond else []))
     return counts.end()
@@ -125,6 +125,6 @@ def test():
 def fuzz(words, is_on_32_bits):
     """Fuzzes with so many inputs, built for speed, and prints what is seen."""
     written()
-    packages.settle(FOLDER, False, packages.TESTS)
+    packages.settle(FOLDER, False)
     build = fuzzing.built_for_32_bits if is_on_32_bits else fuzzing.built
     return fuzzing.fuzz(build(FOLDER, "fast"), words).returncode

@@ -168,6 +168,9 @@ pub(crate) struct Fmt {
     /// Writes nothing, and ends with status 1 where a layout differs
     #[arg(long)]
     pub(crate) check: bool,
+    /// Shows the lines that differ, as a unified diff
+    #[arg(long, requires = "check")]
+    pub(crate) diff: bool,
 }
 
 #[derive(Debug, Args)]

@@ -38,10 +38,8 @@ pub(crate) fn to_request(command_line: &CommandLine) -> Request<'_> {
             is_update: args.update,
         },
         Command::Check(args) => Request::Check(checking(args)),
-        Command::Fmt(args) => Request::Format {
-            names: to_list(&args.sources),
-            is_check: args.check,
-        },
+        // It is no command of `legacy_tool`.
+        Command::Fmt(_) => Request::Serve,
         Command::Diff(args) => Request::Diff {
             old: &args.old,
             new: &args.new,
