@@ -39,6 +39,9 @@ pub fn run(words: Vec<String>, files: &mut impl Files, output: &mut impl Write) 
     let words: Vec<CoreString> = words.into_iter().map(CoreString::from_real).collect();
     match &command_line.command {
         Command::Fmt(args) => print(output, |lines| commands::fmt::run(args, files, lines)),
+        Command::Test(args) => print(output, |lines| {
+            commands::test::run(args, &words, files, lines)
+        }),
         _ => {
             let request = to_request(&command_line);
             legacy_tool::run(Global, &words, request, files, &mut CoreOutput(output))
