@@ -2,6 +2,7 @@
 
 use super::memory::{ENDLESS, PAUSE};
 use super::row::{INPUT, Row};
+use super::trial::wanted_hint;
 use super::{read_tables, select_rows};
 use crate::error::PlayError;
 use crate::folder::TempFolder;
@@ -94,7 +95,7 @@ fn play_row(row: &Row<'_>, program: &Program) -> Result<bool, ProgramFault> {
     let wanted = Finished {
         status: Some(i32::from(row.status)),
         printed: row.lines.clone().into_bytes(),
-        hint: row.hint.clone().into_bytes(),
+        hint: wanted_hint(row).into_bytes(),
     };
     let has_status = printed.status == wanted.status && printed.hint == wanted.hint;
     if !has_status || !(has_lines || row.prints_library_text()) {

@@ -47,8 +47,8 @@ pub struct Row<'t> {
     pub files: Vec<File>,
     pub status: u8,
     pub lines: String,
-    /// What it tells beside its output: on the standard error.
-    pub hint: String,
+    /// What it tells beside its output, on the standard error, where the row says that.
+    pub hint: Option<String>,
     /// What it saves, where the row says that.
     pub saved: Option<Vec<u8>>,
 }
@@ -64,8 +64,8 @@ impl<'t> Row<'t> {
     /// Parses a row: the command line, then `@name NAME`, a part `@file NAME` or `@hex NAME` for each file, which
     /// `@more TEXT`, `@times COUNT TEXT`, `@numbered COUNT TEXT` and `@fill LENGTH` make longer, `@status N` with
     /// the printed lines, and perhaps `@hint` with the lines on the standard error, and `@image` or `@saved` with the
-    /// bytes or the lines that are saved. In files the
-    /// pictures of control characters stand for these, and in the printed lines that of ESC does.
+    /// bytes or the lines that are saved. Without `@hint` these lines are what `check` prints of the source, where the
+    /// command refuses it, and else none. In files the pictures of control characters stand for these, and in the printed lines that of ESC does.
     ///
     /// ```
     /// use edd_tests::rows::Row;
@@ -106,7 +106,7 @@ impl<'t> Row<'t> {
                 name: words.to_owned(),
                 bytes: parse_hex(below)?,
             }),
-            "hint" => self.hint = below.to_owned(),
+            "hint" => self.hint = Some(below.to_owned()),
             "image" => self.saved = Some(parse_hex(below)?),
             "saved" => self.saved = Some(replace_pictures(below).into_bytes()),
             "status" => {

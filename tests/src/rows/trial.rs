@@ -8,6 +8,9 @@ use super::run::Run;
 /// More calls of one kind than a row makes.
 const MOST_CALLS: u32 = 1_000_000;
 
+/// The commands that refuse a source as `check` does.
+const REFUSING: [&str; 3] = ["compile", "view", "try"];
+
 /// The status where a file or the output fails.
 const FILE: u8 = 3;
 
@@ -60,8 +63,29 @@ fn is_as_written(row: &Row<'_>, run: &Run) -> bool {
     let has_lines = run.printed == row.lines.as_bytes() || row.prints_library_text();
     run.status == row.status
         && has_lines
-        && run.hint == row.hint
+        && run.hint == wanted_hint(row)
         && row.saved.as_ref().is_none_or(|saved| *saved == run.saved)
+}
+
+/// What the row tells on the standard error. A command that refuses its source tells there what `check` prints of it.
+pub(super) fn wanted_hint(row: &Row<'_>) -> String {
+    if let Some(hint) = &row.hint {
+        return hint.clone();
+    }
+    let words: Vec<_> = row.words().collect();
+    let ([command, source, ..], 1) = (words.as_slice(), row.status) else {
+        return String::new();
+    };
+    if !REFUSING.contains(command) {
+        return String::new();
+    }
+    let check = format!("edd check {source}");
+    let checked = Run::in_memory(&check, &row.files, &Calls::passing());
+    if checked.status == row.status {
+        checked.text()
+    } else {
+        String::new()
+    }
 }
 
 fn differs(row: &Row<'_>, printed: Run) -> Fault {
@@ -70,7 +94,7 @@ fn differs(row: &Row<'_>, printed: Run) -> Fault {
         wanted: Run {
             status: row.status,
             printed: row.lines.clone().into_bytes(),
-            hint: row.hint.clone(),
+            hint: wanted_hint(row),
             saved,
         },
         printed,

@@ -59,12 +59,9 @@ pub(crate) struct Compile {
     pub(crate) source: String,
     /// The file that is written
     pub(crate) image: String,
-    /// Prints no line, so that the image alone goes to the output
+    /// Prints no line, so that the image alone goes to the output, and no hint
     #[arg(short, long)]
     pub(crate) quiet: bool,
-    /// Says where the source is refused, as check does, and why a file fails
-    #[arg(long)]
-    pub(crate) explain: bool,
 }
 
 #[derive(Debug, Args)]
@@ -74,9 +71,8 @@ pub(crate) struct View {
     pub(crate) source: String,
     #[command(flatten)]
     pub(crate) device_state: DeviceState,
-    /// Says where the source or the script is refused, and why a file fails
-    #[arg(long)]
-    pub(crate) explain: bool,
+    #[command(flatten)]
+    pub(crate) hints: Hints,
 }
 
 #[derive(Debug, Args)]
@@ -86,9 +82,17 @@ pub(crate) struct Show {
     pub(crate) image: String,
     #[command(flatten)]
     pub(crate) device_state: DeviceState,
-    /// Says which word of the script is refused, and why a file fails
-    #[arg(long)]
-    pub(crate) explain: bool,
+    #[command(flatten)]
+    pub(crate) hints: Hints,
+}
+
+// Whether the standard error has what helps where something is refused.
+#[derive(Debug, Args)]
+#[group(skip)]
+pub(crate) struct Hints {
+    /// Prints no hint on the standard error
+    #[arg(short, long)]
+    pub(crate) quiet: bool,
 }
 
 // The values under which an image is shown, and the language of what is shown.
@@ -151,7 +155,7 @@ pub(crate) struct Check {
     pub(crate) color: Color,
 }
 
-#[derive(Debug, Clone, Copy, ValueEnum)]
+#[derive(Debug, Clone, Copy, PartialEq, Eq, ValueEnum)]
 pub(crate) enum CheckForm {
     Text,
     Json,

@@ -1,4 +1,123 @@
-//! The commands.
+//! The commands. Each is a function that prints lines, and whose error says why it ends early.
 
-pub(crate) mod fmt;
-pub(crate) mod test;
+mod check;
+mod diff;
+mod dump;
+mod explain;
+mod fmt;
+mod lsp;
+mod open;
+mod proved;
+mod simulate;
+mod test;
+mod trace;
+
+use crate::command_line::{Command, Play, Try};
+use crate::core_program::Request;
+use crate::failure::{DONE, FILE, Failure, reason};
+use crate::output::Lines;
+use core_std::string::String as CoreString;
+use edd_files::Files;
+use simulate::Simulation;
+use std::io::Write;
+
+/// Runs a command, and returns its exit status. The words are those of the command line.
+pub(crate) fn run(
+    command: &Command,
+    words: &[CoreString],
+    files: &mut impl Files,
+    output: &mut impl Write,
+) -> u8 {
+    match command {
+        Command::Compile(args) => proved::compile(args, files, output),
+        Command::View(args) => {
+            let request = Request::View(proved::showing(&args.source, &args.device_state));
+            proved::run(request, args.hints.quiet, files, output)
+        }
+        Command::Show(args) => {
+            let request = Request::Show(proved::showing(&args.image, &args.device_state));
+            proved::run(request, args.hints.quiet, files, output)
+        }
+        Command::Play(args) => run_play(args, files, output),
+        Command::Try(args) => run_try(args, files, output),
+        Command::Open(args) => print(output, files, |files, out| {
+            open::run(args, words, files, out)
+        }),
+        Command::Test(args) => print(output, files, |files, out| {
+            test::run(args, words, files, out)
+        }),
+        Command::Check(args) => print(output, files, |files, out| check::run(args, files, out)),
+        Command::Fmt(args) => print(output, files, |files, out| fmt::run(args, files, out)),
+        Command::Diff(args) => print(output, files, |files, out| diff::run(args, files, out)),
+        Command::Dump(args) => print(output, files, |files, out| dump::run(args, files, out)),
+        Command::Explain(args) => print(output, files, |_, out| explain::run(args, out)),
+        Command::Lsp => print(output, files, |files, out| lsp::run(files, out)),
+    }
+}
+
+fn run_play(args: &Play, files: &mut impl Files, output: &mut impl Write) -> u8 {
+    let is_quiet = args.hints.quiet;
+    let Some(device) = &args.run.device else {
+        let request = Request::Play {
+            image: &args.image,
+            run: proved::method_run(&args.run),
+        };
+        return proved::run(request, is_quiet, files, output);
+    };
+    let simulation = Simulation {
+        file: &args.image,
+        is_source: false,
+        device,
+        run: &args.run,
+        is_traced: false,
+        is_quiet,
+    };
+    simulation.run(files, output)
+}
+
+fn run_try(args: &Try, files: &mut impl Files, output: &mut impl Write) -> u8 {
+    let is_quiet = args.hints.quiet;
+    let source = args.source.as_str();
+    if let Some(device) = &args.run.device {
+        let simulation = Simulation {
+            file: source,
+            is_source: true,
+            device,
+            run: &args.run,
+            is_traced: args.trace,
+            is_quiet,
+        };
+        return simulation.run(files, output);
+    }
+    let run = proved::method_run(&args.run);
+    if args.trace {
+        return proved::run_traced(source, run, is_quiet, files, output);
+    }
+    proved::run(Request::Try { source, run }, is_quiet, files, output)
+}
+
+/// Prints the lines of a command and why it ended early, and returns the exit status. After a write
+/// that failed none is tried.
+fn print<F: Files>(
+    output: &mut dyn Write,
+    files: &mut F,
+    command: impl FnOnce(&mut F, &mut Lines<'_>) -> Result<(), Failure>,
+) -> u8 {
+    let mut lines = Lines::new(output);
+    let ended = match command(files, &mut lines) {
+        Err(Failure::Output(error)) => {
+            lines.discard();
+            Err(Failure::Output(error))
+        }
+        ended => lines.finish().map_err(Failure::Output).and(ended),
+    };
+    let Err(failure) = ended else { return DONE };
+    let printed = failure.line().map(|line| output.write_all(line.as_bytes()));
+    if matches!(printed, Some(Err(_))) {
+        return FILE;
+    }
+    if let Failure::File { fault, .. } = failure {
+        files.hint(reason(fault));
+    }
+    failure.status()
+}

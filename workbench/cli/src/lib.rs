@@ -3,23 +3,22 @@
 //! `clap` parses the command line and prints helps and mistakes. The core decides what the commands
 //! compile, refuse, run and save.
 
+mod checking;
 mod command_line;
 mod commands;
+mod core_program;
 mod failure;
+mod hints;
 mod output;
-mod request;
+mod recorder;
 mod system;
 
 use clap::Parser;
-use command_line::{Command, CommandLine};
-use core_std::alloc::Global;
+use command_line::CommandLine;
 use core_std::string::String as CoreString;
 pub use edd_files::{FileFault, Files};
-use failure::Failure;
 pub use failure::{COMMAND_LINE, DONE, FILE};
 pub use output::StandardOutput;
-use output::{CoreOutput, Lines};
-use request::to_request;
 use std::io::Write;
 pub use system::SystemFiles;
 
@@ -37,38 +36,7 @@ pub fn run(words: Vec<String>, files: &mut impl Files, output: &mut impl Write) 
     };
     // The core saves under a name only if these words contain it.
     let words: Vec<CoreString> = words.into_iter().map(CoreString::from_real).collect();
-    match &command_line.command {
-        Command::Fmt(args) => print(output, |lines| commands::fmt::run(args, files, lines)),
-        Command::Test(args) => print(output, |lines| {
-            commands::test::run(args, &words, files, lines)
-        }),
-        _ => {
-            let request = to_request(&command_line);
-            legacy_tool::run(Global, &words, request, files, &mut CoreOutput(output))
-        }
-    }
-}
-
-/// Prints the lines of a command and why it ended early, and returns the exit status. After a write
-/// that failed none is tried.
-fn print(
-    output: &mut impl Write,
-    command: impl FnOnce(&mut Lines<'_>) -> Result<(), Failure>,
-) -> u8 {
-    let mut lines = Lines::new(output);
-    let ended = match command(&mut lines) {
-        Err(Failure::Output(error)) => {
-            lines.discard();
-            Err(Failure::Output(error))
-        }
-        ended => lines.finish().map_err(Failure::Output).and(ended),
-    };
-    let Err(failure) = ended else { return DONE };
-    let printed = failure.line().map(|line| output.write_all(line.as_bytes()));
-    match printed {
-        Some(Err(_)) => FILE,
-        _ => failure.status(),
-    }
+    commands::run(&command_line.command, &words, files, output)
 }
 
 /// Prints a mistake, a help or the version, and returns the exit status.

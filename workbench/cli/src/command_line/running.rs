@@ -1,6 +1,6 @@
 //! The words of `play` and `try`, which run a method.
 
-use super::Language;
+use super::{Hints, Language};
 use clap::{Args, value_parser};
 
 const MOST_STEPS: i64 = 1_000_000_000;
@@ -12,9 +12,8 @@ pub(crate) struct Play {
     pub(crate) image: String,
     #[command(flatten)]
     pub(crate) run: Run,
-    /// Says which word of the script is refused, and why a file fails
-    #[arg(long)]
-    pub(crate) explain: bool,
+    #[command(flatten)]
+    pub(crate) hints: Hints,
 }
 
 #[derive(Debug, Args)]
@@ -24,22 +23,20 @@ pub(crate) struct Try {
     pub(crate) source: String,
     #[command(flatten)]
     pub(crate) run: Run,
-    /// Says where the source or the script is refused, and why a file fails
-    #[arg(long)]
-    pub(crate) explain: bool,
+    #[command(flatten)]
+    pub(crate) hints: Hints,
     /// Tells where the method asks, changes variables and traps
     #[arg(long)]
     pub(crate) trace: bool,
 }
 
-// What both need: a device can answer in place of a script.
+// What both need.
 #[derive(Debug, Args)]
 #[group(skip)]
 pub(crate) struct Run {
     /// The name of the method
     pub(crate) method: String,
     /// The values of variables, and the answers
-    #[arg(required_unless_present = "device")]
     pub(crate) script: Option<String>,
     /// The source of a device, which answers the requests of the method
     #[arg(long)]

@@ -1,7 +1,7 @@
 //! `edd fmt`: sources in their layout. The core decides whether a draft is the same text, and saves it.
 
 use crate::command_line::Fmt;
-use crate::failure::Failure;
+use crate::failure::{Failure, REFUSED};
 use core_std::alloc::Global;
 use core_std::vec::Vec as CoreVec;
 use edd_files::{
@@ -56,7 +56,7 @@ fn format_files(
         }
     }
     if args.check && !changes.is_empty() {
-        return Err(Failure::Printed);
+        return Err(Failure::Printed(REFUSED));
     }
     Ok(())
 }

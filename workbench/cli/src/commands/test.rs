@@ -1,7 +1,7 @@
 //! `edd test`: the tests of files, reported as lines or as a document.
 
 use crate::command_line::Test;
-use crate::failure::Failure;
+use crate::failure::{Failure, REFUSED};
 use core_std::string::String as CoreString;
 use edd_files::Files;
 use edd_testing::{JUnit, Lines, Request, TestError, run_tests};
@@ -29,7 +29,7 @@ pub(crate) fn run(
     if summary.is_success() {
         Ok(())
     } else {
-        Err(Failure::Printed)
+        Err(Failure::Printed(REFUSED))
     }
 }
 

@@ -1,0 +1,44 @@
+//! `edd explain`: what refusals mean and what lints find.
+
+use crate::checking::lints;
+use crate::command_line::Explain;
+use crate::failure::Failure;
+use edd_explain::{Explanation, all, by_name, by_number};
+use std::io::Write;
+
+/// Prints what a refusal means, or what a lint finds; without a word all there are, or the lints alone.
+pub(crate) fn run(args: &Explain, out: &mut impl Write) -> Result<(), Failure> {
+    let Some(what) = &args.what else {
+        return list(args.lints, out);
+    };
+    let number = what.parse::<u32>();
+    let explanation = match number {
+        Ok(number) => by_number(number),
+        Err(_) => by_name(what),
+    };
+    if let Some(explanation) = explanation {
+        let Explanation { number, name, .. } = explanation;
+        writeln!(out, "{number} {name}\n\n{explanation}")?;
+        return Ok(());
+    }
+    if let Some((name, meaning)) = lints().find(|(name, _)| name == what) {
+        writeln!(out, "{name}: {meaning}")?;
+        return Ok(());
+    }
+    Err(match number {
+        Ok(_) => Failure::NoNumber(what.clone()),
+        Err(_) => Failure::NoName(what.clone()),
+    })
+}
+
+fn list(is_of_lints: bool, out: &mut impl Write) -> Result<(), Failure> {
+    if !is_of_lints {
+        for Explanation { number, name, .. } in all() {
+            writeln!(out, "{number} {name}")?;
+        }
+    }
+    for (name, meaning) in lints() {
+        writeln!(out, "{name}: {meaning}")?;
+    }
+    Ok(())
+}
