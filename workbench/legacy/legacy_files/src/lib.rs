@@ -8,7 +8,7 @@ mod stop;
 
 pub use edd_files::{
     Compiled, FileFault, Files, INPUT, Layout, MOST_BYTES, STANDARD, Source, are_words,
-    compile_named, layout_of, read, read_all, read_bytes, read_marked, read_script, read_sources,
-    save_layout, save_record, save_update,
+    layout_of, read, read_all, read_bytes, read_marked, read_script, read_sources,
+    save_image, save_layout, save_record, save_update,
 };
 pub use stop::{Stop, compile_text, of_file};

@@ -109,7 +109,7 @@ pub fn answer<'a, F: Files, W: Write>(
 ) -> Result<(), Stop<'a>> {
     match request {
         Request::Compile(writing) => told(
-            write_image(alloc, words, writing, files, out),
+            write_image(alloc, writing, files, out),
             writing.is_explained,
         ),
         Request::View(showing) => told(view(alloc, showing, files, out), showing.is_explained),

@@ -3,7 +3,7 @@ use std::prelude::v1::*;
 
 use crate::request::Writing;
 use edd_display::print;
-use legacy_files::{Compiled, Files, Stop, compile_named};
+use legacy_files::{Compiled, Files, Stop, save_image};
 use legacy_stops::explain_refusal;
 use std::alloc::Global;
 use std::io::Write;
@@ -12,7 +12,6 @@ use std::io::Write;
 /// its places are printed.
 pub fn write_image<'a, F: Files, W: Write>(
     alloc: Global,
-    words: &[String],
     writing: Writing<'a>,
     files: &mut F,
     out: &mut W,
@@ -23,7 +22,7 @@ pub fn write_image<'a, F: Files, W: Write>(
         is_quiet,
         is_explained,
     } = writing;
-    match compile_named(alloc, words, source, image, files)? {
+    match save_image(alloc, source, image, files)? {
         Compiled::Saved(_) if is_quiet => Ok(()),
         Compiled::Saved(length) => Ok(print(alloc, out, format_args!("image {length}"))?),
         Compiled::Refused(text, fault) if !is_explained => {
