@@ -1,4 +1,4 @@
-//! The player of the tables of tests. `tests/tables/` has the tables; their answers were worked out by hand.
+//! The player of the tables of tests. `tables/` has the tables; their answers were worked out by hand.
 #![forbid(unsafe_code)]
 #![cfg_attr(
     not(test),

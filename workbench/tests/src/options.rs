@@ -8,7 +8,7 @@ use std::path::PathBuf;
 #[derive(Debug, Clone, Default, clap::Args)]
 pub struct Options {
     /// The folder of the tables
-    #[arg(long, value_name = "FOLDER", default_value = "tests/tables")]
+    #[arg(long, value_name = "FOLDER", default_value = "workbench/tests/tables")]
     pub tables: PathBuf,
     /// The folder with examples/ and docs/
     #[arg(long, value_name = "FOLDER", default_value = ".")]
