@@ -94,7 +94,7 @@ fn run(folder: &str, count: u64, seed: u64, first: u64) -> std::io::Result<Count
             println!("WRONG in the case {number}: {why}");
         }
         number += 1;
-        if number % OFTEN == 0 {
+        if number.is_multiple_of(OFTEN) {
             println!("{} inputs", counts.inputs);
         }
     }
