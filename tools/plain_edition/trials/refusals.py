@@ -56,7 +56,7 @@ def commands(examples):
     source, script = os.path.join(examples, "valve_positioner.edd"), os.path.join(examples, "valve_positioner.ends.script")
     device = os.path.join(examples, "valve_positioner.device.edd")
     yield from ((["open", source, "--device", device], (1, 3)), (["open", "image", "--record", "made"], (1,)))
-    yield from ((["try", source, "calibrate", "--device", device], (1, 4)), (["test", "one.test"], (1,)))
+    yield from ((["try", source, "calibrate", "--device", device], (1, 4)),)
     yield from ((["compile", source, "made"], (1,)), (["view", source, script], (1, 2)), (["check", source], (1,)))
     yield from ((["check", "wrong"], (1,)), (["check", "wrong", "--format", "json"], (1,)), (["show", "image"], (1,)))
     yield from ((["play", "image", "calibrate", script], (1, 3)), (["try", source, "calibrate", script], (1, 3)))
@@ -71,8 +71,6 @@ def of_program(score, program):
         subprocess.run([program, "compile", source, "image"], cwd=room, stdout=subprocess.DEVNULL, check=True)
         with open(source, encoding="utf-8") as file, open(os.path.join(room, "wrong"), "w", encoding="utf-8") as wrong:
             wrong.write(file.read().replace("LABEL", "LABLE", 2))
-        with open(os.path.join(room, "one.test"), "w", encoding="utf-8") as file:
-            file.write(f"source {source}\ntest one\nmethod show_opening\n= another line\n")
         for words, files in commands(os.path.join(repository.TOP, "examples")):
             before = refused.requests([program, *[MISSING if at in files else word for at, word in enumerate(words)]])
             every = refused.requests([program, *words], TYPED)

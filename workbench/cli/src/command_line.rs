@@ -120,9 +120,15 @@ pub(crate) struct Test {
     /// A file of tests
     #[arg(required = true, value_name = "FILE")]
     pub(crate) files: Vec<String>,
+    /// Runs only the tests whose names contain this text
+    #[arg(long, value_name = "TEXT")]
+    pub(crate) filter: Option<String>,
     /// Writes what was seen in place of what was expected
     #[arg(long)]
     pub(crate) update: bool,
+    /// Prints a document of JUnit in place of the lines
+    #[arg(long, conflicts_with = "update")]
+    pub(crate) junit: bool,
 }
 
 #[derive(Debug, Args)]
@@ -168,6 +174,9 @@ pub(crate) struct Fmt {
     /// Writes nothing, and ends with status 1 where a layout differs
     #[arg(long)]
     pub(crate) check: bool,
+    /// Shows the lines that differ, as a unified diff
+    #[arg(long, requires = "check")]
+    pub(crate) diff: bool,
 }
 
 #[derive(Debug, Args)]

@@ -1,37 +1,74 @@
 //! The program `edd` over given files: its command line, and what each command line asks for.
 //!
-//! `clap` parses the command line and prints helps and mistakes. `legacy_tool` has the commands.
-//! The core decides what they compile, refuse, run and save.
+//! `clap` parses the command line and prints helps and mistakes. The core decides what the commands
+//! compile, refuse, run and save.
 
 mod command_line;
+mod commands;
+mod failure;
+mod output;
 mod request;
+mod system;
 
 use clap::Parser;
-use command_line::CommandLine;
+use command_line::{Command, CommandLine};
 use core_std::alloc::Global;
-use core_std::io::Write;
-use core_std::rt::HostRuntime;
 use core_std::string::String as CoreString;
-use legacy_stops::DONE;
-pub use legacy_stops::{COMMAND_LINE, FILE};
-use legacy_tool::{Files, program_files};
+pub use edd_files::{FileFault, Files};
+use failure::Failure;
+pub use failure::{COMMAND_LINE, DONE, FILE};
+pub use output::StandardOutput;
+use output::{CoreOutput, Lines};
 use request::to_request;
+use std::io::Write;
+pub use system::SystemFiles;
 
 /// Runs a command line over the system's files, as [`run`] does.
-pub fn run_on_system<W: Write>(words: Vec<String>, output: &mut W) -> u8 {
-    run(words, &mut program_files(&HostRuntime), output)
+pub fn run_on_system(words: Vec<String>, output: &mut impl Write) -> u8 {
+    run(words, &mut SystemFiles::new(), output)
 }
 
 /// Runs a command line over these files, prints to `output`, and returns the exit status. The first
 /// of the words is the program's name.
-pub fn run<F: Files, W: Write>(words: Vec<String>, files: &mut F, output: &mut W) -> u8 {
+pub fn run(words: Vec<String>, files: &mut impl Files, output: &mut impl Write) -> u8 {
     let command_line = match CommandLine::try_parse_from(&words) {
         Ok(command_line) => command_line,
         Err(error) => return print_instead(&error, output),
     };
     // The core saves under a name only if these words contain it.
     let words: Vec<CoreString> = words.into_iter().map(CoreString::from_real).collect();
-    legacy_tool::run(Global, &words, to_request(&command_line), files, output)
+    match &command_line.command {
+        Command::Fmt(args) => print(output, |lines| commands::fmt::run(args, files, lines)),
+        Command::Test(args) => print(output, |lines| {
+            commands::test::run(args, &words, files, lines)
+        }),
+        _ => {
+            let request = to_request(&command_line);
+            legacy_tool::run(Global, &words, request, files, &mut CoreOutput(output))
+        }
+    }
+}
+
+/// Prints the lines of a command and why it ended early, and returns the exit status. After a write
+/// that failed none is tried.
+fn print(
+    output: &mut impl Write,
+    command: impl FnOnce(&mut Lines<'_>) -> Result<(), Failure>,
+) -> u8 {
+    let mut lines = Lines::new(output);
+    let ended = match command(&mut lines) {
+        Err(Failure::Output(error)) => {
+            lines.discard();
+            Err(Failure::Output(error))
+        }
+        ended => lines.finish().map_err(Failure::Output).and(ended),
+    };
+    let Err(failure) = ended else { return DONE };
+    let printed = failure.line().map(|line| output.write_all(line.as_bytes()));
+    match printed {
+        Some(Err(_)) => FILE,
+        _ => failure.status(),
+    }
 }
 
 /// Prints a mistake, a help or the version, and returns the exit status.
@@ -62,7 +99,7 @@ mod tests {
     fn a_mistake_and_a_help_have_whole_lines_and_their_status() {
         let words = |words: &[&str]| words.iter().copied().map(str::to_owned).collect();
         for (given, status) in [(["edd", "run"], COMMAND_LINE), (["edd", "--help"], DONE)] {
-            let mut output = core_std::vec::Vec::new(Global);
+            let mut output = Vec::new();
             assert_eq!(run_on_system(words(&given), &mut output), status);
             assert!(output.ends_with(b"\n"));
         }

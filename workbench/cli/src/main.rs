@@ -1,13 +1,12 @@
 //! The program `edd`: every command, over the real arguments, files and output.
 
-use core_std::io::{self, Write};
-use core_std::rt::HostRuntime;
-use edd_cli::{COMMAND_LINE, FILE};
+use edd_cli::{COMMAND_LINE, FILE, StandardOutput};
 use std::ffi::OsString;
+use std::io::Write;
 use std::process::ExitCode;
 
 fn main() -> ExitCode {
-    let mut output = io::writer(&HostRuntime);
+    let mut output = StandardOutput;
     let words: Result<Vec<String>, OsString> =
         std::env::args_os().map(OsString::into_string).collect();
     let status = match words {
@@ -28,7 +27,7 @@ fn report_no_words(output: &mut impl Write) -> u8 {
 #[cfg(test)]
 mod tests {
     use super::*;
-    use core_std::io::ErrorKind;
+    use std::io::{self, ErrorKind};
 
     /// An output that takes nothing.
     struct Closed;

@@ -33,15 +33,9 @@ pub(crate) fn to_request(command_line: &CommandLine) -> Request<'_> {
             is_traced: args.trace,
         },
         Command::Open(args) => Request::Open(opening(args)),
-        Command::Test(args) => Request::Test {
-            names: to_list(&args.files),
-            is_update: args.update,
-        },
         Command::Check(args) => Request::Check(checking(args)),
-        Command::Fmt(args) => Request::Format {
-            names: to_list(&args.sources),
-            is_check: args.check,
-        },
+        // They are no commands of `legacy_tool`.
+        Command::Fmt(_) | Command::Test(_) => Request::Serve,
         Command::Diff(args) => Request::Diff {
             old: &args.old,
             new: &args.new,

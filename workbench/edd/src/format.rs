@@ -1,7 +1,6 @@
 //! The layout of sources.
 
 use crate::Refusal;
-use crate::memory::Global;
 
 /// Lays a source out: the same tokens and comments, with other blanks and line ends between them.
 /// docs/LAYOUT.md describes the layout.
@@ -19,8 +18,5 @@ use crate::memory::Global;
 /// # Ok::<(), edd::Refusal>(())
 /// ```
 pub fn format(source: &[u8]) -> Result<Vec<u8>, Refusal> {
-    match legacy_layout::laid_out(Global, source) {
-        Ok(laid_out) => Ok(laid_out.into_real()),
-        Err(fault) => Err(Refusal::of_text(&fault)),
-    }
+    edd_fmt::format(source).map_err(|fault| Refusal::of_text(&fault))
 }

@@ -174,11 +174,8 @@ fn a_run_is_the_same_however_it_is_made() {
 }
 
 #[test]
-fn layouts_are_those_of_the_core() {
-    for (_, source) in common::sources() {
-        let laid_out = edd::format(&source).expect("a layout");
-        let core = legacy_layout::laid_out(Global, &source).expect("a layout");
-        assert_eq!(laid_out, core.as_slice());
-        assert_eq!(edd::format(&laid_out), Ok(laid_out));
+fn examples_are_in_their_layout() {
+    for (name, source) in common::sources() {
+        assert_eq!(edd::format(&source), Ok(source), "{name}");
     }
 }

@@ -30,7 +30,8 @@ struct Told<'a> {
 
 /// The text in the layout of the project.
 pub fn layout(text: &[u8]) -> Result<Vec<u8>, Stop> {
-    legacy_layout::laid_out(Global, text)
+    edd_fmt::format(text)
+        .map(Vec::from_real)
         .map_err(|fault| Stop::of(&fault, matches!(fault, LexFault::Memory)))
 }
 

@@ -1,6 +1,5 @@
 //! Runs of the program `edd` as a process of its own.
 
-use edd_plain_std::rt::HostRuntime;
 use std::fmt::{self, Display};
 use std::fs::{self, Permissions};
 use std::io::{self, PipeReader, Read, Write};
@@ -19,7 +18,7 @@ const NOBODY: u32 = 65534;
 /// Runs the program `edd` with these words after its name, over the system's files.
 pub fn run_as_edd(words: impl Iterator<Item = String>) -> u8 {
     let words = std::iter::once("edd".to_owned()).chain(words).collect();
-    edd_cli::run_on_system(words, &mut edd_plain_std::io::writer(&HostRuntime))
+    edd_cli::run_on_system(words, &mut edd_cli::StandardOutput)
 }
 
 /// How a process ended, and what it printed to its output and to the standard error.

@@ -3,15 +3,14 @@ use std::prelude::v1::*;
 
 use crate::query::{Query, Refusal};
 use edd_lexer::fault::LexFault;
-use legacy_layout::laid_out;
 use legacy_protocol_shapes::TextEdit;
 use legacy_reports::words::Span;
 use std::alloc::{AllocError, Global};
 
 // A text as it is laid out; as it is where it has no tokens.
 fn layout_of(alloc: Global, text: &str) -> Result<String, AllocError> {
-    let laid = match laid_out(alloc, text.as_bytes()) {
-        Ok(laid) => laid,
+    let laid = match edd_fmt::format(text.as_bytes()) {
+        Ok(laid) => Vec::from_real(laid),
         Err(LexFault::Memory) => return Err(AllocError),
         Err(_) => return String::from_str(alloc, text),
     };

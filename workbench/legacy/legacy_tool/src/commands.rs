@@ -5,14 +5,12 @@ use crate::checking::check_sources;
 use crate::compiling::write_image;
 use crate::differing::diff_files;
 use crate::explaining::print_asked;
-use crate::formatting::format_named;
 use crate::opening::open_named;
 use crate::printing::print;
 use crate::request::{Request, Showing};
 use crate::running::{play_file, try_source};
 use crate::serving::serve;
 use crate::taking::take;
-use crate::testing::test_named;
 use edd_display::show;
 use edd_dump::Dump;
 use edd_loader::{Image, load};
@@ -127,12 +125,6 @@ pub fn answer<'a, F: Files, W: Write>(
         }
         Request::Check(checking) => told(check_sources(alloc, &checking, files, out), true),
         Request::Open(opening) => open_named(alloc, words, opening, files, out),
-        Request::Test { names, is_update } => {
-            test_named(alloc, words, &names, is_update, files, out)
-        }
-        Request::Format { names, is_check } => {
-            format_named(alloc, words, &names, is_check, files, out)
-        }
         Request::Diff { old, new, form } => diff_files(alloc, old, new, form, files, out),
         Request::Dump { image } => dump_file(alloc, image, files, out),
         Request::Explain { what, is_of_lints } => print_asked(alloc, what, is_of_lints, out),

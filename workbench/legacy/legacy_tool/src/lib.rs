@@ -11,7 +11,6 @@ mod compiling;
 mod devices;
 mod differing;
 mod explaining;
-mod formatting;
 mod opening;
 mod playing;
 mod printing;
@@ -20,7 +19,6 @@ mod running;
 mod serving;
 mod system;
 mod taking;
-mod testing;
 
 pub use edd_compiler::{Fault, compile};
 use edd_display::ShowFault;

@@ -104,18 +104,6 @@ pub enum Request<'a> {
     Check(Checking<'a>),
     /// `open SOURCE|IMAGE [SCRIPT]`
     Open(Opening<'a>),
-    /// `test FILE..`
-    Test {
-        names: Vec<&'a str>,
-        /// What was seen is written in place of what was expected.
-        is_update: bool,
-    },
-    /// `fmt SOURCE..`
-    Format {
-        names: Vec<&'a str>,
-        /// Nothing is written.
-        is_check: bool,
-    },
     /// `diff OLD NEW`
     Diff {
         old: &'a str,

@@ -4,8 +4,7 @@
 
 use super::bytes_of;
 use crate::playing::NoAnswer;
-use edd_plain_std::alloc::Global;
-use legacy_layout::laid_out;
+use edd_fmt::format;
 
 /// Returns a layout without its last line feed, or says that it has none.
 fn lines(layout: &[u8]) -> String {
@@ -18,11 +17,11 @@ fn lines(layout: &[u8]) -> String {
 }
 
 pub fn layout(text: &str) -> Result<String, NoAnswer> {
-    let first = match laid_out(Global, &bytes_of(text)?) {
+    let first = match format(&bytes_of(text)?) {
         Ok(first) => first,
         Err(fault) => return Ok(fault.to_string()),
     };
-    Ok(match laid_out(Global, &first) {
+    Ok(match format(&first) {
         Ok(second) if second == first => lines(&first),
         _ => "it has another layout".to_owned(),
     })

@@ -43,7 +43,7 @@ pub fn list_examples(explanation: &Explanation) -> Vec<Example> {
 
 /// Compiles an example: a wrong one is refused with the number and the name of its explanation, a right one is compiled.
 pub fn try_example(explanation: &Explanation, example: &Example) -> Result<(), ExampleFault> {
-    let refusal = legacy_tool::compile(Global, example.source.as_bytes())
+    let refusal = edd_compiler::compile(Global, example.source.as_bytes())
         .err()
         .map(|fault| fault.to_string());
     let Some(refusal) = refusal else {

@@ -1,8 +1,7 @@
 //! Runs of the program on a file in memory that comes in pieces, fails or has no end.
 
-use edd_plain_std::alloc::Global;
+use edd_cli::{FileFault, Files};
 use edd_plain_std::io::Read;
-use legacy_tool::{FileFault, Files};
 use std::io;
 
 const IDENTIFICATION: &[u8] = b"MANUFACTURER 1, DEVICE_TYPE 2, DEVICE_REVISION 3, DD_REVISION 4\n";
@@ -87,7 +86,7 @@ fn parse(words: &str) -> Option<OneFile> {
 pub fn compile(words: &str) -> Option<String> {
     let mut file = parse(words)?;
     let words = COMMAND.map(str::to_owned).to_vec();
-    let mut printed = edd_plain_std::vec::Vec::new(Global);
+    let mut printed = Vec::new();
     let status = edd_cli::run(words, &mut file, &mut printed);
     Some(format!(
         "{}status {status}\n",

@@ -1,11 +1,11 @@
 //! Files and an output in memory, of which one call can fail.
 
 use super::row::{File, INPUT};
-use edd_plain_std::io::{Read, Write};
-use legacy_tool::{FileFault, Files};
+use edd_cli::{FileFault, Files};
+use edd_plain_std::io::Read;
 use std::cell::Cell;
 use std::fmt::{self, Display};
-use std::io;
+use std::io::{self, Write};
 
 /// The file of this name has no end, and its reads don't count.
 pub const ENDLESS: &str = "endless";

@@ -82,7 +82,7 @@ impl<'t> Row<'t> {
             ..Row::default()
         };
         let mut has_status = false;
-        for part in rest.split('@').skip(1) {
+        for part in split_parts(rest) {
             let (head, below) = part.split_once('\n').unwrap_or((part, ""));
             let (kind, words) = head.split_once(' ').unwrap_or((head, ""));
             has_status |= kind == "status";
@@ -145,6 +145,28 @@ impl<'t> Row<'t> {
             || self.words().next().is_none()
             || self.words().any(|word| LIBRARY_WORDS.contains(&word))
     }
+}
+
+/// Splits a row into its parts, without their `@`. Another `@`, as of `@@ -1 +1 @@`, begins none.
+fn split_parts(row: &str) -> impl Iterator<Item = &str> {
+    let begins_part = |line: &str| {
+        line.strip_prefix('@')
+            .is_some_and(|line| line.starts_with(|first: char| first.is_ascii_lowercase()))
+    };
+    let mut rest = row;
+    std::iter::from_fn(move || {
+        let part = rest.strip_prefix('@')?;
+        let mut end = 0_usize;
+        for line in part.split_inclusive('\n') {
+            if end > 0 && begins_part(line) {
+                break;
+            }
+            end = end.saturating_add(line.len());
+        }
+        let (part, behind) = part.split_at(end);
+        rest = behind;
+        Some(part)
+    })
 }
 
 /// The bytes that are written as pairs of digits to the base 16, with blanks between them.

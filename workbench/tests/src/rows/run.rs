@@ -63,7 +63,7 @@ impl Display for Run {
 
 /// The image of a source, if it has one.
 pub fn compile(source: &[u8]) -> Option<Vec<u8>> {
-    legacy_tool::compile(Global, source)
+    edd_compiler::compile(Global, source)
         .ok()
         .map(edd_plain_std::vec::Vec::into_real)
 }

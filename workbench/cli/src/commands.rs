@@ -1,0 +1,4 @@
+//! The commands.
+
+pub(crate) mod fmt;
+pub(crate) mod test;

@@ -1,0 +1,21 @@
+//! A maker's tests of descriptions. The core reads files of tests, compares what was printed with
+//! what is expected, and saves files that are updated.
+//!
+//! [`run_tests`] runs the tests of files and tells a [`Report`] what becomes of each. [`Lines`] and
+//! [`JUnit`] are the reports that the program prints.
+
+mod case;
+mod error;
+mod junit;
+mod lines;
+mod report;
+mod runner;
+mod verdict;
+
+pub use edd_cases::{Misread, TestFault};
+pub use error::TestError;
+pub use junit::JUnit;
+pub use lines::Lines;
+pub use report::{Event, Report, Summary};
+pub use runner::{Request, run_tests};
+pub use verdict::{Expected, Mismatch, Seen, Verdict};
