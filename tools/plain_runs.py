@@ -1,25 +1,23 @@
-"""Rows and parts of tables that tools/quick plays without a proof, by the player in tests/ over the plain edition."""
+"""Rows and parts of tables that tools/quick plays without a proof, by the player in workbench/tests over the workbench."""
 import os
 import subprocess
 import sys
 
-from plain_edition import packages, repository, workspace
+from plain_edition import core, packages, repository
 from plain_edition.trials import player
-
-ROOM = os.path.join(repository.MADE, "quick")
 
 
 def built():
     """The player, built where it has to be."""
     try:
-        workspace.Edition(own=[repository.TESTS]).write(ROOM)
-        cargo = packages.settle(ROOM, False)
-    except (packages.Missing, workspace.Stopped) as stopped:
+        core.write()
+        cargo = packages.settle(repository.WORKBENCH, False)
+    except (packages.Missing, core.Stopped) as stopped:
         sys.exit(f"the plain edition: {stopped}")
-    ran = cargo.run(["build", "--quiet", "--offline", "--package", player.PACKAGE], ROOM)
+    ran = cargo.run(["build", "--quiet", "--offline", "--package", player.PACKAGE], repository.WORKBENCH)
     if ran.returncode:
         sys.exit(f"cargo could not build {player.PACKAGE}:\n{ran.stderr[-2000:]}")
-    return os.path.join(ROOM, "target", "debug", player.NAME)
+    return os.path.join(repository.WORKBENCH, "target", "debug", player.NAME)
 
 
 def play(suites, *words):

@@ -8,14 +8,12 @@ import shutil
 import subprocess
 import threading
 
-from plain_edition import packages, repository, systems, workspace
+from plain_edition import core, packages, repository, systems
 
 SOURCES = os.path.join(repository.TOP, "page")
 EXAMPLES = os.path.join(repository.TOP, "examples")
 OUT = os.path.join(SOURCES, "out")
-MODULE = os.path.join(repository.MADE, "page_module")
-# What the module is built of, and the system that it is built for.
-LIBRARIES = ["dump", "edd_device", "explain", "fmt", "legacy_check", "legacy_editing", "legacy_panel_lines"]
+# The system that the module is built for.
 WASM, PARTS = "wasm32-unknown-unknown", "std,panic_abort"
 # The package of the editor, and what of it is used.
 EDITOR = "libjs-codemirror"
@@ -35,19 +33,18 @@ def set_up():
         raise packages.Missing("the page needs Debian's packages: " + packages.apt_get(lacking))
     if lacking:
         packages.install(lacking)
-    edition().write(MODULE)
-    packages.settle(MODULE, True)
+    settle(True)
 
 
-def edition():
-    return workspace.Edition(LIBRARIES, ["page"])
+def settle(may_install):
+    core.write()
+    packages.settle(repository.WORKBENCH, may_install)
 
 
 def module():
     """Builds the module, and gives its path."""
-    edition().write(MODULE)
-    packages.settle(MODULE, False)
-    made = systems.build(MODULE, WASM, PARTS, "small", ["--package", "edd_plain_page"])
+    settle(False)
+    made = systems.build("page", WASM, PARTS, "small", ["--package", "edd_plain_page"])
     return os.path.join(made, "edd_plain_page.wasm")
 
 

@@ -129,12 +129,6 @@ class Walk:
         if self.before() == "{" and self.is_main_body() and plain[:1] == ["let"] and plain[2:5] == ["=", "HostRuntime", ";"]:
             self.there += 5
             self.put_in["first line of main"] += 1
-        old = self.words[self.at]
-        if self.words[self.at - 6:self.at] == "const VERSION : & str =".split() and ", proved" in old:
-            if plain[0] != old[:old.index(", proved")] + ", plain, not proved here\"":
-                self.differs("the version")
-            self.at, self.there = self.at + 1, self.there + 1
-            self.put_in["words of the version"] += 1
 
     def is_main_body(self):
         at = self.at - 1

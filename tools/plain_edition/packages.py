@@ -9,11 +9,9 @@ import shutil
 import subprocess
 import sys
 
-# Debian's packages of the crates that the edition uses, and of what further systems need.
-SOURCES = ("librust-arrayvec-dev", "librust-clap-dev", "librust-serde-dev", "librust-serde-derive-dev", "librust-serde-json-dev",
-           "librust-similar-dev", "librust-thiserror-dev", "librust-unicode-width-dev")
-# The same with those of the tests of the workbench.
-WORKBENCH = (*SOURCES, "librust-proptest+std-dev")
+# Debian's packages of the crates that the workbench uses.
+SOURCES = ("librust-arrayvec-dev", "librust-clap-dev", "librust-proptest+std-dev", "librust-serde-dev", "librust-serde-derive-dev",
+           "librust-serde-json-dev", "librust-similar-dev", "librust-thiserror-dev", "librust-unicode-width-dev")
 COMPILER = ("rustc-web", "cargo-web")
 # A compiler with the source of its standard library, of which one is made for other systems, and their linkers.
 SYSTEMS = (*COMPILER, "rust-web-src", "lld", "gcc-multilib")
@@ -117,7 +115,7 @@ def apt(words):
         raise Missing(f"apt-get {' '.join(words)} failed:\n{ran.stdout[-1500:]}")
 
 
-def settle(out, may_install, sources=SOURCES):
+def settle(out, may_install):
     """Has the crates for a workspace at hand, so that cargo builds it offline; Debian's packages with their sources are named."""
     command = cargo(may_install)
     configuration = os.path.join(out, ".cargo", "config.toml")
@@ -128,7 +126,7 @@ def settle(out, may_install, sources=SOURCES):
         os.remove(configuration)
     if has_all(**PATIENCE):
         return command
-    left = lacking(sources)
+    left = lacking(SOURCES)
     if left:
         if not may_install or not can_install():
             raise Missing("cargo reaches no registry with the crates that are needed; as root on Debian: " + apt_get(left))

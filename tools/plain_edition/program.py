@@ -4,12 +4,13 @@ import os
 import shutil
 import time
 
-from . import ordinary, packages, repository, workspace
+from . import core, packages, repository
 
 PROGRAM = os.path.join(repository.MADE, "edd")
-ROOM = os.path.join(repository.MADE, "program")
-# What decides what the program is, beside the sources of its crates.
-OWN = ("crates.txt", "plain", "tools/plain", "tools/plain_edition")
+# What decides what the program is, beside the sources of crates and packages.
+OWN = ("crates.txt", "tools/plain", "tools/plain_edition")
+# The packages that no part of the program is made from.
+OTHERS = ("c", "firmware", "fuzz", "page", "tests", "wasm")
 
 
 def build(may_install):
@@ -19,24 +20,23 @@ def build(may_install):
         fcntl.flock(lock, fcntl.LOCK_EX)
         started = time.time()
         packages.cargo(may_install)
-        edition = workspace.Edition([ordinary.CLI])
-        edition.write(ROOM)
-        command = packages.settle(ROOM, may_install)
+        made = core.write()
+        command = packages.settle(repository.WORKBENCH, may_install)
         packages.say("building the program by cargo; later calls start at once")
-        ran = command.run(["build", "--quiet", "--release", "--offline", "--package", ordinary.PROGRAM], ROOM)
+        words = ["build", "--quiet", "--release", "--offline", "--package", repository.PROGRAM]
+        ran = command.run(words, repository.WORKBENCH)
         if ran.returncode:
             raise packages.Missing(f"cargo could not build the program:\n{ran.stderr[-3000:]}")
-        place(edition, started)
+        place(made, started)
 
 
-def place(edition, started):
+def place(made, started):
     """Puts the program at its place, dated by the build's start, with the list of what it is made from."""
-    made = os.path.join(ROOM, "target", "release", ordinary.BINARY)
-    shutil.copy(made, PROGRAM + ".new")
+    built = os.path.join(repository.WORKBENCH, "target", "release", repository.BINARY)
+    shutil.copy(built, PROGRAM + ".new")
     os.utime(PROGRAM + ".new", (started, started))
-    parts = [it for it in OWN if it != "plain"] + edition.own
-    parts += [f"crates/{crate.name}/src" for crate in edition.crates]
-    parts += [f"workbench/{place}" for place in edition.packages]
+    parts = [*OWN, *(f"crates/{crate.name}/src" for crate in made.crates)]
+    parts += [f"workbench/{name}" for name in repository.packages() if name not in OTHERS]
     with open(PROGRAM + ".sources", "w", encoding="utf-8") as file:
         file.write("".join(f"{part}\n" for part in parts))
     os.rename(PROGRAM + ".new", PROGRAM)

@@ -4,7 +4,7 @@ import os
 import shutil
 import subprocess
 
-from . import core, packages, repository, workspace
+from . import core, packages, repository
 
 PAGE = """# edd, a release
 
@@ -56,8 +56,8 @@ def root(out, place):
     return ""
 
 
-def page(out, edition):
-    places = [*core.packages(), *(f"core/{it.name}" for it in edition.crates)]
+def page(out, made):
+    places = [*repository.packages(), *(f"core/{it.name}" for it in made.crates)]
     return PAGE + "".join(f"| `{place}` | {summary(root(out, place))} |\n" for place in places)
 
 
@@ -78,7 +78,7 @@ def write(out):
     """Writes a new folder. Sources that are not committed can't be named, so they are refused."""
     changed = git("status", "--porcelain")
     if changed:
-        raise workspace.Stopped(f"there are changes that no commit has:\n{changed}")
+        raise core.Stopped(f"there are changes that no commit has:\n{changed}")
     write_files(out)
     commit(out)
 
@@ -86,16 +86,16 @@ def write(out):
 def write_files(out):
     """Writes all files into a new folder."""
     if os.path.exists(out):
-        raise workspace.Stopped(f"{out} is there already")
-    edition = core.edition()
-    edition.write(os.path.join(out, "core"))
-    lay_out(edition, os.path.join(out, "core"))
+        raise core.Stopped(f"{out} is there already")
+    made = core.Core()
+    made.write(os.path.join(out, "core"))
+    lay_out(made, os.path.join(out, "core"))
     copy(committed("workbench"), out, "workbench/")
     copy(committed("docs", "examples"), out)
     example = "examples/rust/Cargo.toml"
     with open(os.path.join(repository.TOP, example), encoding="utf-8") as file:
-        put(out, example, file.read().replace('"edition/', '"../../core/'))
-    put(out, "README.md", page(out, edition))
+        put(out, example, file.read().replace("/workbench/", "/"))
+    put(out, "README.md", page(out, made))
     put(out, "GENERATED_FROM", git("rev-parse", "HEAD") + "\n")
     lock(out)
 
@@ -105,20 +105,20 @@ def commit(out):
     for words in (["init", "--quiet"], ["add", "--all"], [*AUTHOR, "commit", "--quiet", "--message", "A release of edd"]):
         ran = subprocess.run(["git", "-C", out, *words], capture_output=True, text=True, check=False)
         if ran.returncode:
-            raise workspace.Stopped(f"git {words[-1]}: {ran.stderr[-2000:]}")
+            raise core.Stopped(f"git {words[-1]}: {ran.stderr[-2000:]}")
 
 
-def lay_out(edition, out):
+def lay_out(made, out):
     """Lays the sources of the core out as rustfmt does."""
-    roots = [path for path in edition.files if path.endswith(("src/lib.rs", "src/main.rs"))]
+    roots = [path for path in made.files if path.endswith(("src/lib.rs", "src/main.rs"))]
     ran = subprocess.run(["rustfmt", "--edition", "2024", *roots], cwd=out, capture_output=True, text=True, check=False)
     if ran.returncode:
-        raise workspace.Stopped(f"rustfmt: {ran.stderr[-2000:]}")
+        raise core.Stopped(f"rustfmt: {ran.stderr[-2000:]}")
 
 
 def lock(out):
     """Leaves a lock that names versions; sums of what the registry did not give are none."""
-    packages.settle(out, False, packages.WORKBENCH)
+    packages.settle(out, False)
     place = os.path.join(out, "Cargo.lock")
     with open(place, encoding="utf-8") as file:
         lines = [line for line in file if not (line.startswith("checksum = ") and " " in line.split('"')[1])]

@@ -1,13 +1,17 @@
-"""What the checkout has: its crates, by the list in crates.txt, and the places of its folders."""
+"""What the checkout has: its crates, by the list in crates.txt, its packages of ordinary Rust, and the places of its folders."""
 import os
 from typing import NamedTuple
 
 TOP = os.path.dirname(os.path.dirname(os.path.dirname(os.path.realpath(__file__))))
-PLAIN = os.path.join(TOP, "plain")
-# The folder of the player of the tables of tests.
-TESTS = "tests"
+WORKBENCH = os.path.join(TOP, "workbench")
+# The folder of the core as ordinary Rust, which is made.
+CORE = os.path.join(WORKBENCH, "core")
+# The tables of tests.
+TABLES = os.path.join(WORKBENCH, "tests", "tables")
 # What is made in the checkout: nothing of it is committed.
-MADE = os.path.join(PLAIN, "out")
+MADE = os.path.join(TOP, "out")
+# The package of the program and its binary.
+PROGRAM, BINARY = "edd-cli", "edd"
 
 
 class Crate(NamedTuple):
@@ -49,13 +53,11 @@ def crates():
     return found
 
 
-def below(all_crates, names):
-    """These crates and all that they use, in the order of the list."""
-    by_name = {it.name: it for it in all_crates}
-    wanted, left = set(), list(names)
-    while left:
-        name = left.pop()
-        if name in by_name and name not in wanted:
-            wanted.add(name)
-            left += by_name[name].uses
-    return [it for it in all_crates if it.name in wanted]
+def packages():
+    """The packages of ordinary Rust, by their folders below the workbench."""
+    found = []
+    for folder, folders, names in os.walk(WORKBENCH):
+        folders[:] = sorted(it for it in folders if it not in ("core", "src", "target"))
+        if "Cargo.toml" in names and folder != WORKBENCH:
+            found.append(os.path.relpath(folder, WORKBENCH))
+    return found

@@ -1,7 +1,7 @@
 """The forms of code, beside contracts, that plain Rust writes otherwise.
 
-Most are tokens that are left out. What is put in is listed in docs/PLAIN.md: the head lines of each file, the first line of
-`main`, and the words of the version.
+Most are tokens that are left out. What is put in is listed in docs/PLAIN.md: the head lines of each file and the first line of
+`main`.
 """
 import re
 
@@ -10,8 +10,6 @@ from .tokens import BLANK, Token, Unknown
 HANDLED = ("assert", "assert_eq", "assert_ne")
 # Macros that the shim takes with the handle of the system.
 WITH_HANDLE = HANDLED + ("print", "println", "eprintln")
-PROVED = re.compile(r", proved[^\"]*\"$")
-PLAIN = ", plain, not proved here\""
 FILE_HEAD = "use std::prelude::v1::*;\n"
 ROOT_HEAD = "#![no_std]\n#[macro_use]\nextern crate std;\n"
 FORMATTER = "< W : fmt :: Write >".split()
@@ -116,20 +114,8 @@ def main(code, at):
     code.put_behind(code.words.index("{", end), f"\n    let {name} = HostRuntime;")
 
 
-def version(code, at):
-    """The version says that this is the plain edition."""
-    if not code.starts(at, "const VERSION : & str ="):
-        return
-    place = code.places[at + 6]
-    text, count = PROVED.subn(PLAIN, code.tokens[place].text)
-    if not count:
-        raise Unknown(code.line(at), "a version that does not say `proved`")
-    code.tokens[place] = code.tokens[place]._replace(text=text)
-    code.counts["words of the version"] += 1
-
-
 # By the word with which each begins.
-FORMS = {"#": [derives], "!": [handles], "fn": [formatters, main], "fmt": [formatters], "Drop": [drops], "const": [version]}
+FORMS = {"#": [derives], "!": [handles], "fn": [formatters, main], "fmt": [formatters], "Drop": [drops]}
 
 
 def rewritten(tokens, counts):

@@ -1,4 +1,4 @@
-"""Slips that are planted in the eraser, in plain/ and in the program, one at a time in a copy of the checkout, and what notices each."""
+"""Slips that are planted in the eraser, in the shims and in the program, one at a time in a copy of the checkout, and what notices each."""
 import os
 import shutil
 import signal
@@ -8,7 +8,7 @@ import tempfile
 
 from . import repository
 
-ERASER, WORKSPACE, REWRITES = (f"tools/plain_edition/{name}.py" for name in ("erase", "workspace", "rewrites"))
+ERASER, CORE, REWRITES = (f"tools/plain_edition/{name}.py" for name in ("erase", "core", "rewrites"))
 # What is planted: where, which text of the file becomes which.
 SLIPS = (
     ("a clause is kept", ERASER, ', "ensures": self.clause}', "}"),
@@ -16,31 +16,30 @@ SLIPS = (
      "self.past(found.end()) + 8, \"clauses\""),
     ("a ghost takes the next member with it", ERASER, "last.end() if last else end, \"ghost members\"",
      "self.text.index(\"}\", end) + 1, \"ghost members\""),
-    ("a statement is dropped", WORKSPACE, "        return rewrites.with_head(text_of(erase.tidied(kept)), is_root(path))",
+    ("a statement is dropped", CORE, "        return rewrites.with_head(text_of(erase.tidied(kept)), is_root(path))",
      "        return rewrites.with_head(text_of(erase.tidied(kept)), is_root(path)).replace(\"left -= 1;\", \"\")"),
-    ("an `if` is lost", WORKSPACE, "        return rewrites.with_head(text_of(erase.tidied(kept)), is_root(path))",
+    ("an `if` is lost", CORE, "        return rewrites.with_head(text_of(erase.tidied(kept)), is_root(path))",
      "        return rewrites.with_head(text_of(erase.tidied(kept)), is_root(path)).replace(\"if !values.are_of(image) \", \"\")"),
     ("a word of an assertion is left out with its handle", REWRITES, "code.leave_out(at + 2, start + 2, \"handles in assertions\")",
      "code.leave_out(at + 2, start + 3, \"handles in assertions\")"),
     ("another derive is left out with Drop", REWRITES, "if code.words[it] == \"Drop\"]", "if code.words[it] in (\"Drop\", \"Debug\")]"),
-    ("the version says `proved`", REWRITES, "PLAIN = \", plain, not proved here\\\"\"", "PLAIN = \", proved\\\"\""),
-    ("a list grows without asking", "plain/std/src/vec.rs", "self.0.len() == self.0.capacity() && self.0.try_reserve(1).is_err()",
+    ("a list grows without asking", "workbench/shims/std/src/vec.rs", "self.0.len() == self.0.capacity() && self.0.try_reserve(1).is_err()",
      "self.0.len() == usize::MAX"),
-    ("a text grows without asking", "plain/std/src/string.rs", "self.0.try_reserve(text.len()).map_err(|_| AllocError)?;", ""),
-    ("a slice loses its last element", "plain/std/src/vec.rs", "list.0.extend_from_slice(items);",
+    ("a text grows without asking", "workbench/shims/std/src/string.rs", "self.0.try_reserve(text.len()).map_err(|_| AllocError)?;", ""),
+    ("a slice loses its last element", "workbench/shims/std/src/vec.rs", "list.0.extend_from_slice(items);",
      "list.0.extend_from_slice(&items[..items.len().saturating_sub(1)]);"),
-    ("elements that are alike change places", "plain/std/src/sort.rs", ".then(a.cmp(b))", ".then(b.cmp(a))"),
-    ("half of a list of entries is lost", "plain/std/src/collections/ordered.rs", "self.lists.insert(at + 1, more);",
+    ("elements that are alike change places", "workbench/shims/std/src/sort.rs", ".then(a.cmp(b))", ".then(b.cmp(a))"),
+    ("half of a list of entries is lost", "workbench/shims/std/src/collections/ordered.rs", "self.lists.insert(at + 1, more);",
      "self.lists.insert(at + 1, more); self.lists.truncate(at + 1); self.lists.push(Vec::new());"),
-    ("a key is taken for another of its hash", "plain/indexmap/src/slots.rs", "self.0[at] != FREE && !is(self.0[at] as usize)",
+    ("a key is taken for another of its hash", "workbench/shims/indexmap/src/slots.rs", "self.0[at] != FREE && !is(self.0[at] as usize)",
      "self.0[at] != FREE && is(self.0[at] as usize)"),
-    ("a set that is cut keeps one more", "plain/indexmap/src/lib.rs", "self.elements.truncate(count);", "self.elements.truncate(count + 1);"),
-    ("what is held back is lost", "plain/std/src/io.rs", "let done = self.out.write_all(&self.held);", "let done = Ok(());"),
-    ("a mistake of the output is overlooked", "plain/std/src/host/rt.rs", "        with_output(|out| real::io::Write::write(out, bytes))",
+    ("a set that is cut keeps one more", "workbench/shims/indexmap/src/lib.rs", "self.elements.truncate(count);", "self.elements.truncate(count + 1);"),
+    ("what is held back is lost", "workbench/shims/std/src/io.rs", "let done = self.out.write_all(&self.held);", "let done = Ok(());"),
+    ("a mistake of the output is overlooked", "workbench/shims/std/src/host/rt.rs", "        with_output(|out| real::io::Write::write(out, bytes))",
      "        with_output(|out| real::io::Write::write(out, bytes)).or(Ok(bytes.len()))"),
     ("the status of a mistake in the words is 0", "workbench/cli/src/lib.rs",
      "Ok(()) if error.use_stderr() => COMMAND_LINE", "Ok(()) if error.use_stderr() => DONE"),
-    ("the fields of an error are exchanged", "plain/derive/src/error.rs", "names.join(\", \")",
+    ("the fields of an error are exchanged", "workbench/shims/derive/src/error.rs", "names.join(\", \")",
      "names.iter().rev().cloned().collect::<Vec<_>>().join(\", \")"),
 )
 # The steps of the tests that a slip goes through, in order, without those on other systems.

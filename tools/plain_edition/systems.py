@@ -1,4 +1,4 @@
-"""Builds the edition for systems for which the machine has no standard library: Debian's packages have its source, of which
+"""Builds the workbench and the core for systems for which the machine has no standard library: Debian's packages have its source, of which
 cargo makes one by `-Z build-std`, in a folder of its own that the compiler takes as its root.
 """
 import glob
@@ -98,11 +98,11 @@ def build_standard(target, parts, room):
     return [it for it in made if not os.path.basename(it).startswith("libstandard")]
 
 
-def build(folder, target, parts, profile, words, flags=""):
-    """Builds crates of a workspace for a system, and gives the folder of what was made."""
+def build(step, target, parts, profile, words, flags="", folder=repository.WORKBENCH):
+    """Builds packages of the workbench, or of the workspace in another folder, for a system, and gives the folder of what was made."""
     rooted = f"--sysroot {root(target, parts)} {flags}".strip()
-    # Each workspace has a folder of its own: cargo lets builds in one folder wait for each other.
-    place = os.path.join(folder, "systems")
+    # Each step has a folder of its own: cargo lets builds in one folder wait for each other.
+    place = os.path.join(ROOM, step)
     env = environment(target, RUSTFLAGS=rooted, CARGO_TARGET_DIR=place)
     run(["build", "--quiet", "--offline", "--profile", profile, "--target", target, *words], folder, env)
     return os.path.join(place, target, profile)

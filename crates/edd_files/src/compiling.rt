@@ -1,12 +1,11 @@
 //! The image of a source, saved.
 
-ghost use Rattle.std.specs.Prelude.{◌≡◌, IfOk, OnErr, OnOk, map, option_map, string_bytes};
+ghost use Rattle.std.specs.Prelude.{◌≡◌, IfOk, OnErr, OnOk, option_map};
 ghost use Rattle.edd_files.specs.Names.{output_name};
-ghost use Rattle.edd_files.specs.Saves.{IsImageSaving, IsNamedImage, IsTold, SavesOne, image_saving, with_saving};
+ghost use Rattle.edd_files.specs.Saves.{IsImageSaving, IsTold, SavesOne, image_saving, with_saving};
 
 use crate::files::{FileFault, Files};
 use crate::named::{NamedFault, of_file};
-use crate::naming::are_in_order;
 use crate::reading::{STANDARD, read};
 use edd_compiler::{Fault, compile};
 use std::alloc::Global;
@@ -45,9 +44,9 @@ fn save_bytes<'a, F: Files>(
         .map_err(|fault| of_file(image, fault))
 }
 
-// Saves the image of a source, if it has one.
+/// Saves the image of a source under a name, if it has one, and says what became of it.
 #[tactic(auto, using(crate::proofs::SavesLaws::saves_none))]
-fn save_image<'a, F: Files>(
+pub fn save_image<'a, F: Files>(
     alloc: Global,
     source: &'a str,
     image: &'a str,
@@ -66,25 +65,4 @@ fn save_image<'a, F: Files>(
     };
     save_bytes(image, &bytes, files)?;
     Ok(Compiled::Saved(bytes.len()))
-}
-
-/// Saves the image of a source, if it has one, and says what became of it. Both names are always
-/// among the words, the source's first.
-#[tactic(auto, using(crate::proofs::SavesLaws::saves_none, crate::proofs::SavesLaws::saves_this_such))]
-pub fn compile_named<'a, F: Files>(
-    alloc: Global,
-    words: &[String],
-    source: &'a str,
-    image: &'a str,
-    files: &mut F,
-) -> Result<Compiled, NamedFault<'a>>
-    ensures saves { SavesOne (IsNamedImage (map string_bytes words.now) (F.account files.old))
-        (F.account files.old) (F.account files.new) }
-    ensures told { IfOk result (IsTold (F.account files.old) (F.account files.new) source.now
-        image.now) }
-{
-    if are_in_order(words, source, image) {
-        return save_image(alloc, source, image, files);
-    }
-    Err(NamedFault::File(image, FileFault::Failed))
 }

@@ -10,7 +10,7 @@ mod naming;
 mod reading;
 mod saving;
 
-pub use compiling::{Compiled, compile_named};
+pub use compiling::{Compiled, save_image};
 pub use files::{FileFault, Files, MOST_BYTES, read_all};
 pub use layouts::{Layout, layout_of, save_layout};
 pub use named::{NamedFault, of_file};

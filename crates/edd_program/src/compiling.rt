@@ -1,31 +1,30 @@
 //! What the program does to make an image of a source.
 
-ghost use Rattle.std.specs.Prelude.{IfErr, IfOk, map, string_bytes};
+ghost use Rattle.std.specs.Prelude.{IfErr, IfOk};
 ghost use Rattle.edd_compiler.specs.Images.{IsImageOf};
-ghost use Rattle.edd_files.specs.Saves.{IsNamedImage, SavesOne};
+ghost use Rattle.edd_files.specs.Saves.{IsImageSaving, SavesOne};
 ghost use Rattle.edd_program.specs.Refusals.{TellsRefusal, TellsRefusalOf};
 
 use crate::stop::Stop;
 use edd_compiler::{Fault, compile};
 use edd_display::print;
-use edd_files::{Compiled, Files, compile_named};
+use edd_files::{Compiled, Files, save_image};
 use std::alloc::Global;
 use std::io::Write;
 
 /// Writes the image of a source, and prints its length.
 pub fn write_image<'a, F: Files, W: Write>(
     alloc: Global,
-    words: &[String],
     source: &'a str,
     image: &'a str,
     files: &mut F,
     out: &mut W,
 ) -> Result<(), Stop<'a>>
-    ensures saves { SavesOne (IsNamedImage (map string_bytes words.now) (F.account files.old))
+    ensures saves { SavesOne (IsImageSaving (F.account files.old) source.now image.now)
         (F.account files.old) (F.account files.new) }
     ensures refused { IfErr result (TellsRefusalOf (F.account files.old) source.now) }
 {
-    match compile_named(alloc, words, source, image, files)? {
+    match save_image(alloc, source, image, files)? {
         Compiled::Saved(length) => Ok(print(alloc, out, format_args!("image {length}"))?),
         Compiled::Refused(text, fault) => Err(Stop::NotCompiled(fault.refusal(alloc, &text)?)),
     }

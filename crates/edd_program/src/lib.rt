@@ -1,15 +1,17 @@
-//! The program `edd` over given words, files and output, or over the files of the system, and the
-//! call of the compiler that it makes. Proved is that it saves one image or none: the image of what a
-//! named file gave, under a named name.
+//! What the program `edd` does on a request, over given files and a given output, and the files of the
+//! system for it. Proved is that `compile` saves the image of its source under the name of its image,
+//! or nothing, and that no other request saves anything.
 #![tactic(auto)]
 
-ghost use Rattle.std.specs.Prelude.{◌≡◌, ◌≤◌, map, string_bytes};
-ghost use Rattle.edd_files.specs.Saves.{IsNamedImage, SavesOne};
+ghost use Rattle.std.specs.Prelude.{◌≡◌, ◌≤◌};
+ghost use Rattle.edd_files.specs.Saves.{SavesOne};
+ghost use Rattle.edd_program.specs.Saved.{MaySave};
 
 mod compiling;
 mod hints;
 mod playing;
 mod reports;
+mod request;
 mod requests;
 mod showing;
 mod stop;
@@ -20,26 +22,30 @@ pub use edd_compiler::{Fault, compile};
 use edd_display::ShowFault;
 pub use edd_files::{FileFault, Files};
 use hints::hint;
-use reports::{DONE, FILE, MEMORY, report, status};
+pub use reports::{COMMAND_LINE, DONE, FILE, MEMORY};
+use reports::{report, status};
+pub use request::{Request, Run, Showing};
 use std::alloc::Global;
 use std::io::{BufWriter, Write};
 use stop::Stop;
-pub use system::run_on_system;
+pub use system::{ProgramFiles, program_files};
 
 /// How many bytes of lines are held back. What most commands print is one write then, so that a
 /// reader that closes early, as `head`, doesn't change how the program ends.
 const HELD_BACK: usize = 65_536;
 
-/// Runs the program `edd` on the words of its command line, the program's name first. Prints to
-/// `out`, and answers the exit status.
-///
-/// What is saved is an image of what a file of the command line gave, under a name of it.
-pub fn run<F: Files, W: Write>(alloc: Global, words: &[String], files: &mut F, out: &mut W) -> u8
+/// Does what a request asks for. Prints to `out`, and answers the exit status.
+pub fn run<F: Files, W: Write>(
+    alloc: Global,
+    request: Request<'_>,
+    files: &mut F,
+    out: &mut W,
+) -> u8
     ensures status { result ≤ 4 }
-    ensures saves { SavesOne (IsNamedImage (map string_bytes words.now) (F.account files.old))
-        (F.account files.old) (F.account files.new) }
+    ensures saves { SavesOne (MaySave request.entry (F.account files.old)) (F.account files.old)
+        (F.account files.new) }
 {
-    match print_lines(alloc, words, files, out) {
+    match print_lines(alloc, request, files, out) {
         Ok(()) => DONE,
         Err(stop) => stopped(alloc, &stop, files, out),
     }
@@ -49,17 +55,17 @@ pub fn run<F: Files, W: Write>(alloc: Global, words: &[String], files: &mut F, o
 #[tactic(auto, using(edd_files::proofs::SavesLaws::saves_none))]
 fn print_lines<'a, F: Files, W: Write>(
     alloc: Global,
-    words: &'a [String],
+    request: Request<'a>,
     files: &mut F,
     out: &mut W,
 ) -> Result<(), Stop<'a>>
-    ensures saves { SavesOne (IsNamedImage (map string_bytes words.now) (F.account files.old))
-        (F.account files.old) (F.account files.new) }
+    ensures saves { SavesOne (MaySave request.entry (F.account files.old)) (F.account files.old)
+        (F.account files.new) }
 {
     let Ok(mut lines) = BufWriter::with_capacity(alloc, HELD_BACK, out) else {
         return Err(Stop::Memory);
     };
-    let answer = requests::answer(alloc, words, files, &mut lines);
+    let answer = requests::answer(alloc, request, files, &mut lines);
     let is_written = !matches!(answer, Err(Stop::Output)) && lines.flush().is_ok();
     // Taken apart, since a buffer that is dropped tries once more to write what it holds.
     let (_, _) = lines.into_parts();

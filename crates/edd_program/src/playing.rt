@@ -4,9 +4,9 @@ ghost use Rattle.std.specs.Prelude.{◌≡◌, IfOk, OnOk, Some};
 ghost use Rattle.edd_program.specs.Runs.{IsMethodNamed, IsPlayed, IsRun, OfImage, OfSource};
 
 use crate::compiling::image_of_source;
+use crate::request::Run;
 use crate::stop::Stop;
 use crate::taking::take;
-use edd_command_line::Run;
 use edd_display::show_play;
 use edd_files::Files;
 use edd_loader::{Image, load};

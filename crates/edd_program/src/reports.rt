@@ -3,7 +3,7 @@
 ghost use Rattle.std.specs.Prelude.{◌≤◌};
 
 use crate::stop::Stop;
-use edd_display::{ShowFault, print, print_text};
+use edd_display::{ShowFault, print};
 use edd_loader::LoadFault;
 use std::alloc::Global;
 use std::fmt::Display;
@@ -14,7 +14,8 @@ pub const DONE: u8 = 0;
 
 const REFUSED: u8 = 1;
 
-const COMMAND_LINE: u8 = 2;
+/// The exit status where the words of the command line ask for nothing.
+pub const COMMAND_LINE: u8 = 2;
 
 /// The exit status where a file or the output could not be read or written.
 pub const FILE: u8 = 3;
@@ -30,7 +31,6 @@ fn refused<W: Write, T: Display>(alloc: Global, fault: &T, out: &mut W) -> Resul
 /// Prints why the program stops.
 pub fn report<W: Write>(alloc: Global, stop: &Stop<'_>, out: &mut W) -> Result<(), ShowFault> {
     match stop {
-        Stop::Help(text) | Stop::CommandLine(text) => print_text(out, text),
         Stop::File(name) => print(alloc, out, format_args!("file {name}")),
         Stop::NotCompiled(fault) => refused(alloc, fault, out),
         Stop::NotLoaded(fault) => refused(alloc, fault, out),
@@ -49,8 +49,6 @@ pub fn status(stop: &Stop<'_>) -> u8
     ensures { result ≤ 4 }
 {
     match stop {
-        Stop::Help(_) => DONE,
-        Stop::CommandLine(_) => COMMAND_LINE,
         Stop::NotCompiled(_)
         | Stop::NotLoaded(_)
         | Stop::TextAsImage(_)

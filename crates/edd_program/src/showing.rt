@@ -5,9 +5,9 @@ ghost use Rattle.edd_program.specs.Runs.{IsShown, OfImage, OfSource};
 
 use crate::compiling::image_of_source;
 use crate::hints::with_hint;
+use crate::request::Showing;
 use crate::stop::Stop;
 use crate::taking::take;
-use edd_command_line::Showing;
 use edd_display::show;
 use edd_files::Files;
 use edd_loader::{Image, load};

@@ -1,6 +1,5 @@
 //! Why the program stops before its end.
 
-use edd_command_line::NoRequest;
 use edd_display::ShowFault;
 use edd_files::NamedFault;
 use edd_loader::LoadFault;
@@ -12,10 +11,6 @@ use std::alloc::{AllocError, AllocFailed};
 /// Why the program stops before its end.
 #[derive(Drop)]
 pub enum Stop<'a> {
-    /// The help or the version that was asked for.
-    Help(String),
-    /// What is wrong with the words of the command line.
-    CommandLine(String),
     /// The file of this name could not be read or written.
     File(&'a str),
     /// The source is refused, which is told so.
@@ -31,16 +26,6 @@ pub enum Stop<'a> {
     /// The output could not be written.
     Output,
     Memory,
-}
-
-impl From<NoRequest> for Stop<'_> {
-    fn from(none: NoRequest) -> Self {
-        match none {
-            NoRequest::Help(text) => Stop::Help(text),
-            NoRequest::Mistake(text) => Stop::CommandLine(text),
-            NoRequest::Memory => Stop::Memory,
-        }
-    }
 }
 
 impl<'a> From<NamedFault<'a>> for Stop<'a> {

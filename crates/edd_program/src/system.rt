@@ -1,15 +1,13 @@
-//! The program over the files of the system.
-
-ghost use Rattle.std.specs.Prelude.{◌≤◌};
+//! The files of the system for the program.
 
 use crate::{FileFault, Files};
 use edd_files::INPUT;
 use edd_system::{DiskFiles, Opened, SystemDisk};
-use std::io::Write;
 use std::{io, rt};
 
+/// The files of the system, by their names.
 #[derive(Drop)]
-struct ProgramFiles<'a, R> {
+pub struct ProgramFiles<'a, R> {
     rt: &'a R,
     files: DiskFiles<SystemDisk<'a, R>>,
 }
@@ -76,18 +74,12 @@ impl<R: rt::Files + Input + Print + Eprint + AllocGlobal> Files for ProgramFiles
     }
 }
 
-/// Runs the program `edd` on the words of its command line, the program's name first, over the
-/// system's files. Prints to `out`, and answers the exit status.
-pub fn run_on_system<R: rt::Files + Input + Print + Eprint + AllocGlobal, W: Write>(
+/// The files of the system, of which none is open.
+pub fn program_files<R: rt::Files + Input + Print + Eprint + AllocGlobal>(
     rt: &R,
-    words: &[String],
-    out: &mut W,
-) -> u8
-    ensures { result ≤ 4 }
-{
-    let mut files = ProgramFiles {
+) -> ProgramFiles<'_, R> {
+    ProgramFiles {
         rt,
         files: system_files(rt),
-    };
-    crate::run(rt.alloc(), words, &mut files, out)
+    }
 }

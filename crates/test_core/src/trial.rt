@@ -53,7 +53,7 @@ pub fn run(alloc: Global, row: &Row<'_>) -> Result<Verdict, AllocError> {
         files: row.files.as_slice(),
         saved: Vec::new(alloc),
     };
-    let status = edd_program::run(alloc, words.as_slice(), &mut files, &mut bytes);
+    let status = edd_command_line::run(alloc, words.as_slice(), &mut files, &mut bytes);
     let MemoryFiles { saved, .. } = files;
     let printed = Printed {
         status,

@@ -2,7 +2,7 @@
 import os
 import struct
 
-from .. import packages, repository, systems, workspace
+from .. import repository, systems
 
 THUMB = "thumbv7em-none-eabihf"
 # The half that compiles, and the half of a communicator.
@@ -28,13 +28,10 @@ def size(program):
 
 def thumb(score):
     """Builds both halves without std, and links that of a communicator."""
-    folder = os.path.join(repository.MADE, "bare")
-    workspace.Edition(COMPILING + COMMUNICATING, ["firmware"]).write(folder)
-    packages.settle(folder, False)
     words = [word for name in COMPILING + COMMUNICATING for word in ("--package", name)]
-    systems.build(folder, THUMB, systems.BARE, "small", words)
+    systems.build("bare_core", THUMB, systems.BARE, "release", words, folder=repository.CORE)
     score.count(1, 0)
-    made = systems.build(folder, THUMB, systems.BARE, "small", ["--package", "edd_plain_firmware"], "-C link-arg=--entry=run")
+    made = systems.build("bare", THUMB, systems.BARE, "small", ["--package", "edd_plain_firmware"], "-C link-arg=--entry=run")
     bytes_of = size(os.path.join(made, "edd_plain_firmware"))
     score.check(bytes_of > 0, "the firmware is empty")
     return f"{bytes_of} bytes of code and constants for a communicator"

@@ -3,19 +3,13 @@ import os
 import subprocess
 import tempfile
 
-from .. import packages, repository, systems, workspace
+from .. import packages, repository, systems
 from . import bare
 
 I686 = "i686-unknown-linux-gnu"
 NAME = "edd_plain_c"
 IMAGES = ("valve_positioner", "temperature_scanner", "flow_transmitter")
 FLAGS = ["-std=c99", "-Wall", "-Wextra", "-Wpedantic", "-Werror", "-O1", "-g"]
-
-
-def written():
-    folder = os.path.join(repository.MADE, "for_c")
-    workspace.Edition(["edd_embed"], ["c"]).write(folder)
-    return folder, packages.settle(folder, False)
 
 
 def run_tests(score, archive, program, more):
@@ -37,11 +31,12 @@ def run_tests(score, archive, program, more):
 
 def tests(score, program):
     """The C tests with the archive of this system and with that of i686; the archive of a small processor is built."""
-    folder, cargo = written()
-    cargo.run(["build", "--quiet", "--offline", "--profile", "small", "--package", NAME], folder)
-    here = run_tests(score, os.path.join(folder, "target", "small", f"lib{NAME}.a"), program, [])
-    made = systems.build(folder, I686, systems.BARE, "small", ["--package", NAME])
+    room = os.path.join(systems.ROOM, "c_here")
+    words = ["build", "--quiet", "--offline", "--profile", "small", "--package", NAME]
+    packages.cargo().run(words, repository.WORKBENCH, CARGO_TARGET_DIR=room)
+    here = run_tests(score, os.path.join(room, "small", f"lib{NAME}.a"), program, [])
+    made = systems.build("c", I686, systems.BARE, "small", ["--package", NAME])
     there = run_tests(score, os.path.join(made, f"lib{NAME}.a"), program, ["-m32"])
-    made = systems.build(folder, bare.THUMB, systems.BARE, "small", ["--package", NAME])
+    made = systems.build("c", bare.THUMB, systems.BARE, "small", ["--package", NAME])
     score.check(os.path.getsize(os.path.join(made, f"lib{NAME}.a")) > 0, "the archive for a small processor is empty")
     return f"{here} here; {there} on 32 bits"

@@ -1,4 +1,4 @@
-"""The edition on 32 bits: the program of i686 Linux, and the module of WebAssembly in node."""
+"""The workbench on 32 bits: the program of i686 Linux, and the module of WebAssembly in node."""
 import base64
 import json
 import os
@@ -6,19 +6,18 @@ import shutil
 import subprocess
 import tempfile
 
-from .. import ordinary, packages, repository, systems, workspace
+from .. import packages, repository, systems
 from . import images, player, table
 
 I686, WASM = "i686-unknown-linux-gnu", "wasm32-unknown-unknown"
 # The commands whose first word is a source.
 ON_SOURCES = ("compile", "view", "try", "check")
-LIBRARIES = ["edd_compiler", "edd_display", "edd_port"]
 
 
-def i686(score, folder, program, own):
+def i686(score, program, own):
     """The rows, the hostile and the damaged images by the program of 32 bits; the player in the folder `own` plays the rows."""
-    made = systems.build(folder, I686, systems.WHOLE, "checked", ["--package", ordinary.PROGRAM])
-    other = os.path.join(made, ordinary.BINARY)
+    made = systems.build("i686", I686, systems.WHOLE, "checked", ["--package", repository.PROGRAM])
+    other = os.path.join(made, repository.BINARY)
     said = player.by_program(score, own, other)
     images.refused_alike(score, {"64 bits": program, "32 bits": other})
     images.damaged_alike(score, program, other)
@@ -27,10 +26,7 @@ def i686(score, folder, program, own):
 
 def module():
     """Builds the module of WebAssembly, and gives its path."""
-    folder = os.path.join(repository.MADE, "module")
-    workspace.Edition(LIBRARIES, ["wasm"]).write(folder)
-    packages.settle(folder, False)
-    made = systems.build(folder, WASM, systems.BARE, "small", ["--package", "edd_plain_wasm"])
+    made = systems.build("module", WASM, systems.BARE, "small", ["--package", "edd_plain_wasm"])
     return os.path.join(made, "edd_plain_wasm.wasm")
 
 

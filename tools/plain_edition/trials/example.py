@@ -1,6 +1,5 @@
-"""The examples in Rust: each runs a method as the program does. That in examples/rust is built over the edition."""
+"""The examples in Rust: each runs a method as the program does. That in examples/rust is built over the core."""
 import os
-import shutil
 import subprocess
 import tempfile
 
@@ -10,23 +9,15 @@ SOURCE, METHOD = "valve_positioner.edd", "calibrate"
 ANSWERS = "answer 0\n" * 100
 
 
-def built(folder):
-    """Copies the example beside the edition, and gives cargo and the folder."""
-    room = os.path.join(repository.MADE, "example")
-    shutil.rmtree(room, ignore_errors=True)
-    shutil.copytree(os.path.join(repository.TOP, "examples", "rust"), room, ignore=shutil.ignore_patterns("edition", "target"))
-    manifest = os.path.join(room, "Cargo.toml")
-    with open(manifest, encoding="utf-8") as file:
-        text = file.read()
-    with open(manifest, "w", encoding="utf-8") as file:
-        file.write(text.replace('path = "edition/', f'path = "../{os.path.basename(folder)}/'))
-    return packages.settle(room, False), room
+FOLDER = os.path.join(repository.TOP, "examples", "rust")
 
 
-def runs(score, folder, program):
-    """What the example prints is right."""
-    command, room = built(folder)
-    compare(score, program, "the example", lambda words: command.run(["run", "--quiet", "--offline", "--", *words], room))
+def runs(score, program):
+    """What the examples print is right: that over the core, and that of the library."""
+    command = packages.settle(FOLDER, False)
+    compare(score, program, "the example", lambda words: command.run(["run", "--quiet", "--offline", "--", *words], FOLDER))
+    start = ["run", "--quiet", "--offline", "--profile", "checked", "--package", "edd", "--example", "run_method", "--"]
+    compare(score, program, "run_method", lambda words: command.run([*start, *words], repository.WORKBENCH))
 
 
 def compare(score, program, name, run):

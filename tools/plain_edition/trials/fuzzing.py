@@ -1,4 +1,4 @@
-"""Damaged and grown texts and images in one process; what is looked at says plain/fuzz."""
+"""Damaged and grown texts and images in one process; workbench/fuzz says what is looked at."""
 import glob
 import os
 import shutil
@@ -28,15 +28,16 @@ def inputs(room):
             file.write(data)
 
 
-def built(folder, profile):
-    ran = packages.cargo().run(["build", "--quiet", "--offline", "--profile", profile, "--package", PACKAGE], folder)
+def built(profile):
+    words = ["build", "--quiet", "--offline", "--profile", profile, "--package", PACKAGE]
+    ran = packages.cargo().run(words, repository.WORKBENCH)
     if ran.returncode:
         raise packages.Missing(f"the fuzzing can't be built:\n{ran.stderr[-3000:]}")
-    return os.path.join(folder, "target", profile, PACKAGE)
+    return os.path.join(repository.WORKBENCH, "target", profile, PACKAGE)
 
 
-def built_for_32_bits(folder, profile):
-    return os.path.join(systems.build(folder, elsewhere.I686, systems.WHOLE, profile, ["--package", PACKAGE]), PACKAGE)
+def built_for_32_bits(profile):
+    return os.path.join(systems.build("fuzz", elsewhere.I686, systems.WHOLE, profile, ["--package", PACKAGE]), PACKAGE)
 
 
 def fuzz(program, numbers, output=None):
@@ -47,9 +48,9 @@ def fuzz(program, numbers, output=None):
     return subprocess.run(words, stdin=subprocess.DEVNULL, stdout=output, stderr=subprocess.DEVNULL, text=True, check=False)
 
 
-def some(score, folder, profile, count):
+def some(score, profile, count):
     """A few inputs at each gate."""
-    ran = fuzz(built(folder, profile), [count], subprocess.PIPE)
+    ran = fuzz(built(profile), [count], subprocess.PIPE)
     lines = ran.stdout.splitlines()
     for line in lines:
         if line.startswith("WRONG"):

@@ -1,4 +1,4 @@
-"""Plays the tables of tests by the player in tests/."""
+"""Plays the tables of tests by the player in workbench/tests."""
 import os
 import re
 import subprocess

@@ -138,9 +138,9 @@ def of_editor(score, program):
     return f"one in {APART} of {every} requests, {ended} before the input is read"
 
 
-def of_calls(score, edition, folder):
+def of_calls(score, folder):
     """The calls that take memory, one after the other: the lines of before the refusal, and `no memory`."""
-    program = os.path.join(folder, next(it.name for it in edition.crates if it.is_program and it.name.endswith("growths")))
+    program = os.path.join(folder, "test_growths")
     with tempfile.TemporaryDirectory() as room:
         refused = Refused(room)
         whole = refused.run([program], 0)[1].splitlines(keepends=True)

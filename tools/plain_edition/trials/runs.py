@@ -1,18 +1,17 @@
-"""Runs programs of the plain edition: on what is stored beside their crates, and with outputs that nobody reads."""
+"""Runs programs of the erased core on what is stored beside their crates, and the ordinary one with outputs that nobody reads."""
 import os
 import subprocess
 import tempfile
 
-from .. import workspace
 from . import images
 
 
-def stored(score, edition, folder):
+def stored(score, made, folder):
     """Each program on its stored words and input: what it prints and its status are to be what is stored."""
-    for crate in edition.crates:
+    for crate in made.crates:
         if crate.is_program:
             expected = kept(crate, "stdout")
-            ran = run_stored(crate, os.path.join(folder, workspace.binary(crate)))
+            ran = run_stored(crate, os.path.join(folder, crate.name))
             status = int(kept(crate, "status") or 0)
             score.check(ran == (status, expected), f"the stored run of {crate.name}: {difference(expected, ran[1])}, status {ran[0]}")
 

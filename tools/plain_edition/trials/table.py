@@ -1,9 +1,9 @@
-"""The table of rows, of which the sources and images are tried in other ways too. What its parts mean says tests/src/rows/row.rs."""
+"""The table of rows, of which the sources and images are tried in other ways too. workbench/tests/src/rows/row.rs says what its parts mean."""
 import os
 
 from .. import repository
 
-TABLES = os.path.join(repository.TOP, repository.TESTS, "tables")
+TABLES = repository.TABLES
 # Names the files of rows in their order.
 ORDER = "rows.order"
 ROW = b"@run "

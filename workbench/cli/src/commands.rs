@@ -13,11 +13,11 @@ mod test;
 mod trace;
 
 use crate::command_line::{Command, Play, Try};
-use crate::core_program::Request;
 use crate::failure::{DONE, FILE, Failure, reason};
 use crate::output::Lines;
 use core_std::string::String as CoreString;
 use edd_files::Files;
+use proved::CoreCommand;
 use simulate::Simulation;
 use std::io::Write;
 
@@ -30,14 +30,8 @@ pub(crate) fn run(
 ) -> u8 {
     match command {
         Command::Compile(args) => proved::compile(args, files, output),
-        Command::View(args) => {
-            let request = Request::View(proved::showing(&args.source, &args.device_state));
-            proved::run(request, args.hints.quiet, files, output)
-        }
-        Command::Show(args) => {
-            let request = Request::Show(proved::showing(&args.image, &args.device_state));
-            proved::run(request, args.hints.quiet, files, output)
-        }
+        Command::View(args) => CoreCommand::view(args).run(files, output),
+        Command::Show(args) => CoreCommand::show(args).run(files, output),
         Command::Play(args) => run_play(args, files, output),
         Command::Try(args) => run_try(args, files, output),
         Command::Open(args) => print(output, files, |files, out| {
@@ -56,13 +50,8 @@ pub(crate) fn run(
 }
 
 fn run_play(args: &Play, files: &mut impl Files, output: &mut impl Write) -> u8 {
-    let is_quiet = args.hints.quiet;
     let Some(device) = &args.run.device else {
-        let request = Request::Play {
-            image: &args.image,
-            run: proved::method_run(&args.run),
-        };
-        return proved::run(request, is_quiet, files, output);
+        return CoreCommand::play(args).run(files, output);
     };
     let simulation = Simulation {
         file: &args.image,
@@ -70,30 +59,28 @@ fn run_play(args: &Play, files: &mut impl Files, output: &mut impl Write) -> u8 
         device,
         run: &args.run,
         is_traced: false,
-        is_quiet,
+        is_quiet: args.hints.quiet,
     };
     simulation.run(files, output)
 }
 
 fn run_try(args: &Try, files: &mut impl Files, output: &mut impl Write) -> u8 {
-    let is_quiet = args.hints.quiet;
-    let source = args.source.as_str();
-    if let Some(device) = &args.run.device {
-        let simulation = Simulation {
-            file: source,
-            is_source: true,
-            device,
-            run: &args.run,
-            is_traced: args.trace,
-            is_quiet,
+    let Some(device) = &args.run.device else {
+        let command = CoreCommand::try_source(args);
+        return match args.trace {
+            true => command.run_traced(files, output),
+            false => command.run(files, output),
         };
-        return simulation.run(files, output);
-    }
-    let run = proved::method_run(&args.run);
-    if args.trace {
-        return proved::run_traced(source, run, is_quiet, files, output);
-    }
-    proved::run(Request::Try { source, run }, is_quiet, files, output)
+    };
+    let simulation = Simulation {
+        file: &args.source,
+        is_source: true,
+        device,
+        run: &args.run,
+        is_traced: args.trace,
+        is_quiet: args.hints.quiet,
+    };
+    simulation.run(files, output)
 }
 
 /// Prints the lines of a command and why it ended early, and returns the exit status. After a write

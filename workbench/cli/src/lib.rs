@@ -6,25 +6,24 @@
 mod checking;
 mod command_line;
 mod commands;
-mod core_program;
 mod failure;
 mod hints;
 mod output;
 mod recorder;
-mod system;
 
 use clap::Parser;
 use command_line::CommandLine;
+use core_std::rt::HostRuntime;
 use core_std::string::String as CoreString;
 pub use edd_files::{FileFault, Files};
+use edd_program::program_files;
 pub use failure::{COMMAND_LINE, DONE, FILE};
 pub use output::StandardOutput;
 use std::io::Write;
-pub use system::SystemFiles;
 
 /// Runs a command line over the system's files, as [`run`] does.
 pub fn run_on_system(words: Vec<String>, output: &mut impl Write) -> u8 {
-    run(words, &mut SystemFiles::new(), output)
+    run(words, &mut program_files(&HostRuntime), output)
 }
 
 /// Runs a command line over these files, prints to `output`, and returns the exit status. The first

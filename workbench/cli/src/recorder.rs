@@ -12,7 +12,9 @@ pub(crate) struct Recorder<'f, F> {
     pub(crate) read: Vec<Rc<[u8]>>,
     fault: Option<FileFault>,
     /// Whether nothing is told beside the output.
-    pub(crate) is_quiet: bool,
+    is_quiet: bool,
+    /// Whether the second file that is read is an empty one: a script that is not given.
+    has_empty_script: bool,
 }
 
 /// A file that was read.
@@ -29,7 +31,15 @@ impl<'f, F: Files> Recorder<'f, F> {
             read: Vec::new(),
             fault: None,
             is_quiet,
+            has_empty_script: false,
         }
+    }
+
+    /// Has the second file that is read be an empty one, whatever its name is. A run reads its script
+    /// behind its description.
+    pub(crate) fn with_empty_script(mut self) -> Recorder<'f, F> {
+        self.has_empty_script = true;
+        self
     }
 
     /// Tells why a file failed, if one did.
@@ -58,7 +68,10 @@ impl<F: Files> Files for Recorder<'_, F> {
     type Reader = Recorded;
 
     fn open(&mut self, name: &str) -> Result<Recorded, FileFault> {
-        let answer = self.files.open(name).and_then(read_whole);
+        let answer = match self.read.len() {
+            1 if self.has_empty_script => read_whole(b"".as_slice()),
+            _ => self.files.open(name).and_then(read_whole),
+        };
         let recorded = self.noted(answer)?;
         self.read.push(Rc::clone(&recorded.bytes));
         Ok(recorded)

@@ -1,8 +1,7 @@
 //! `compile`, `view`, `show`, `play` and `try`. The core does them: their lines, their statuses and what
 //! they save are its own. Added here is what is told of a refusal beside the output.
 
-use crate::command_line::{self, Compile, DeviceState};
-use crate::core_program::{self, Request, Run, Showing};
+use crate::command_line::{self, Compile, Play, Show, Try, View};
 use crate::failure::{DONE, FILE, Failure, REFUSED};
 use crate::hints::{self, Input, Inputs};
 use crate::output::CoreOutput;
@@ -11,161 +10,209 @@ use core_std::alloc::Global;
 use core_std::io as core_io;
 use core_std::vec::Vec as CoreVec;
 use edd_files::Files;
+use edd_program::{Request, Run, Showing};
 use edd_run::{MethodRun, RunError};
 use std::io::Write;
 
+/// The name of a script that is not given.
+const NO_SCRIPT: &str = "";
+
+/// A command of the core.
+#[derive(Clone, Copy)]
+pub(crate) struct CoreCommand<'a> {
+    request: Request<'a>,
+    /// The script that is given. Without one the core gets an empty one.
+    script: Option<&'a str>,
+    /// Whether nothing is told beside the output.
+    is_quiet: bool,
+}
+
+impl<'a> CoreCommand<'a> {
+    pub(crate) fn view(args: &'a View) -> CoreCommand<'a> {
+        let script = args.device_state.script.as_deref();
+        CoreCommand {
+            request: Request::View(Showing {
+                file: &args.source,
+                script,
+                language: &args.device_state.language.code,
+            }),
+            script,
+            is_quiet: args.hints.quiet,
+        }
+    }
+
+    pub(crate) fn show(args: &'a Show) -> CoreCommand<'a> {
+        let script = args.device_state.script.as_deref();
+        CoreCommand {
+            request: Request::Show(Showing {
+                file: &args.image,
+                script,
+                language: &args.device_state.language.code,
+            }),
+            script,
+            is_quiet: args.hints.quiet,
+        }
+    }
+
+    pub(crate) fn play(args: &'a Play) -> CoreCommand<'a> {
+        CoreCommand {
+            request: Request::Play {
+                image: &args.image,
+                run: to_run(&args.run),
+            },
+            script: args.run.script.as_deref(),
+            is_quiet: args.hints.quiet,
+        }
+    }
+
+    pub(crate) fn try_source(args: &'a Try) -> CoreCommand<'a> {
+        CoreCommand {
+            request: Request::Try {
+                source: &args.source,
+                run: to_run(&args.run),
+            },
+            script: args.run.script.as_deref(),
+            is_quiet: args.hints.quiet,
+        }
+    }
+
+    /// Runs the command, and returns its exit status.
+    pub(crate) fn run(self, files: &mut impl Files, output: &mut dyn Write) -> u8 {
+        let mut recorder = self.recorder(files);
+        let mut output = CoreOutput(output);
+        let status = edd_program::run(Global, self.request, &mut recorder, &mut output);
+        self.tell_why(status, &mut recorder);
+        status
+    }
+
+    /// Runs `try`, and tells of the run.
+    pub(crate) fn run_traced(self, files: &mut impl Files, output: &mut dyn Write) -> u8 {
+        let mut recorder = self.recorder(files);
+        let status = super::print(output, &mut recorder, |recorder, out| {
+            let mut lines = CoreVec::new(Global);
+            let status = edd_program::run(Global, self.request, recorder, &mut lines);
+            out.write_all(&lines)?;
+            match (status, self.request, recorder.read.as_slice()) {
+                (DONE, Request::Try { source, run }, [text, script]) => {
+                    super::trace::tell(source, text, &under(&run, script), None, out)
+                }
+                _ => Err(Failure::Printed(status)),
+            }
+        });
+        self.tell_why(status, &mut recorder);
+        status
+    }
+
+    fn recorder<'f, F: Files>(self, files: &'f mut F) -> Recorder<'f, F> {
+        let is_run = matches!(self.request, Request::Play { .. } | Request::Try { .. });
+        let recorder = Recorder::new(files, self.is_quiet);
+        if is_run && self.script.is_none() {
+            recorder.with_empty_script()
+        } else {
+            recorder
+        }
+    }
+
+    /// Tells beside the output why the command ended with this status. What there is no memory for is
+    /// left out.
+    fn tell_why<F: Files>(self, status: u8, recorder: &mut Recorder<'_, F>) {
+        match status {
+            FILE => recorder.tell_fault(),
+            REFUSED if !self.is_quiet => {
+                let _ = self.tell_refusal(recorder);
+            }
+            _ => {}
+        }
+    }
+
+    /// Asks the core again, for the refusal as a value.
+    fn tell_refusal<F: Files>(self, recorder: &mut Recorder<'_, F>) -> Result<(), Failure> {
+        let read = recorder.read.clone();
+        let Some((description, rest)) = read.split_first() else {
+            return Ok(());
+        };
+        let script = rest.first().map_or(&b""[..], |script| script);
+        let (name, ended) = run_again(self.request, description, script);
+        let Err(refusal) = ended else { return Ok(()) };
+        let inputs = Inputs {
+            description: Input {
+                name,
+                bytes: description,
+            },
+            device: None,
+            script: self.script.map(|name| Input {
+                name,
+                bytes: script,
+            }),
+        };
+        // Of a text that is shown as an image the core tells by itself.
+        if matches!(self.request, Request::Play { .. }) {
+            hints::tell_of_text(&refusal, inputs.description, recorder);
+        }
+        hints::tell(&refusal, &inputs, recorder)
+    }
+}
+
 /// Runs `compile`. Where it is quiet, no line is printed of an image that is saved.
 pub(crate) fn compile(args: &Compile, files: &mut impl Files, output: &mut dyn Write) -> u8 {
-    let request = Request::Compile {
-        source: &args.source,
-        image: &args.image,
+    let command = CoreCommand {
+        request: Request::Compile {
+            source: &args.source,
+            image: &args.image,
+        },
+        script: None,
+        is_quiet: args.quiet,
     };
     if !args.quiet {
-        return run(request, false, files, output);
+        return command.run(files, output);
     }
     let mut lines = Vec::new();
-    match run(request, true, files, &mut lines) {
+    match command.run(files, &mut lines) {
         DONE => DONE,
         status => output.write_all(&lines).map_or(FILE, |()| status),
     }
 }
 
-/// The request for what a source or an image shows.
-pub(crate) fn showing<'a>(file: &'a str, state: &'a DeviceState) -> Showing<'a> {
-    Showing {
-        file,
-        script: state.script.as_deref(),
-        language: &state.language.code,
-    }
-}
-
-/// The request for a run of a method. No script is an empty one.
-pub(crate) fn method_run(args: &command_line::Run) -> Run<'_> {
+fn to_run(args: &command_line::Run) -> Run<'_> {
     Run {
         method: &args.method,
-        script: args.script.as_deref(),
+        script: args.script.as_deref().unwrap_or(NO_SCRIPT),
         language: &args.language.code,
         steps: args.steps.into(),
     }
 }
 
-/// Runs a command of the core, and tells beside the output why it is refused.
-pub(crate) fn run(
-    request: Request<'_>,
-    is_quiet: bool,
-    files: &mut impl Files,
-    output: &mut dyn Write,
-) -> u8 {
-    let mut recorder = Recorder::new(files, is_quiet);
-    let status = core_program::run(request, &mut recorder, &mut CoreOutput(output));
-    tell_why(request, status, &mut recorder);
-    status
-}
-
-/// Runs `try`, and tells of the run.
-pub(crate) fn run_traced(
-    source: &str,
-    run: Run<'_>,
-    is_quiet: bool,
-    files: &mut impl Files,
-    output: &mut dyn Write,
-) -> u8 {
-    let request = Request::Try { source, run };
-    let mut recorder = Recorder::new(files, is_quiet);
-    let status = super::print(output, &mut recorder, |recorder, out| {
-        let mut lines = CoreVec::new(Global);
-        let status = core_program::run(request, recorder, &mut lines);
-        out.write_all(&lines)?;
-        match (status, recorder.read.as_slice()) {
-            (DONE, [text, script @ ..]) => {
-                let script = script.first().map_or(&b""[..], |script| script);
-                super::trace::tell(source, text, &again(&run, script), None, out)
-            }
-            _ => Err(Failure::Printed(status)),
-        }
-    });
-    tell_why(request, status, &mut recorder);
-    status
-}
-
-/// Tells beside the output why a command ended with this status. What there is no memory for is left
-/// out.
-fn tell_why<F: Files>(request: Request<'_>, status: u8, recorder: &mut Recorder<'_, F>) {
-    match status {
-        FILE => recorder.tell_fault(),
-        REFUSED if !recorder.is_quiet => {
-            let _ = tell_refusal(request, recorder);
-        }
-        _ => {}
-    }
-}
-
-/// Asks the core again, for the refusal as a value.
-fn tell_refusal<F: Files>(
-    request: Request<'_>,
-    recorder: &mut Recorder<'_, F>,
-) -> Result<(), Failure> {
-    let read = recorder.read.clone();
-    let Some((description, rest)) = read.split_first() else {
-        return Ok(());
-    };
-    let script = rest.first().map_or(&b""[..], |script| script);
+/// Does what the core did, and returns the name of the description.
+fn run_again<'a>(
+    request: Request<'a>,
+    description: &[u8],
+    script: &[u8],
+) -> (&'a str, Result<(), RunError>) {
     let mut nowhere = Nowhere;
     let compiled = || edd_run::compile(description);
-    let (name, script_name, ended) = match request {
-        Request::Compile { source, .. } => (source, None, compiled().map(drop)),
-        Request::View(Showing {
-            file,
-            script: script_name,
-            language,
-        }) => (
-            file,
-            script_name,
-            compiled().and_then(|image| edd_run::show(&image, script, language, &mut nowhere)),
-        ),
-        Request::Show(Showing {
-            file,
-            script: script_name,
-            language,
-        }) => (
-            file,
-            script_name,
-            edd_run::show(description, script, language, &mut nowhere),
-        ),
-        Request::Play { image, run } => (
-            image,
-            run.script,
-            edd_run::play(description, &again(&run, script), &mut nowhere),
-        ),
-        Request::Try { source, run } => (
-            source,
-            run.script,
-            compiled().and_then(|image| edd_run::play(&image, &again(&run, script), &mut nowhere)),
-        ),
-    };
-    let Err(refusal) = ended else { return Ok(()) };
-    let inputs = Inputs {
-        description: Input {
-            name,
-            bytes: description,
-        },
-        device: None,
-        script: script_name.map(|name| Input {
-            name,
-            bytes: script,
-        }),
-    };
-    match (request, &refusal) {
-        (Request::Play { .. }, RunError::Image(_)) => {
-            hints::tell_of_text(&refusal, inputs.description, recorder);
-            Ok(())
+    match request {
+        Request::Compile { source, .. } => (source, compiled().map(drop)),
+        Request::View(Showing { file, language, .. }) => {
+            let show = |image: Vec<u8>| edd_run::show(&image, script, language, &mut nowhere);
+            (file, compiled().and_then(show))
         }
-        _ => hints::tell(&refusal, &inputs, recorder),
+        Request::Show(Showing { file, language, .. }) => {
+            let shown = edd_run::show(description, script, language, &mut nowhere);
+            (file, shown)
+        }
+        Request::Play { image, run } => {
+            let played = edd_run::play(description, &under(&run, script), &mut nowhere);
+            (image, played)
+        }
+        Request::Try { source, run } => {
+            let play = |image: Vec<u8>| edd_run::play(&image, &under(&run, script), &mut nowhere);
+            (source, compiled().and_then(play))
+        }
     }
 }
 
-/// The same run under the bytes of its script.
-fn again<'a>(run: &Run<'a>, script: &'a [u8]) -> MethodRun<'a> {
+/// A run under the bytes of its script.
+fn under<'a>(run: &Run<'a>, script: &'a [u8]) -> MethodRun<'a> {
     MethodRun {
         method: run.method,
         script,
