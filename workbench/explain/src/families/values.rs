@@ -13,7 +13,7 @@ pub(crate) const TABLE: &[Explanation] = &[
         "RANGE",
         "A value is out of the range of its variable. An INTEGER of s octets holds -2^(8s-1) to
 2^(8s-1)-1, the other types 0 to 2^(8s)-1. In a script it is a line that sets a variable:
-`--explain` shows which.",
+The hint on the standard error shows which.",
     )
     .wrong_where("for a variable of type INTEGER (1)", "set p 200")
     .right("set p 100"),
@@ -40,7 +40,8 @@ pub(crate) const TABLE: &[Explanation] = &[
     Explanation::new(
         207,
         "OUT_OF_RANGE",
-        "An answer sets a variable to a value out of its range. `--explain` shows which.",
+        "An answer sets a variable to a value out of its range.
+The hint on the standard error shows which.",
     )
     .wrong_where("for a variable of type INTEGER (1)", "answer 0 p=200")
     .right("answer 0 p=100"),
@@ -93,7 +94,8 @@ VARIABLE p { TYPE INTEGER { MAX_VALUE range == 1 || range == 2 ? limits[range] :
         300,
         "SCRIPT",
         "The line of the script is none of: set NAME N, answer CODE NAME=N .., abort, or a blank
-line; or it names no variable of the image. `--explain` shows the word that is wrong.",
+line; or it names no variable of the image. The hint on the standard error shows the word that
+is wrong.",
     )
     .wrong("p = 5")
     .right("set p 5"),

@@ -25,7 +25,7 @@ pub enum StepError {
 
 /// Takes the step of a line, and gives the lines that it prints. `folder NAME`, `text NAME TEXT`, `copy NAME FILE`,
 /// `soft NAME TARGET`, `hard NAME FILE` and `mode NAME DIGITS` make or change files. `run` and `pipe` run the program,
-/// and `show` and `list` say what is there. `one_file` runs it on a file in memory, and `save` and `save_opened` write
+/// `hint` runs it and gives what is on the standard error, and `show` and `list` say what is there. `one_file` runs it on a file in memory, and `save` and `save_opened` write
 /// to a disk in memory of which each call fails in turn.
 pub fn run_step(line: &str, program: &Program, folder: &Path) -> Result<String, StepError> {
     let (kind, words) = line.split_once(' ').unwrap_or((line, ""));
@@ -35,6 +35,10 @@ pub fn run_step(line: &str, program: &Program, folder: &Path) -> Result<String, 
             folder,
             &[],
         )?)),
+        "hint" => {
+            let ended = program.run(words.split_ascii_whitespace(), folder, &[])?;
+            Ok(String::from_utf8_lossy(&ended.hint).into_owned())
+        }
         "pipe" => run_into_pipe(words, program, folder),
         "show" => show(&folder.join(words)),
         "list" => list(&folder.join(words)),
