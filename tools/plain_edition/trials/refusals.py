@@ -1,4 +1,4 @@
-"""Memory that is refused: behind the command line each refused request ends the program with status 4."""
+"""Memory that is refused: what the core asks for ends the program with status 4, and what Rust takes without asking by a signal."""
 import json
 import os
 import subprocess
@@ -11,7 +11,6 @@ MEMORY = 4
 APART = 3
 # So many requests at most come before `main`.
 FIRST = 16
-MISSING = "there is no such file"
 
 
 def library(room):
@@ -52,36 +51,48 @@ TYPED = b"h 1\n1\n\n3\n\nq\n"
 
 
 def commands(examples):
-    """Command lines, and which of their words are files that are read."""
+    """Command lines. Where they save something, it is under the name `made`."""
     source, script = os.path.join(examples, "valve_positioner.edd"), os.path.join(examples, "valve_positioner.ends.script")
     device = os.path.join(examples, "valve_positioner.device.edd")
-    yield from ((["open", source, "--device", device], (1, 3)), (["open", "image", "--record", "made"], (1,)))
-    yield from ((["try", source, "calibrate", "--device", device], (1, 4)),)
-    yield from ((["compile", source, "made"], (1,)), (["view", source, script], (1, 2)), (["check", source], (1,)))
-    yield from ((["check", "wrong"], (1,)), (["check", "wrong", "--format", "json"], (1,)), (["show", "image"], (1,)))
-    yield from ((["play", "image", "calibrate", script], (1, 3)), (["try", source, "calibrate", script], (1, 3)))
+    yield from (["open", source, "--device", device], ["open", "image", "--record", "made"], ["try", source, "calibrate", "--device", device])
+    yield from (["compile", source, "made"], ["view", source, script], ["check", source], ["check", "wrong"], ["show", "image"])
+    yield from (["play", "image", "calibrate", script], ["try", source, "calibrate", script], ["test", "one.test"], ["view", "wrong"])
+
+
+def content(path):
+    """The bytes of a file, which is removed; none where there is none."""
+    if not os.path.exists(path):
+        return None
+    with open(path, "rb") as file:
+        found = file.read()
+    os.remove(path)
+    return found
 
 
 def of_program(score, program):
-    """The program on some command lines. What comes before its files are read is seen where there are none."""
-    aborted = behind = 0
+    """The program on some command lines: a refused request ends it, with status 4 or, where the core did not ask, by a signal. A file
+    is saved whole or not at all."""
+    answered = ended = 0
     with tempfile.TemporaryDirectory() as room:
-        refused = Refused(room)
+        refused, made = Refused(room), os.path.join(room, "made")
         source = os.path.join(repository.TOP, "examples", "valve_positioner.edd")
         subprocess.run([program, "compile", source, "image"], cwd=room, stdout=subprocess.DEVNULL, check=True)
         with open(source, encoding="utf-8") as file, open(os.path.join(room, "wrong"), "w", encoding="utf-8") as wrong:
             wrong.write(file.read().replace("LABEL", "LABLE", 2))
-        for words, files in commands(os.path.join(repository.TOP, "examples")):
-            before = refused.requests([program, *[MISSING if at in files else word for at, word in enumerate(words)]])
+        with open(os.path.join(room, "one.test"), "w", encoding="utf-8") as file:
+            file.write(f"source {source}\ntest one\nmethod show_opening\n= another line\n")
+        for words in commands(os.path.join(repository.TOP, "examples")):
+            refused.run([program, *words], 0, TYPED)
+            whole = content(made)
             every = refused.requests([program, *words], TYPED)
+            content(made)
             for number in range(1 + len(words[0]) % APART, every + 1, APART):
                 status, lines, _ = refused.run([program, *words], number, TYPED)
                 is_answered = status == MEMORY and lines.endswith(b"no memory\n")
-                aborted += not is_answered
-                behind += number > before
-                if number > before or status >= 0:
-                    score.check(is_answered, f"{' '.join(words)}: request {number} of {every}: status {status}")
-    return f"{behind} requests behind the command line were refused; in front of it {aborted} of the others ended the program"
+                answered, ended = answered + is_answered, ended + (status < 0)
+                is_right = (is_answered or status < 0) and content(made) in (None, whole)
+                score.check(is_right, f"{' '.join(words)}: request {number} of {every}: status {status}")
+    return f"{answered} of the requests ended with status 4, {ended} by a signal"
 
 
 # A text without quotes and line ends: where `serde_json` reads an escape it takes memory that can't be refused.
