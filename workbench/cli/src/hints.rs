@@ -35,9 +35,13 @@ pub(crate) fn tell(
     match refusal {
         RunError::Source(_) => tell_source(Some(inputs.description), files),
         RunError::Device { .. } => tell_source(inputs.device, files),
-        RunError::Script(_) => tell_slip(Wrong::Line, refusal, inputs, files),
-        RunError::Values(ValuesFault::Range) => tell_slip(Wrong::Range, refusal, inputs, files),
-        RunError::Play(PlayFault::OutOfRange) => tell_slip(Wrong::Answer, refusal, inputs, files),
+        RunError::Script(fault) => tell_slip(Wrong::Line, &fault.to_string(), inputs, files),
+        RunError::Values(fault @ ValuesFault::Range) => {
+            tell_slip(Wrong::Range, &fault.to_string(), inputs, files)
+        }
+        RunError::Play(fault @ PlayFault::OutOfRange) => {
+            tell_slip(Wrong::Answer, &fault.to_string(), inputs, files)
+        }
         _ => Ok(()),
     }
 }
@@ -52,7 +56,7 @@ fn tell_source(source: Option<Input<'_>>, files: &mut impl Files) -> Result<(), 
 /// Tells which word of the script is wrong.
 fn tell_slip(
     wrong: Wrong,
-    refusal: &RunError,
+    refusal: &str,
     inputs: &Inputs<'_>,
     files: &mut impl Files,
 ) -> Result<(), Failure> {
@@ -71,14 +75,8 @@ fn tell_slip(
     let Some(slip) = slip_in(Global, &image, script.bytes, wrong)? else {
         return Ok(());
     };
-    let refusal = match refusal {
-        RunError::Script(fault) => fault.to_string(),
-        RunError::Values(fault) => fault.to_string(),
-        RunError::Play(fault) => fault.to_string(),
-        _ => return Ok(()),
-    };
     let place = slip.start..slip.end;
-    Diagnosis::of_slip(script.name, script.bytes, &refusal, place, slip.reason)?.hint(files)
+    Diagnosis::of_slip(script.name, script.bytes, refusal, place, slip.reason)?.hint(files)
 }
 
 /// Tells which command runs a source that was played as an image.
@@ -92,7 +90,7 @@ pub(crate) fn tell_of_text(refusal: &RunError, input: Input<'_>, files: &mut imp
 }
 
 /// Whether the bytes are a text, as no image is.
-pub(crate) fn is_text(bytes: &[u8]) -> bool {
+fn is_text(bytes: &[u8]) -> bool {
     let is_of_text = |sign: char| !sign.is_ascii_control() || sign.is_ascii_whitespace();
     std::str::from_utf8(bytes).is_ok_and(|text| text.chars().all(is_of_text))
 }
