@@ -15,7 +15,7 @@ EXAMPLES = os.path.join(repository.TOP, "examples")
 OUT = os.path.join(SOURCES, "out")
 MODULE = os.path.join(repository.MADE, "page_module")
 # What the module is built of, and the system that it is built for.
-LIBRARIES = ["dump", "edd_device", "explain", "legacy_check", "legacy_editing", "legacy_layout", "legacy_panel_lines"]
+LIBRARIES = ["check", "dump", "edd_device", "explain", "legacy_editing", "legacy_layout", "legacy_panel_lines"]
 WASM, PARTS = "wasm32-unknown-unknown", "std,panic_abort"
 # The package of the editor, and what of it is used.
 EDITOR = "libjs-codemirror"

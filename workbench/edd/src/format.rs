@@ -2,6 +2,7 @@
 
 use crate::Refusal;
 use crate::memory::Global;
+use crate::refusal::refusal_of_text;
 
 /// Lays a source out: the same tokens and comments, with other blanks and line ends between them.
 /// docs/LAYOUT.md describes the layout.
@@ -21,6 +22,6 @@ use crate::memory::Global;
 pub fn format(source: &[u8]) -> Result<Vec<u8>, Refusal> {
     match legacy_layout::laid_out(Global, source) {
         Ok(laid_out) => Ok(laid_out.into_real()),
-        Err(fault) => Err(Refusal::of_text(&fault)),
+        Err(fault) => Err(refusal_of_text(&fault)),
     }
 }

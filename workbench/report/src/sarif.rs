@@ -23,10 +23,13 @@ struct Rules {
 /// # Errors
 ///
 /// None is known: structs of strings and numbers can always be serialized.
-pub fn sarif(all: &[(&Source<'_>, &Report)]) -> serde_json::Result<String> {
+pub fn sarif<'a, 's: 'a>(
+    all: impl IntoIterator<Item = (&'a Source<'s>, &'a Report)>,
+) -> serde_json::Result<String> {
     let mut rules = Rules::default();
-    let mut results = Vec::new();
+    let (mut results, mut notices) = (Vec::new(), Vec::new());
     for (source, report) in all {
+        notices.extend(notice_of(source, report));
         for diagnostic in &report.shown {
             results.push(outcome_of(source, diagnostic, &mut rules));
         }
@@ -44,7 +47,7 @@ pub fn sarif(all: &[(&Source<'_>, &Report)]) -> serde_json::Result<String> {
             column_kind: "unicodeCodePoints",
             invocations: [Invocation {
                 execution_successful: true,
-                tool_execution_notifications: notices_of(all),
+                tool_execution_notifications: notices,
             }],
             results,
         }],
@@ -52,14 +55,12 @@ pub fn sarif(all: &[(&Source<'_>, &Report)]) -> serde_json::Result<String> {
     Ok(serde_json::to_string(&document)? + "\n")
 }
 
-// What is not shown, of each source.
-fn notices_of(all: &[(&Source<'_>, &Report)]) -> Vec<Notice> {
-    let left = all.iter().filter(|(_, report)| 0 < report.more);
-    left.map(|(source, report)| Notice {
+// How much of a source is not shown.
+fn notice_of(source: &Source<'_>, report: &Report) -> Option<Notice> {
+    (0 < report.more).then(|| Notice {
         level: "note",
         message: Message::new(format!("{}: {} more", source.name, report.more)),
     })
-    .collect()
 }
 
 fn outcome_of(source: &Source<'_>, diagnostic: &Diagnostic, rules: &mut Rules) -> Outcome {

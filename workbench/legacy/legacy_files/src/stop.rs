@@ -8,7 +8,6 @@ use edd_loader::LoadFault;
 use edd_machine::ValuesFault;
 use edd_port::PlayFault;
 use edd_script::ScriptFault;
-use legacy_reports::ReportFault;
 use legacy_sitting::SittingFault;
 use std::alloc::{AllocError, AllocFailed, Global};
 
@@ -101,15 +100,6 @@ impl From<AllocError> for Stop<'_> {
 impl<T: Drop> From<AllocFailed<T>> for Stop<'_> {
     fn from(_error: AllocFailed<T>) -> Self {
         Stop::Memory
-    }
-}
-
-impl From<ReportFault> for Stop<'_> {
-    fn from(fault: ReportFault) -> Self {
-        match fault {
-            ReportFault::Memory => Stop::Memory,
-            ReportFault::Output => Stop::Output,
-        }
     }
 }
 

@@ -2,15 +2,17 @@
 use std::prelude::v1::*;
 
 use crate::reports::report;
+use edd_check::{Checked, Levels};
 use edd_compiler::{Fault, compile};
 use edd_display::{Printer, print, printed};
+use edd_helps::{Wrong, explain_script as explain_word};
 use edd_loader::{LoadFault, load};
 use edd_machine::ValuesFault;
 use edd_port::PlayFault;
-use edd_sinks::TextSink;
-use legacy_check::{Choices, Diagnostic, Finding, Format, Look, Reports, Span};
+use edd_report::{Diagnostic, Refusal, Report, Style, text};
+use edd_script::ScriptFault;
+use edd_source::Source;
 use legacy_files::{FileFault, Files, Stop, read_marked};
-use legacy_script_slips::{Wrong, slip_in};
 use std::alloc::Global;
 use std::io::Write;
 
@@ -20,18 +22,29 @@ const THIS_IS_A_TEXT: &str = "help: this is a text and no image:";
 /// read.
 pub fn add_originals<'t, 'a, F: Files>(
     alloc: Global,
-    look: &mut Look<'t>,
+    look: &mut Checked<'t>,
     files: &mut F,
 ) -> Result<(), Stop<'a>> {
-    let names = look.marked_files(alloc)?;
-    for name in names {
+    for name in look.marked_files() {
         match read_marked(alloc, files, name) {
-            Ok(text) => look.add_original(name, text)?,
+            Ok(text) => look.source.originals.add(name, text.into_real()),
             Err(FileFault::Memory) => return Err(Stop::Memory),
             Err(_) => {}
         }
     }
     Ok(())
+}
+
+// Prints what is said of a source.
+fn print_report<'a, W: Write>(
+    source: &Source<'_>,
+    report: &Report,
+    out: &mut W,
+) -> Result<(), Stop<'a>> {
+    match out.write_all(text(source, report, Style::Plain).as_bytes()) {
+        Ok(()) => Ok(()),
+        Err(_) => Err(Stop::Output),
+    }
 }
 
 // Prints what `check` prints of a source that is refused.
@@ -42,11 +55,9 @@ fn explain_source<'a, F: Files, W: Write>(
     files: &mut F,
     out: &mut W,
 ) -> Result<(), Stop<'a>> {
-    let choices = Choices::new(alloc);
-    let mut look = Look::at(alloc, &*source, &*text, &choices)?;
+    let mut look = Checked::of(source, text, &Levels::default());
     add_originals(alloc, &mut look, files)?;
-    look.print(alloc, Format::Text, out)?;
-    Ok(())
+    print_report(&look.source, &look.report, out)
 }
 
 /// Prints why a source is refused, and the places.
@@ -109,14 +120,17 @@ pub fn with_device_shown<'a, F: Files, W: Write>(
 
 // What is wrong with a script for an end of the program that it has brought about, and the refusal
 // without its first word.
-fn wrong_of(alloc: Global, stop: &Stop<'_>) -> Option<(Wrong, TextSink)> {
+fn wrong_of(stop: &Stop<'_>) -> Option<(Wrong, Refusal)> {
     match stop {
-        Stop::Script(fault) => Some((Wrong::Line, printed(alloc, fault))),
+        Stop::Script(ScriptFault::Line { line }) => {
+            let line = u32::try_from(*line).unwrap_or(u32::MAX);
+            Some((Wrong::Line, Refusal::on_line(300, "SCRIPT", line)))
+        }
         Stop::Values(ValuesFault::Range) => {
-            Some((Wrong::Range, printed(alloc, ValuesFault::Range)))
+            Some((Wrong::Range, Refusal::new(202, "RANGE", "")))
         }
         Stop::Play(PlayFault::OutOfRange) => {
-            Some((Wrong::Answer, printed(alloc, PlayFault::OutOfRange)))
+            Some((Wrong::Answer, Refusal::new(207, "OUT_OF_RANGE", "")))
         }
         _ => None,
     }
@@ -129,24 +143,16 @@ fn explain_script<'a, W: Write>(
     name: &str,
     script: &[u8],
     wrong: Wrong,
-    refusal: String,
+    refusal: Refusal,
     out: &mut W,
 ) -> Result<(), Stop<'a>> {
     let image = load(alloc, bytes)?;
-    let Some(slip) = slip_in(alloc, &image, script, wrong)? else {
+    let Some(found) = explain_word(&image, script, wrong) else {
         return Ok(());
     };
-    let mut found = Diagnostic::new(alloc, Finding::Refused(refusal));
-    found.place = Some(Span {
-        start: slip.start,
-        end: slip.end,
-    });
-    found.help(slip.reason)?;
-    let mut reports = Reports::new(alloc);
-    reports.show(found)?;
-    let look = Look::of(alloc, &*name, &*script, reports)?;
-    look.print(alloc, Format::Text, out)?;
-    Ok(())
+    let mut report = Report::default();
+    report.show(Diagnostic::refused(refusal, found));
+    print_report(&Source::new(name, script), &report, out)
 }
 
 /// What was done with an image under a script. Where the script is refused and that is to be
@@ -166,11 +172,11 @@ pub fn with_script_shown<'a, W: Write>(
     let Some(name) = script.0 else {
         return Err(stop);
     };
-    let Some((wrong, refusal)) = wrong_of(alloc, &stop) else {
+    let Some((wrong, refusal)) = wrong_of(&stop) else {
         return Err(stop);
     };
     report(alloc, &stop, out)?;
-    explain_script(alloc, bytes, name, script.1, wrong, refusal.finish()?, out)?;
+    explain_script(alloc, bytes, name, script.1, wrong, refusal, out)?;
     Err(Stop::Shown)
 }
 

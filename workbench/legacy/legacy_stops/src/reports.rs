@@ -2,9 +2,9 @@
 use std::prelude::v1::*;
 
 use crate::reasons::reason_of;
+use edd_check::LINTS;
 use edd_display::{ShowFault, print, printed};
 use edd_loader::LoadFault;
-use legacy_check::LINTS;
 use legacy_files::Stop;
 use std::alloc::Global;
 use std::fmt::Display;

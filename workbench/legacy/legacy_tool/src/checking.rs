@@ -2,7 +2,8 @@
 use std::prelude::v1::*;
 
 use crate::request::{Checking, Form, Lints};
-use legacy_check::{Choices, Format, LINTS, Lint, Look, print_document};
+use edd_check::{Checked, LINTS, Levels, Lint};
+use edd_report::{Style, json_lines, sarif, text};
 use legacy_files::{Files, Source, Stop, read_sources};
 use legacy_stops::add_originals;
 use std::alloc::Global;
@@ -28,55 +29,83 @@ fn find_unknown<'a>(named: &[&'a str]) -> Result<(), Stop<'a>> {
 }
 
 // What is to be done where lints find something.
-fn choices_of<'a>(alloc: Global, lints: &Lints<'a>) -> Result<Choices, Stop<'a>> {
+fn levels_of<'a>(lints: &Lints<'a>) -> Result<Levels, Stop<'a>> {
     find_unknown(&lints.allowed)?;
     find_unknown(&lints.denied)?;
-    let mut choices = Choices::new(alloc);
+    let mut levels = Levels::default();
     for lint in LINTS {
         if names(&lints.allowed, lint) {
-            choices.allow(lint)?;
+            levels.allow(lint);
         }
         if names(&lints.denied, lint) {
-            choices.deny(lint)?;
+            levels.deny(lint);
         }
     }
-    Ok(choices)
+    Ok(levels)
 }
 
 // Looks at all sources.
 fn looks_at<'t, 'n, 'a, F: Files>(
     alloc: Global,
     sources: &'t [Source<'n>],
-    choices: &Choices,
+    levels: &Levels,
     files: &mut F,
-) -> Result<Vec<Look<'t>>, Stop<'a>> {
+) -> Result<Vec<Checked<'t>>, Stop<'a>> {
     let mut looks = Vec::with_capacity(alloc, sources.len())?;
     for source in sources {
-        let mut look = Look::at(alloc, source.name, &source.text, choices)?;
+        let mut look = Checked::of(source.name, &source.text, levels);
         add_originals(alloc, &mut look, files)?;
         looks.push(look)?;
     }
     Ok(looks)
 }
 
+fn print_text<'a, W: Write>(text: &str, out: &mut W) -> Result<(), Stop<'a>> {
+    match out.write_all(text.as_bytes()) {
+        Ok(()) => Ok(()),
+        Err(_) => Err(Stop::Output),
+    }
+}
+
+// Prints JSON, which can always be made of what is said.
+fn print_json<'a, S: AsRef<str>, E, W: Write>(
+    json: Result<S, E>,
+    out: &mut W,
+) -> Result<(), Stop<'a>> {
+    match json {
+        Ok(json) => print_text(json.as_ref(), out),
+        Err(_) => Err(Stop::Output),
+    }
+}
+
 // Prints what is said of each source.
 fn print_looks<'a, W: Write>(
-    alloc: Global,
-    looks: &[Look<'_>],
+    looks: &[Checked<'_>],
     form: Form,
     is_coloured: bool,
     out: &mut W,
 ) -> Result<(), Stop<'a>> {
-    let format = match form {
-        Form::Text if is_coloured => Format::Colours,
-        Form::Text => Format::Text,
-        Form::Json => Format::Json,
-        Form::Sarif => return Ok(print_document(alloc, looks, out)?),
+    let all = looks.iter().map(|look| (&look.source, &look.report));
+    let style = if is_coloured {
+        Style::Coloured
+    } else {
+        Style::Plain
     };
-    for look in looks {
-        look.print(alloc, format, out)?;
+    match form {
+        Form::Sarif => print_json(sarif(all), out),
+        Form::Json => {
+            for (source, report) in all {
+                print_json(json_lines(source, report), out)?;
+            }
+            Ok(())
+        }
+        Form::Text => {
+            for (source, report) in all {
+                print_text(&text(source, report, style), out)?;
+            }
+            Ok(())
+        }
     }
-    Ok(())
 }
 
 /// Prints what is said of sources, one after the other. All are read first.
@@ -86,11 +115,11 @@ pub fn check_sources<'a, F: Files, W: Write>(
     files: &mut F,
     out: &mut W,
 ) -> Result<(), Stop<'a>> {
-    let choices = choices_of(alloc, &checking.lints)?;
+    let levels = levels_of(&checking.lints)?;
     let sources = read_sources(alloc, &checking.names, files)?;
-    let looks = looks_at(alloc, &sources, &choices, files)?;
-    print_looks(alloc, &looks, checking.form, checking.is_coloured, out)?;
-    if looks.iter().any(|look| look.fails()) {
+    let looks = looks_at(alloc, &sources, &levels, files)?;
+    print_looks(&looks, checking.form, checking.is_coloured, out)?;
+    if looks.iter().any(|look| look.report.fails()) {
         Err(Stop::Shown)
     } else {
         Ok(())

@@ -2,8 +2,8 @@
 use std::prelude::v1::*;
 
 use edd_display::Printer;
+use edd_check::{LINTS, Lint};
 use edd_explain::{Explanation, all, by_name, by_number};
-use legacy_check::{LINTS, Lint};
 use legacy_files::Stop;
 use std::alloc::Global;
 use std::io::Write;
