@@ -2,18 +2,15 @@
 
 use crate::failure::Failure;
 use core_std::alloc::Global;
-use core_std::io::Write;
-use core_std::string::String as CoreString;
-use core_std::vec::Vec as CoreVec;
+use edd_check::{Checked, LINTS, Levels, Lint};
 use edd_files::{FileFault, Files, read_marked};
-use legacy_check::{
-    Choices, Diagnostic, Finding, Format, LINTS, Lint, Look, ReportFault, Reports, Span,
-    print_document,
-};
-use std::io;
+use edd_helps::Finding;
+use edd_report::{Diagnostic, Refusal, Report, Style, json_lines, sarif, text};
+use edd_source::Source;
+use std::io::Write;
 
 /// The lints that are allowed and denied.
-pub(crate) struct LintLevels(Choices);
+pub(crate) struct LintLevels(Levels);
 
 /// In which form a diagnosis is printed.
 #[derive(Clone, Copy, Debug, PartialEq, Eq)]
@@ -25,7 +22,8 @@ pub(crate) enum Form {
 }
 
 /// What is said of a source.
-pub(crate) struct Diagnosis<'t>(Look<'t>);
+#[derive(Debug)]
+pub(crate) struct Diagnosis<'t>(Checked<'t>);
 
 /// It stands for every lint.
 const ALL: &str = "all";
@@ -44,7 +42,7 @@ pub(crate) fn lint_names() -> String {
 impl LintLevels {
     /// The usual ones.
     pub(crate) fn usual() -> LintLevels {
-        LintLevels(Choices::new(Global))
+        LintLevels(Levels::default())
     }
 
     /// Changes the level of the lints with these names.
@@ -55,16 +53,16 @@ impl LintLevels {
         }
         let is_among =
             |names: &[String], lint: Lint| names.iter().any(|it| it == ALL || it == lint.name());
-        let mut choices = Choices::new(Global);
+        let mut levels = Levels::default();
         for lint in LINTS {
             if is_among(allowed, lint) {
-                choices.allow(lint)?;
+                levels.allow(lint);
             }
             if is_among(denied, lint) {
-                choices.deny(lint)?;
+                levels.deny(lint);
             }
         }
-        Ok(LintLevels(choices))
+        Ok(LintLevels(levels))
     }
 }
 
@@ -76,79 +74,61 @@ impl<'t> Diagnosis<'t> {
         levels: &LintLevels,
         files: &mut impl Files,
     ) -> Result<Diagnosis<'t>, Failure> {
-        let mut look = Look::at(Global, name, text, &levels.0)?;
-        let marked = look.marked_files(Global)?;
-        for name in &marked {
+        let mut checked = Checked::of(name, text, &levels.0);
+        for name in checked.marked_files() {
             match read_marked(Global, files, name) {
-                Ok(text) => look.add_original(name, text)?,
+                Ok(text) => checked.source.originals.add(name, text.into_real()),
                 Err(FileFault::Memory) => return Err(Failure::Memory),
                 Err(_) => {}
             }
         }
-        Ok(Diagnosis(look))
+        Ok(Diagnosis(checked))
     }
 
-    /// A text that is refused at a place, and what helps.
-    pub(crate) fn of_slip(
+    /// A text that is refused, with what is wrong in it.
+    pub(crate) fn of_finding(
         name: &'t str,
         text: &'t [u8],
-        refusal: &str,
-        place: std::ops::Range<usize>,
-        help: CoreString,
-    ) -> Result<Diagnosis<'t>, Failure> {
-        let refusal = CoreString::from_real(refusal.to_owned());
-        let mut diagnostic = Diagnostic::new(Global, Finding::Refused(refusal));
-        diagnostic.place = Some(Span {
-            start: place.start,
-            end: place.end,
-        });
-        diagnostic.help(help)?;
-        let mut reports = Reports::new(Global);
-        reports.show(diagnostic)?;
-        Ok(Diagnosis(Look::of(Global, name, text, reports)?))
+        refusal: Refusal,
+        finding: Finding,
+    ) -> Diagnosis<'t> {
+        let mut report = Report::default();
+        report.show(Diagnostic::refused(refusal, finding));
+        let source = Source::new(name, text);
+        Diagnosis(Checked { source, report })
     }
 
     /// Whether the source is refused, or a lint that is denied finds something.
     pub(crate) fn fails(&self) -> bool {
-        self.0.fails()
+        self.0.report.fails()
     }
 
     pub(crate) fn print(&self, form: Form, output: &mut impl Write) -> Result<(), Failure> {
-        let format = match form {
-            Form::Text => Format::Text,
-            Form::Colors => Format::Colours,
-            Form::Json => Format::Json,
+        let Checked { source, report } = &self.0;
+        let lines = match form {
+            Form::Text => text(source, report, Style::Plain),
+            Form::Colors => text(source, report, Style::Coloured),
+            Form::Json => json_lines(source, report)?,
         };
-        self.0.print(Global, format, output)?;
+        output.write_all(lines.as_bytes())?;
         Ok(())
     }
 
     /// Tells the lines beside the output.
-    pub(crate) fn hint(&self, files: &mut impl Files) -> Result<(), Failure> {
-        let mut lines = CoreVec::new(Global);
-        self.print(Form::Text, &mut lines)?;
-        for line in String::from_utf8_lossy(&lines).lines() {
+    pub(crate) fn hint(&self, files: &mut impl Files) {
+        let Checked { source, report } = &self.0;
+        for line in text(source, report, Style::Plain).lines() {
             files.hint(line);
         }
-        Ok(())
     }
 }
 
 /// Prints what is said of sources as a document of SARIF.
 pub(crate) fn print_sarif(
-    diagnoses: Vec<Diagnosis<'_>>,
+    diagnoses: &[Diagnosis<'_>],
     output: &mut impl Write,
 ) -> Result<(), Failure> {
-    let looks: Vec<_> = diagnoses.into_iter().map(|it| it.0).collect();
-    print_document(Global, &looks, output)?;
+    let all = diagnoses.iter().map(|it| (&it.0.source, &it.0.report));
+    output.write_all(sarif(all)?.as_bytes())?;
     Ok(())
-}
-
-impl From<ReportFault> for Failure {
-    fn from(fault: ReportFault) -> Failure {
-        match fault {
-            ReportFault::Memory => Failure::Memory,
-            ReportFault::Output => Failure::Output(io::ErrorKind::Other.into()),
-        }
-    }
 }

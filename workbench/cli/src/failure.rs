@@ -123,6 +123,12 @@ impl From<io::Error> for Failure {
     }
 }
 
+impl From<serde_json::Error> for Failure {
+    fn from(error: serde_json::Error) -> Failure {
+        Failure::Output(error.into())
+    }
+}
+
 impl From<AllocError> for Failure {
     fn from(_: AllocError) -> Failure {
         Failure::Memory

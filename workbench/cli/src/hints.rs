@@ -4,11 +4,13 @@ use crate::checking::{Diagnosis, LintLevels};
 use crate::failure::Failure;
 use core_std::alloc::Global;
 use edd_files::Files;
+use edd_helps::{Wrong, explain_script};
 use edd_loader::{LoadFault, load};
 use edd_machine::ValuesFault;
 use edd_port::PlayFault;
+use edd_report::Refusal;
 use edd_run::RunError;
-use legacy_script_slips::{Wrong, slip_in};
+use edd_script::ScriptFault;
 
 /// A file that a command read.
 #[derive(Clone, Copy, Debug)]
@@ -35,12 +37,17 @@ pub(crate) fn tell(
     match refusal {
         RunError::Source(_) => tell_source(Some(inputs.description), files),
         RunError::Device { .. } => tell_source(inputs.device, files),
-        RunError::Script(fault) => tell_slip(Wrong::Line, &fault.to_string(), inputs, files),
-        RunError::Values(fault @ ValuesFault::Range) => {
-            tell_slip(Wrong::Range, &fault.to_string(), inputs, files)
+        RunError::Script(ScriptFault::Line { line }) => {
+            let line = u32::try_from(*line).unwrap_or(u32::MAX);
+            let refusal = Refusal::on_line(300, "SCRIPT", line);
+            tell_slip(Wrong::Line, refusal, inputs, files)
         }
-        RunError::Play(fault @ PlayFault::OutOfRange) => {
-            tell_slip(Wrong::Answer, &fault.to_string(), inputs, files)
+        RunError::Values(ValuesFault::Range) => {
+            tell_slip(Wrong::Range, Refusal::new(202, "RANGE", ""), inputs, files)
+        }
+        RunError::Play(PlayFault::OutOfRange) => {
+            let refusal = Refusal::new(207, "OUT_OF_RANGE", "");
+            tell_slip(Wrong::Answer, refusal, inputs, files)
         }
         _ => Ok(()),
     }
@@ -50,13 +57,14 @@ fn tell_source(source: Option<Input<'_>>, files: &mut impl Files) -> Result<(), 
     let Some(Input { name, bytes }) = source else {
         return Ok(());
     };
-    Diagnosis::of_source(name, bytes, &LintLevels::usual(), files)?.hint(files)
+    Diagnosis::of_source(name, bytes, &LintLevels::usual(), files)?.hint(files);
+    Ok(())
 }
 
 /// Tells which word of the script is wrong.
 fn tell_slip(
     wrong: Wrong,
-    refusal: &str,
+    refusal: Refusal,
     inputs: &Inputs<'_>,
     files: &mut impl Files,
 ) -> Result<(), Failure> {
@@ -72,11 +80,10 @@ fn tell_slip(
         &compiled
     };
     let image = load(Global, image).map_err(RunError::from)?;
-    let Some(slip) = slip_in(Global, &image, script.bytes, wrong)? else {
-        return Ok(());
-    };
-    let place = slip.start..slip.end;
-    Diagnosis::of_slip(script.name, script.bytes, refusal, place, slip.reason)?.hint(files)
+    if let Some(finding) = explain_script(&image, script.bytes, wrong) {
+        Diagnosis::of_finding(script.name, script.bytes, refusal, finding).hint(files);
+    }
+    Ok(())
 }
 
 /// Tells which command runs a source that was played as an image.

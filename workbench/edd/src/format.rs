@@ -1,6 +1,7 @@
 //! The layout of sources.
 
 use crate::Refusal;
+use crate::refusal::refusal_of_text;
 
 /// Lays a source out: the same tokens and comments, with other blanks and line ends between them.
 /// docs/LAYOUT.md describes the layout.
@@ -18,5 +19,5 @@ use crate::Refusal;
 /// # Ok::<(), edd::Refusal>(())
 /// ```
 pub fn format(source: &[u8]) -> Result<Vec<u8>, Refusal> {
-    edd_fmt::format(source).map_err(|fault| Refusal::of_text(&fault))
+    edd_fmt::format(source).map_err(|fault| refusal_of_text(&fault))
 }

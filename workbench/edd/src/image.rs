@@ -1,6 +1,7 @@
 //! Images.
 
 use crate::memory::Global;
+use crate::refusal::refusal_of_source;
 use crate::{LoadFault, Opened, Refusal, Values};
 use edd_image::{ELEMENT_ROW, VarKind, element_array, element_number, element_variable};
 use edd_loader::Text;
@@ -27,7 +28,7 @@ pub fn compile(source: &[u8]) -> Result<Image, Refusal> {
         Ok(bytes) => Ok(Image {
             bytes: bytes.into_real().into(),
         }),
-        Err(fault) => Err(Refusal::of_source(&fault, source)),
+        Err(fault) => Err(refusal_of_source(&fault, source)),
     }
 }
 

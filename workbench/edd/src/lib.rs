@@ -73,7 +73,7 @@ mod unwritable;
 mod values;
 
 pub use answer::Answer;
-pub use check::{Diagnostic, Help, Report, Severity, check};
+pub use check::{Diagnostic, Edit, Fix, Related, Report, Severity, check};
 pub use device::{Device, DeviceFault, Trial};
 pub use driving::{Drive, Host, drive};
 pub use faults::{

@@ -71,12 +71,10 @@ fn look_at(source: &[u8]) {
     let compiled = edd::compile(source);
     assert_eq!(report.is_refused, compiled.is_err());
     for found in &report.diagnostics {
-        let ranges = found
-            .helps
-            .iter()
-            .map(|help| &help.range)
-            .chain([&found.range]);
-        for range in ranges.flatten() {
+        let related = found.related.iter().map(|related| &related.range);
+        let edits = found.fixes.iter().flat_map(|fix| &fix.edits);
+        let edited = edits.map(|edit| &edit.range);
+        for range in related.chain(edited).chain(&found.range) {
             assert!(source.get(range.clone()).is_some(), "{range:?} lies inside");
         }
     }

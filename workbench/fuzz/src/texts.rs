@@ -1,19 +1,17 @@
 //! What has to hold of each text.
 use crate::counts::Counts;
+use edd_check::{Checked, Levels};
 use edd_compiler::compile;
 use edd_loader::load;
 use edd_plain_std::alloc::Global;
-use edd_plain_std::vec::Vec as List;
-use legacy_check::{Choices, Format, check};
+use edd_report::{Style, text as lines_of};
 
 /// The image of a text, or its refusal; else what is wrong.
 pub fn tried(text: &[u8], counts: &mut Counts) -> Result<Result<Vec<u8>, String>, String> {
     let made = compile(Global, text);
-    let mut lines = List::new(Global);
-    let choices = Choices::new(Global);
-    let Ok(is_refused) = check(Global, "s", text, &choices, Format::Text, &mut lines) else {
-        return Err("check has no answer".into());
-    };
+    let checked = Checked::of("s", text, &Levels::default());
+    let is_refused = checked.report.is_refused;
+    let lines = lines_of(&checked.source, &checked.report, Style::Plain);
     match made {
         Ok(image) => {
             counts.accepted += 1;
@@ -29,15 +27,12 @@ pub fn tried(text: &[u8], counts: &mut Counts) -> Result<Result<Vec<u8>, String>
         }
         Err(fault) => {
             counts.refused_texts += 1;
-            let first = lines
-                .split(|byte| *byte == b'\n')
-                .next()
-                .unwrap_or_default();
+            let first = lines.lines().next().unwrap_or_default();
             let Ok(refusal) = fault.refusal(Global, text) else {
                 return Err("a refusal has no line".into());
             };
             let wanted = format!(": refused {refusal}");
-            let is_said = is_refused && first.ends_with(wanted.as_bytes());
+            let is_said = is_refused && first.ends_with(&wanted);
             if is_said {
                 Ok(Err(refusal.to_string()))
             } else {

@@ -3,11 +3,12 @@ use crate::Stop;
 use crate::blocks::{Held, held, new_block};
 use crate::desk::Desk;
 use crate::{editing, json, places, states};
+use edd_check::{Checked, Levels};
 use edd_compiler::Fault;
 use edd_dump::Dump;
 use edd_explain::Explanation;
 use edd_loader::LoadFault;
-use legacy_check::{Choices, Format, ReportFault};
+use edd_report::json_lines;
 use std::alloc::{AllocError, Global};
 use std::fmt;
 use std::string::String;
@@ -103,11 +104,10 @@ pub extern "C" fn out_size() -> usize {
 }
 
 fn check_text(text: &[u8]) -> Result<Vec<u8>, Stop> {
-    let mut lines = Vec::new(Global);
-    let choices = Choices::new(Global);
-    match legacy_check::check(Global, "source", text, &choices, Format::Json, &mut lines) {
-        Ok(_) => Ok(lines),
-        Err(ReportFault::Memory | ReportFault::Output) => Err(Stop::Memory),
+    let checked = Checked::of("source", text, &Levels::default());
+    match json_lines(&checked.source, &checked.report) {
+        Ok(lines) => Ok(Vec::from_real(lines.into_bytes())),
+        Err(_) => Err(Stop::Memory),
     }
 }
 

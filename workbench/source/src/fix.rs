@@ -28,3 +28,34 @@ pub struct Fix {
     /// How sure it is.
     pub confidence: Confidence,
 }
+
+impl Fix {
+    /// A fix of one change.
+    ///
+    /// ```
+    /// use edd_source::{Confidence, Fix, Span};
+    ///
+    /// let fix = Fix::replace(Span { start: 4, end: 5 }, "=", Confidence::Guess);
+    /// assert_eq!(fix.apply(b"if (a == b)").as_deref(), Some(b"if (= == b)".as_slice()));
+    /// ```
+    pub fn replace(span: Span, text: impl Into<String>, confidence: Confidence) -> Fix {
+        let text = text.into();
+        Fix {
+            edits: vec![Edit { span, text }],
+            confidence,
+        }
+    }
+
+    /// A source with the changes; none where they leave it or overlap.
+    pub fn apply(&self, source: &[u8]) -> Option<Vec<u8>> {
+        let mut made = Vec::with_capacity(source.len());
+        let mut place = 0;
+        for Edit { span, text } in &self.edits {
+            made.extend_from_slice(source.get(place..span.start)?);
+            made.extend_from_slice(text.as_bytes());
+            place = span.end;
+        }
+        made.extend_from_slice(source.get(place..)?);
+        Some(made)
+    }
+}

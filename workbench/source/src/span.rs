@@ -37,6 +37,25 @@ impl Span {
         }
     }
 
+    /// The empty span right behind a token.
+    pub fn behind(token: &Token) -> Span {
+        Span::before(offset(token.end))
+    }
+
+    /// The span from the first byte of this one up to the last of another.
+    pub fn up_to(self, other: Span) -> Span {
+        Span {
+            start: self.start,
+            end: other.end,
+        }
+    }
+
+    /// What stands there in the bytes of a source; nothing where that is no text.
+    pub fn read(self, source: &[u8]) -> &str {
+        let bytes = source.get(self.range()).unwrap_or_default();
+        str::from_utf8(bytes).unwrap_or_default()
+    }
+
     /// The bytes as a range, to index with.
     pub fn range(self) -> Range<usize> {
         self.start..self.end

@@ -4,7 +4,6 @@ use crate::checking::{Diagnosis, Form, LintLevels, print_sarif};
 use crate::command_line::{Check, CheckForm, Color};
 use crate::failure::{FILE, Failure, REFUSED, reason};
 use core_std::alloc::Global;
-use core_std::io::Write as CoreWrite;
 use edd_files::{FileFault, Files, read_bytes};
 use std::io::Write;
 
@@ -16,7 +15,7 @@ type Named<'a> = (&'a str, Result<Vec<u8>, FileFault>);
 pub(crate) fn run(
     args: &Check,
     files: &mut impl Files,
-    out: &mut (impl Write + CoreWrite),
+    out: &mut impl Write,
 ) -> Result<(), Failure> {
     let levels = LintLevels::new(&args.allow, &args.deny)?;
     let sources = read_sources(&args.sources, files)?;
@@ -44,7 +43,7 @@ pub(crate) fn run(
         }
     }
     if args.format == CheckForm::Sarif {
-        print_sarif(diagnoses, out)?;
+        print_sarif(&diagnoses, out)?;
     }
     status.map_or(Ok(()), |status| Err(Failure::Printed(status)))
 }

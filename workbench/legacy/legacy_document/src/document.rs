@@ -9,7 +9,8 @@ use crate::walk::{Item, Map, map_of};
 use edd_lexer::token::{Token, TokenKind};
 use edd_syntax::symbols::{Keyword, Symbol};
 use indexmap::IndexMap;
-use legacy_reports::words::{Span, span_of, word_of};
+use edd_source::Span;
+use edd_source::tokens::word_of;
 use std::alloc::{AllocError, Global};
 
 /// A text with its tokens, what may stand where, and what its names mean. It is made once for each
@@ -150,7 +151,7 @@ impl<'a> Document<'a> {
 
     /// The place of a token.
     pub fn span(&self, token: usize) -> Option<Span> {
-        let span = span_of(self.tokens.get(token)?);
+        let span = Span::of(self.tokens.get(token)?);
         (span.start <= span.end && span.end <= self.text.len()).then_some(span)
     }
 

@@ -5,7 +5,8 @@ use edd_lexer::fault::LexFault;
 use edd_lexer::lex;
 use edd_lexer::token::{Token, TokenKind};
 use edd_sinks::ListSink;
-use legacy_reports::words::{span_of, tokens_before, word_of};
+use edd_source::Span;
+use edd_source::tokens::{tokens_before, word_of};
 use std::alloc::{AllocError, Global};
 
 /// How many lines with faults are left out. The text after one more has no tokens.

@@ -8,7 +8,7 @@ use crate::walk::{Item, Map};
 use edd_lexer::token::{Token, TokenKind};
 use edd_syntax::numbers::Kind;
 use edd_syntax::symbols::Symbol;
-use legacy_reports::words::is_sign;
+use edd_source::tokens::is_sign;
 use std::alloc::{AllocError, Global};
 
 /// What is declared, and which declaration each token names.

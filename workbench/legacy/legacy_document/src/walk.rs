@@ -6,7 +6,7 @@ use edd_lexer::token::{Token, TokenKind};
 use edd_sinks::ListSink;
 use edd_syntax::numbers::Kind;
 use edd_syntax::symbols::{Keyword, Symbol};
-use legacy_reports::words::{is_sign, is_word, item_kind};
+use edd_source::tokens::{is_sign, is_word, item_kind};
 use std::alloc::{AllocError, Global};
 
 /// An item by the numbers of its tokens.

@@ -2,7 +2,7 @@
 use std::prelude::v1::*;
 
 use edd_syntax::numbers::Kind;
-use legacy_reports::words::Span;
+use edd_source::Span;
 use std::alloc::AllocError;
 
 /// What is told of a place.

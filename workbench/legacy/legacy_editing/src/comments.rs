@@ -2,7 +2,7 @@
 use std::prelude::v1::*;
 
 use legacy_document::Document;
-use legacy_reports::words::Span;
+use edd_source::Span;
 
 /// A comment, and whether it is a block.
 #[derive(Clone, Copy)]

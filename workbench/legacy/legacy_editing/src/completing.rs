@@ -12,7 +12,7 @@ use edd_syntax::operators::Parameter;
 use edd_syntax::symbols::{Keyword, Symbol};
 use legacy_document::Document;
 use legacy_document::spots::{Braces, Place, is_number_word};
-use legacy_reports::words::Span;
+use edd_source::Span;
 use std::alloc::{AllocError, Global};
 
 /// The words with which items begin.

@@ -16,7 +16,7 @@ use edd_syntax::numbers::NumberOption;
 use edd_syntax::reference::Target;
 use edd_syntax::symbols::Symbol;
 use legacy_document::Document;
-use legacy_reports::words::{Span, text_in};
+use edd_source::Span;
 use std::alloc::{AllocError, Global};
 
 /// How many tokens to each side are looked at.
@@ -161,7 +161,7 @@ pub fn told(
     place: Span,
     sort: Sort,
 ) -> Result<String, AllocError> {
-    let source = text_in(document.text(), place);
+    let source = place.read(document.text());
     match value_in(alloc, source, sort)? {
         Known::Number(value) => {
             let value = format!(in alloc; "{value}")?;

@@ -10,7 +10,8 @@ use edd_syntax::words::{Variant, Words};
 use legacy_document::declarations::Sort;
 use legacy_document::spots::Place;
 use legacy_document::{Document, Item};
-use legacy_reports::words::{Span, kind_word, text_in};
+use edd_source::Span;
+use edd_source::tokens::kind_word;
 use std::alloc::{AllocError, Global};
 
 const ENGLISH: &str = "en";
@@ -34,7 +35,7 @@ fn joined(alloc: Global, document: &Document<'_>, first: usize) -> Result<String
             start: place.start.saturating_add(1),
             end: place.end.saturating_sub(1),
         };
-        raw.push_str(text_in(document.text(), inside));
+        raw.push_str(inside.read(document.text()));
     }
     raw.finish()
 }
@@ -142,7 +143,7 @@ fn push_type(document: &Document<'_>, item: &Item, markdown: &mut TextSink) {
         return;
     };
     push_paragraph(markdown);
-    push_code(markdown, text_in(document.text(), source));
+    push_code(markdown, source.read(document.text()));
     for word in [Keyword::MinValue, Keyword::MaxValue] {
         if let Some(token) = attribute(document, item, word)
             && let Some(value) = value_behind(document, token, item.last)
@@ -150,7 +151,7 @@ fn push_type(document: &Document<'_>, item: &Item, markdown: &mut TextSink) {
             markdown.push_str(", ");
             push_escaped(markdown, word.spelling());
             markdown.push(' ');
-            push_code(markdown, text_in(document.text(), value));
+            push_code(markdown, value.read(document.text()));
         }
     }
 }

@@ -3,7 +3,7 @@ use std::prelude::v1::*;
 
 use edd_sinks::{ListSink, TextSink};
 use edd_syntax::operators::{Builtin, Parameter, RequestKind};
-use legacy_reports::words::Span;
+use edd_source::Span;
 use std::alloc::{AllocError, Global};
 
 // What a request asks for, in a line.

@@ -14,7 +14,7 @@ use edd_lexer::token::TokenKind;
 use edd_sinks::TextSink;
 use edd_syntax::operators::Builtin;
 use legacy_document::Document;
-use legacy_reports::words::Span;
+use edd_source::Span;
 use std::alloc::{AllocError, Global};
 
 /// The page that tells of the language.

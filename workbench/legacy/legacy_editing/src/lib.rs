@@ -28,6 +28,6 @@ pub use completing::completions;
 pub use edd_syntax::numbers::Kind;
 pub use hovering::hover;
 pub use legacy_document::Document;
-pub use legacy_reports::words::Span;
+pub use edd_source::Span;
 pub use listing::{folds, symbols};
 pub use naming::{declaration, references, rename, renameable};

@@ -7,7 +7,7 @@ use edd_lexer::token::TokenKind;
 use edd_sinks::ListSink;
 use edd_syntax::symbols::Symbol as Sign;
 use legacy_document::Document;
-use legacy_reports::words::Span;
+use edd_source::Span;
 use std::alloc::{AllocError, Global};
 
 /// The items of a text, in their order.

@@ -7,7 +7,7 @@ use edd_lexer::lex;
 use edd_lexer::token::TokenKind;
 use legacy_document::Document;
 use legacy_document::declarations::Sort;
-use legacy_reports::words::{Span, span_of};
+use edd_source::Span;
 use std::alloc::{AllocError, Global};
 
 /// The longest name, in bytes.
@@ -78,7 +78,7 @@ fn check_name(alloc: Global, word: &str) -> Result<(), RenameFault> {
     let [token] = tokens.as_slice() else {
         return Err(RenameFault::NotAName);
     };
-    let place = span_of(token);
+    let place = Span::of(token);
     let is_whole = place.start == 0 && place.end == word.len();
     match token.kind {
         TokenKind::Name if is_whole => Ok(()),

@@ -1,17 +1,17 @@
 //! Edits that mend what is wrong.
 use std::prelude::v1::*;
 
-use crate::fixes::{Fix, fix_of};
 use crate::greeting::QUICK_FIX;
 use crate::query::{Query, Refusal, bad_params};
 use crate::renaming::edit_of;
+use edd_check::{Levels, check};
+use edd_helps::Help;
+use edd_report::{Diagnostic, Kind, Report};
 use edd_sinks::ListSink;
-use legacy_check::{Choices, Reports, diagnose};
-use legacy_open_documents::{diagnostic, edited};
+use legacy_open_documents::diagnostic;
 use legacy_protocol::{list_at, range_at};
 use legacy_protocol_shapes::{Action, WorkspaceEdit};
-use legacy_reports::diagnostic::{Diagnostic, Finding, Help};
-use legacy_reports::words::Span;
+use edd_source::{Fix, Span};
 use std::alloc::AllocError;
 
 /// Once so many edits are found, no further finding is looked at.
@@ -22,7 +22,7 @@ const MOST_TRIED: usize = 8;
 struct Tried<'a> {
     found: &'a Diagnostic,
     help: &'a Help,
-    fix: Fix<'a>,
+    fix: &'a Fix,
 }
 
 // Whether quick fixes are among what is asked for.
@@ -47,47 +47,39 @@ fn asked_place(query: Query<'_>) -> Result<Span, Refusal> {
 
 // Whether a refusal has its place in the bytes that are asked about, or next to them.
 fn is_at(found: &Diagnostic, asked: Span) -> bool {
-    match (found.place, &found.finding) {
-        (Some(place), Finding::Refused(_)) => place.start <= asked.end && asked.start <= place.end,
+    match (found.span, &found.kind) {
+        (Some(place), Kind::Refused(_)) => place.start <= asked.end && asked.start <= place.end,
         _ => false,
     }
 }
 
-fn count(reports: &Reports) -> usize {
+fn count(reports: &Report) -> usize {
     reports.shown.len().saturating_add(reports.more)
 }
 
-fn first_place(reports: &Reports) -> usize {
+fn first_place(reports: &Report) -> usize {
     match reports.shown.first() {
-        Some(found) => found.place.map_or(0, |place| place.start),
+        Some(found) => found.span.map_or(0, |place| place.start),
         None => usize::MAX,
     }
 }
 
 // Whether a text compiles further than another one did.
-fn is_further(before: &Reports, after: &Reports) -> bool {
+fn is_further(before: &Report, after: &Report) -> bool {
     let is_later = first_place(before) < first_place(after);
     !after.is_refused || count(after) < count(before) || is_later
 }
 
 // Whether the text compiles further with a change.
-fn helps(query: Query<'_>, reports: &Reports, fix: Fix<'_>) -> Result<bool, AllocError> {
-    let alloc = query.alloc;
-    let text = edited(
-        alloc,
-        query.text(),
-        fix.place.start,
-        fix.place.end,
-        fix.text,
-    )?;
-    let after = diagnose(alloc, text.as_bytes(), &Choices::new(alloc))?;
-    Ok(is_further(reports, &after))
+fn helps(query: Query<'_>, reports: &Report, fix: &Fix) -> bool {
+    fix.apply(query.text().as_bytes())
+        .is_some_and(|text| is_further(reports, &check(&text, &Levels::default())))
 }
 
 // The changes that the helps say of what is wrong at these places.
 fn changes<'a>(
     query: Query<'a>,
-    reports: &'a Reports,
+    reports: &'a Report,
     asked: Span,
 ) -> Result<Vec<Tried<'a>>, AllocError> {
     let mut made = ListSink::new(query.alloc);
@@ -102,7 +94,7 @@ fn changes<'a>(
 // Adds the changes that the helps of a finding say.
 fn add_changes<'a>(found: &'a Diagnostic, made: &mut ListSink<Tried<'a>>) {
     for help in &found.helps {
-        if let Some(fix) = fix_of(found, help) {
+        if let Some(fix) = &help.fix {
             made.push(Tried { found, help, fix });
         }
     }
@@ -117,16 +109,17 @@ fn mended<'a>(
     Ok(vec![in query.alloc; only]?)
 }
 
-fn edit_by<'a>(query: Query<'a>, fix: Fix<'a>) -> Result<WorkspaceEdit<'a>, AllocError> {
-    edit_of(
-        query,
-        vec![in query.alloc; query.edit(fix.place, fix.text)]?,
-    )
+fn edit_by<'a>(query: Query<'a>, fix: &'a Fix) -> Result<WorkspaceEdit<'a>, AllocError> {
+    let mut edits = Vec::new(query.alloc);
+    for edit in &fix.edits {
+        edits.push(query.edit(edit.span, &edit.text))?;
+    }
+    edit_of(query, edits)
 }
 
 fn action_of<'a>(query: Query<'a>, tried: Tried<'a>) -> Result<Action<'a>, AllocError> {
     Ok(Action {
-        title: tried.help.text.as_str(),
+        title: format!(in query.alloc; "{}", tried.help.advice)?,
         kind: QUICK_FIX,
         diagnostics: mended(query, tried.found)?,
         edit: edit_by(query, tried.fix)?,
@@ -142,7 +135,7 @@ pub fn actions(query: Query<'_>, out: &mut Vec<u8>) -> Result<(), Refusal> {
     {
         let changes = changes(query, reports, asked)?;
         for tried in &changes {
-            if helps(query, reports, tried.fix)? {
+            if helps(query, reports, tried.fix) {
                 made.push(action_of(query, *tried)?);
             }
         }

@@ -4,7 +4,7 @@ use std::prelude::v1::*;
 use crate::query::{Query, Refusal};
 use edd_lexer::fault::LexFault;
 use legacy_protocol_shapes::TextEdit;
-use legacy_reports::words::Span;
+use edd_source::Span;
 use std::alloc::{AllocError, Global};
 
 // A text as it is laid out; as it is where it has no tokens.

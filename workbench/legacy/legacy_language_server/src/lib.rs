@@ -7,7 +7,6 @@ use std::prelude::v1::*;
 
 mod actions;
 mod completing;
-mod fixes;
 mod formatting;
 mod greeting;
 mod hovering;

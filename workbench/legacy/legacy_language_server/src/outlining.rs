@@ -6,7 +6,7 @@ use edd_sinks::ListSink;
 use edd_syntax::numbers::Kind;
 use legacy_editing::{Fold as Braces, Symbol, folds as folds_of, symbols as symbols_of};
 use legacy_protocol_shapes::{Fold, Located, Outlined};
-use legacy_reports::words::kind_word;
+use edd_source::tokens::kind_word;
 use std::alloc::AllocError;
 
 /// A kind of item as the protocol counts kinds of symbols.

@@ -5,7 +5,7 @@ use crate::query::{Query, Refusal};
 use legacy_editing::{declaration, references as named_at};
 use legacy_protocol::flag_at;
 use legacy_protocol_shapes::{Highlight, Location};
-use legacy_reports::words::Span;
+use edd_source::Span;
 use std::alloc::AllocError;
 
 /// Answers with the place of the declaration, or `null`.

@@ -5,7 +5,7 @@ use crate::query::{Query, Refusal, bad_params};
 use legacy_editing::{RenameFault, rename as renamed, renameable};
 use legacy_protocol::text_at;
 use legacy_protocol_shapes::{Renamed, TextEdit, WorkspaceEdit};
-use legacy_reports::words::{Span, text_in};
+use edd_source::Span;
 use std::alloc::AllocError;
 use std::collections::BTreeMap;
 
@@ -18,7 +18,7 @@ pub fn prepare(query: Query<'_>, out: &mut Vec<u8>) -> Result<(), Refusal> {
     };
     let answered = Renamed {
         range: query.range(place),
-        placeholder: text_in(query.text().as_bytes(), place),
+        placeholder: place.read(query.text().as_bytes()),
     };
     query.answer(&answered, out)
 }

@@ -4,7 +4,7 @@ use std::prelude::v1::*;
 use crate::query::{Query, Refusal};
 use legacy_editing::{Signature as Found, signature as found_at};
 use legacy_protocol_shapes::{Label, Parameter, Signature, Signatures};
-use legacy_reports::words::{Span, text_in};
+use edd_source::Span;
 use std::alloc::AllocError;
 
 // How many UTF-16 units come before a byte of a label.
@@ -25,7 +25,7 @@ fn parameter<'a>(query: Query<'_>, found: &'a Found, place: Span) -> Parameter<'
             units_before(text, place.end),
         ])
     } else {
-        Label::Text(text_in(text.as_bytes(), place))
+        Label::Text(place.read(text.as_bytes()))
     };
     Parameter { label }
 }

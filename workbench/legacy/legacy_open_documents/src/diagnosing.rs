@@ -3,12 +3,13 @@ use std::prelude::v1::*;
 
 use crate::client::Client;
 use crate::documents::Opened;
+use edd_check::{Levels, check};
+use edd_helps::Help;
+use edd_report::{Kind, Report};
 use edd_sinks::{ListSink, TextSink};
-use legacy_check::{Choices, Reports, diagnose};
 use legacy_protocol::{Range, notify};
 use legacy_protocol_shapes::{Code, Diagnostic, Diagnostics, Location, Related, Severity};
-use legacy_reports::diagnostic::{Finding, Help};
-use legacy_reports::words::Span;
+use edd_source::Span;
 use std::alloc::{AllocError, Global};
 
 /// Who says what is wrong.
@@ -45,45 +46,45 @@ impl<'a> View<'a> {
 }
 
 // What a finding says.
-#[derive(Clone, Copy)]
-struct Words<'a> {
+struct Words {
     code: Option<Code>,
-    message: &'a str,
+    message: TextSink,
     severity: Severity,
 }
 
-fn words_of(finding: &Finding) -> Words<'_> {
-    match finding {
-        Finding::Refused(refusal) => {
-            let refusal = refusal.as_str();
-            let (number, message) = refusal.split_once(' ').unwrap_or(("", refusal));
+fn words_of(alloc: Global, kind: &Kind) -> Words {
+    let mut message = TextSink::new(alloc);
+    match kind {
+        Kind::Refused(refusal) => {
+            message.push_str(refusal.name());
+            if !refusal.detail().is_empty() {
+                write!(message, " {}", refusal.detail());
+            }
             Words {
-                code: number.parse::<u16>().ok().map(Code::Number),
+                code: Some(Code::Number(refusal.number())),
                 message,
                 severity: Severity::Error,
             }
         }
-        Finding::Warned {
-            lint,
-            message,
-            is_denied,
-        } => Words {
-            code: Some(Code::Name(*lint)),
-            message: message.as_str(),
-            severity: if *is_denied {
-                Severity::Error
-            } else {
-                Severity::Warning
-            },
-        },
+        Kind::Warned(warning) => {
+            message.push_str(&warning.message);
+            Words {
+                code: Some(Code::Name(warning.lint)),
+                message,
+                severity: if warning.is_denied {
+                    Severity::Error
+                } else {
+                    Severity::Warning
+                },
+            }
+        }
     }
 }
 
 // Adds a line of help; for an editor that shows no other places with the place that it speaks of.
 fn push_help(view: View<'_>, help: &Help, message: &mut TextSink) {
-    message.push_str("\nhelp: ");
-    message.push_str(help.text.as_str());
-    if let Some(place) = help.place {
+    write!(message, "\nhelp: {}", help.advice);
+    if let Some(place) = help.span {
         let at = view.range(place).start;
         let line = at.line.saturating_add(1);
         let column = at.character.saturating_add(1);
@@ -93,17 +94,25 @@ fn push_help(view: View<'_>, help: &Help, message: &mut TextSink) {
 
 // The helps: those that speak of another place apart, if the editor shows these.
 fn add_helps<'a>(
+    alloc: Global,
     view: View<'a>,
     helps: &'a [Help],
     message: &mut TextSink,
     related: &mut ListSink<Related<'a>>,
 ) {
     for help in helps {
-        match help.place {
-            Some(place) if view.client.has_related => related.push(Related {
-                location: view.location(place),
-                message: help.text.as_str(),
-            }),
+        match help.span {
+            Some(place) if view.client.has_related => {
+                let mut said = TextSink::new(alloc);
+                write!(said, "{}", help.advice);
+                match said.finish() {
+                    Ok(message) => related.push(Related {
+                        location: view.location(place),
+                        message,
+                    }),
+                    Err(_) => related.refuse(),
+                }
+            }
             _ => push_help(view, help, message),
         }
     }
@@ -113,18 +122,20 @@ fn add_helps<'a>(
 pub fn diagnostic<'a>(
     alloc: Global,
     view: View<'a>,
-    found: &'a legacy_reports::diagnostic::Diagnostic,
+    found: &'a edd_report::Diagnostic,
 ) -> Result<Diagnostic<'a>, AllocError> {
-    let words = words_of(&found.finding);
-    let mut message = TextSink::new(alloc);
+    let Words {
+        code,
+        mut message,
+        severity,
+    } = words_of(alloc, &found.kind);
     let mut related = ListSink::new(alloc);
-    message.push_str(words.message);
-    add_helps(view, found.helps.as_slice(), &mut message, &mut related);
+    add_helps(alloc, view, found.helps.as_slice(), &mut message, &mut related);
     let related = related.finish()?;
     Ok(Diagnostic {
-        range: view.range(found.place.unwrap_or(BEGINNING)),
-        severity: words.severity.number(),
-        code: words.code,
+        range: view.range(found.span.unwrap_or(BEGINNING)),
+        severity: severity.number(),
+        code,
         source: SOURCE,
         message: message.finish()?,
         related_information: if related.is_empty() {
@@ -150,7 +161,7 @@ fn of_more<'a>(alloc: Global, view: View<'a>, more: usize) -> Result<Diagnostic<
 fn all_of<'a>(
     alloc: Global,
     view: View<'a>,
-    reports: &'a Reports,
+    reports: &'a Report,
 ) -> Result<Vec<Diagnostic<'a>>, AllocError> {
     let mut all = Vec::new(alloc);
     for found in &reports.shown {
@@ -165,7 +176,7 @@ fn all_of<'a>(
 fn tell(
     alloc: Global,
     view: View<'_>,
-    reports: &Reports,
+    reports: &Report,
     out: &mut Vec<u8>,
 ) -> Result<(), AllocError> {
     let told = Diagnostics {
@@ -184,7 +195,7 @@ pub fn publish(
     out: &mut Vec<u8>,
 ) -> Result<(), AllocError> {
     let text = opened.content.text.as_bytes();
-    let reports = diagnose(alloc, text, &Choices::new(alloc))?;
+    let reports = check(text, &Levels::default());
     tell(alloc, View { opened, client }, &reports, out)?;
     opened.reports = Some(reports);
     Ok(())

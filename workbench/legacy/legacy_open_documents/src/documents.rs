@@ -1,8 +1,8 @@
 //! The documents that an editor has open.
 use std::prelude::v1::*;
 
+use edd_report::Report;
 use crate::contents::Content;
-use legacy_check::Reports;
 use std::alloc::{AllocError, Global};
 
 /// A document that is open.
@@ -12,7 +12,7 @@ pub struct Opened {
     pub version: Option<i64>,
     pub content: Content,
     /// What was said of this version of its text.
-    pub reports: Option<Reports>,
+    pub reports: Option<Report>,
 }
 
 /// All that are open. An editor has a handful, so they are looked for one after the other.

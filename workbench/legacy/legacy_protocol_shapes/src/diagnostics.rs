@@ -35,7 +35,7 @@ pub enum Code {
 #[derive(Serialize)]
 pub struct Related<'a> {
     pub location: Location<'a>,
-    pub message: &'a str,
+    pub message: String,
 }
 
 #[derive(Serialize)]

@@ -23,7 +23,7 @@ pub struct WorkspaceEdit<'a> {
 #[derive(Serialize)]
 #[serde(rename_all = "camelCase")]
 pub struct Action<'a> {
-    pub title: &'a str,
+    pub title: String,
     pub kind: &'static str,
     pub diagnostics: Vec<Diagnostic<'a>>,
     pub edit: WorkspaceEdit<'a>,

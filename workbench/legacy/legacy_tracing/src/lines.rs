@@ -9,14 +9,14 @@ use edd_panel::{bits_of, first_number, is_enumerator, of_variable};
 use edd_syntax::answer::Trap;
 use edd_syntax::numbers::{Attr, ItemNo, VarNo};
 use edd_syntax::types::VarType;
-use legacy_check::{Look, Span};
+use edd_source::{Source, Span};
 use std::alloc::{AllocError, Global};
 use std::io::Write;
 
 /// Where the lines of a trace go, and whose places they have.
 pub struct Telling<'t, 's, 'b, W> {
     pub alloc: Global,
-    pub look: &'t Look<'s>,
+    pub source: &'t Source<'s>,
     pub image: &'t Image<'b>,
     pub out: &'t mut W,
 }
@@ -24,13 +24,13 @@ pub struct Telling<'t, 's, 'b, W> {
 impl<'t, 's, 'b, W> Telling<'t, 's, 'b, W> {
     pub fn new(
         alloc: Global,
-        look: &'t Look<'s>,
+        source: &'t Source<'s>,
         image: &'t Image<'b>,
         out: &'t mut W,
     ) -> Telling<'t, 's, 'b, W> {
         Telling {
             alloc,
-            look,
+            source,
             image,
             out,
         }
@@ -68,10 +68,10 @@ fn is_named(kind: VarType, records: &[Record], number: i64) -> bool {
 
 impl<W: Write> Telling<'_, '_, '_, W> {
     fn line(&mut self, place: Option<Span>, what: &str) -> Result<(), ShowFault> {
-        let (alloc, look) = (self.alloc, self.look);
+        let (alloc, source) = (self.alloc, self.source);
         match place {
             Some(place) => {
-                let spot = look.spot(place);
+                let spot = source.spot(place);
                 let (file, line, column) = (spot.file, spot.line, spot.column);
                 print(
                     alloc,
@@ -118,7 +118,7 @@ impl<W: Write> Telling<'_, '_, '_, W> {
     pub fn trap(&mut self, place: Option<Span>, why: Trap) -> Result<(), ShowFault> {
         let word = trap_word(why);
         let text = match place {
-            Some(place) => self.look.spot(place).text.trim(),
+            Some(place) => self.source.spot(place).text.trim(),
             None => "",
         };
         let what = if text.is_empty() {

@@ -16,7 +16,7 @@ use edd_script::{Script, answer_line};
 use edd_syntax::answer::Answer;
 use edd_syntax::checked::Checked;
 use edd_syntax::numbers::{MethNo, VarNo};
-use legacy_check::{Look, Reports, Span};
+use edd_source::{Source, Span};
 use legacy_traces::{Effect, Places, places_of};
 use std::alloc::{AllocError, Global};
 use std::io::Write;
@@ -323,9 +323,9 @@ pub fn trace<W: Write>(
     device: Option<Device<'_, '_>>,
     out: &mut W,
 ) -> Result<(), ShowFault> {
-    let look = Look::of(alloc, of.name, of.text, Reports::new(alloc))?;
+    let source = Source::new(of.name, of.text);
     let methods = methods_of(alloc, image, of.text)?;
-    let mut telling = Telling::new(alloc, &look, &*image, &mut *out);
+    let mut telling = Telling::new(alloc, &source, &*image, &mut *out);
     let values = match Values::new(alloc, image, &of.script.values) {
         Ok(values) => values,
         Err(ValuesFault::Memory) => return Err(ShowFault::Memory),

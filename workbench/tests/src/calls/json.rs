@@ -6,31 +6,21 @@
 
 use crate::images::number;
 use crate::playing::NoAnswer;
-use edd_plain_std::alloc::Global;
-use edd_plain_std::vec::Vec as PlainVec;
-use legacy_check::{Choices, Format, Lint, check};
+use edd_check::{Checked, Levels, Lint};
+use edd_report::json_lines;
 use serde_json::Value;
 
 const HEAD: &str = "MANUFACTURER 1, DEVICE_TYPE 2, DEVICE_REVISION 3, DD_REVISION 4\n";
 
 /// Checks a description of these items, and returns what is printed.
 fn printed(name: &str, items: &str, denied: Option<Lint>) -> Result<String, NoAnswer> {
-    let mut choices = Choices::new(Global);
+    let mut levels = Levels::default();
     if let Some(lint) = denied {
-        choices.deny(lint)?;
+        levels.deny(lint);
     }
     let text = format!("{HEAD}{items}\n");
-    let mut out = PlainVec::new(Global);
-    check(
-        Global,
-        name,
-        text.as_bytes(),
-        &choices,
-        Format::Json,
-        &mut out,
-    )
-    .map_err(|_| NoAnswer::Row("it is not printed"))?;
-    String::from_utf8(out.into_real()).map_err(|_| NoAnswer::Row("it is printed as no text"))
+    let checked = Checked::of(name, text.as_bytes(), &levels);
+    json_lines(&checked.source, &checked.report).map_err(|_| NoAnswer::Row("it is not printed"))
 }
 
 /// Returns the path of each of these lines with the value there.

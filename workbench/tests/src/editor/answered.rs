@@ -1,11 +1,11 @@
 //! Writes the answers to an editor's queries as text. A place is a line and a column, both counted from 1.
 
 use edd_plain_std::alloc::{AllocError, Global};
+use edd_source::tokens::kind_word;
 use legacy_editing::{
     Completion, CompletionKind, Document, RenameFault, Span, completions, declaration, folds,
     hover, references, rename, renameable, signature, symbols,
 };
-use legacy_reports::words::{kind_word, text_in};
 
 /// What an editor asks.
 #[derive(Debug, Clone, Copy, PartialEq, Eq)]
@@ -98,7 +98,7 @@ impl At<'_, '_> {
     fn hover(self) -> Result<String, AllocError> {
         Ok(match hover(Global, self.document, self.byte)? {
             Some(told) => {
-                let word = text_in(self.document.text(), told.place);
+                let word = told.place.read(self.document.text());
                 format!("{word}\n{}", told.markdown)
             }
             None => "none".to_owned(),
@@ -138,7 +138,7 @@ impl At<'_, '_> {
     /// Writes the word that is replaced, and each completion.
     fn completions(self, written: fn(&Completion<'_>) -> String) -> Result<String, AllocError> {
         let found = completions(Global, self.document, self.byte)?;
-        let mut answer = format!("{}:", text_in(self.document.text(), found.replaced));
+        let mut answer = format!("{}:", found.replaced.read(self.document.text()));
         for entry in &found.entries {
             answer.push(' ');
             answer.push_str(&written(entry));
@@ -153,7 +153,7 @@ impl At<'_, '_> {
         let parameters = called.parameters.iter().enumerate();
         let words = parameters.map(|(number, parameter)| {
             let mark = if number == called.active { "*" } else { "" };
-            format!(" {mark}{}", text_in(called.label.as_bytes(), *parameter))
+            format!(" {mark}{}", parameter.read(called.label.as_bytes()))
         });
         let words = words.collect::<Vec<_>>().concat();
         Ok(format!("{}:{words}", called.label))

@@ -1,0 +1,6 @@
+//! Which word is nearest to one that is misspelled.
+
+mod nearest;
+mod typing;
+
+pub(crate) use nearest::Nearest;

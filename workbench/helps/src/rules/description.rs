@@ -1,0 +1,164 @@
+//! A description that breaks rules, and the names that it declares.
+
+use crate::near::Nearest;
+use edd_lexer::token::{Token, TokenKind};
+use edd_source::tokens::{is_sign, word_of};
+use edd_source::{Outline, Span};
+use edd_syntax::item::{Attribute, Item};
+use edd_syntax::numbers::{Kind, TokenNo};
+use edd_syntax::operators::BUILTINS;
+use edd_syntax::reference::Path;
+use edd_syntax::symbols::Symbol;
+use edd_syntax::unit::Unit;
+use std::collections::HashMap;
+use std::fmt;
+
+/// How many names of a sort one that is unknown is compared with, so that many of both take no long
+/// time.
+const MOST_NAMES: usize = 10_000;
+
+/// A text that spells a unit, its tokens, the unit's items, and the names that these declare.
+pub struct Description<'a> {
+    text: &'a [u8],
+    tokens: &'a [Token],
+    items: &'a [Item<Path>],
+    /// The items by their names; of two with one name the first.
+    named: HashMap<&'a str, &'a Item<Path>>,
+    /// The items by the tokens of their names.
+    placed: HashMap<usize, &'a Item<Path>>,
+    /// The names of members and locals, and of items, with the token of each one's first declaration,
+    /// in order.
+    names: Vec<(&'a str, usize)>,
+    declared: HashMap<&'a str, usize>,
+}
+
+impl fmt::Debug for Description<'_> {
+    fn fmt(&self, f: &mut fmt::Formatter<'_>) -> fmt::Result {
+        f.debug_struct("Description")
+            .field("items", &self.items.len())
+            .field("names", &self.names)
+            .finish_non_exhaustive()
+    }
+}
+
+/// The number of a token.
+pub(super) fn number_of(at: TokenNo) -> usize {
+    usize::try_from(at.0).unwrap_or(usize::MAX)
+}
+
+impl<'a> Description<'a> {
+    /// A text with its tokens and the unit that they spell.
+    pub fn of(text: &'a [u8], tokens: &'a [Token], unit: &'a Unit) -> Description<'a> {
+        let items = unit.items.as_slice();
+        let mut named = HashMap::new();
+        let mut placed = HashMap::new();
+        for item in items {
+            named.entry(item.name()).or_insert(item);
+            placed.entry(number_of(item.at())).or_insert(item);
+        }
+        let outline = Outline::of(tokens);
+        let mut names = Vec::new();
+        let mut declared = HashMap::new();
+        for (number, token) in tokens.iter().enumerate() {
+            if token.kind == TokenKind::Name && outline.declares(tokens, number) {
+                let name = word_of(text, token);
+                if !declared.contains_key(name) {
+                    declared.insert(name, number);
+                    names.push((name, number));
+                }
+            }
+        }
+        Description {
+            text,
+            tokens,
+            items,
+            named,
+            placed,
+            names,
+            declared,
+        }
+    }
+
+    /// The place of a token by its number.
+    pub fn span(&self, number: usize) -> Option<Span> {
+        self.tokens.get(number).map(Span::of)
+    }
+
+    /// The bytes of a token; none where there is no token of this number.
+    pub fn word(&self, number: usize) -> &'a str {
+        self.tokens
+            .get(number)
+            .map_or("", |token| word_of(self.text, token))
+    }
+
+    /// The tokens of the text.
+    pub fn tokens(&self) -> &'a [Token] {
+        self.tokens
+    }
+
+    /// The first item with a name.
+    pub(super) fn item(&self, name: &str) -> Option<&'a Item<Path>> {
+        self.named.get(name).copied()
+    }
+
+    /// The token that first declares a name, as an item, a member or a local.
+    pub(super) fn declared(&self, name: &str) -> Option<usize> {
+        self.declared.get(name).copied()
+    }
+
+    /// The item whose name is a token.
+    pub(super) fn item_at(&self, name: usize) -> Option<&'a Item<Path>> {
+        self.placed.get(&name).copied()
+    }
+
+    /// The item around a token, the last whose name is before it, with its number.
+    pub fn around(&self, number: usize) -> Option<(usize, &'a Item<Path>)> {
+        let begun = self
+            .items
+            .partition_point(|item| number_of(item.at()) < number);
+        let index = begun.checked_sub(1)?;
+        Some((index, self.items.get(index)?))
+    }
+
+    /// The collection of which a member names what stands at a token, with its number.
+    pub(super) fn collection_around(&self, number: usize) -> Option<(usize, &'a Item<Path>)> {
+        let (index, item) = self.around(number)?;
+        let is_behind_comma = is_sign(self.tokens, number.saturating_sub(1), Symbol::Comma);
+        (item.kind() == Kind::Collection && is_behind_comma).then_some((index, item))
+    }
+
+    /// Whether a token is in the body of a method.
+    pub(super) fn is_in_body(&self, number: usize) -> bool {
+        let Some((_, item)) = self.around(number) else {
+            return false;
+        };
+        let mut written = item.attributes().iter().rev();
+        let around = written.find(|attribute| number_of(attribute.at()) < number);
+        matches!(around, Some(Attribute::Definition(..)))
+    }
+
+    // Whether a token is the name that a member is declared by.
+    fn is_member(&self, number: usize) -> bool {
+        let before = number.saturating_sub(1);
+        let begins = is_sign(self.tokens, before, Symbol::OpenBrace)
+            || is_sign(self.tokens, before, Symbol::Semicolon);
+        begins && is_sign(self.tokens, number.saturating_add(1), Symbol::Comma)
+    }
+
+    /// The name that is nearest to this one: of members, or of items, of functions and of what else
+    /// is declared.
+    pub(super) fn nearest<'w>(&self, name: &'w str, is_member: bool) -> Nearest<'w, 'a> {
+        let mut nearest = Nearest::to(name);
+        if !is_member {
+            for function in BUILTINS {
+                nearest.look(function.name());
+            }
+        }
+        for (other, number) in self.names.iter().take(MOST_NAMES) {
+            if !is_member || self.is_member(*number) {
+                nearest.look(other);
+            }
+        }
+        nearest
+    }
+}

@@ -1,0 +1,22 @@
+//! Slips that are known by the tokens around the one that does not fit, each in words of its own.
+
+mod around;
+mod bodies;
+mod brackets;
+mod branches;
+mod left_out;
+mod lists;
+mod operators;
+mod placed;
+mod shapes;
+mod signs;
+mod slip;
+mod values;
+mod words;
+
+pub(crate) use around::{At, is_symbol, open_bracket, open_parenthesis};
+pub(crate) use bodies::early_end;
+pub(crate) use left_out::slip_of_left_out;
+pub(crate) use operators::slip_at;
+pub(crate) use placed::Placed;
+pub use slip::Slip;

@@ -1,0 +1,37 @@
+//! A slip at its place, and the fix that it says.
+
+use super::Slip;
+use edd_source::{Confidence, Fix, Span};
+
+/// What is wrong, and where that is.
+#[derive(Clone, Copy, Debug)]
+pub(crate) struct Placed {
+    pub(crate) place: Span,
+    pub(crate) slip: Slip,
+}
+
+impl Placed {
+    /// The change that the slip says, where it says one.
+    pub(crate) fn fix(self) -> Option<Fix> {
+        let Placed { place, slip } = self;
+        let here = Span::before(place.start);
+        let (span, text, confidence) = match slip {
+            Slip::SemicolonHere => (here, ";", Confidence::Sure),
+            Slip::BracketHere => (here, "]", Confidence::Sure),
+            Slip::ParenthesisHere => (here, ")", Confidence::Sure),
+            Slip::BraceBeforeElse => (here, "} ", Confidence::Sure),
+            Slip::SemicolonForComma => (place, ";", Confidence::Sure),
+            Slip::SemicolonLeftOut => (place, "", Confidence::Sure),
+            Slip::WordLeftOut | Slip::ThenLeftOut | Slip::CapitalThenLeftOut => {
+                (place, "", Confidence::Guess)
+            }
+            Slip::DefaultForElse => (place, "default", Confidence::Guess),
+            Slip::IfMeant => (place, "if", Confidence::Sure),
+            Slip::WhileMeant => (place, "while", Confidence::Sure),
+            Slip::ForMeant => (place, "for", Confidence::Sure),
+            Slip::SwitchMeant => (place, "switch", Confidence::Sure),
+            _ => return None,
+        };
+        Some(Fix::replace(span, text, confidence))
+    }
+}

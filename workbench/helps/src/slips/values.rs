@@ -1,0 +1,167 @@
+//! Slips in the values of methods, and in what functions take.
+use super::around::{Around, is_integer, is_symbol, open_parenthesis};
+use edd_lexer::token::TokenKind;
+use edd_syntax::symbols::{Keyword, Symbol};
+use super::words::{is_misspelled_type, is_operator, is_unit};
+use super::{Placed, Slip};
+
+// Whether a sign stands in the statement before the token.
+fn has_sign(around: &Around<'_>, sign: Symbol) -> bool {
+    around.so_far().iter().any(|token| is_symbol(token, sign))
+}
+
+// Whether something is compared in the statement before the token.
+fn compares(around: &Around<'_>) -> bool {
+    around.so_far().iter().any(|token| {
+        matches!(
+            token.kind,
+            TokenKind::Symbol(Symbol::Comparison(_) | Symbol::LogicalAnd | Symbol::LogicalOr)
+        )
+    })
+}
+
+// A parenthesis or a bracket that is open at a closing brace.
+fn unclosed(around: &Around<'_>) -> Option<Placed> {
+    if !around.is(Symbol::CloseBrace) || is_symbol(around.at.ahead()?, Symbol::OpenBrace) {
+        return None;
+    }
+    if is_symbol(around.at.back(2)?, Symbol::OpenBracket) {
+        return around.behind(Slip::BracketHere);
+    }
+    open_parenthesis(around.at)?;
+    around.behind(Slip::ParenthesisHere)
+}
+
+// A `:` that belongs to no `?`, or a `=` in a condition.
+fn signs(around: &Around<'_>) -> Option<Placed> {
+    match around.token.kind {
+        TokenKind::Symbol(Symbol::Colon)
+            if has_sign(around, Symbol::Equals)
+                && !has_sign(around, Symbol::Question)
+                && around.at.ahead()?.line == around.token.line =>
+        {
+            around.here(Slip::QuestionMissing)
+        }
+        TokenKind::Symbol(Symbol::Equals)
+            if compares(around) && open_parenthesis(around.at).is_some() =>
+        {
+            around.here(Slip::EqualIsWritten)
+        }
+        _ => None,
+    }
+}
+
+// What is no value after `=`: an `if`, or several values.
+fn no_value(around: &Around<'_>) -> Option<Placed> {
+    match around.token.kind {
+        _ if !around.follows(Symbol::Equals) => None,
+        TokenKind::Keyword(Keyword::MethodIf) => {
+            around.here(Slip::ChoiceIsWritten)
+        }
+        TokenKind::Symbol(Symbol::OpenBrace) => {
+            around.here(Slip::LocalHasOneValue)
+        }
+        _ => None,
+    }
+}
+
+// What stands right after a name that begins a statement.
+fn after_first_name(around: &Around<'_>) -> Option<Placed> {
+    let is_in_braces = around.is(Symbol::OpenBrace) && is_integer(around.at.ahead()?);
+    if is_integer(around.token) || is_in_braces {
+        return around.here(Slip::ArgumentInParentheses);
+    }
+    let before = around.word(around.before);
+    let is_assigned = around.token.kind == TokenKind::Name
+        && around.is_on_line()
+        && !is_operator(before)
+        && !is_misspelled_type(before)
+        && !is_operator(around.word(around.token));
+    if is_assigned {
+        return around.here(Slip::AssignmentOrSemicolon);
+    }
+    None
+}
+
+// Whether the token after it goes on with the value at the token.
+fn goes_on(ahead: TokenKind) -> bool {
+    matches!(
+        ahead,
+        TokenKind::Name
+            | TokenKind::Integer(_)
+            | TokenKind::Symbol(
+                Symbol::OpenParenthesis
+                    | Symbol::CloseBracket
+                    | Symbol::Equals
+                    | Symbol::CompoundAssign(_)
+                    | Symbol::Increment
+                    | Symbol::Decrement
+            )
+    )
+}
+
+// A value right after a value inside of a statement.
+fn after_value(around: &Around<'_>) -> Option<Placed> {
+    let is_value = matches!(around.token.kind, TokenKind::Integer(_) | TokenKind::Name);
+    if goes_on(around.at.ahead()?.kind)
+        || !is_value
+        || !around.is_on_line()
+        || open_parenthesis(around.at).is_some()
+    {
+        return None;
+    }
+    around.here(Slip::OperatorOrSemicolon)
+}
+
+// A value right after a value, or after a name that begins a statement.
+fn side_by_side(around: &Around<'_>) -> Option<Placed> {
+    let is_first = around.is_second();
+    match around.before.kind {
+        TokenKind::Integer(_)
+            if around.token.kind == TokenKind::Name
+                && is_unit(around.word(around.token)) =>
+        {
+            around.here(Slip::NumberWithoutUnit)
+        }
+        TokenKind::Name if is_first => after_first_name(around),
+        TokenKind::Name if is_operator(around.word(around.before)) => None,
+        TokenKind::Name | TokenKind::Integer(_) if !is_first => after_value(around),
+        _ => None,
+    }
+}
+
+// A value right after parentheses, or parentheses right after a number.
+fn beside_parentheses(around: &Around<'_>) -> Option<Placed> {
+    if !around.is_on_line() {
+        return None;
+    }
+    let is_open = around.is(Symbol::OpenParenthesis);
+    let is_operand =
+        is_open || matches!(around.token.kind, TokenKind::Integer(_) | TokenKind::Name);
+    let is_step = around.follows(Symbol::Increment) || around.follows(Symbol::Decrement);
+    if is_step && is_operand && has_sign(around, Symbol::Equals) {
+        return around.here(Slip::OperatorBeforeStep);
+    }
+    if is_open && is_integer(around.before) {
+        return around.here(Slip::OperatorMissing);
+    }
+    if !around.follows(Symbol::CloseParenthesis) {
+        return None;
+    }
+    let word = around.word_before();
+    let is_branch = word.is_some_and(|word| matches!(word.kind, TokenKind::Keyword(_)));
+    let is_value = is_open || is_integer(around.token);
+    if is_branch || !is_value {
+        return None;
+    }
+    around.here(Slip::OperatorOrSemicolon)
+}
+
+/// A slip in a value of a method.
+pub(crate) fn value_slip(around: &Around<'_>) -> Option<Placed> {
+    unclosed(around)
+        .or_else(|| signs(around))
+        .or_else(|| no_value(around))
+        .or_else(|| beside_parentheses(around))
+        .or_else(|| side_by_side(around))
+}

@@ -1,0 +1,253 @@
+//! What is said of a text that spells no unit.
+
+use super::SyntaxHelp;
+use super::attributes::{attribute_of, say_in_item};
+use super::braces::say_braces;
+use super::change::{Change, Workshop};
+use super::fitting::what_fits;
+use super::trials::{best_change, best_word, wants_text};
+use super::unsupported::say_unsupported;
+use crate::slips::{
+    At, early_end, is_symbol, open_bracket, open_parenthesis, slip_at, slip_of_left_out,
+};
+use crate::text::long_string;
+use crate::{Explained, Finding, TextHelp};
+use edd_lexer::token::{Token, TokenKind};
+use edd_source::tokens::{item_kind, tokens_before, word_of};
+use edd_source::{Confidence, Fix, Outline, Span};
+use edd_syntax::symbols::{Keyword, Symbol};
+use edd_token_reader::fault::ParseFault;
+
+/// How many bytes of a token are shown.
+const MOST: usize = 40;
+
+/// What is said of tokens that spell no unit.
+pub(crate) fn explain(text: &[u8], tokens: &[Token], fault: &ParseFault) -> Explained {
+    let place = fault.place().map(|place| place.0);
+    let number = place.map_or(tokens.len(), |place| {
+        usize::try_from(place).unwrap_or(usize::MAX)
+    });
+    let token = tokens.get(number);
+    let first = token.map_or(tokens.len(), |token| tokens_before(tokens, token.line));
+    let at = At {
+        text,
+        tokens,
+        number,
+        first,
+    };
+    let outline = Outline::of(tokens);
+    let mut finding = Finding::at(token.map(Span::of));
+    let resumes_at = token.map(|token| Span::of(token).start);
+    match fault {
+        ParseFault::Syntax { .. } => {
+            say_misfit(at, &outline, &mut finding);
+            if let Some(string) = long_string(text, resumes_at.unwrap_or(text.len()), false) {
+                finding.say_at(Some(string), TextHelp::LongString);
+            }
+        }
+        ParseFault::TooDeep { .. } => finding.say(SyntaxHelp::TooDeep),
+        ParseFault::Unsupported { word, .. } => {
+            say_unsupported(at, &outline, word.as_str(), &mut finding);
+        }
+        ParseFault::Memory => {}
+    }
+    Explained {
+        finding,
+        resumes_at,
+    }
+}
+
+fn say_misfit(at: At<'_>, outline: &Outline, finding: &mut Finding) {
+    let Some(token) = at.token() else {
+        return say_end(at, outline, finding);
+    };
+    if may_be_braces(at, token, outline) && say_braces(at, outline, finding) {
+        return;
+    }
+    if let Some(slip) = slip_at(at) {
+        finding.span = Some(slip.place);
+        return finding.propose(slip.slip, slip.fix());
+    }
+    if let Some(end) = early_end(at, outline) {
+        return finding.say_at(Some(end.place), end.slip);
+    }
+    if let Some(kind) = outline.kind_around(at.tokens, at.number)
+        && say_in_item(at, token, kind, finding)
+    {
+        return;
+    }
+    say_change(at, token, outline, finding);
+}
+
+// Whether a token may be one that does not fit since a brace before it is missing or too much.
+fn may_be_braces(at: At<'_>, token: &Token, outline: &Outline) -> bool {
+    let is_last_brace =
+        is_symbol(token, Symbol::CloseBrace) && outline.opened(at.tokens, at.number).is_none();
+    let is_label = matches!(
+        token.kind,
+        TokenKind::Keyword(Keyword::MethodCase | Keyword::MethodDefault)
+    );
+    is_last_brace
+        || is_label
+        || item_kind(token).is_some()
+        || attribute_of(word_of(at.text, token)).is_some()
+        || early_end(at, outline).is_some()
+}
+
+// Says what helps where the text ends too early.
+fn say_end(at: At<'_>, outline: &Outline, finding: &mut Finding) {
+    if say_braces(at, outline, finding) {
+        return;
+    }
+    finding.span = at.tokens.last().map(Span::behind);
+    finding.say(if at.tokens.is_empty() {
+        SyntaxHelp::Identification
+    } else {
+        SyntaxHelp::TextEnds
+    });
+    say_open(at, outline, finding);
+}
+
+// Says which brace is open.
+fn say_open(at: At<'_>, outline: &Outline, finding: &mut Finding) {
+    let brace = outline.opened(at.tokens, at.number);
+    if let Some(token) = brace.and_then(|brace| at.tokens.get(brace)) {
+        finding.say_at(Some(Span::of(token)), SyntaxHelp::BraceIsOpen);
+    }
+}
+
+// Says which change of a token helps, or what fits in its place.
+fn say_change(at: At<'_>, token: &Token, outline: &Outline, finding: &mut Finding) {
+    let mut workshop = workshop_of(at, outline);
+    match change_of(at, token, &mut workshop) {
+        Some((at, token, change)) => describe(at, token, change, finding),
+        None => {
+            finding.say(help_of_word(at, token, &mut workshop));
+            if item_kind(token).is_some() {
+                say_open(at, outline, finding);
+            }
+        }
+    }
+}
+
+// The tokens from the item of the fault on. Those before it are items that the grammar takes.
+fn workshop_of(at: At<'_>, outline: &Outline) -> Workshop {
+    let begins = |number: &usize| {
+        let token = at.tokens.get(*number);
+        let is_after_of = number.checked_sub(1).is_some_and(|before| {
+            edd_source::tokens::is_word(at.tokens, before, Keyword::Of)
+        });
+        token.is_some_and(|token| item_kind(token).is_some())
+            && outline.opened(at.tokens, *number).is_none()
+            && !is_after_of
+    };
+    let last = (0..at.number).rev().find(begins).unwrap_or(0);
+    let first = (0..last).find(begins).unwrap_or(last);
+    Workshop::without(at.text, at.tokens, first, last)
+}
+
+// The token and the change of it that may be meant: a word right before the one that does not
+// fit, or a change of that one.
+fn change_of<'a>(
+    at: At<'a>,
+    token: &'a Token,
+    workshop: &mut Workshop,
+) -> Option<(At<'a>, &'a Token, Change)> {
+    let number = at.number.saturating_sub(1);
+    if let Some(before) = at.back(1)
+        && at.first <= number
+    {
+        let earlier = At { number, ..at };
+        if let Some(change) = best_word(earlier, before, workshop) {
+            return Some((earlier, before, change));
+        }
+    }
+    let change = best_change(at, token, workshop)?;
+    Some((at, token, change))
+}
+
+// Says what a change of a token is.
+fn describe(at: At<'_>, token: &Token, change: Change, finding: &mut Finding) {
+    let word = short(at.text, token).to_owned();
+    match change {
+        Change::Behind(sign) => say_behind(at, sign, finding),
+        Change::Before(sign) => {
+            let here = finding.span.map(|span| Span::before(span.start));
+            let fix = here.map(|here| Fix::replace(here, format!("{sign} "), Confidence::Sure));
+            finding.propose(SyntaxHelp::SignBefore { sign, word }, fix);
+        }
+        Change::Missing(_, wanted) => finding.say(SyntaxHelp::WantedBefore { wanted, word }),
+        Change::Instead(meant) => {
+            finding.span = Some(Span::of(token));
+            let fix = finding.replacement(meant, confidence_in(token));
+            let fix = fix.filter(|_| !meant.contains(' '));
+            finding.propose(SyntaxHelp::Instead { meant, word }, fix);
+        }
+        Change::LeaveOut => {
+            finding.span = Some(Span::of(token));
+            let fix = finding.replacement("", confidence_in(token));
+            finding.propose(SyntaxHelp::LeftOut { word }, fix);
+        }
+        Change::Quoted => finding.say(SyntaxHelp::Quotes { word }),
+        Change::Renamed => finding.say(SyntaxHelp::Reserved { word }),
+    }
+}
+
+// A sign is surely meant as another one, where a word may be meant otherwise.
+fn confidence_in(token: &Token) -> Confidence {
+    match token.kind {
+        TokenKind::Symbol(_) => Confidence::Sure,
+        _ => Confidence::Guess,
+    }
+}
+
+// Says that a sign is missing after the token before.
+fn say_behind(at: At<'_>, sign: &'static str, finding: &mut Finding) {
+    if let Some(before) = at.back(1) {
+        finding.span = Some(Span::behind(before));
+    }
+    match (sign, far_bracket(at), open_parenthesis(at)) {
+        ("]", Some(open), _) => finding.say_at(Some(open), missing_up_to("[", "]")),
+        (")", _, Some(open)) => finding.say_at(Some(open), missing_up_to("(", ")")),
+        _ => finding.say_missing_here(sign),
+    }
+}
+
+fn missing_up_to(opens: &'static str, closes: &'static str) -> SyntaxHelp {
+    SyntaxHelp::MissingUpTo { opens, closes }
+}
+
+// A bracket that is open, if more than one token is after it, so that it may end at several.
+fn far_bracket(at: At<'_>) -> Option<Span> {
+    let open = open_bracket(at)?;
+    (open != Span::of(at.back(2)?)).then_some(open)
+}
+
+// What is said of a token that no change mends.
+fn help_of_word(at: At<'_>, token: &Token, workshop: &mut Workshop) -> crate::Advice {
+    if at.number == 0 {
+        return SyntaxHelp::Identification.into();
+    }
+    if at.is_ahead(Symbol::Semicolon) && wants_text(at, token, workshop) {
+        return SyntaxHelp::TextBelongsHere.into();
+    }
+    let word = short(at.text, token);
+    if let Some(slip) = slip_of_left_out(word) {
+        return slip.into();
+    }
+    let word = word.to_owned();
+    let help = match what_fits(at.number, workshop) {
+        Some(fitting) => SyntaxHelp::Fits { fitting, word },
+        None => SyntaxHelp::FitsNothing { word },
+    };
+    help.into()
+}
+
+// A token as it is written, if that is short.
+fn short<'a>(text: &'a [u8], token: &Token) -> &'a str {
+    let word = word_of(text, token);
+    if word.len() <= MOST {
+        return word;
+    }
+    "a long word or string"
+}
