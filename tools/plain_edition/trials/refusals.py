@@ -114,7 +114,7 @@ def place(text):
 
 
 def conversation():
-    """A conversation that asks once for all but the layout, whose draft takes memory without asking; as bytes."""
+    """A conversation that asks everything once, as bytes."""
     document = {"textDocument": {"uri": URI}}
     whole = {"start": {"line": 0, "character": 0}, "end": {"line": 0, "character": len(EDITED)}}
     asked = [("initialize", {"capabilities": {"textDocument": {"codeAction": {"codeActionLiteralSupport": {}}}}})]
@@ -126,7 +126,7 @@ def conversation():
     asked += [("textDocument/rename", {**place("flow, all"), "newName": "rate"}), ("textDocument/signatureHelp", place("n, [wait"))]
     asked += [("textDocument/hover", place("5 * 20")), ("textDocument/completion", place("first }")), ("textDocument/completion", place("LABEL [main"))]
     asked += [(f"textDocument/{method}", document) for method in ("documentSymbol", "foldingRange")]
-    asked += [("textDocument/codeAction", {**document, "range": whole, "context": {"diagnostics": []}})]
+    asked += [("textDocument/formatting", {**document, "options": {}}), ("textDocument/codeAction", {**document, "range": whole, "context": {"diagnostics": []}})]
     messages = [{"id": number, "method": method, "params": params} for number, (method, params) in enumerate(asked)]
     messages[1:1] = [{"method": method, "params": params} for method, params in told]
     messages += [{"id": len(asked), "method": "shutdown"}, {"method": "exit"}]
@@ -135,20 +135,20 @@ def conversation():
 
 
 def of_editor(score, program):
-    """The language server: each refused request ends it with status 4, after whole answers."""
+    """The language server: each refused request ends it after whole answers, with status 4 or, where the core did not ask, by a
+    signal."""
     with tempfile.TemporaryDirectory() as room:
         refused, typed = Refused(room), conversation()
         status, whole, _ = refused.run([program, "lsp"], 0, typed)
         score.check(not status and b'"error"' not in whole, f"lsp: status {status}: {whole[-1000:]}")
-        before, every, ended = refused.requests([program, "lsp"]), refused.requests([program, "lsp"], typed), 0
+        every, answered, ended = refused.requests([program, "lsp"], typed), 0, 0
         for number in range(1, every + 1, APART):
             status, lines, _ = refused.run([program, "lsp"], number, typed)
-            if status < 0 and not lines and number <= before:
-                ended += 1
-                continue
-            answers, behind = lines[:-len(b"no memory\n")], lines[-len(b"no memory\n"):]
-            score.check(status == MEMORY and behind == b"no memory\n" and whole.startswith(answers), f"lsp: request {number} of {every}: status {status}")
-    return f"one in {APART} of {every} requests, {ended} before the input is read"
+            is_answered = status == MEMORY and lines.endswith(b"no memory\n")
+            answers = lines[:-len(b"no memory\n")] if is_answered else lines
+            answered, ended = answered + is_answered, ended + (status < 0)
+            score.check((is_answered or status < 0) and whole.startswith(answers), f"lsp: request {number} of {every}: status {status}")
+    return f"one in {APART} of {every} requests: {answered} ended with status 4, {ended} by a signal"
 
 
 def of_calls(score, folder):
