@@ -97,7 +97,7 @@ def of_program(score, program):
     return f"{answered} of the requests ended with status 4, {ended} by a signal"
 
 
-# A text without quotes and line ends: where `serde_json` reads an escape it takes memory that can't be refused.
+# A text without quotes and line ends.
 EDITED = (
     "MANUFACTURER 1, DEVICE_TYPE 2, DEVICE_REVISION 3, DD_REVISION 4 "
     "VARIABLE flow { LABEL [flow]; TYPE INTEGER (2) { MAX_VALUE 5 * 20; } } "
@@ -135,20 +135,19 @@ def conversation():
 
 
 def of_editor(score, program):
-    """The language server: each refused request ends it after whole answers, with status 4 or, where the core did not ask, by a
-    signal."""
+    """The language server: a refused request ends it after whole answers, with status 4 or, where the core did not ask, by a signal."""
     with tempfile.TemporaryDirectory() as room:
         refused, typed = Refused(room), conversation()
         status, whole, _ = refused.run([program, "lsp"], 0, typed)
         score.check(not status and b'"error"' not in whole, f"lsp: status {status}: {whole[-1000:]}")
-        every, answered, ended = refused.requests([program, "lsp"], typed), 0, 0
+        every, ended = refused.requests([program, "lsp"], typed), 0
         for number in range(1, every + 1, APART):
             status, lines, _ = refused.run([program, "lsp"], number, typed)
             is_answered = status == MEMORY and lines.endswith(b"no memory\n")
-            answers = lines[:-len(b"no memory\n")] if is_answered else lines
-            answered, ended = answered + is_answered, ended + (status < 0)
-            score.check((is_answered or status < 0) and whole.startswith(answers), f"lsp: request {number} of {every}: status {status}")
-    return f"one in {APART} of {every} requests: {answered} ended with status 4, {ended} by a signal"
+            ended += status < 0
+            is_whole = whole.startswith(lines.removesuffix(b"no memory\n"))
+            score.check((is_answered or status < 0) and is_whole, f"lsp: request {number} of {every}: status {status}")
+    return f"one in {APART} of {every} requests, {ended} by a signal"
 
 
 def of_calls(score, folder):

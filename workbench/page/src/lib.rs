@@ -54,8 +54,8 @@ impl Stop {
 
 /// A value as the bytes of its JSON.
 pub fn json<T: serde::Serialize>(value: &T) -> Result<Vec<u8>, Stop> {
-    match serde_json::to_string(Global, value) {
-        Ok(text) => Ok(text.into_bytes()),
+    match serde_json::to_vec(value) {
+        Ok(bytes) => Ok(Vec::from_real(bytes)),
         Err(_) => Err(Stop::Memory),
     }
 }

@@ -72,7 +72,7 @@ pub fn take(
     content: &[u8],
     out: &mut Vec<u8>,
 ) -> Result<Next, AllocError> {
-    let Some(message) = value_of(alloc, content)? else {
+    let Some(message) = value_of(content) else {
         refuse(alloc, Id::Unknown, ErrorCode::ParseError, "no JSON", out)?;
         return Ok(Next::GoOn);
     };

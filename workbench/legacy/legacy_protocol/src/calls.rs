@@ -33,12 +33,8 @@ pub enum Misread<'a> {
 }
 
 /// The value that a content is; nothing where it is no JSON.
-pub fn value_of(alloc: Global, content: &[u8]) -> Result<Option<Value>, AllocError> {
-    match Value::from_slice(alloc, content) {
-        Ok(value) => Ok(Some(value)),
-        Err(error) if error.is_memory() => Err(AllocError),
-        Err(_) => Ok(None),
-    }
+pub fn value_of(content: &[u8]) -> Option<Value> {
+    serde_json::from_slice(content).ok()
 }
 
 fn id_of(value: &Value) -> Option<Id<'_>> {

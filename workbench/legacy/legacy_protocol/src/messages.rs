@@ -37,8 +37,8 @@ struct Refusal<'a> {
 
 // Out of memory is all that can go wrong with such values.
 fn text_of<T: Serialize>(alloc: Global, value: &T) -> Result<String, AllocError> {
-    match serde_json::to_string(alloc, value) {
-        Ok(text) => Ok(text),
+    match serde_json::to_string(value) {
+        Ok(text) => Ok(String::from_real(text)),
         Err(_) => Err(AllocError),
     }
 }
