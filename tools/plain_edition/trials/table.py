@@ -1,5 +1,6 @@
 """The table of rows, of which the sources and images are tried in other ways too. workbench/tests/src/rows/row.rs says what its parts mean."""
 import os
+import re
 
 from .. import repository
 
@@ -7,6 +8,8 @@ TABLES = repository.TABLES
 # Names the files of rows in their order.
 ORDER = "rows.order"
 ROW = b"@run "
+# Begins a part of a row; another `@`, as of `@@ -1 +1 @@`, begins none.
+PART = re.compile(rb"^@(?=[a-z])", re.MULTILINE)
 # The pictures of control characters, which stand for them in files.
 PICTURES = {0x2400 + code: code for code in range(0x20)} | {0x2421: 0x7f}
 
@@ -17,7 +20,7 @@ class Row:
     def __init__(self, text):
         words, _, rest = text.partition(b"\n")
         self.words, self.files = words.decode().split(" ")[1:], []
-        for part in rest.split(b"@")[1:]:
+        for part in PART.split(rest)[1:]:
             head, _, below = part.partition(b"\n")
             kind, _, argument = head.partition(b" ")
             self.add_part(kind.decode(), argument, below)
