@@ -8,7 +8,7 @@ use Rattle.edd_embed.specs.Playing.{answer_with}
 use Rattle.edd_embed.specs.Sessions.{Answers, state_in}
 use Rattle.edd_embed.proofs.Going.{answered_is, answers}
 use Rattle.edd_embed.proofs.Standing.{has_body, kept, opened_by}
-use Rattle.edd_embed.proofs.running.answer_session.Goals as goal
+use Rattle.edd_embed.proofs.running.answer_fully.Goals as goal
 
 pub take_settings-code-requires : goal.take_settings-code-requires
 take_settings-code-requires c = exist c.args.image.now c.resume.new.machine c.args.values.now
