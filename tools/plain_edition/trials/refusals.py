@@ -70,8 +70,8 @@ def content(path):
 
 
 def of_program(score, program):
-    """The program on some command lines: a refused request ends it, with status 4 or, where the core did not ask, by a signal. A file
-    is saved whole or not at all."""
+    """The program on some command lines: a refused request ends it, with status 4 or, where the core did not ask, by a signal, or leaves a
+    hint out. A file is saved whole or not at all."""
     answered = ended = 0
     with tempfile.TemporaryDirectory() as room:
         refused, made = Refused(room), os.path.join(room, "made")
@@ -82,7 +82,7 @@ def of_program(score, program):
         with open(os.path.join(room, "one.test"), "w", encoding="utf-8") as file:
             file.write(f"source {source}\ntest one\nmethod show_opening\n= another line\n")
         for words in commands(os.path.join(repository.TOP, "examples")):
-            refused.run([program, *words], 0, TYPED)
+            unrefused = refused.run([program, *words], 0, TYPED)[:2]
             whole = content(made)
             every = refused.requests([program, *words], TYPED)
             content(made)
@@ -90,7 +90,9 @@ def of_program(score, program):
                 status, lines, _ = refused.run([program, *words], number, TYPED)
                 is_answered = status == MEMORY and lines.endswith(b"no memory\n")
                 answered, ended = answered + is_answered, ended + (status < 0)
-                is_right = (is_answered or status < 0) and content(made) in (None, whole)
+                # A hint for which there is no memory is left out.
+                is_over = is_answered or status < 0 or (status, lines) == unrefused
+                is_right = content(made) in (None, whole) and is_over
                 score.check(is_right, f"{' '.join(words)}: request {number} of {every}: status {status}")
     return f"{answered} of the requests ended with status 4, {ended} by a signal"
 

@@ -67,9 +67,10 @@ fn run_play(args: &Play, files: &mut impl Files, output: &mut impl Write) -> u8 
 fn run_try(args: &Try, files: &mut impl Files, output: &mut impl Write) -> u8 {
     let Some(device) = &args.run.device else {
         let command = CoreCommand::try_source(args);
-        return match args.trace {
-            true => command.run_traced(files, output),
-            false => command.run(files, output),
+        return if args.trace {
+            command.run_traced(files, output)
+        } else {
+            command.run(files, output)
         };
     };
     let simulation = Simulation {

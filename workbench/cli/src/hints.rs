@@ -97,7 +97,7 @@ pub(crate) fn tell_of_text(refusal: &RunError, input: Input<'_>, files: &mut imp
 }
 
 /// Whether the bytes are a text, as no image is.
-pub(crate) fn is_text(bytes: &[u8]) -> bool {
+fn is_text(bytes: &[u8]) -> bool {
     let is_of_text = |sign: char| !sign.is_ascii_control() || sign.is_ascii_whitespace();
     std::str::from_utf8(bytes).is_ok_and(|text| text.chars().all(is_of_text))
 }

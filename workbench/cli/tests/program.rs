@@ -3,6 +3,7 @@
 #![allow(clippy::expect_used, reason = "a test fails by a panic")]
 
 use std::ffi::{OsStr, OsString};
+use std::fs::File;
 use std::io::Write;
 use std::os::unix::ffi::OsStringExt;
 use std::process::{Command, Output, Stdio};
@@ -66,4 +67,32 @@ fn words_that_are_not_text_are_a_mistake_of_the_command_line() {
 fn a_file_that_is_not_there_has_the_status_of_files() {
     let output = run(["show", "no such file"], "");
     assert_eq!(output.status.code(), Some(3));
+}
+
+#[test]
+fn what_helps_is_on_the_standard_error_unless_it_is_quiet() {
+    let hint = "-: refused 10 SYNTAX line 1\nhelp: a description begins with MANUFACTURER .., \
+        DEVICE_TYPE .., DEVICE_REVISION .., DD_REVISION ..\n";
+    let output = run(["view", "-"], "");
+    assert_eq!(String::from_utf8_lossy(&output.stderr), hint);
+    let output = run(["view", "-", "--quiet"], "");
+    assert_eq!(printed(&output), ("refused 10 SYNTAX line 1\n", Some(1)));
+    assert!(output.stderr.is_empty());
+}
+
+#[test]
+fn a_standard_error_that_takes_nothing_changes_nothing() {
+    let output = Command::new(env!("CARGO_BIN_EXE_edd"))
+        .args(["view", "no such file"])
+        .stderr(File::open("/dev/null").expect("a file that is only read"))
+        .output()
+        .expect("its output");
+    assert_eq!(printed(&output), ("file no such file\n", Some(3)));
+}
+
+#[test]
+fn an_image_on_the_standard_output_stands_alone_where_it_is_quiet() {
+    let output = run(["compile", "-q", "-", "-"], SOURCE);
+    assert!(output.stdout.starts_with(b"EDI1") && output.stderr.is_empty());
+    assert!(!output.stdout.ends_with(b"\n"));
 }

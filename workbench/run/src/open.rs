@@ -42,6 +42,20 @@ pub struct OpenSetup<'a> {
 ///
 /// The image, the script or the source of the device is refused, the input or the output fails, or
 /// there is no memory.
+///
+/// ```
+/// use core_std::{alloc::Global, vec::Vec};
+/// use edd_run::OpenSetup;
+///
+/// let source = b"MANUFACTURER 1, DEVICE_TYPE 2, DEVICE_REVISION 3, DD_REVISION 4
+///     VARIABLE p { LABEL \"Pressure\"; TYPE INTEGER; }";
+/// let image = edd_run::compile(source)?;
+/// let setup = OpenSetup { device: None, script: b"", language: "en", keys: None };
+/// let mut output = Vec::new(Global);
+/// let record = edd_run::open(&image, &setup, b"1\n7\nq\n".as_slice(), &mut output)?;
+/// assert_eq!(record, "set p 7\n");
+/// # Ok::<(), edd_run::RunError>(())
+/// ```
 pub fn open(
     image: &[u8],
     setup: &OpenSetup<'_>,

@@ -58,6 +58,22 @@ pub fn play(image: &[u8], run: &MethodRun<'_>, output: &mut impl Write) -> Resul
 ///
 /// As of [`play`]; the source of the device is refused; or the device had no answer, which is
 /// returned when the lines of the run are printed.
+///
+/// ```
+/// use core_std::{alloc::Global, vec::Vec};
+/// use edd_run::{DeviceSource, MethodRun};
+///
+/// let head = "MANUFACTURER 1, DEVICE_TYPE 2, DEVICE_REVISION 3, DD_REVISION 4\n";
+/// let source = format!("{head} METHOD m {{ DEFINITION {{ send_command(1); }} }}");
+/// let device = DeviceSource { name: "d", text: head.as_bytes() };
+/// let run = MethodRun { method: "m", script: b"", language: "en", steps: 100 };
+/// let image = edd_run::compile(source.as_bytes())?;
+/// let mut output = Vec::new(Global);
+/// let ended = edd_run::play_with_device(&image, device, &run, &mut output);
+/// assert_eq!(output.as_slice(), b"ask send_command 1\nend aborted\n");
+/// assert_eq!(ended.unwrap_err().to_string(), "refused 274 NO_COMMAND 1");
+/// # Ok::<(), edd_run::RunError>(())
+/// ```
 pub fn play_with_device(
     image: &[u8],
     device: DeviceSource<'_>,

@@ -11,6 +11,16 @@ use edd_machine::Values;
 /// # Errors
 ///
 /// The image or the script is refused, the output takes nothing, or there is no memory.
+///
+/// ```
+/// use core_std::{alloc::Global, vec::Vec};
+///
+/// let source = b"MANUFACTURER 1, DEVICE_TYPE 2, DEVICE_REVISION 3, DD_REVISION 4";
+/// let mut output = Vec::new(Global);
+/// edd_run::show(&edd_run::compile(source)?, b"", "en", &mut output)?;
+/// assert_eq!(output.as_slice(), b"identification 1 2 3 4\n");
+/// # Ok::<(), edd_run::RunError>(())
+/// ```
 pub fn show(
     image: &[u8],
     script: &[u8],

@@ -13,6 +13,7 @@ mod runner;
 mod verdict;
 
 pub use edd_cases::{Misread, TestFault};
+pub use edd_files::{FileFault, Files};
 pub use error::TestError;
 pub use junit::JUnit;
 pub use lines::Lines;

@@ -28,6 +28,36 @@ pub struct Request<'a> {
 /// # Errors
 ///
 /// A file can't be read or written, the report can't, or there is no memory.
+///
+/// ```
+/// use edd_testing::{FileFault, Files, Lines, Request, run_tests};
+///
+/// /// Files in memory: one of tests, and the source that it names.
+/// struct InMemory;
+///
+/// impl Files for InMemory {
+///     type Reader = &'static [u8];
+///
+///     fn open(&mut self, name: &str) -> Result<&'static [u8], FileFault> {
+///         match name {
+///             "one.test" => Ok(b"source s\ntest it is shown\nshow\n= identification 1 2 3 4\n"),
+///             "s" => Ok(b"MANUFACTURER 1, DEVICE_TYPE 2, DEVICE_REVISION 3, DD_REVISION 4"),
+///             _ => Err(FileFault::Missing),
+///         }
+///     }
+///
+///     fn save(&mut self, _name: &str, _bytes: &[u8]) -> Result<(), FileFault> {
+///         Err(FileFault::MayNotWrite)
+///     }
+/// }
+///
+/// let request = Request { files: &["one.test"], filter: None, is_update: false, words: &[] };
+/// let mut output = Vec::new();
+/// let summary = run_tests(&request, &mut InMemory, &mut Lines(&mut output))?;
+/// assert!(summary.is_success());
+/// assert_eq!(output, b"passed one.test: it is shown\n1 passed, 0 failed\n");
+/// # Ok::<(), edd_testing::TestError>(())
+/// ```
 pub fn run_tests(
     request: &Request<'_>,
     files: &mut impl Files,

@@ -48,7 +48,7 @@ pub enum Seen {
 impl Mismatch {
     /// The difference that the core found. The run may have ended with a refusal.
     pub(crate) fn new(difference: Difference<'_, '_>, refusal: Option<&str>) -> Mismatch {
-        let line_of = |text: &str| text.to_owned();
+        let owned = str::to_owned;
         match difference {
             Difference::Other {
                 line,
@@ -56,23 +56,23 @@ impl Mismatch {
                 seen,
             } => Mismatch {
                 line,
-                expected: Expected::Line(line_of(expected)),
-                seen: Seen::Line(line_of(seen)),
+                expected: Expected::Line(owned(expected)),
+                seen: Seen::Line(owned(seen)),
             },
             Difference::End { line, expected } => Mismatch {
                 line,
-                expected: Expected::Line(line_of(expected)),
+                expected: Expected::Line(owned(expected)),
                 seen: Seen::NoMoreLines,
             },
             Difference::Nowhere { line, expected } => Mismatch {
                 line,
-                expected: Expected::Line(line_of(expected)),
-                seen: refusal.map_or(Seen::NoSuchLine, |refusal| Seen::Refusal(line_of(refusal))),
+                expected: Expected::Line(owned(expected)),
+                seen: refusal.map_or(Seen::NoSuchLine, |refusal| Seen::Refusal(owned(refusal))),
             },
             Difference::More { line, seen } => Mismatch {
                 line,
                 expected: Expected::NoMoreLines,
-                seen: Seen::Line(line_of(seen)),
+                seen: Seen::Line(owned(seen)),
             },
         }
     }

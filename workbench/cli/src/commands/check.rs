@@ -26,6 +26,7 @@ pub(crate) fn run(
             Ok(text) => Ok(Diagnosis::of_source(name, text, &levels, files)?),
             Err(fault) => Err(*fault),
         };
+        // The greatest status counts: a file that can't be read is worse than one that is refused.
         let is_refused = found.as_ref().is_ok_and(Diagnosis::fails);
         status = status.max(is_refused.then_some(REFUSED));
         status = status.max(found.is_err().then_some(FILE));

@@ -1,7 +1,7 @@
 //! `compile`, `view`, `show`, `play` and `try`. The core does them: their lines, their statuses and what
 //! they save are its own. Added here is what is told of a refusal beside the output.
 
-use crate::command_line::{self, Compile, Play, Show, Try, View};
+use crate::command_line::{self, Compile, DeviceState, Hints, Play, Show, Try, View};
 use crate::failure::{DONE, FILE, Failure, REFUSED};
 use crate::hints::{self, Input, Inputs};
 use crate::output::CoreOutput;
@@ -29,50 +29,38 @@ pub(crate) struct CoreCommand<'a> {
 
 impl<'a> CoreCommand<'a> {
     pub(crate) fn view(args: &'a View) -> CoreCommand<'a> {
-        let script = args.device_state.script.as_deref();
-        CoreCommand {
-            request: Request::View(Showing {
-                file: &args.source,
-                script,
-                language: &args.device_state.language.code,
-            }),
-            script,
-            is_quiet: args.hints.quiet,
-        }
+        let showing = to_showing(&args.source, &args.device_state);
+        CoreCommand::new(Request::View(showing), showing.script, &args.hints)
     }
 
     pub(crate) fn show(args: &'a Show) -> CoreCommand<'a> {
-        let script = args.device_state.script.as_deref();
-        CoreCommand {
-            request: Request::Show(Showing {
-                file: &args.image,
-                script,
-                language: &args.device_state.language.code,
-            }),
-            script,
-            is_quiet: args.hints.quiet,
-        }
+        let showing = to_showing(&args.image, &args.device_state);
+        CoreCommand::new(Request::Show(showing), showing.script, &args.hints)
     }
 
     pub(crate) fn play(args: &'a Play) -> CoreCommand<'a> {
-        CoreCommand {
-            request: Request::Play {
-                image: &args.image,
-                run: to_run(&args.run),
-            },
-            script: args.run.script.as_deref(),
-            is_quiet: args.hints.quiet,
-        }
+        let (image, run) = (&args.image, to_run(&args.run));
+        CoreCommand::new(
+            Request::Play { image, run },
+            args.run.script.as_deref(),
+            &args.hints,
+        )
     }
 
     pub(crate) fn try_source(args: &'a Try) -> CoreCommand<'a> {
+        let (source, run) = (&args.source, to_run(&args.run));
+        CoreCommand::new(
+            Request::Try { source, run },
+            args.run.script.as_deref(),
+            &args.hints,
+        )
+    }
+
+    fn new(request: Request<'a>, script: Option<&'a str>, hints: &Hints) -> CoreCommand<'a> {
         CoreCommand {
-            request: Request::Try {
-                source: &args.source,
-                run: to_run(&args.run),
-            },
-            script: args.run.script.as_deref(),
-            is_quiet: args.hints.quiet,
+            request,
+            script,
+            is_quiet: hints.quiet,
         }
     }
 
@@ -170,6 +158,14 @@ pub(crate) fn compile(args: &Compile, files: &mut impl Files, output: &mut dyn W
     match command.run(files, &mut lines) {
         DONE => DONE,
         status => output.write_all(&lines).map_or(FILE, |()| status),
+    }
+}
+
+fn to_showing<'a>(file: &'a str, state: &'a DeviceState) -> Showing<'a> {
+    Showing {
+        file,
+        script: state.script.as_deref(),
+        language: &state.language.code,
     }
 }
 

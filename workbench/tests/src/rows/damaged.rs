@@ -121,16 +121,18 @@ fn is_refusal(text: &str) -> bool {
     number.parse::<u16>().is_ok() || text.lines().any(is_other_refusal)
 }
 
-/// Whether a line is a refusal by a lint that is denied, or one in JSON, SARIF or colours, or says that a test
+/// Whether a line is a refusal by a lint that is denied, or one in JSON, SARIF, JUnit or colours, or says that a test
 /// failed, or that layouts or descriptions differ.
 fn is_other_refusal(line: &str) -> bool {
     const BEGINNINGS: [&str; 3] = ["differs ", "differences ", "failed "];
-    const PARTS: [&str; 6] = [
+    const PARTS: [&str; 8] = [
         "\"breaking\":",
         ": denied ",
         "\"severity\":\"refused\"",
         "\"severity\":\"denied\"",
         "\"level\":\"error\"",
+        "<error message=\"refused ",
+        "<failure message=",
         "refused\u{1b}[0m ",
     ];
     BEGINNINGS

@@ -26,7 +26,8 @@ pub fn run_as_it_is(row: &Row<'_>) -> Result<Run, Fault> {
 }
 
 /// Runs the row again for each call of this kind that it makes, with that one failing: then it ends with status 3
-/// after a beginning of its lines, and makes no other call of the kind. Gives how many calls failed.
+/// after a beginning of its lines, and makes no other call of the kind, unless it is one of `check`. Gives how many
+/// calls failed.
 pub fn run_failing(row: &Row<'_>, whole: &Run, call: Call) -> Result<u32, Fault> {
     for number in 0..MOST_CALLS {
         let calls = Calls::failing(call, number);
@@ -39,6 +40,8 @@ pub fn run_failing(row: &Row<'_>, whole: &Run, call: Call) -> Result<u32, Fault>
                     printed,
                 });
             }
+            Failing::WentOn | Failing::Failed
+                if goes_on(row, call) && reports_file(row, &printed) => {}
             Failing::WentOn => {
                 return Err(Fault::WentOn {
                     call,
@@ -130,6 +133,21 @@ fn names_file(row: &Row<'_>, whole: &Run, printed: &[u8]) -> bool {
         && last
             .strip_prefix("file ")
             .is_some_and(|name| has_file(row, name))
+}
+
+/// Whether the command goes on after such a call that fails: `check` does, after a source that can't be read.
+fn goes_on(row: &Row<'_>, call: Call) -> bool {
+    row.words().next() == Some("check") && matches!(call, Call::Open | Call::Read)
+}
+
+/// Whether the run ends with status 3, and names a file of the row on a line of its own.
+fn reports_file(row: &Row<'_>, run: &Run) -> bool {
+    let told = run.text() + &run.hint;
+    let names_file = |line: &str| {
+        line.strip_prefix("file ")
+            .is_some_and(|name| has_file(row, name))
+    };
+    run.status == FILE && told.lines().any(names_file)
 }
 
 /// Whether the command prints lines before all files were read.
