@@ -111,10 +111,8 @@ fn is_mark_of_order(text: &[u8], place: usize) -> bool {
 fn is_alike(one: &LexFault, other: &LexFault) -> bool {
     matches!(
         (one, other),
-        (
-            LexFault::BadCharacter { .. },
-            LexFault::BadCharacter { .. }
-        ) | (LexFault::BadEscape { .. }, LexFault::BadEscape { .. })
+        (LexFault::BadCharacter { .. }, LexFault::BadCharacter { .. })
+            | (LexFault::BadEscape { .. }, LexFault::BadEscape { .. })
             | (LexFault::BadNumber { .. }, LexFault::BadNumber { .. })
     )
 }

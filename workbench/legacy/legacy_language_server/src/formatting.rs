@@ -3,9 +3,9 @@ use std::prelude::v1::*;
 
 use crate::query::{Query, Refusal};
 use edd_lexer::fault::LexFault;
+use edd_source::Span;
 use legacy_layout::laid_out;
 use legacy_protocol_shapes::TextEdit;
-use edd_source::Span;
 use std::alloc::{AllocError, Global};
 
 // A text as it is laid out; as it is where it has no tokens.

@@ -126,9 +126,7 @@ fn wrong_of(stop: &Stop<'_>) -> Option<(Wrong, Refusal)> {
             let line = u32::try_from(*line).unwrap_or(u32::MAX);
             Some((Wrong::Line, Refusal::on_line(300, "SCRIPT", line)))
         }
-        Stop::Values(ValuesFault::Range) => {
-            Some((Wrong::Range, Refusal::new(202, "RANGE", "")))
-        }
+        Stop::Values(ValuesFault::Range) => Some((Wrong::Range, Refusal::new(202, "RANGE", ""))),
         Stop::Play(PlayFault::OutOfRange) => {
             Some((Wrong::Answer, Refusal::new(207, "OUT_OF_RANGE", "")))
         }

@@ -1,8 +1,8 @@
 //! What `edd explain` prints of refusals and lints.
 use std::prelude::v1::*;
 
-use edd_display::Printer;
 use edd_check::{LINTS, Lint};
+use edd_display::Printer;
 use edd_explain::{Explanation, all, by_name, by_number};
 use legacy_files::Stop;
 use std::alloc::Global;
