@@ -22,6 +22,7 @@ mod core;
 mod explaining;
 mod help;
 mod near;
+mod recovery;
 mod rules;
 mod script;
 mod sentences;
@@ -30,8 +31,9 @@ mod syntax;
 mod text;
 
 pub use advice::Advice;
-pub use explaining::{Explained, Later, TextFault, explain, explain_later, text_fault};
+pub use explaining::{Explained, TextFault, explain, text_fault};
 pub use help::{Finding, Help};
+pub use recovery::{Later, Recovered, recover};
 pub use rules::{Description, Foreign, NameHelp, OtherKinds, OtherType, RuleHelp, explain_breach};
 pub use script::{ScriptHelp, ScriptSlip, Wrong, explain_script};
 pub use slips::Slip;

@@ -139,6 +139,11 @@ impl<'a> Description<'a> {
         self.placed.get(&name).copied()
     }
 
+    /// The number of the first item with a name.
+    pub fn item_named(&self, name: &str) -> Option<usize> {
+        self.number_of_item(number_of(self.item(name)?.at()))
+    }
+
     /// The number of the item whose name is a token.
     pub(super) fn number_of_item(&self, name: usize) -> Option<usize> {
         let (index, item) = self.around(name.saturating_add(1))?;

@@ -29,7 +29,10 @@ pub struct OtherKinds(HashMap<usize, Members>);
 
 impl OtherKinds {
     /// All collections that have a member of another kind.
-    pub fn of(description: &Description<'_>, found: &[Found]) -> OtherKinds {
+    pub fn of<'f>(
+        description: &Description<'_>,
+        found: impl Iterator<Item = &'f Found>,
+    ) -> OtherKinds {
         let mut collections = HashMap::new();
         for found in found {
             if let Some((index, collection)) = collection_of(description, found) {

@@ -72,10 +72,12 @@ fn item_in_item(around: &Around<'_>) -> Option<Placed> {
     if before == Some(&b'\n') || !begins_item(around) {
         return None;
     }
-    around.here(match list_around(around) {
-        Some(_) => Slip::DeclaredOutside,
-        None => Slip::ItemInItem,
-    })
+    match list_around(around) {
+        Some(_) => around.here(Slip::DeclaredOutside),
+        // Behind an attribute the `}` of the item before is missing.
+        None if around.follows(Symbol::OpenBrace) => around.here(Slip::ItemInItem),
+        None => None,
+    }
 }
 
 // A DEFINITION right in the braces of another one.
