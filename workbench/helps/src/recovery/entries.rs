@@ -14,7 +14,11 @@ pub(super) fn entry_around(
     outline: &Outline,
     number: usize,
 ) -> Option<Range<usize>> {
-    let open = outline.opened(tokens, number)?;
+    let is_closing = is_sign(tokens, number, Symbol::CloseBrace);
+    let open = match number.checked_sub(1) {
+        Some(before) if is_closing => outline.open_behind(tokens, before)?,
+        _ => outline.opened(tokens, number)?,
+    };
     let close = closing(tokens, outline, open);
     if !has_entries(tokens, outline, open, close) {
         return entry_around(tokens, outline, open);
@@ -25,12 +29,16 @@ pub(super) fn entry_around(
         open,
         close,
     };
-    let start = braces.start_of(number);
-    // A sign that is missing at the end of an entry comes out at the beginning of the next one.
-    if start == number && braces.begins_attribute(number) && !braces.ends_before(number) {
+    // A sign that is missing at the end of an entry comes out at the beginning of the next one, or at
+    // the brace behind it.
+    let is_next = braces.begins_attribute(number)
+        && !braces.ends_before(number)
+        && !is_sign(tokens, number.saturating_add(1), Symbol::Semicolon);
+    if is_closing || is_next {
         let start = braces.start_of(number.saturating_sub(1));
-        return Some(start..number);
+        return (start < number).then_some(start..number);
     }
+    let start = braces.start_of(number);
     Some(start..braces.end_of(start, number))
 }
 
@@ -140,7 +148,8 @@ impl Braces<'_> {
         // A `;` that does not fit ends nothing where the line goes on.
         let is_astray = is_sign(self.tokens, number, Symbol::Semicolon)
             && start < number
-            && !self.begins_line(number.saturating_add(1));
+            && !self.begins_line(number.saturating_add(1))
+            && !self.begins_entry(number.saturating_add(1));
         let first = number.saturating_add(if is_astray { 2 } else { 1 });
         let ends = |place: &usize| {
             self.is_here(*place)
@@ -148,6 +157,22 @@ impl Braces<'_> {
                     || self.begins_attribute(*place) && self.begins_line(*place))
         };
         (first..self.close).find(ends).unwrap_or(self.close)
+    }
+
+    // Whether a token begins an attribute or a statement, as far as it and the next one show it.
+    fn begins_entry(&self, number: usize) -> bool {
+        match (self.kind(number), self.kind(number.saturating_add(1))) {
+            (Some(TokenKind::Keyword(_) | TokenKind::Symbol(Symbol::CloseBrace)), _) => true,
+            (Some(TokenKind::Name), Some(TokenKind::Symbol(sign))) => matches!(
+                sign,
+                Symbol::Equals
+                    | Symbol::CompoundAssign(_)
+                    | Symbol::Increment
+                    | Symbol::Decrement
+                    | Symbol::OpenParenthesis
+            ),
+            _ => false,
+        }
     }
 
     fn begins_line(&self, number: usize) -> bool {
