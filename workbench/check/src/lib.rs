@@ -19,6 +19,7 @@
 mod breaches;
 mod core;
 mod refusals;
+mod sound;
 mod warnings;
 
 pub use warnings::{LINTS, Levels, Lint};

@@ -60,7 +60,7 @@ pub(super) fn sections(text: &[u8], from: usize, is_left_out: bool) -> Vec<Secti
 }
 
 /// Whether a word begins an item.
-pub(super) fn is_item_word(word: &str) -> bool {
+pub(crate) fn is_item_word(word: &str) -> bool {
     KINDS.iter().any(|kind| kind_word(*kind) == word)
 }
 
