@@ -1,12 +1,12 @@
 //! A text by the core's verdict, and what is said of it.
 use std::prelude::v1::*;
 
-use crate::accepted::of_text;
+use crate::lints::of_text;
 use crate::refusals::{of_unit, of_words};
 use crate::reports::Reports;
 use edd_compiler::{Fault, tokens_of, unit_from};
 use edd_findings::{Verdict, judge};
-use legacy_warnings::Choices;
+use crate::lints::Choices;
 use std::alloc::{AllocError, Global};
 
 // What is said of a text that breaks rules, which spells a unit.

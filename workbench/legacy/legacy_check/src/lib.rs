@@ -9,10 +9,10 @@
 extern crate std;
 use std::prelude::v1::*;
 
-mod accepted;
 mod breaches;
 mod diagnosing;
 mod grammar;
+pub mod lints;
 mod look;
 mod refusals;
 mod reports;
@@ -21,7 +21,7 @@ pub use diagnosing::diagnose;
 pub use legacy_reports::diagnostic::{Diagnostic, Finding};
 pub use legacy_reports::words::Span;
 pub use legacy_reports::{Format, ReportFault};
-pub use legacy_warnings::{Choices, LINTS, Level, Lint};
+pub use lints::{Choices, LINTS, Level, Lint};
 pub use look::{Look, print_document};
 pub use reports::Reports;
 use std::alloc::{AllocError, Global};

@@ -10,7 +10,7 @@ use legacy_reports::{
     Format, Originals, ReportFault, Source, Spot, print_diagnostic, print_more, spot_of,
 };
 use legacy_sarif::{Findings, print_sarif};
-use legacy_warnings::Choices;
+use crate::lints::Choices;
 use std::alloc::{AllocError, Global};
 use std::io::Write;
 

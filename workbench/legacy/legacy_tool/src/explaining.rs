@@ -3,7 +3,7 @@ use std::prelude::v1::*;
 
 use edd_display::Printer;
 use edd_explain::{Explanation, all, by_name, by_number};
-use legacy_check::{LINTS, Lint};
+use legacy_check::{LINTS, Level, Lint};
 use legacy_files::Stop;
 use std::alloc::Global;
 use std::io::Write;
@@ -14,7 +14,11 @@ fn print_refusal<W: Write>(explanation: &Explanation, printer: &mut Printer<'_, 
 }
 
 fn print_lint<W: Write>(lint: Lint, printer: &mut Printer<'_, W>) {
-    printer.print(format_args!("{}: {}", lint.name(), lint.meaning()))
+    let level = match lint.level() {
+        Level::Allow => " (off unless denied)",
+        Level::Warn | Level::Deny => "",
+    };
+    printer.print(format_args!("{}: {}{level}", lint.name(), lint.summary()))
 }
 
 fn print_lints<W: Write>(printer: &mut Printer<'_, W>) {

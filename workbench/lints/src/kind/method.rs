@@ -1,0 +1,66 @@
+//! Warnings on the bodies of methods.
+
+use super::kinds;
+use crate::range::Range;
+
+kinds! {
+    /// What a warning on the body of a method is about.
+    MethodKind {
+        DroppedComparison DroppedComparison
+            "what this comparison gives is not used: = assigns"
+        DroppedValue DroppedValue
+            "this statement does nothing: its value is not used"
+        AssignedCondition AssignedCondition
+            "this assigns, and what it assigned is the condition: == compares"
+        AssignedSelection AssignedCondition
+            "this assigns, and what it assigned selects the case: a second pair of parentheses says so"
+        AssignedToItself AssignedToItself
+            "this assigns a value to itself"
+        EmptyStatement EmptyBranch
+            "nothing is done where this condition holds: a ; stands right after it"
+        EmptyBlock EmptyBranch
+            "nothing is done where this condition holds"
+        DetachedBlock EmptyBranch
+            "a ; stands between this and the block after it"
+        EmptyLoop EmptyBranch
+            "this loop only counts: a ; stands right after its head"
+        StoreOutOfRange(number: i64, range: Range) StoreOutOfRange
+            "{number} is outside of the variable's {range}, so another number is kept"
+        WrappedNumber(number: u32, kept: i64) WrappedNumber
+            "{number} is {kept} here: methods compute with 32 bits"
+        MissingCommand(command: i64) MissingCommand
+            "no command has the number {command}"
+        UndeclaredCommand(command: i64) UndeclaredCommand
+            "no command has the number {command}"
+        MissingTransaction(command: i64, transaction: i64) MissingTransaction
+            "the command {command} has no transaction {transaction}"
+        UnwritableVariable(variable: String) UnwritableVariable
+            "{variable} can't be entered: its HANDLING is READ"
+        Unreachable(end: String) UnreachableStatement
+            "what stands behind this {end} is never reached"
+        NothingEnds EndlessLoop
+            "nothing ends this loop: it has no break, no return and no request"
+        NothingChanges EndlessLoop
+            "nothing in this loop changes what its condition reads"
+        NeverRuns DeadLoop
+            "this loop never runs"
+        NeverBegins(start: i64) DeadLoop
+            "this loop never runs: it begins at {start}"
+        CountsAway BackwardLoop
+            "this loop counts away from its limit"
+        FallsThrough FallThrough
+            "the case before this one goes on here: a break is missing, or a comment"
+        NinthAbortMethod AbortMethodLimit
+            "this lists nothing: eight are listed"
+        NestedAbortMethod(method: String) NestedAbortMethod
+            "{method} is an abort method, in which this lists nothing"
+        UnreadLocal(local: String) UnreadLocal
+            "the local {local} is never read"
+        NeverSetLocal(local: String) UnsetLocal
+            "nothing ever sets the local {local}: it is 0"
+        EarlyLocal(local: String) UnsetLocal
+            "the local {local} is read before anything sets it"
+        HidingLocal(item: String) HidingLocal
+            "this local hides the item {item}"
+    }
+}

@@ -1,0 +1,46 @@
+//! What a description may say and almost certainly does not mean.
+//!
+//! The core decides what a description is and what its constants are. The lints look at its trees
+//! for what the language allows and a maker can't have meant. The trees say what is there, and the
+//! tokens where.
+
+mod abort_methods;
+mod bodies;
+mod branches;
+mod classes;
+mod commands;
+mod conditions;
+mod context;
+mod entries;
+mod enumerators;
+mod expressions;
+mod finding;
+mod formats;
+mod instrument;
+mod kind;
+mod levels;
+mod lint;
+mod lists;
+mod menus;
+mod messages;
+mod places;
+mod range;
+mod remarks;
+mod repeats;
+mod source;
+mod table;
+mod texts;
+mod types;
+mod unused;
+mod visit;
+mod warning;
+
+pub use classes::CLASSES;
+pub use finding::find;
+pub use kind::{
+    CommandKind, ConditionKind, Kind, MenuKind, MethodKind, NumberRole, TextKind, VariableKind,
+};
+pub use levels::{Level, Levels};
+pub use lint::{LINTS, Lint};
+pub use range::Range;
+pub use warning::{Related, Role, Warning};
