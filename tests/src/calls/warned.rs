@@ -9,7 +9,7 @@
 use crate::playing::NoAnswer;
 use edd_compiler::checked_of;
 use edd_lexer::lex;
-use edd_lints::{LINTS, Levels, Lint, Warning, find};
+use edd_lints::{LINTS, Level, Levels, Lint, Warning, find};
 use edd_plain_std::alloc::Global;
 use edd_source::Span;
 
@@ -30,12 +30,30 @@ COMMAND c { NUMBER 130; OPERATION READ; TRANSACTION 0 { } } METHOD m { DEFINITIO
     "} } METHOD n { DEFINITION { a = f[1]; } }",
 );
 
+/// The lints that are off unless asked for, and that rows ask for without saying so.
+const ASKED: [Lint; 5] = [
+    Lint::LiteralCondition,
+    Lint::UndeclaredCommand,
+    Lint::UnreachedMethod,
+    Lint::UnreachedMenu,
+    Lint::TrapAfterAbortMethod,
+];
+
+/// Returns the levels with which rows are played.
+fn levels() -> Levels {
+    let mut levels = Levels::default();
+    for lint in ASKED {
+        levels.set(lint, Level::Warn);
+    }
+    levels
+}
+
 /// Returns the warnings of a text, unless it is refused.
 fn warnings_of(text: &[u8]) -> Result<Vec<Warning>, NoAnswer> {
     let refused = NoAnswer::Row("items that are refused");
     let tokens = lex(Global, text).map_err(|_| refused)?;
     let checked = checked_of(Global, text).map_err(|_| refused)?;
-    Ok(find(text, &tokens, &checked, &Levels::warn_all()))
+    Ok(find(text, &tokens, &checked, &levels()))
 }
 
 /// Writes the line and the word of a place.

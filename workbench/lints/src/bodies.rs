@@ -1,19 +1,28 @@
 //! The bodies of methods.
 
+mod aborts;
 mod cases;
-mod flow;
+mod choices;
+pub(crate) mod flow;
+mod layout;
 mod locals;
-mod loops;
+pub(crate) mod loops;
 mod statements;
+mod stores;
+mod waits;
 
 use crate::context::Context;
 use crate::expressions::walk::Walk;
 use crate::kind::MethodKind;
+use crate::settled::check_body;
 use crate::source::{TokenIndex, index};
 use crate::warning::Findings;
+use aborts::check_abort_methods;
+use choices::check_choices;
 use edd_instructions::Sort;
 use edd_syntax::expr::Expr;
 use edd_syntax::item::{Attribute, Item};
+use edd_syntax::numbers::ItemNo;
 use edd_syntax::operators::Builtin;
 use edd_syntax::reference::Target;
 use edd_syntax::stmt::{Part, Stmt};
@@ -44,6 +53,7 @@ fn check_added(parts: &[Part<Target>], findings: &mut Findings<'_>) {
 /// Checks the definition of a method.
 pub(crate) fn check_method<'d>(
     method: &Item<Target>,
+    own: Option<ItemNo>,
     context: &Context<'d>,
     findings: &mut Findings<'d>,
 ) {
@@ -54,6 +64,9 @@ pub(crate) fn check_method<'d>(
             check_parts(parts, index(*at).saturating_add(1), &mut walk);
             check_locals(parts, &mut walk);
             check_added(parts, findings);
+            check_abort_methods(own, parts, context, findings);
+            check_choices(parts, context, findings);
+            check_body(parts, context, findings);
         }
     }
 }

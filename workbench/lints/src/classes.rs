@@ -1,13 +1,14 @@
 //! Words of CLASS that EDDL does not have.
 
 use crate::context::Context;
-use crate::kind::MenuKind;
+use crate::kind::{MenuKind, VariableKind};
 use crate::source::{TokenIndex, index};
 use crate::warning::Findings;
 use edd_lexer::token::TokenKind;
 use edd_source::{Confidence, Edit, Fix, Span};
 use edd_syntax::item::{Attribute, Item};
 use edd_syntax::reference::Target;
+use std::collections::HashSet;
 use strsim::levenshtein;
 
 /// The classes of variables and methods.
@@ -111,8 +112,13 @@ pub(crate) fn check_classes(
 ) {
     for attribute in &item.attributes {
         if let Attribute::Class(word, _) = attribute {
+            let mut seen = HashSet::new();
             for at in word_places(index(*word), context) {
                 check_class(at, context, findings);
+                let class = context.source.word(at);
+                if !seen.insert(class) {
+                    findings.add(at, VariableKind::RepeatedClass(class.to_owned()));
+                }
             }
         }
     }

@@ -2,10 +2,13 @@
 
 use crate::context::Context;
 use crate::kind::MenuKind;
-use crate::menus::{entries_of, item_shown};
+use crate::lists::Listed;
+use crate::menus::item_shown;
 use crate::source::{TokenIndex, index};
 use crate::warning::Findings;
-use edd_syntax::item::{Attribute, Item, ItemKind};
+use edd_syntax::cond::{Arm, Cond};
+use edd_syntax::expr::Expr;
+use edd_syntax::item::{Attribute, Item, ItemKind, MenuEntry};
 use edd_syntax::numbers::TextAttribute;
 use edd_syntax::reference::Target;
 use std::collections::HashMap;
@@ -51,6 +54,73 @@ fn add_members(item: &Item<Target>, shown: &mut [Shown], context: &Context<'_>) 
     }
 }
 
+/// The entries of a menu. Branches of the same conditions have one list.
+struct ByCondition<'c, 'd, 't> {
+    context: &'c Context<'d>,
+    lists: HashMap<(usize, String), usize>,
+    all: Vec<Listed<'t, MenuEntry<Target>>>,
+}
+
+impl<'t> ByCondition<'_, '_, 't> {
+    fn add(&mut self, all: &'t [Cond<Target, MenuEntry<Target>>], list: usize) {
+        for c in all {
+            match c {
+                Cond::Value(value) => self.all.push(Listed { list, value }),
+                Cond::If {
+                    condition,
+                    first,
+                    otherwise,
+                } => {
+                    self.add_branch(first, list, condition, "true");
+                    self.add_branch(otherwise, list, condition, "false");
+                }
+                Cond::Select { on, arms } => {
+                    for arm in arms {
+                        match arm {
+                            Arm::Case { label, body } => {
+                                self.add_branch(body, list, on, &label.to_string());
+                            }
+                            Arm::Default { body, .. } => self.add_branch(body, list, on, "default"),
+                        }
+                    }
+                }
+            }
+        }
+    }
+
+    fn add_branch(
+        &mut self,
+        all: &'t [Cond<Target, MenuEntry<Target>>],
+        list: usize,
+        condition: &Expr<Target>,
+        branch: &str,
+    ) {
+        let extent = self.context.places.expression(condition).extent;
+        let words = (extent.start..extent.end).map(|at| self.context.source.word(at));
+        let text = words.chain([branch]).collect::<Vec<_>>().join(" ");
+        let next = self.lists.len().saturating_add(1);
+        let inner = *self.lists.entry((list, text)).or_insert(next);
+        self.add(all, inner);
+    }
+}
+
+fn entries_by_condition<'t>(
+    menu: &'t Item<Target>,
+    context: &Context<'_>,
+) -> Vec<Listed<'t, MenuEntry<Target>>> {
+    let mut entries = ByCondition {
+        context,
+        lists: HashMap::new(),
+        all: Vec::new(),
+    };
+    for attribute in &menu.attributes {
+        if let Attribute::Items(_, all) = attribute {
+            entries.add(all, 0);
+        }
+    }
+    entries.all
+}
+
 // Notes what a menu shows, and warns of what one list has twice with the same qualifiers.
 fn add_menu(
     menu: &Item<Target>,
@@ -60,7 +130,7 @@ fn add_menu(
 ) {
     let is_labelled = has_label(menu);
     let mut seen = HashMap::new();
-    for listed in entries_of(menu) {
+    for listed in entries_by_condition(menu, context) {
         let Some((item, qualifiers)) = item_shown(listed.value) else {
             continue;
         };

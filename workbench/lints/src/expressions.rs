@@ -1,23 +1,30 @@
 //! Expressions of attributes and of methods.
 
 pub(crate) mod calls;
+pub(crate) mod choices;
 pub(crate) mod operands;
+pub(crate) mod slips;
 pub(crate) mod stores;
 pub(crate) mod walk;
 
 use crate::kind::{ConditionKind, MethodKind};
 use crate::source::TokenIndex;
 use calls::check_call;
+use choices::{check_choices, check_delay};
 use edd_arithmetic::trap_of;
 use edd_constants::{Known, evaluate, is_literal};
 use edd_syntax::answer::Trap;
 use edd_syntax::expr::{Argument, Expr};
 use edd_syntax::numbers::ItemNo;
-use edd_syntax::operators::{Builtin, Comparison, Operator};
+use edd_syntax::operators::{Builtin, Comparison, Operator, RequestKind};
 use edd_syntax::reference::Target;
 use operands::{
     Logical, check_bits, check_chosen, check_compared, check_logical, check_operands,
     check_settled, ranged_place,
+};
+use slips::{
+    check_answer, check_argument, check_binary, check_changed_bits, check_code, check_named,
+    check_reversed, check_stepped, check_truth_of_number,
 };
 use stores::{check_assigned, check_stored, check_wrapped, is_itself};
 use walk::Walk;
@@ -82,7 +89,10 @@ fn check_comparison(e: &Expr<Target>, at: TokenIndex, is_statement: bool, walk: 
     if !is_misread && !is_statement {
         check_settled(e, at, walk);
     }
-    if !matches!(comparison, Comparison::Equal | Comparison::NotEqual) {
+    if matches!(comparison, Comparison::Equal | Comparison::NotEqual) {
+        check_named(first, second, at, walk);
+        check_code(*comparison, first, second, at, walk);
+    } else {
         check_wrapped(second, walk);
     }
 }
@@ -90,6 +100,9 @@ fn check_comparison(e: &Expr<Target>, at: TokenIndex, is_statement: bool, walk: 
 fn check_assignment(to: Target, value: &Expr<Target>, at: TokenIndex, walk: &mut Walk<'_, '_>) {
     check_assigned(to, value, at, walk);
     check_stored(to, value, at, walk);
+    check_reversed(value, at, walk);
+    check_stepped(to, value, at, walk);
+    check_answer(to, value, at, walk);
     if let Target::Local(_) = to {
         check_wrapped(value, walk);
     }
@@ -113,6 +126,7 @@ pub(crate) fn check_expression(e: &Expr<Target>, is_statement: bool, walk: &mut 
             check_expression(first, false, walk);
             check_bits(*operator, first, second, at, walk);
             check_operands(*operator, first, second, at, walk);
+            check_binary(*operator, first, second, at, walk);
             check_trap(*operator, second, at, walk);
             check_expression(second, false, walk);
         }
@@ -144,6 +158,7 @@ pub(crate) fn check_expression(e: &Expr<Target>, is_statement: bool, walk: &mut 
         }
         Expr::CompoundAssign(operator, to, value) => {
             check_trap(*operator, value, at, walk);
+            check_changed_bits(*operator, *to, value, at, walk);
             check_expression(value, false, walk);
             walk.change(*to);
         }
@@ -166,6 +181,7 @@ fn check_operator(
     walk.ranged = ranged_place(first, second, sign).or(before);
     check_expression(first, false, walk);
     check_logical(first, second, sign, at, walk);
+    check_truth_of_number([first, second], at, walk);
     check_expression(second, false, walk);
     walk.ranged = before;
 }
@@ -182,8 +198,14 @@ fn check_arguments_and_call(
         }
     }
     if let Target::Function(function) = function {
-        if let Builtin::Ask(_) = function {
+        if let Builtin::Ask(request) = function {
             walk.ask();
+            check_argument(request, arguments, at, walk);
+            match request {
+                RequestKind::SelectFromList => check_choices(arguments, at, walk),
+                RequestKind::Delay => check_delay(arguments, at, walk),
+                _ => {}
+            }
         }
         check_call(function, arguments, at, walk);
     }

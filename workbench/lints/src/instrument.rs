@@ -1,10 +1,11 @@
 //! What is known of the items of a description.
 
-use crate::lists::enumerators_of;
+use crate::lists::{enumerators_of, is_total, values_in};
 use crate::range::Range;
+use crate::types::{number_of, number_parts};
 use edd_syntax::cond::Cond;
-use edd_syntax::item::{Attribute, Item, ItemKind, TypeWord};
-use edd_syntax::numbers::{Element, ItemNo};
+use edd_syntax::item::{Attribute, Item, ItemKind, TypePart, TypeWord};
+use edd_syntax::numbers::{Element, ItemNo, NumberOption};
 use edd_syntax::reference::Target;
 use edd_syntax::types::{Handling, VarType};
 use std::collections::{HashMap, HashSet};
@@ -18,11 +19,17 @@ pub(crate) struct Variable<'i> {
     pub(crate) enumerators: HashSet<i64>,
     /// Whether HANDLING is READ, under no condition.
     pub(crate) is_read_only: bool,
+    /// The least MIN_VALUE and the greatest MAX_VALUE of all branches, where these are constants.
+    pub(crate) least: Option<i64>,
+    pub(crate) greatest: Option<i64>,
 }
 
 /// What is known of a command.
+#[derive(Default)]
 struct Command {
     transactions: HashSet<u32>,
+    /// Its response codes.
+    codes: HashSet<u32>,
     /// Whether all transactions have their numbers written.
     are_numbered: bool,
 }
@@ -34,6 +41,8 @@ pub(crate) struct Instrument<'i> {
     by_kind: HashMap<u8, Vec<usize>>,
     variables: Vec<Variable<'i>>,
     elements: HashSet<(u16, u32)>,
+    /// The arrays with elements.
+    arrays: HashSet<u16>,
     /// The commands by their numbers.
     commands: HashMap<u32, Command>,
     /// The names of all items.
@@ -56,7 +65,19 @@ impl<'i> Variable<'i> {
             range: None,
             enumerators: HashSet::new(),
             is_read_only: false,
+            least: None,
+            greatest: None,
         };
+        for part in number_parts(variable.parts()).filter(|part| is_total(part.value)) {
+            let values = values_in(part.value);
+            let numbers: Option<Vec<_>> = values.iter().map(|one| number_of(one.value)).collect();
+            let numbers = numbers.into_iter().flatten();
+            match part.which {
+                NumberOption::MinValue => variable.least = numbers.min(),
+                NumberOption::MaxValue => variable.greatest = numbers.max(),
+                NumberOption::DefaultValue => {}
+            }
+        }
         for attribute in &item.attributes {
             match attribute {
                 Attribute::TypeOf {
@@ -80,6 +101,23 @@ impl<'i> Variable<'i> {
         self.item.name()
     }
 
+    /// All bits that its enumerators name, if it is one of bits and has some.
+    pub(crate) fn named_bits(&self) -> Option<i64> {
+        let is_of_bits = self.kind == Some(VarType::BitEnumerated);
+        let has_names = is_of_bits && !self.enumerators.is_empty();
+        has_names.then(|| self.enumerators.iter().fold(0, |bits, one| bits | one))
+    }
+
+    /// What is in the braces of its type.
+    pub(crate) fn parts(&self) -> &'i [TypePart<Target>] {
+        let mut types = self.item.attributes.iter();
+        let parts = types.find_map(|attribute| match attribute {
+            Attribute::TypeOf { parts, .. } => Some(&**parts),
+            _ => None,
+        });
+        parts.unwrap_or_default()
+    }
+
     /// Whether the variable is one of enumerators, of which a number is none.
     pub(crate) fn lacks(&self, number: i64) -> bool {
         self.kind == Some(VarType::Enumerated)
@@ -91,9 +129,15 @@ impl<'i> Variable<'i> {
 impl Command {
     fn add(&mut self, attributes: &[Attribute<Target>]) {
         for attribute in attributes {
-            if let Attribute::Transaction { number, .. } = attribute {
-                self.are_numbered &= number.is_some();
-                self.transactions.extend(number);
+            match attribute {
+                Attribute::Transaction { number, .. } => {
+                    self.are_numbered &= number.is_some();
+                    self.transactions.extend(number);
+                }
+                Attribute::ResponseCodes(_, codes) => {
+                    self.codes.extend(codes.iter().map(|code| code.number));
+                }
+                _ => {}
             }
         }
     }
@@ -120,6 +164,7 @@ impl<'i> Instrument<'i> {
                 .iter()
                 .map(|element| (element.array.0, element.number))
                 .collect(),
+            arrays: elements.iter().map(|element| element.array.0).collect(),
             commands: HashMap::new(),
             names: items.iter().map(Item::name).collect(),
         };
@@ -137,18 +182,16 @@ impl<'i> Instrument<'i> {
 
     fn add_command(&mut self, command: &Item<Target>) {
         if let Some(number) = command_number(command) {
-            let known = self.commands.entry(number).or_insert_with(|| Command {
-                transactions: HashSet::new(),
-                are_numbered: false,
-            });
+            let known = self.commands.entry(number).or_default();
             // Of two commands with one number the one whose transactions all have numbers counts.
             let mut own = Command {
-                transactions: HashSet::new(),
                 are_numbered: true,
+                ..Command::default()
             };
             own.add(&command.attributes);
             known.are_numbered |= own.are_numbered;
             known.transactions.extend(own.transactions);
+            known.codes.extend(own.codes);
         }
     }
 
@@ -189,10 +232,25 @@ impl<'i> Instrument<'i> {
         u32::try_from(number).is_ok_and(|number| self.elements.contains(&(array, number)))
     }
 
+    /// Whether an array has an element.
+    pub(crate) fn has_elements(&self, array: u16) -> bool {
+        self.arrays.contains(&array)
+    }
+
     /// Whether there are commands, of which none has a number.
     pub(crate) fn lacks_command(&self, command: i64) -> bool {
         let has = u32::try_from(command).is_ok_and(|command| self.commands.contains_key(&command));
         !has && !self.commands.is_empty()
+    }
+
+    /// Whether a command lists response codes, of which none is this one.
+    pub(crate) fn lacks_code(&self, command: i64, code: i64) -> bool {
+        let number = u32::try_from(command).ok();
+        let command = number.and_then(|number| self.commands.get(&number));
+        command.is_some_and(|command| {
+            let has = u32::try_from(code).is_ok_and(|code| command.codes.contains(&code));
+            !has && !command.codes.is_empty()
+        })
     }
 
     /// Whether the command of a number is one of the description, all of whose transactions have

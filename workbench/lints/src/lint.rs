@@ -29,12 +29,29 @@ lints! {
     EnumeratorBits
     UnlistedValue
     MeaninglessFormat
+    MissingEnumerators
+    RepeatedEnumeratorText
+    SingleValueLimits
+    CircularLimits
+    CircularValidity
+    RepeatedClass
+    ConflictingClasses
+    UnreadableDynamic
+    WideFormat
+    UnreadDynamic
     RepeatedCommandNumber
     RepeatedResponseCode
     RepeatedTransactionNumber
     RepeatedDataItem
     OverlappingMasks
     WideMask
+    SilentRead
+    SilentWrite
+    WrittenReadOnly
+    WideCommandNumber
+    AmbiguousTransaction
+    FailingZero
+    EmptyResponseCodes
     TrappingExpression
     ConstantCondition
     RepeatedCase
@@ -44,11 +61,32 @@ lints! {
     EqualBranches
     RepeatedCondition
     MissingElement
+    MissingElse
+    MissingCase
+    EmptyCondition
+    SettledCondition
+    TruthOfNumber
+    AlwaysZero
+    ZeroQuotient
+    OverflowingConstant
+    DoubleSign
+    UnnamedBits
+    UntestedIndex
     CyclicMenu
     EmptyMenu
     RepeatedEntry
     MissingLabel
     UnknownClass
+    RepeatedLabel
+    QuotedItem
+    HiddenMenu
+    InvalidEntry
+    MisplacedQualifier
+    RepeatedQualifier
+    HiddenQualifier
+    RepeatedMember
+    EmptyList
+    EmptyMethod
     StrayBar
     MissingLanguage
     RepeatedLanguage
@@ -59,6 +97,13 @@ lints! {
     JoinedTexts
     BidirectionalText
     BidirectionalComment
+    EmptyText
+    UntranslatedText
+    BracedItem
+    EscapedEscape
+    CommaChoices
+    EmptyChoice
+    UnknownLint
     UnusedItem
     DroppedComparison
     DroppedValue
@@ -70,6 +115,22 @@ lints! {
     MissingCommand
     MissingTransaction
     UnwritableVariable
+    ReversedAssignment
+    SteppedAssignment
+    StoredAnswer
+    DroppedChoice
+    MissingChoice
+    NegativeDelay
+    LongDelay
+    UnlistedResponseCode
+    ComparedArgument
+    StoreOutsideLimits
+    DeadStore
+    EmptyThen
+    EmptyElse
+    EmptySwitch
+    MisleadingIndentation
+    DanglingElse
     UnreachableStatement
     EndlessLoop
     DeadLoop
@@ -80,11 +141,24 @@ lints! {
     UnreadLocal
     UnsetLocal
     HidingLocal
+    UnmovedCounter
+    UnrefreshedWait
+    CountedTwice
+    SkippedLimit
+    LoopLeavesArray
+    OwnAbortMethod
+    RepeatedAbortMethod
+    LateAbortMethod
+    LoopedAbortMethod
     LiteralCondition
     UndeclaredCommand
     UnreachedMethod
     UnreachedMenu
     TrapAfterAbortMethod
+    SingleEnumerator
+    CircularHandling
+    UnorderedResponseCodes
+    IneffectiveVariable
 }
 
 impl Lint {

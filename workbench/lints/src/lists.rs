@@ -52,6 +52,25 @@ impl<'t, V> Gathering<'t, V> {
     }
 }
 
+/// Whether a conditional of single values gives one whatever its conditions are.
+pub(crate) fn is_total<V>(conditional: &Cond<Target, V>) -> bool {
+    let has_value = |body: &[Cond<Target, V>]| !body.is_empty() && body.iter().all(is_total);
+    match conditional {
+        Cond::Value(_) => true,
+        Cond::If {
+            first, otherwise, ..
+        } => has_value(first) && has_value(otherwise),
+        Cond::Select { arms, .. } => {
+            let has_default = arms.iter().any(|arm| matches!(arm, Arm::Default { .. }));
+            has_default
+                && arms.iter().all(|arm| {
+                    let (Arm::Case { body, .. } | Arm::Default { body, .. }) = arm;
+                    has_value(body)
+                })
+        }
+    }
+}
+
 /// The values of a conditional.
 pub(crate) fn values_in<V>(conditional: &Cond<Target, V>) -> Vec<Listed<'_, V>> {
     values_of(std::slice::from_ref(conditional))

@@ -35,6 +35,11 @@ impl Range {
         (self.low..=self.high).contains(&number)
     }
 
+    /// Both ends, for sums that do not wrap.
+    pub(crate) fn wide(self) -> (i128, i128) {
+        (i128::from(self.low), i128::from(self.high))
+    }
+
     /// The greatest less the least.
     pub(crate) fn width(self) -> i64 {
         self.high.saturating_sub(self.low)

@@ -103,4 +103,15 @@ impl<'s> Source<'s> {
     pub(crate) fn has_comment_before(&self, at: TokenIndex) -> bool {
         !self.gap_before(at).iter().all(u8::is_ascii_whitespace)
     }
+
+    /// The blanks before a token, where nothing else is before it on its line.
+    pub(crate) fn indentation(&self, at: TokenIndex) -> Option<&'s [u8]> {
+        let gap = self.gap_before(at);
+        let blanks = gap.rsplit(|byte| *byte == b'\n').next()?;
+        let is_first = at == 0 || blanks.len() < gap.len();
+        let is_blank = blanks
+            .iter()
+            .all(|byte| matches!(byte, b' ' | b'\t' | b'\r'));
+        (is_first && is_blank).then_some(blanks)
+    }
 }

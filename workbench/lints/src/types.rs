@@ -16,7 +16,6 @@ use edd_syntax::expr::Expr;
 use edd_syntax::item::{Attribute, TypePart, TypeWord};
 use edd_syntax::numbers::NumberOption;
 use edd_syntax::reference::Target;
-use edd_syntax::types::VarType;
 
 /// An option of a type with its values.
 #[derive(Clone, Copy)]
@@ -107,9 +106,10 @@ fn check_limits(parts: &[TypePart<Target>], findings: &mut Findings<'_>) {
 
 // What is said of a default value that no enumerator names.
 fn unnamed(number: i64, variable: &Variable<'_>) -> Option<VariableKind> {
-    let bits = variable.enumerators.iter().fold(0, |bits, one| bits | one);
-    let has_bits = variable.kind == Some(VarType::BitEnumerated);
-    if has_bits && !variable.enumerators.is_empty() && number & !bits != 0 {
+    if variable
+        .named_bits()
+        .is_some_and(|bits| number & !bits != 0)
+    {
         return Some(VariableKind::UnnamedBits(number));
     }
     let name = || variable.name().to_owned();

@@ -10,6 +10,7 @@ use edd_syntax::reference::Target;
 use edd_syntax::stmt::{Part, Stmt};
 use edd_syntax::text::Text;
 use edd_syntax::types::Handling;
+use std::slice;
 
 /// What looks at nodes. A node comes before those that are in it.
 pub(crate) trait Visitor<'t> {
@@ -17,77 +18,119 @@ pub(crate) trait Visitor<'t> {
     /// An expression of an attribute or of a method.
     fn expression(&mut self, _e: &'t Expr<Target>, _sort: Sort) {}
     fn statement(&mut self, _s: &'t Stmt<Target>) {}
+    /// A local that is declared with a value, which is visited as well.
+    fn declared(&mut self, _place: Target, _value: &'t Expr<Target>) {}
 }
 
-/// A value of a conditional, which may have an expression.
-trait Visited {
-    fn visit<'t>(&'t self, _visitor: &mut impl Visitor<'t>) {}
-}
+/// A value of a conditional.
+pub(crate) trait Value {
+    /// The expression that it is. Most values are none.
+    fn expression(&self) -> Option<&Expr<Target>> {
+        None
+    }
 
-impl Visited for Text {}
-impl Visited for Handling {}
-impl Visited for bool {}
-impl Visited for Enumerator {}
-impl Visited for MenuEntry<Target> {}
-impl Visited for DataItem<Target> {}
-
-impl Visited for Expr<Target> {
-    fn visit<'t>(&'t self, visitor: &mut impl Visitor<'t>) {
-        visit_expression(self, Sort::Attribute, visitor);
+    /// The entry of a menu that it is.
+    fn entry(&self) -> Option<&MenuEntry<Target>> {
+        None
     }
 }
 
-/// Visits all nodes of an item.
-pub(crate) fn visit_item<'t>(item: &'t Item<Target>, visitor: &mut impl Visitor<'t>) {
-    for attribute in &item.attributes {
-        visit_attribute(attribute, visitor);
+impl Value for Text {}
+impl Value for Handling {}
+impl Value for bool {}
+impl Value for Enumerator {}
+impl Value for DataItem<Target> {}
+
+impl Value for MenuEntry<Target> {
+    fn entry(&self) -> Option<&MenuEntry<Target>> {
+        Some(self)
     }
 }
 
-fn visit_attribute<'t>(attribute: &'t Attribute<Target>, visitor: &mut impl Visitor<'t>) {
+impl Value for Expr<Target> {
+    fn expression(&self) -> Option<&Expr<Target>> {
+        Some(self)
+    }
+}
+
+/// What takes the conditionals of an attribute, of one value or a list.
+pub(crate) trait Conditionals<'t> {
+    fn take<V: Value>(&mut self, all: &'t [Cond<Target, V>]);
+}
+
+/// Hands out the conditionals of an attribute, in the order of the source.
+pub(crate) fn conditionals_of<'t>(
+    attribute: &'t Attribute<Target>,
+    taker: &mut impl Conditionals<'t>,
+) {
     match attribute {
-        Attribute::OneText(_, _, text) => visit_conditional(text, visitor),
-        Attribute::Handling(_, handling) => visit_conditional(handling, visitor),
-        Attribute::Validity(_, validity) => visit_conditional(validity, visitor),
+        Attribute::OneText(_, _, text) => taker.take(slice::from_ref(text)),
+        Attribute::Handling(_, handling) => taker.take(slice::from_ref(handling)),
+        Attribute::Validity(_, validity) => taker.take(slice::from_ref(validity)),
         Attribute::TypeOf { parts, .. } => {
             for part in parts {
                 match part {
-                    TypePart::OneNumber { value, .. } => visit_conditional(value, visitor),
-                    TypePart::OneFormat { format, .. } => visit_conditional(format, visitor),
-                    TypePart::Element(element) => visit_conditional(element, visitor),
+                    TypePart::OneNumber { value, .. } => taker.take(slice::from_ref(value)),
+                    TypePart::OneFormat { format, .. } => taker.take(slice::from_ref(format)),
+                    TypePart::Element(element) => taker.take(slice::from_ref(element)),
                 }
             }
         }
         Attribute::Transaction { parts, .. } => {
             for part in parts {
                 let (TransactionPart::Request(_, items) | TransactionPart::Reply(_, items)) = part;
-                visit_conditionals(items, visitor);
+                taker.take(items);
             }
         }
-        Attribute::Items(_, entries) => visit_conditionals(entries, visitor),
-        Attribute::Definition(_, parts) => visit_parts(parts, visitor),
+        Attribute::Items(_, entries) => taker.take(entries),
         Attribute::Class(..)
         | Attribute::Number(..)
         | Attribute::Operation(..)
         | Attribute::ResponseCodes(..)
         | Attribute::Members(..)
+        | Attribute::Definition(..)
         | Attribute::Elements(..) => {}
     }
 }
 
-fn visit_conditionals<'t, V: Visited>(all: &'t [Cond<Target, V>], visitor: &mut impl Visitor<'t>) {
+/// Visits all nodes of an item.
+pub(crate) fn visit_item<'t>(item: &'t Item<Target>, visitor: &mut impl Visitor<'t>) {
+    for attribute in &item.attributes {
+        conditionals_of(attribute, &mut Visiting { visitor });
+        if let Attribute::Definition(_, parts) = attribute {
+            visit_parts(parts, visitor);
+        }
+    }
+}
+
+struct Visiting<'v, V> {
+    visitor: &'v mut V,
+}
+
+impl<'t, W: Visitor<'t>> Conditionals<'t> for Visiting<'_, W> {
+    fn take<V: Value>(&mut self, all: &'t [Cond<Target, V>]) {
+        visit_conditionals(all, self.visitor);
+    }
+}
+
+fn visit_conditionals<'t, V: Value>(all: &'t [Cond<Target, V>], visitor: &mut impl Visitor<'t>) {
     for conditional in all {
         visit_conditional(conditional, visitor);
     }
 }
 
-fn visit_conditional<'t, V: Visited>(
+/// Visits a conditional and what is in it.
+pub(crate) fn visit_conditional<'t, V: Value>(
     conditional: &'t Cond<Target, V>,
     visitor: &mut impl Visitor<'t>,
 ) {
     visitor.conditional(conditional);
     match conditional {
-        Cond::Value(value) => value.visit(visitor),
+        Cond::Value(value) => {
+            if let Some(e) = value.expression() {
+                visit_expression(e, Sort::Attribute, visitor);
+            }
+        }
         Cond::If {
             condition,
             first,
@@ -144,12 +187,16 @@ pub(crate) fn children(e: &Expr<Target>) -> impl Iterator<Item = &Expr<Target>> 
     own.into_iter().flatten().chain(values)
 }
 
-fn visit_parts<'t>(parts: &'t [Part<Target>], visitor: &mut impl Visitor<'t>) {
+/// Visits what is between braces.
+pub(crate) fn visit_parts<'t>(parts: &'t [Part<Target>], visitor: &mut impl Visitor<'t>) {
     for part in parts {
         match part {
             Part::Declare(declarators) => {
-                for e in declarators.iter().filter_map(|one| one.value.as_ref()) {
-                    visit_expression(e, Sort::Method, visitor);
+                for declarator in declarators {
+                    if let Some(e) = &declarator.value {
+                        visitor.declared(declarator.place, e);
+                        visit_expression(e, Sort::Method, visitor);
+                    }
                 }
             }
             Part::Statement(s) => visit_statement(s, visitor),

@@ -5,6 +5,7 @@ use crate::levels::{Level, Levels};
 use crate::remarks::Remarks;
 use crate::source::{Source, TokenIndex};
 use edd_source::{Fix, Span};
+use std::collections::HashSet;
 use std::fmt;
 
 /// What the language allows and almost certainly is a mistake.
@@ -56,6 +57,8 @@ struct Finding {
 pub(crate) struct Findings<'s> {
     pub(crate) source: Source<'s>,
     found: Vec<Finding>,
+    // Where they begin.
+    starts: HashSet<usize>,
 }
 
 impl<'s> Findings<'s> {
@@ -63,6 +66,7 @@ impl<'s> Findings<'s> {
         Findings {
             source,
             found: Vec::new(),
+            starts: HashSet::new(),
         }
     }
 
@@ -80,7 +84,13 @@ impl<'s> Findings<'s> {
             related: Vec::new(),
             fixes: Vec::new(),
         };
+        self.starts.insert(span.start);
         self.found.push(Finding { line, warning });
+    }
+
+    /// Whether there is a warning at a span.
+    pub(crate) fn is_reported(&self, span: Span) -> bool {
+        self.starts.contains(&span.start)
     }
 
     /// Adds a warning at a token that is in conflict with another one.
@@ -95,7 +105,18 @@ impl<'s> Findings<'s> {
 
     /// Adds a warning at a token, and what may mend it.
     pub(crate) fn add_fixed(&mut self, at: TokenIndex, kind: impl Into<Kind>, fix: Fix) {
-        self.add(at, kind);
+        self.add_span_fixed(self.source.span(at), self.source.line(at), kind, fix);
+    }
+
+    /// Adds a warning at a span that begins on a line, and what may mend it.
+    pub(crate) fn add_span_fixed(
+        &mut self,
+        span: Span,
+        line: u32,
+        kind: impl Into<Kind>,
+        fix: Fix,
+    ) {
+        self.add_span(span, line, kind);
         if let Some(last) = self.found.last_mut() {
             last.warning.fixes.push(fix);
         }

@@ -40,7 +40,7 @@ impl Flow {
 }
 
 /// Whether an expression is a call that ends the method.
-pub(super) fn is_abort(e: &Expr<Target>) -> bool {
+pub(crate) fn is_abort(e: &Expr<Target>) -> bool {
     matches!(
         e,
         Expr::Call {

@@ -63,8 +63,47 @@ fn check_use(slot: u8, at: TokenIndex, name: &str, walk: &mut Walk<'_, '_>) {
     }
 }
 
+/// Locals with the name of one around them. `around` has the names that are declared so far.
+fn check_scopes<'s>(parts: &[Part<Target>], around: &mut Vec<&'s str>, walk: &mut Walk<'_, 's>) {
+    let before = around.len();
+    for part in parts {
+        match part {
+            Part::Declare(declarators) => {
+                for declarator in declarators {
+                    let at = walk.context.places.declarator(declarator);
+                    let name = walk.context.source.word(at);
+                    if around.contains(&name) {
+                        walk.findings
+                            .add(at, MethodKind::HidingLocals(name.to_owned()));
+                    }
+                    around.push(name);
+                }
+            }
+            Part::Statement(s) => check_scopes_in(s, around, walk),
+            Part::CaseLabel { .. } | Part::DefaultLabel { .. } => {}
+        }
+    }
+    around.truncate(before);
+}
+
+fn check_scopes_in<'s>(s: &Stmt<Target>, around: &mut Vec<&'s str>, walk: &mut Walk<'_, 's>) {
+    match s {
+        Stmt::Block(parts) | Stmt::Switch(_, parts) => check_scopes(parts, around, walk),
+        Stmt::If(_, inner) | Stmt::While(_, inner) | Stmt::Do(inner, _) => {
+            check_scopes_in(inner, around, walk);
+        }
+        Stmt::For { body, .. } => check_scopes_in(body, around, walk),
+        Stmt::IfElse(_, first, otherwise) => {
+            check_scopes_in(first, around, walk);
+            check_scopes_in(otherwise, around, walk);
+        }
+        _ => {}
+    }
+}
+
 /// Checks all locals of a body that was walked through.
 pub(super) fn check_locals(parts: &[Part<Target>], walk: &mut Walk<'_, '_>) {
+    check_scopes(parts, &mut Vec::new(), walk);
     for (slot, at) in locals_of(parts, walk) {
         let name = walk.context.source.word(at);
         check_use(slot, at, name, walk);

@@ -119,7 +119,7 @@ pub(super) fn check_loop(looped: &Loop<'_>, body: Flow, walk: &mut Walk<'_, '_>)
 }
 
 /// The place that the first part of a `for` sets to a constant.
-pub(super) fn start_of(initial: Option<&Expr<Target>>) -> Option<(Target, i64)> {
+pub(crate) fn start_of(initial: Option<&Expr<Target>>) -> Option<(Target, i64)> {
     match initial? {
         Expr::Assign(to, value) => Some((*to, evaluate(value, Sort::Method).number()?)),
         _ => None,
@@ -127,7 +127,7 @@ pub(super) fn start_of(initial: Option<&Expr<Target>>) -> Option<(Target, i64)> 
 }
 
 /// What the condition of a `for` compares, as if that came first.
-pub(super) fn limit_of(
+pub(crate) fn limit_of(
     condition: Option<&Expr<Target>>,
 ) -> Option<(Target, Comparison, &Expr<Target>)> {
     match condition? {
@@ -150,7 +150,7 @@ fn step_by(operator: Operator, value: &Expr<Target>) -> Option<i64> {
 }
 
 /// The place that an expression counts, and by how much.
-pub(super) fn step_of(update: Option<&Expr<Target>>) -> Option<(Target, i64)> {
+pub(crate) fn step_of(update: Option<&Expr<Target>>) -> Option<(Target, i64)> {
     match update? {
         Expr::Increment(operator, to) => match operator {
             IncrementOperator::PreIncrement | IncrementOperator::PostIncrement => Some((*to, 1)),

@@ -2,7 +2,10 @@
 
 use super::cases::{check_block_after, check_fall, check_label_part, label_at};
 use super::flow::{Flow, counts, is_abort, is_empty_block};
+use super::layout::{check_else, check_layout};
 use super::loops::{Head, Loop, check_head, check_loop, has_no_body};
+use super::stores::check_stores;
+use super::waits::{check_counting, check_wait};
 use crate::expressions::operands::selected_variable;
 use crate::expressions::stores::{check_wrapped, without_parentheses};
 use crate::expressions::walk::Walk;
@@ -10,6 +13,7 @@ use crate::expressions::{Test, check_condition, check_expression, check_tested};
 use crate::kind::MethodKind;
 use crate::source::TokenIndex;
 use edd_syntax::expr::Expr;
+use edd_syntax::operators::{Builtin, RequestKind};
 use edd_syntax::reference::Target;
 use edd_syntax::stmt::{Declarator, Part, Stmt};
 
@@ -58,6 +62,8 @@ pub(super) fn check_parts(
     open: TokenIndex,
     walk: &mut Walk<'_, '_>,
 ) -> Flow {
+    check_layout(parts, walk);
+    check_stores(parts, walk);
     let mut flow = Flow::default();
     let mut has_statement = false;
     let mut is_dead = false;
@@ -77,6 +83,7 @@ pub(super) fn check_parts(
                 head = has_no_body(s).then_some(place.sign);
                 is_dead = is_dead || flow.ends.is_some();
                 flow = check_next(s, flow, walk);
+                check_empty_else(s, parts.get(number.saturating_add(1)), walk);
                 has_statement = true;
                 next = place.extent.end;
             }
@@ -95,6 +102,20 @@ pub(super) fn check_parts(
     }
     flow.is_remarked = walk.context.source.has_comment_before(next);
     flow
+}
+
+// An `else` without a statement. Where a block follows, a ; is before it.
+fn check_empty_else(s: &Stmt<Target>, next: Option<&Part<Target>>, walk: &mut Walk<'_, '_>) {
+    let Stmt::IfElse(_, _, otherwise) = s else {
+        return;
+    };
+    let is_block = matches!(next, Some(Part::Statement(Stmt::Block(_))));
+    let at = walk.context.places.statement(otherwise).sign;
+    let is_remarked = walk.context.source.has_comment_before(at);
+    if matches!(**otherwise, Stmt::Empty) && !is_block && !is_remarked {
+        walk.findings
+            .add(at.saturating_sub(1), MethodKind::EmptyElse);
+    }
 }
 
 // The token behind the semicolon of a declaration.
@@ -132,6 +153,13 @@ fn check_evaluated(e: &Expr<Target>, at: TokenIndex, walk: &mut Walk<'_, '_>) ->
     if before == walk.acts && is_dropped(e) {
         walk.findings.add(at, MethodKind::DroppedValue);
     }
+    if let Expr::Call {
+        function: Target::Function(Builtin::Ask(RequestKind::SelectFromList)),
+        ..
+    } = without_parentheses(e)
+    {
+        walk.findings.add(at, MethodKind::DroppedChoice);
+    }
     let aborts = is_abort(e);
     Flow {
         ends: aborts.then_some(at),
@@ -152,6 +180,7 @@ fn check_if(
     if let Stmt::Empty = first {
         walk.findings.add(at, MethodKind::EmptyStatement);
     }
+    check_else(at, first, walk);
     let flow = check_statement(first, walk);
     if is_empty_block(first) && !asks && !flow.is_remarked {
         walk.findings.add(at, MethodKind::EmptyBlock);
@@ -168,7 +197,12 @@ fn check_if_else(
     let asks = asks_in(walk, |walk| {
         check_condition(condition, at, Test::Condition, walk);
     });
+    let is_empty = matches!(branches, [Stmt::Empty, _])
+        || branches.first().is_some_and(|first| is_empty_block(first));
     let [first, second] = branches.map(|branch| check_statement(branch, walk));
+    if is_empty && !asks && !first.is_remarked {
+        walk.findings.add(at, MethodKind::EmptyThen);
+    }
     Flow::joined(at, asks, first, second)
 }
 
@@ -268,6 +302,9 @@ fn check_switch(
     walk: &mut Walk<'_, '_>,
 ) -> Flow {
     let asks = asks_in(walk, |walk| check_condition(on, at, Test::Selection, walk));
+    if parts.is_empty() {
+        walk.findings.add(at, MethodKind::EmptySwitch);
+    }
     walk.selected.push(selected_variable(on));
     // The brace is behind the parenthesis that closes.
     let open = walk
@@ -299,14 +336,25 @@ fn check_statement(s: &Stmt<Target>, walk: &mut Walk<'_, '_>) -> Flow {
         Stmt::IfElse(condition, first, otherwise) => {
             check_if_else(condition, [first, otherwise], at, walk)
         }
-        Stmt::While(condition, body) => check_while(condition, body, at, walk),
-        Stmt::Do(body, condition) => check_do(body, condition, at, walk),
+        Stmt::While(condition, body) => {
+            check_wait(Some(condition), None, body, at, walk);
+            check_while(condition, body, at, walk)
+        }
+        Stmt::Do(body, condition) => {
+            check_wait(Some(condition), None, body, at, walk);
+            check_do(body, condition, at, walk)
+        }
         Stmt::For {
             initial,
             condition,
             update,
             body,
-        } => check_for([initial, condition, update], body, at, walk),
+        } => {
+            let head = [initial, condition, update];
+            check_wait(condition.as_ref(), update.as_ref(), body, at, walk);
+            check_counting(head.map(Option::as_ref), body, at, walk);
+            check_for(head, body, at, walk)
+        }
         Stmt::Switch(on, parts) => check_switch(on, parts, at, walk),
         Stmt::Break { .. } => Flow {
             breaks: true,

@@ -1,5 +1,6 @@
 //! Operators that bind otherwise than they look, and operands that settle what an operator gives.
 
+use super::slips::check_named_label;
 use super::stores::{check_listed, without_parentheses};
 use super::walk::Walk;
 use crate::instrument::variable_of;
@@ -289,6 +290,7 @@ pub(crate) fn check_label(label: i64, at: TokenIndex, walk: &mut Walk<'_, '_>) {
         walk.findings
             .add(at, VariableKind::UnlistedCase(label, name));
     }
+    check_named_label(label, at, walk);
 }
 
 /// The variable that a SELECT or a `switch` is over.

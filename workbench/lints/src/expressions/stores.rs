@@ -1,5 +1,7 @@
 //! Constants that what they are assigned to does not hold, and numbers of more than 32 bits.
 
+use super::calls::target_of_argument;
+use super::slips::check_named;
 use super::walk::Walk;
 use crate::instrument::variable_of;
 use crate::kind::{MethodKind, VariableKind};
@@ -8,7 +10,7 @@ use crate::source::TokenIndex;
 use edd_constants::evaluate;
 use edd_instructions::Sort;
 use edd_syntax::expr::Expr;
-use edd_syntax::operators::UnaryOperator;
+use edd_syntax::operators::{Builtin, UnaryOperator};
 use edd_syntax::reference::Target;
 
 /// The greatest number that a method computes with.
@@ -57,9 +59,31 @@ pub(super) fn check_stored(
     };
     if range.holds(number) {
         check_listed(variable, number, at, walk);
+        check_named(&Expr::Reference(to), value, at, walk);
+        check_limits(variable, number, at, walk);
     } else if !keeps_bits(range, value, walk.sort) {
         walk.findings
             .add(at, MethodKind::StoreOutOfRange(number, range));
+    }
+}
+
+// A number outside of the limits of a variable in all of their branches. 0 often says that there is
+// none.
+fn check_limits(variable: u16, number: i64, at: TokenIndex, walk: &mut Walk<'_, '_>) {
+    let Some(variable) = walk
+        .context
+        .instrument
+        .variable(variable)
+        .filter(|_| number != 0)
+    else {
+        return;
+    };
+    if let Some(least) = variable.least.filter(|least| number < *least) {
+        walk.findings
+            .add(at, MethodKind::StoreBelowLimit(number, least));
+    } else if let Some(greatest) = variable.greatest.filter(|greatest| *greatest < number) {
+        walk.findings
+            .add(at, MethodKind::StoreOverLimit(number, greatest));
     }
 }
 
@@ -73,8 +97,16 @@ pub(super) fn check_listed(variable: u16, number: i64, at: TokenIndex, walk: &mu
 }
 
 /// Whether a value is the place that it is assigned to.
-pub(super) fn is_itself(to: Target, value: &Expr<Target>) -> bool {
-    matches!(without_parentheses(value), Expr::Reference(from) if *from == to)
+pub(crate) fn is_itself(to: Target, value: &Expr<Target>) -> bool {
+    match without_parentheses(value) {
+        Expr::Reference(from) => *from == to,
+        Expr::Call {
+            function: Target::Function(Builtin::IvarValue | Builtin::LvarValue),
+            arguments,
+            ..
+        } => target_of_argument(arguments, 0) == Some(to),
+        _ => false,
+    }
 }
 
 /// An assignment of a variable or a local to itself.

@@ -42,5 +42,35 @@ kinds! {
             "this always traps: the array has no element {number}"
         LateTrap TrapAfterAbortMethod
             "this can trap, and a trap runs no abort methods"
+        IdleValidity MissingElse
+            "this condition changes nothing: without ELSE the item is valid where it fails, too"
+        IdleHandling MissingElse
+            "this condition changes nothing: without ELSE the HANDLING is READ & WRITE where it fails, too"
+        MissingCase(number: i64, variable: String) MissingCase
+            "there is no case for the enumerator {number} of {variable}, and no DEFAULT"
+        NothingUnderCondition EmptyCondition
+            "nothing is under this condition"
+        SettledHere(gives: bool) SettledCondition
+            "this is always {gives} here"
+        SettledTest(gives: bool) SettledCondition
+            "these bits are always {gives} as a condition"
+        SettledSelection(number: i64) SettledCondition
+            "this is always {number} here, so that the same case is always taken"
+        TruthOfNumber(number: u32) TruthOfNumber
+            "{number} is always true: this compares nothing with it"
+        AlwaysZero AlwaysZero
+            "this is always 0"
+        ZeroQuotient ZeroQuotient
+            "this gives 0: a division has no fraction"
+        Overflow(number: i64) OverflowingConstant
+            "{number} does not fit in 32 bits"
+        DoubleSign DoubleSign
+            "the + after this sign does nothing"
+        UnnamedBits(number: i64, variable: String) UnnamedBits
+            "{number} has bits that no enumerator of {variable} names"
+        UntestedIndex(variable: String, number: i64) UntestedIndex
+            "{variable} may be {number}, and the array has no element of that number"
+        CountedPastElements(number: i64) LoopLeavesArray
+            "the loop comes to {number}, and the array has no element of that number"
     }
 }

@@ -23,5 +23,25 @@ kinds! {
             "no menu leads to {item}"
         UnreachedMenu(item: String) UnreachedMenu
             "no other menu leads to {item}"
+        RepeatedLabel(item: String, other: String) RepeatedLabel
+            "{item} has the LABEL of {other} in this list"
+        QuotedItem(item: String) QuotedItem
+            "this is a text: without quotes it is the item {item}"
+        HiddenMenu(menu: String) HiddenMenu
+            "the menu {menu} hides all of its entries"
+        InvalidEntry(item: String) InvalidEntry
+            "{item} is not valid under this condition, so it is never shown"
+        MisplacedQualifier(qualifier: &'static str, item: String) MisplacedQualifier
+            "{qualifier} does nothing for {item}"
+        RepeatedQualifier(qualifier: String) RepeatedQualifier
+            "{qualifier} is there already"
+        HiddenQualifiers HiddenQualifier
+            "this entry is HIDDEN, so its other qualifiers do nothing"
+        RepeatedMember(item: String) RepeatedMember
+            "{item} is in this list already"
+        EmptyList(item: String) EmptyList
+            "{item} has nothing in it"
+        EmptyMethod(method: String) EmptyMethod
+            "the method {method} does nothing"
     }
 }

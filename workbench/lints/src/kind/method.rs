@@ -62,5 +62,57 @@ kinds! {
             "the local {local} is read before anything sets it"
         HidingLocal(item: String) HidingLocal
             "this local hides the item {item}"
+        ReversedAssignment(sign: String) ReversedAssignment
+            "this is = with a {sign} after it: {sign}= is meant, or a blank between"
+        SteppedAssignment SteppedAssignment
+            "this sets a place to what it counts: one of both is enough"
+        StoredAnswer(variable: String) StoredAnswer
+            "this replaces what was entered for {variable} by the code of the answer"
+        DroppedChoice DroppedChoice
+            "what is chosen here makes no difference"
+        MissingChoice(number: i64) MissingChoice
+            "there is no choice {number}: choices are counted from 0"
+        NegativeDelay(seconds: i64) NegativeDelay
+            "a DELAY of {seconds} seconds has no time"
+        LongDelay(seconds: i64) LongDelay
+            "this waits for {seconds} seconds: milliseconds are meant"
+        UnlistedCode(code: i64, command: i64) UnlistedResponseCode
+            "{code} is no response code of the command {command}"
+        ComparedArgument ComparedArgument
+            "this takes 0 or 1, which the comparison gives: the parenthesis closes too late"
+        StoreBelowLimit(number: i64, least: i64) StoreOutsideLimits
+            "{number} is below the variable's MIN_VALUE {least}"
+        StoreOverLimit(number: i64, greatest: i64) StoreOutsideLimits
+            "{number} is over the variable's MAX_VALUE {greatest}"
+        DeadStore DeadStore
+            "what is stored here is replaced before anything reads it"
+        EmptyThen EmptyThen
+            "nothing is done where this condition holds: ! says so"
+        EmptyElse EmptyElse
+            "nothing is done in this else: a ; stands right after it"
+        EmptySwitch EmptySwitch
+            "this switch has no cases"
+        LooksInner(word: String) MisleadingIndentation
+            "this looks like part of the {word} before it, and is executed in any case"
+        DanglingElse DanglingElse
+            "this else belongs to the inner if, and not to the one that it stands below"
+        UnmovedCounter UnmovedCounter
+            "nothing in this loop changes what its condition reads, so only the host ends it"
+        UnrefreshedWait(variable: String) UnrefreshedWait
+            "nothing in this loop reads {variable} from the device: a command does"
+        CountedTwice CountedTwice
+            "the head of this loop counts this as well"
+        SkippedLimit(limit: i64) SkippedLimit
+            "this loop counts past {limit} and never comes to it"
+        OwnAbortMethod OwnAbortMethod
+            "this method is its own abort method"
+        RepeatedAbortMethod RepeatedAbortMethod
+            "this abort method is added already"
+        LateAbortMethod LateAbortMethod
+            "nothing comes behind this that could abort"
+        LoopedAbortMethod LoopedAbortMethod
+            "this adds the abort method again in each turn"
+        HidingLocals(local: String) HidingLocal
+            "this local hides the local {local} around it"
     }
 }

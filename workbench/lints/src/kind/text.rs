@@ -25,5 +25,21 @@ kinds! {
             "this text has a character that turns its direction and is not seen"
         TurnedComment(character: u32) BidirectionalComment
             "this comment has a character that turns its direction and is not seen, U+{character:X}"
+        EmptyText EmptyText
+            "this text is empty"
+        Untranslated(code: String) UntranslatedText
+            "this text is in {code} alone, and most texts are in more languages"
+        BracedItem(item: String) BracedItem
+            "texts are shown as they are: nothing is put in place of {{{item}}}"
+        EscapedEscape EscapedEscape
+            "this is shown as a backslash and an n: one backslash begins a line"
+        CommaChoices CommaChoices
+            "this is one choice: semicolons part choices"
+        EmptyChoice EmptyChoice
+            "a choice of this list has no words"
+        UnknownLint(word: String) UnknownLint
+            "no lint has the name {word}"
+        MisspelledLint(word: String, near: &'static str) UnknownLint
+            "no lint has the name {word}: {near} may be meant"
     }
 }

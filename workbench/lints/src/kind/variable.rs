@@ -48,5 +48,31 @@ kinds! {
             "the case {number} is no enumerator of {variable}"
         MeaninglessFormat MeaninglessFormat
             "this is no format of a whole number, as 4d or 04x is"
+        NoEnumerators(variable: String) MissingEnumerators
+            "{variable} has no enumerators"
+        RepeatedText RepeatedEnumeratorText
+            "an enumerator before this one has the same text"
+        SingleEnumerator(variable: String) SingleEnumerator
+            "{variable} has one enumerator: there is nothing to choose"
+        SingleValue(number: i64) SingleValueLimits
+            "MIN_VALUE and MAX_VALUE are both {number}: no other value can be entered"
+        CircularLimits(variable: String) CircularLimits
+            "the limits of {variable} depend on {variable} itself"
+        CircularValidity(variable: String) CircularValidity
+            "whether {variable} is valid depends on {variable} itself"
+        CircularHandling(variable: String) CircularHandling
+            "the HANDLING of {variable} depends on {variable} itself"
+        RepeatedClass(class: String) RepeatedClass
+            "{class} is in this CLASS already"
+        ConstantAndDynamic ConflictingClasses
+            "a value that is CONSTANT is not DYNAMIC"
+        UnreadableDynamic(variable: String) UnreadableDynamic
+            "{variable} is DYNAMIC, and its HANDLING keeps it from being read"
+        WideFormat(width: u32) WideFormat
+            "no number has {width} digits"
+        UnreadDynamic(variable: String) UnreadDynamic
+            "no command reads {variable}, which is DYNAMIC"
+        Ineffective(variable: String) IneffectiveVariable
+            "what is entered for {variable} has no effect: no command sends it, and nothing reads it"
     }
 }

@@ -65,4 +65,52 @@ METHOD m { DEFINITION { add_abort_method(n); a = a / 100; } }
 METHOD n { DEFINITION { } }",
         notes: "`a / 100` has no warning.",
     },
+    Row {
+        lint: Lint::SingleEnumerator,
+        name: "single-enumerator",
+        level: Level::Allow,
+        summary: "an ENUMERATED with one enumerator",
+        details: "an ENUMERATED with one enumerator: there is nothing to choose. A later revision may have more.",
+        example: r#"VARIABLE a { TYPE ENUMERATED { { 0, "off" } } }"#,
+        counterexample: r#"VARIABLE a { TYPE ENUMERATED { { 0, "off" } { 1, "on" } } }"#,
+        notes: "",
+    },
+    Row {
+        lint: Lint::CircularHandling,
+        name: "circular-handling",
+        level: Level::Allow,
+        summary: "a HANDLING that depends on the variable itself",
+        details: "a HANDLING that reads its own variable, or one whose HANDLING leads back to it. A lock may be meant so.",
+        example: "VARIABLE a { HANDLING IF (a) { READ; } ELSE { READ & WRITE; } TYPE INTEGER; }",
+        counterexample:
+            "VARIABLE a { HANDLING IF (b) { READ; } ELSE { READ & WRITE; } TYPE INTEGER; }
+VARIABLE b { TYPE INTEGER; }",
+        notes: "",
+    },
+    Row {
+        lint: Lint::UnorderedResponseCodes,
+        name: "unordered-response-codes",
+        level: Level::Allow,
+        summary: "response codes that are not in their order",
+        details: "a response code that is smaller than the one before it.",
+        example: r#"COMMAND c { NUMBER 1; OPERATION READ; TRANSACTION { } RESPONSE_CODES { 16, MODE_ERROR, "Locked"; 0, SUCCESS, "OK" } }"#,
+        counterexample: r#"COMMAND c { NUMBER 1; OPERATION READ; TRANSACTION { } RESPONSE_CODES { 0, SUCCESS, "OK"; 16, MODE_ERROR, "Locked" } }"#,
+        notes: "",
+    },
+    Row {
+        lint: Lint::IneffectiveVariable,
+        name: "ineffective-variable",
+        level: Level::Allow,
+        summary: "a variable that can be entered, and that nothing sends or reads",
+        details: "a variable that a menu offers, that no message of a command carries and that no expression reads, where there are commands that write: what is entered has no effect. One of CLASS LOCAL is the host's, and with another HANDLING than READ & WRITE or WRITE nothing can be entered.",
+        example: "VARIABLE a { TYPE INTEGER; }
+VARIABLE v { TYPE INTEGER; }
+COMMAND c { NUMBER 1; OPERATION WRITE; TRANSACTION { REQUEST { a } } }
+MENU m { ITEMS { a, v } }",
+        counterexample: "VARIABLE a { TYPE INTEGER; }
+VARIABLE v { TYPE INTEGER; }
+COMMAND c { NUMBER 1; OPERATION WRITE; TRANSACTION { REQUEST { a, v } } }
+MENU m { ITEMS { a, v } }",
+        notes: "",
+    },
 ];

@@ -51,8 +51,10 @@ pub(super) const ROWS: &[Row] = &[
         level: Level::Warn,
         summary: "a case that goes on with the next one, and no comment says so",
         details: "statements of a `case` that go on with those of the next label, with no comment before the label or at the end of the block before it. Labels that follow each other, and a label with nothing but a `break` or a `return`, have no warning.",
-        example: "METHOD m { DEFINITION { int i; i = 2; switch (i) { case 1: i = 3; case 2: save_values(); } } }",
-        counterexample: "METHOD m { DEFINITION { int i; i = 2; switch (i) { case 1: i = 3; /* falls through */ case 2: save_values(); } } }",
+        example: "VARIABLE e { TYPE INTEGER; }
+METHOD m { DEFINITION { switch (e) { case 1: e = 3; case 2: save_values(); } } }",
+        counterexample: "VARIABLE e { TYPE INTEGER; }
+METHOD m { DEFINITION { switch (e) { case 1: e = 3; /* falls through */ case 2: save_values(); } } }",
         notes: "`case 1: i = 3; /* falls through */ case 2:` has no warning.",
     },
     Row {
@@ -118,5 +120,108 @@ METHOD m { DEFINITION { int level = 2; send_command(level); } }",
         counterexample: "VARIABLE level { TYPE INTEGER; }
 METHOD m { DEFINITION { int new_level = 2; send_command(new_level); } }",
         notes: "`int new_level = 2;` has no warning.",
+    },
+    Row {
+        lint: Lint::UnmovedCounter,
+        name: "unmoved-counter",
+        level: Level::Warn,
+        summary: "a loop with requests in which nothing changes the local that its condition reads",
+        details: "a loop with requests, but no `break`, `return` or abort, whose condition reads locals and no variables, and in which nothing sets these: only an abort of the host ends it.",
+        example: "METHOD m { DEFINITION { int i, j = 0; for (i = 0; i < 4; j++) send_command(j); } }",
+        counterexample: "METHOD m { DEFINITION { int i; for (i = 0; i < 4; i++) send_command(i); } }",
+        notes: "",
+    },
+    Row {
+        lint: Lint::UnrefreshedWait,
+        name: "unrefreshed-wait",
+        level: Level::Warn,
+        summary: "a loop that waits for a variable, and never reads it from the device",
+        details: "a loop with requests, but no `break`, `return` or abort, whose condition reads a variable that nothing in it sets, and which asks for nothing but DELAY, PUT_MESSAGE and ACKNOWLEDGE: only a command reads the variable from the device.",
+        example: r#"VARIABLE e { TYPE ENUMERATED { { 0, "off" } { 1, "on" } { 3, "hold" } } }
+METHOD m { DEFINITION { do { DELAY(1, "Wait"); } while (e != 3); } }"#,
+        counterexample: r#"VARIABLE e { TYPE ENUMERATED { { 0, "off" } { 1, "on" } { 3, "hold" } } }
+METHOD m { DEFINITION { do { DELAY(1, "Wait"); send_command(1); } while (e != 3); } }"#,
+        notes: "",
+    },
+    Row {
+        lint: Lint::CountedTwice,
+        name: "counted-twice",
+        level: Level::Warn,
+        summary: "a for whose body counts its counter too",
+        details: "a statement right in the body of a `for`, under no condition, that counts what the head of the `for` counts.",
+        example: "METHOD m { DEFINITION { int i; for (i = 0; i < 4; i++) { send_command(i); i++; } } }",
+        counterexample: "METHOD m { DEFINITION { int i; for (i = 0; i < 4; i++) { send_command(i); if (i == 2) i++; } } }",
+        notes: "",
+    },
+    Row {
+        lint: Lint::SkippedLimit,
+        name: "skipped-limit",
+        level: Level::Warn,
+        summary: "a for that counts past the number it waits for",
+        details: "a `for` with `!=` that begins at a constant and counts by one that never comes to the constant limit.",
+        example: "METHOD m { DEFINITION { int i; for (i = 5; i != 0; i -= 2) send_command(i); } }",
+        counterexample: "METHOD m { DEFINITION { int i; for (i = 6; i != 0; i -= 2) send_command(i); } }",
+        notes: "",
+    },
+    Row {
+        lint: Lint::LoopLeavesArray,
+        name: "loop-leaves-array",
+        level: Level::Warn,
+        summary: "a for that counts beyond the elements of an array",
+        details: "an index that is the counter of a `for` with constant ends and steps of one, which comes to a number of which the array has no element, and which nothing in the loop sets or tests.",
+        example: "VARIABLE v { TYPE INTEGER; }
+ARRAY OF VARIABLE r { ELEMENTS { 1, v; } }
+METHOD m { DEFINITION { int i; for (i = 0; i <= 1; i++) if (r[i] > 5) send_command(1); } }",
+        counterexample: "VARIABLE v { TYPE INTEGER; }
+ARRAY OF VARIABLE r { ELEMENTS { 1, v; } }
+METHOD m { DEFINITION { int i; for (i = 0; i <= 1; i++) if (i == 1 && r[i] > 5) send_command(1); } }",
+        notes: "",
+    },
+    Row {
+        lint: Lint::OwnAbortMethod,
+        name: "own-abort-method",
+        level: Level::Warn,
+        summary: "a method that adds itself as an abort method",
+        details: "an add_abort_method of the method itself: where it is aborted, it begins again.",
+        example: "METHOD m { DEFINITION { add_abort_method(m); send_command(1); } }",
+        counterexample: "METHOD m { DEFINITION { add_abort_method(n); send_command(1); } }
+METHOD n { DEFINITION { save_values(); } }",
+        notes: "",
+    },
+    Row {
+        lint: Lint::RepeatedAbortMethod,
+        name: "repeated-abort-method",
+        level: Level::Warn,
+        summary: "an abort method that is added twice",
+        details: "an add_abort_method of a method that an earlier statement of the body adds: it is run twice.",
+        example: "METHOD m { DEFINITION { add_abort_method(n); add_abort_method(n); send_command(1); } }
+METHOD n { DEFINITION { save_values(); } }",
+        counterexample: "METHOD m { DEFINITION { add_abort_method(n); send_command(1); } }
+METHOD n { DEFINITION { save_values(); } }",
+        notes: "",
+    },
+    Row {
+        lint: Lint::LateAbortMethod,
+        name: "late-abort-method",
+        level: Level::Warn,
+        summary: "an add_abort_method after which nothing can abort",
+        details: "an add_abort_method that is the last statement of a body, behind others: no abort can follow.",
+        example: "METHOD m { DEFINITION { send_command(1); add_abort_method(n); } }
+METHOD n { DEFINITION { save_values(); } }",
+        counterexample: "METHOD m { DEFINITION { add_abort_method(n); send_command(1); } }
+METHOD n { DEFINITION { save_values(); } }",
+        notes: "",
+    },
+    Row {
+        lint: Lint::LoopedAbortMethod,
+        name: "looped-abort-method",
+        level: Level::Warn,
+        summary: "an add_abort_method in a loop",
+        details: "an add_abort_method in a loop: it is added again in each turn.",
+        example: "METHOD m { DEFINITION { int i; for (i = 0; i < 4; i++) { add_abort_method(n); send_command(i); } } }
+METHOD n { DEFINITION { save_values(); } }",
+        counterexample: "METHOD m { DEFINITION { int i; add_abort_method(n); for (i = 0; i < 4; i++) send_command(i); } }
+METHOD n { DEFINITION { save_values(); } }",
+        notes: "",
     },
 ];

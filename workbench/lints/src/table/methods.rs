@@ -51,8 +51,10 @@ pub(super) const ROWS: &[Row] = &[
         level: Level::Warn,
         summary: "an if that does nothing, or a ; between a loop and its block",
         details: "a `;` right after the condition of an `if` without `else`: the statement after it is executed in any case. So it is of a block that comes after a `;` behind a loop or an `else`, of `if (..) { }` without `else`, comment and request, and of a `for` without a body that counts to a constant. Other loops may have no body, as `while (send_command(1));`.",
-        example: "METHOD m { DEFINITION { int i = 1; if (i == 5); i = 6; } }",
-        counterexample: "METHOD m { DEFINITION { int i = 1; if (i == 5) i = 6; } }",
+        example: "VARIABLE e { TYPE INTEGER; }
+METHOD m { DEFINITION { if (e == 5); e = 6; } }",
+        counterexample: "VARIABLE e { TYPE INTEGER; }
+METHOD m { DEFINITION { if (e == 5) e = 6; } }",
         notes: "",
     },
     Row {
@@ -73,8 +75,8 @@ METHOD m { DEFINITION { v = 255; } }",
         level: Level::Warn,
         summary: "a number of a method that does not fit in 32 bits with a sign",
         details: "a number over 2147483647, written with decimal digits, that a method assigns to a local or compares by order: with 32 bits it is negative. What is written with `0x` is meant as bits.",
-        example: "METHOD m { DEFINITION { int i = 3000000000; if (i == 0) save_values(); } }",
-        counterexample: "METHOD m { DEFINITION { int i = 0xF0000000; if (i == 0) save_values(); } }",
+        example: "METHOD m { DEFINITION { int i = 3000000000; send_command(i); } }",
+        counterexample: "METHOD m { DEFINITION { int i = 0xF0000000; send_command(i); } }",
         notes: "`0xF0000000` has no warning, and neither has `v = 3000000000;` of an unsigned variable of four octets.",
     },
     Row {
@@ -113,5 +115,199 @@ METHOD m { DEFINITION { GET_DEV_VAR_VALUE("Level?", a); } }"#,
         counterexample: r#"VARIABLE a { HANDLING READ & WRITE; TYPE INTEGER; }
 METHOD m { DEFINITION { GET_DEV_VAR_VALUE("Level?", a); } }"#,
         notes: "With `HANDLING READ & WRITE`, and without HANDLING, there is no warning.",
+    },
+    Row {
+        lint: Lint::ReversedAssignment,
+        name: "reversed-assignment",
+        level: Level::Warn,
+        summary: "=+, =- or =! in place of +=, -= or !=",
+        details: "`=` with `+`, `-` or `!` right behind it and a blank after that: two signs that look like one.",
+        example: "METHOD m { DEFINITION { int i = 5; i =+ 1; send_command(i); } }",
+        counterexample: "METHOD m { DEFINITION { int i = 5; i = +1; send_command(i); } }",
+        notes: "`i =-1` has no warning.",
+    },
+    Row {
+        lint: Lint::SteppedAssignment,
+        name: "stepped-assignment",
+        level: Level::Warn,
+        summary: "a place that is set to what it counts, as in i = i++",
+        details: "an assignment of `i++` or `i--`, before or behind, to the place itself.",
+        example: "METHOD m { DEFINITION { int i = 0; i = i++; send_command(i); } }",
+        counterexample: "METHOD m { DEFINITION { int i = 0; i++; send_command(i); } }",
+        notes: "",
+    },
+    Row {
+        lint: Lint::StoredAnswer,
+        name: "stored-answer",
+        level: Level::Warn,
+        summary: "the code of GET_DEV_VAR_VALUE stored in the variable that was asked for",
+        details: "an assignment to a variable of the code with which a GET_DEV_VAR_VALUE of it was answered: it replaces what was entered.",
+        example: r#"VARIABLE a { TYPE INTEGER; }
+METHOD m { DEFINITION { a = GET_DEV_VAR_VALUE("Limit?", a); } }"#,
+        counterexample: r#"VARIABLE a { TYPE INTEGER; }
+METHOD m { DEFINITION { int code; code = GET_DEV_VAR_VALUE("Limit?", a); if (code) abort(); } }"#,
+        notes: "",
+    },
+    Row {
+        lint: Lint::DroppedChoice,
+        name: "dropped-choice",
+        level: Level::Warn,
+        summary: "a SELECT_FROM_LIST whose answer is not used",
+        details: "a SELECT_FROM_LIST as a statement: what was chosen makes no difference.",
+        example: r#"METHOD m { DEFINITION { SELECT_FROM_LIST("Go?", "Yes;No"); } }"#,
+        counterexample: r#"METHOD m { DEFINITION { if (SELECT_FROM_LIST("Go?", "Yes;No")) abort(); } }"#,
+        notes: "",
+    },
+    Row {
+        lint: Lint::MissingChoice,
+        name: "missing-choice",
+        level: Level::Warn,
+        summary: "a choice that the list of a SELECT_FROM_LIST does not have",
+        details: "what a SELECT_FROM_LIST, or a local that keeps answers of such alone, is compared with by `==` or `!=`, or a label of a `switch` over it, that is no choice: they are counted from 0.",
+        example: r#"METHOD m { DEFINITION { if (SELECT_FROM_LIST("Go?", "Yes;No") == 2) abort(); } }"#,
+        counterexample: r#"METHOD m { DEFINITION { if (SELECT_FROM_LIST("Go?", "Yes;No") == 1) abort(); } }"#,
+        notes: "",
+    },
+    Row {
+        lint: Lint::NegativeDelay,
+        name: "negative-delay",
+        level: Level::Warn,
+        summary: "a DELAY of less than no time",
+        details: "a constant time of a DELAY that is negative.",
+        example: r#"METHOD m { DEFINITION { DELAY(-1, "Wait"); } }"#,
+        counterexample: r#"METHOD m { DEFINITION { DELAY(1, "Wait"); } }"#,
+        notes: "",
+    },
+    Row {
+        lint: Lint::LongDelay,
+        name: "long-delay",
+        level: Level::Warn,
+        summary: "a DELAY of a thousand seconds or more",
+        details: "a constant time of a DELAY from 1000 on: milliseconds are meant.",
+        example: r#"METHOD m { DEFINITION { DELAY(5000, "Wait"); } }"#,
+        counterexample: r#"METHOD m { DEFINITION { DELAY(5, "Wait"); } }"#,
+        notes: "",
+    },
+    Row {
+        lint: Lint::UnlistedResponseCode,
+        name: "unlisted-response-code",
+        level: Level::Warn,
+        summary: "a code that the command does not list",
+        details: "a constant other than 0 with which the answer of a command is compared by `==` or `!=`, and that is none of the response codes which the command lists.",
+        example: r#"COMMAND c { NUMBER 1; OPERATION READ; TRANSACTION { } RESPONSE_CODES { 0, SUCCESS, "OK"; 16, MODE_ERROR, "Locked" } }
+METHOD m { DEFINITION { if (send_command(1) == 5) abort(); } }"#,
+        counterexample: r#"COMMAND c { NUMBER 1; OPERATION READ; TRANSACTION { } RESPONSE_CODES { 0, SUCCESS, "OK"; 16, MODE_ERROR, "Locked" } }
+METHOD m { DEFINITION { if (send_command(1) == 16) abort(); } }"#,
+        notes: "",
+    },
+    Row {
+        lint: Lint::ComparedArgument,
+        name: "compared-argument",
+        level: Level::Warn,
+        summary: "a comparison as the number of a command or of a DELAY",
+        details: "a comparison, `&&` or `||` as an argument of send_command, send_command_trans or DELAY: the parenthesis closes too late.",
+        example: "METHOD m { DEFINITION { if (send_command(1 != 0)) abort(); } }",
+        counterexample: "METHOD m { DEFINITION { if (send_command(1) != 0) abort(); } }",
+        notes: "",
+    },
+    Row {
+        lint: Lint::StoreOutsideLimits,
+        name: "store-outside-limits",
+        level: Level::Warn,
+        summary: "a constant outside of the limits of the variable that it is assigned to",
+        details: "a constant that is assigned to a variable, and is below its MIN_VALUE or over its MAX_VALUE, in all branches of these. 0 often says that there is none, and has no warning.",
+        example: "VARIABLE a { TYPE INTEGER (2) { MAX_VALUE 100; } }
+METHOD m { DEFINITION { a = 200; send_command(1); } }",
+        counterexample: "VARIABLE a { TYPE INTEGER (2) { MAX_VALUE 100; } }
+METHOD m { DEFINITION { a = 100; send_command(1); } }",
+        notes: "",
+    },
+    Row {
+        lint: Lint::DeadStore,
+        name: "dead-store",
+        level: Level::Warn,
+        summary: "a value that is replaced before anything reads it",
+        details: "a value that is stored by a statement, and replaced by one after it in the same block, with other assignments between at most, none of which reads it.",
+        example: "VARIABLE a { TYPE INTEGER; }
+METHOD m { DEFINITION { a = 5; a = 6; send_command(1); } }",
+        counterexample: "VARIABLE a { TYPE INTEGER; }
+METHOD m { DEFINITION { a = 5; send_command(1); a = 6; send_command(1); } }",
+        notes: "The value of a declaration is left alone, and so is that of a request.",
+    },
+    Row {
+        lint: Lint::EmptyThen,
+        name: "empty-then",
+        level: Level::Warn,
+        summary: "an if that does something only after else",
+        details: "a `;` or `{ }` without a comment between the condition of an `if` and its `else`: `!` says the same.",
+        example: "VARIABLE a { TYPE INTEGER; }
+METHOD m { DEFINITION { if (a) ; else send_command(1); } }",
+        counterexample: "VARIABLE a { TYPE INTEGER; }
+METHOD m { DEFINITION { if (!a) send_command(1); } }",
+        notes: "",
+    },
+    Row {
+        lint: Lint::EmptyElse,
+        name: "empty-else",
+        level: Level::Warn,
+        summary: "an else with nothing but a ;",
+        details: "an `else` with nothing but a `;`, and no comment before that.",
+        example: "VARIABLE a { TYPE INTEGER; }
+METHOD m { DEFINITION { if (a) send_command(1); else ; } }",
+        counterexample: "VARIABLE a { TYPE INTEGER; }
+METHOD m { DEFINITION { if (a) send_command(1); else /* nothing */ ; } }",
+        notes: "",
+    },
+    Row {
+        lint: Lint::EmptySwitch,
+        name: "empty-switch",
+        level: Level::Warn,
+        summary: "a switch without statements",
+        details: "a `switch` without statements and labels.",
+        example: "VARIABLE a { TYPE INTEGER; }
+METHOD m { DEFINITION { switch (a) { } } }",
+        counterexample: "VARIABLE a { TYPE INTEGER; }
+METHOD m { DEFINITION { switch (a) { case 1: send_command(1); } } }",
+        notes: "",
+    },
+    Row {
+        lint: Lint::MisleadingIndentation,
+        name: "misleading-indentation",
+        level: Level::Warn,
+        summary: "a statement that looks like part of the one before it",
+        details: "a statement that stands below what is in the `if`, `else`, `while` or `for` before it, which has no braces: it is executed in any case.",
+        example: "VARIABLE a { TYPE INTEGER; }
+METHOD m { DEFINITION {
+    if (a)
+        send_command(1);
+        send_command(2);
+} }",
+        counterexample: "VARIABLE a { TYPE INTEGER; }
+METHOD m { DEFINITION {
+    if (a)
+        send_command(1);
+    send_command(2);
+} }",
+        notes: "",
+    },
+    Row {
+        lint: Lint::DanglingElse,
+        name: "dangling-else",
+        level: Level::Warn,
+        summary: "an else below an if that it does not belong to",
+        details: "an `else` that stands below an `if`, and belongs to an `if` in that one.",
+        example: "VARIABLE a { TYPE INTEGER; }
+METHOD m { DEFINITION {
+    if (a > 5)
+        if (a > 10) send_command(1);
+    else send_command(2);
+} }",
+        counterexample: "VARIABLE a { TYPE INTEGER; }
+METHOD m { DEFINITION {
+    if (a > 5)
+        if (a > 10) send_command(1);
+        else send_command(2);
+} }",
+        notes: "",
     },
 ];

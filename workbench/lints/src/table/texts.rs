@@ -61,8 +61,8 @@ pub(super) const ROWS: &[Row] = &[
         level: Level::Warn,
         summary: "a list of choices that has more of them in one language than in another",
         details: "a second text of SELECT_FROM_LIST that has more choices, which are parted by semicolons, in one language than in another: a number means another thing there.",
-        example: r#"METHOD m { DEFINITION { SELECT_FROM_LIST("Which?", "|en|Low;High|de|Tief;Mitte;Hoch"); } }"#,
-        counterexample: r#"METHOD m { DEFINITION { SELECT_FROM_LIST("Which?", "|en|Low;High|de|Tief;Hoch"); } }"#,
+        example: r#"METHOD m { DEFINITION { if (SELECT_FROM_LIST("Which?", "|en|Low;High|de|Tief;Mitte;Hoch")) abort(); } }"#,
+        counterexample: r#"METHOD m { DEFINITION { if (SELECT_FROM_LIST("Which?", "|en|Low;High|de|Tief;Hoch")) abort(); } }"#,
         notes: "`|en|Low;High|de|Tief;Hoch` has no warning.",
     },
     Row {
@@ -104,5 +104,83 @@ pub(super) const ROWS: &[Row] = &[
         example: "VARIABLE a { TYPE INTEGER; } // a\u{202E}b",
         counterexample: "VARIABLE a { TYPE INTEGER; } // ab",
         notes: "",
+    },
+    Row {
+        lint: Lint::EmptyText,
+        name: "empty-text",
+        level: Level::Warn,
+        summary: "a LABEL, an enumerator or a response code without words",
+        details: r#"a LABEL, an enumerator or a response code whose text is empty. `HELP ""` and `CONSTANT_UNIT ""` say that there is none."#,
+        example: r#"VARIABLE a { TYPE ENUMERATED { { 0, "" } { 1, "on" } } }"#,
+        counterexample: r#"VARIABLE a { TYPE ENUMERATED { { 0, "off" } { 1, "on" } } }"#,
+        notes: "",
+    },
+    Row {
+        lint: Lint::UntranslatedText,
+        name: "untranslated-text",
+        level: Level::Warn,
+        summary: "a text in one language where most others have more",
+        details: "a LABEL, HELP, message, enumerator, member, element or response code in one language, where three of four such texts have two or more; and any other text that names its one language. Units, numbers and abbreviations, which have no word of four letters in small ones, are left alone.",
+        example: r#"MENU a { LABEL "|en|Level|de|Stand"; HELP "|en|Main menu|de|Hauptmenü"; ITEMS { m, b, c } }
+METHOD m { LABEL "|en|Reset|de|Rücksetzen"; DEFINITION { PUT_MESSAGE("Done now"); } }
+MENU b { LABEL "|en|Inner|de|Innen"; ITEMS { "x" } }
+MENU c { LABEL "|en|Outer|de|Aussen"; ITEMS { "x" } }"#,
+        counterexample: r#"MENU a { LABEL "|en|Level|de|Stand"; HELP "|en|Main menu|de|Hauptmenü"; ITEMS { m, b, c } }
+METHOD m { LABEL "|en|Reset|de|Rücksetzen"; DEFINITION { PUT_MESSAGE("OK"); } }
+MENU b { LABEL "|en|Inner|de|Innen"; ITEMS { "x" } }
+MENU c { LABEL "|en|Outer|de|Aussen"; ITEMS { "x" } }"#,
+        notes: "",
+    },
+    Row {
+        lint: Lint::BracedItem,
+        name: "braced-item",
+        level: Level::Warn,
+        summary: "the name of an item in braces in a text",
+        details: "the name of an item in braces in a text: texts are shown as they are, and nothing is put in its place.",
+        example: r#"VARIABLE level { TYPE INTEGER; }
+METHOD m { DEFINITION { PUT_MESSAGE("Level {level}"); } }"#,
+        counterexample: r#"VARIABLE level { TYPE INTEGER; }
+METHOD m { DEFINITION { PUT_MESSAGE("Level {mm}"); } }"#,
+        notes: "",
+    },
+    Row {
+        lint: Lint::EscapedEscape,
+        name: "escaped-escape",
+        level: Level::Warn,
+        summary: r#"a backslash before the backslash of \n"#,
+        details: r#"`\\n` in a text, which is shown as a backslash and an n where `\n` begins a line."#,
+        example: r#"METHOD m { DEFINITION { PUT_MESSAGE("a\\nb"); } }"#,
+        counterexample: r#"METHOD m { DEFINITION { PUT_MESSAGE("a\nb"); } }"#,
+        notes: "",
+    },
+    Row {
+        lint: Lint::CommaChoices,
+        name: "comma-choices",
+        level: Level::Warn,
+        summary: "choices of a SELECT_FROM_LIST that commas part",
+        details: "a second text of SELECT_FROM_LIST with one choice that has a comma: semicolons part choices.",
+        example: r#"METHOD m { DEFINITION { if (SELECT_FROM_LIST("Go?", "Yes,No") == 0) abort(); } }"#,
+        counterexample: r#"METHOD m { DEFINITION { if (SELECT_FROM_LIST("Go?", "Yes;No") == 0) abort(); } }"#,
+        notes: "",
+    },
+    Row {
+        lint: Lint::EmptyChoice,
+        name: "empty-choice",
+        level: Level::Warn,
+        summary: "a choice of a SELECT_FROM_LIST without words",
+        details: "two semicolons of a SELECT_FROM_LIST with nothing between, or a semicolon at the beginning. One at the end is left alone.",
+        example: r#"METHOD m { DEFINITION { if (SELECT_FROM_LIST("Go?", "Yes;;No") == 0) abort(); } }"#,
+        counterexample: r#"METHOD m { DEFINITION { if (SELECT_FROM_LIST("Go?", "Yes;No") == 0) abort(); } }"#,
+        notes: "",
+    },
+    Row {
+        lint: Lint::UnknownLint,
+        name: "unknown-lint",
+        level: Level::Warn,
+        summary: "a name behind edd: allow that is that of no lint",
+        details: "a comment with `edd: allow` and a word that names no lint. Behind the first name a reason may follow, so that further words count only where they have a hyphen.",
+        example: "VARIABLE a { TYPE INTEGER; } // edd: allow unusd-item",
+        counterexample: "VARIABLE a { TYPE INTEGER; } // edd: allow unused-item, as it is for later",
+        notes: "`edd: allow unknown-lint` on the line before allows it.",
     },
 ];
