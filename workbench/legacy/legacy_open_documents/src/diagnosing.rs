@@ -67,9 +67,9 @@ fn words_of(alloc: Global, kind: &Kind) -> Words {
             }
         }
         Kind::Warned(warning) => {
-            message.push_str(&warning.message);
+            write!(message, "{}", warning.kind);
             Words {
-                code: Some(Code::Name(warning.lint)),
+                code: Some(Code::Name(warning.lint().name())),
                 message,
                 severity: if warning.is_denied {
                     Severity::Error
