@@ -77,7 +77,9 @@ enum {
     /* There is too little room, or for edd_play too much. */
     EDD_NO_ROOM = 261,
     /* The edd_session is none of this image under these values. */
-    EDD_NO_SESSION = 262
+    EDD_NO_SESSION = 262,
+    /* Of edd_play and edd_reply: an answer says that it has more settings than there are. */
+    EDD_NO_SETTINGS = 263
 };
 
 /* ---- an image ---- */
@@ -308,8 +310,8 @@ typedef struct edd_ending {
 
 /*
  * Runs a method from its start for at most `steps` instructions, and meets its requests by the answers, one
- * after the other. The settings of all answers are in one list in the order of the answers. Answers that are
- * left over are ignored.
+ * after the other. The settings of all answers are in one list in the order of the answers. Answers and settings
+ * that are left over are ignored.
  *
  * It keeps nothing from call to call: to go on after EDD_WAITING, call it with one more answer and the same
  * values. So a method that a technician answers is a list of answers that grows. Sessions, below, go on where they
@@ -317,8 +319,8 @@ typedef struct edd_ending {
  *
  * EDD_OK: `ending` says how it ended; the first requests are in `requests`, as many as there is room for; and
  * `after`, which has room for just as many numbers as there are variables, has the values as the method left
- * them. EDD_NO_ITEM: no such method, or it has no body. EDD_WRONG_VALUES, EDD_BAD_VARIABLE, EDD_OUT_OF_RANGE,
- * EDD_NO_ROOM (of `after`), EDD_MEMORY. Takes memory for the values, the answers and the requests, and gives it
+ * them. EDD_NO_SETTINGS: the answers say more settings than `setting_count`. EDD_NO_ITEM: no such method, or it has
+ * no body. EDD_WRONG_VALUES, EDD_BAD_VARIABLE, EDD_OUT_OF_RANGE, EDD_NO_ROOM (of `after`), EDD_MEMORY. Takes memory for the values, the answers and the requests, and gives it
  * back.
  */
 uint32_t edd_play(const uint8_t *bytes, size_t length, const edd_image *image, uint16_t method,
@@ -390,13 +392,14 @@ uint32_t edd_advance(const uint8_t *bytes, size_t length, const edd_image *image
                      int64_t *values, size_t count, uint32_t budget, edd_turn *turn);
 
 /*
- * Answers the pending request, and executes nothing. The first settings, as many as the answer says and there are,
- * are made in their order, and its code is the request's value. An abort sets nothing: the method goes on with its
+ * Answers the pending request, and executes nothing. The first settings, as many as the answer says, are made in
+ * their order, and its code is the request's value. An abort sets nothing: the method goes on with its
  * abort methods, which may run long and ask, or is EDD_ABORTED where it has none. edd_play with these answers makes
  * the same requests and leaves the same values. A method that asks nothing can't be aborted: a program that gives it
  * up leaves the session, and none of its abort methods run.
  *
- * EDD_OK. In this order else: EDD_NO_SESSION; EDD_NOT_ASKING; for the first setting that can't be made
+ * EDD_OK. In this order else: EDD_NO_SETTINGS where the answer says more settings than `setting_count`;
+ * EDD_NO_SESSION; EDD_NOT_ASKING; for the first setting that can't be made
  * EDD_BAD_VARIABLE or EDD_OUT_OF_RANGE, and none is made.
  */
 uint32_t edd_reply(const uint8_t *bytes, size_t length, const edd_image *image, edd_session *session,

@@ -181,7 +181,11 @@ static void try_replies(const file *it, const file *other)
     CHECK(edd_reply(OF(it), &session, values, 5, &answer, settings, 3) == EDD_OUT_OF_RANGE);
     answer.settings = 3;
     CHECK(edd_reply(OF(it), &session, values, 5, &answer, settings, 3) == EDD_OUT_OF_RANGE);
+    CHECK(edd_reply(OF(it), &session, values, 5, &answer, settings + 2, 1) == EDD_NO_SETTINGS);
+    CHECK(edd_reply(OF(it), &session, values, 5, &answer, settings, 2) == EDD_NO_SETTINGS);
+    answer.settings = 1;
     CHECK(edd_reply(OF(it), &session, values, 5, &answer, settings + 2, 1) == EDD_BAD_VARIABLE);
+    CHECK(edd_reply(OF(it), &session, values, 5, &answer, settings + 2, 0) == EDD_NO_SETTINGS);
     CHECK(edd_reply(OF(it), &session, values, 4, &answer, settings + 2, 1) == EDD_NO_SESSION);
     values[4] = 256;
     CHECK(edd_reply(OF(it), &session, values, 5, &answer, settings + 2, 1) == EDD_NO_SESSION);

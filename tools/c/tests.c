@@ -226,6 +226,12 @@ static void try_plays(file *it)
     settings[0].variable = 5;
     CHECK(edd_play(OF(it), 1, values, 5, answers, 1, settings, 1, 1000, requests, 2, after, 5, &ending) == EDD_BAD_VARIABLE
           && after[0] == 7 && ending.ending == 9);
+    /* the second answer has none left, and each is counted before anything is played */
+    answers[1].settings = 1;
+    CHECK(edd_play(OF(it), 1, values, 5, answers, 1, settings, 0, 1000, requests, 2, after, 5, &ending) == EDD_NO_SETTINGS
+          && after[0] == 7 && ending.ending == 9);
+    CHECK(edd_play(OF(it), 2, values, 5, answers, 2, settings, 1, 1000, requests, 2, after, 5, &ending) == EDD_NO_SETTINGS
+          && after[0] == 7 && ending.ending == 9);
     CHECK(edd_play(OF(it), 2, values, 5, answers, 0, settings, 0, 1000, requests, 2, after, 5, &ending) == EDD_NO_ITEM);
     CHECK(edd_play(OF(it), 1, values, 4, answers, 0, settings, 0, 1000, requests, 2, after, 5, &ending) == EDD_WRONG_VALUES);
     CHECK(edd_play(OF(it), 1, values, 5, answers, 0, settings, 0, 1000, requests, 2, after, 4, &ending) == EDD_NO_ROOM

@@ -1,10 +1,10 @@
 //! Methods.
 
-ghost use Rattle.std.specs.Prelude.{◌≡◌, ◌≢◌, length};
+ghost use Rattle.std.specs.Prelude.{◌≡◌, ◌≢◌, length, true};
 ghost use Rattle.edd_instructions.specs.Validity.{IsValid};
 ghost use Rattle.edd_embed.specs.declared.playing.PlayRefusal.{PlayRefusal};
 ghost use Rattle.edd_embed.specs.Images.{AreOf};
-ghost use Rattle.edd_embed.specs.Playing.{IsPlayRefusal, Shows, answers_of};
+ghost use Rattle.edd_embed.specs.Playing.{IsPlayRefusal, Shows, answers_of, have_settings};
 ghost use Rattle.edd_embed.specs.Statuses.{refusal_status};
 
 use edd_embed::statuses::{DONE, OTHER_IMAGE, refusal_status};
@@ -30,9 +30,10 @@ pub extern "C" fn edd_play(
     requires { AreOf image.now bytes.now → IsValid bytes.now }
     ensures sound { result ≡ 0 → Shows bytes.now (record { 0 = method }) values.now steps
         (answers_of answers.now settings.now) ending.new requests.old requests.new after.new }
+    ensures enough { result ≡ 0 → have_settings answers.now settings.now ≡ true }
     ensures refused { result ≢ 0 → result ≢ 260 → (why : PlayRefusal)
         × (result ≡ refusal_status why) × IsPlayRefusal bytes.now (record { 0 = method }) values.now
-        steps (answers_of answers.now settings.now) (length after.old) why }
+        steps answers.now settings.now (length after.old) why }
     ensures other { result ≡ 260 → ¬ AreOf image.now bytes.now }
     ensures ending_kept { result ≢ 0 → ending.new ≡ ending.old }
     ensures requests_kept { result ≢ 0 → requests.new ≡ requests.old }

@@ -1,7 +1,7 @@
 //! Sessions: methods that are started, advanced and answered, and all that is kept of them is the
 //! caller's.
 
-ghost use Rattle.std.specs.Prelude.{◌≡◌, ◌≢◌, ◌⊎◌, None, Some, option_map};
+ghost use Rattle.std.specs.Prelude.{◌≡◌, ◌≢◌, ◌≤◌, ◌⊎◌, None, Some, length, option_map};
 ghost use Rattle.edd_instructions.specs.Validity.{IsValid};
 ghost use Rattle.edd_port.specs.declared.fault.StartFault.{StartFault};
 ghost use Rattle.edd_port.specs.Faults.{IsStartFault};
@@ -90,9 +90,10 @@ pub extern "C" fn edd_reply(
     requires { AreOf image.now bytes.now → IsValid bytes.now }
     ensures sound { result ≡ 0 → Answers bytes.now session.old values.old
         (answer_given answer.now settings.now) session.new values.new }
+    ensures enough { result ≡ 0 → answer.now.settings ≤ length settings.now }
     ensures refused { result ≢ 0 → result ≢ 260 → (why : SessionRefusal)
         × (result ≡ session_status why) × IsSessionRefusal bytes.now session.old values.old
-        (answer_given answer.now settings.now) why }
+        answer.now settings.now why }
     ensures other { result ≡ 260 → ¬ AreOf image.now bytes.now }
     ensures session_kept { result ≢ 0 → session.new ≡ session.old }
     ensures values_kept { result ≢ 0 → values.new ≡ values.old }

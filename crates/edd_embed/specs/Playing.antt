@@ -1,5 +1,5 @@
 -- A method that is played under the answers of a program in C.
-use Rattle.std.specs.Prelude.{◌≡◌, ◌≢◌, ◌==◌, ℕ, ℤ, pos, if◌then◌else◌, List, [], ◌∷◌, length, map, option_map, take, drop, Some, ⊤}
+use Rattle.std.specs.Prelude.{◌≡◌, ◌≢◌, ◌==◌, ◌&&◌, Bool, true, false, ℕ, ℤ, nat_le, pos, if◌then◌else◌, List, [], ◌∷◌, length, map, option_map, take, drop, Some, ⊤}
 use Rattle.edd_syntax.specs.declared.answer.Trap.{Trap}
 use Rattle.edd_syntax.specs.declared.answer.Trap.TheVariants as trap
 use Rattle.edd_syntax.specs.Answers.{Answer, Go, Abort, Change}
@@ -20,7 +20,7 @@ use Rattle.edd_embed.specs.declared.answers.Given.{Given}
 use Rattle.edd_embed.specs.declared.requests.PlainRequest.{PlainRequest}
 use Rattle.edd_embed.specs.declared.playing.PlainEnding.{PlainEnding}
 use Rattle.edd_embed.specs.declared.playing.PlayRefusal.{PlayRefusal}
-use Rattle.edd_embed.specs.declared.playing.PlayRefusal.TheVariants.{Play, Room}
+use Rattle.edd_embed.specs.declared.playing.PlayRefusal.TheVariants.{Play, Room, Settings}
 use Rattle.edd_embed.specs.Records.{no_string, written_over}
 
 -- ---- answers
@@ -33,8 +33,13 @@ change_of s = record { variable = record { 0 = s.variable }; value = s.value }
 abbrev pub answer_with : Given → List Setting → Answer
 answer_with g settings = if g.aborts == 0 then Go g.code (map change_of settings) else Abort
 
--- the answers, each with as many of the settings as it says, one after the other; where too few are
--- left it has those that are left
+-- each answer has as many settings as it says, one after the other
+abbrev pub have_settings : List Given → List Setting → Bool
+have_settings [] settings = true
+have_settings (g ∷ gs) settings =
+    nat_le g.settings (length settings) && have_settings gs (drop g.settings settings)
+
+-- the answers, each with as many of the settings as it says, one after the other
 abbrev pub answers_of : List Given → List Setting → List Answer
 answers_of [] settings = []
 answers_of (g ∷ gs) settings =
@@ -121,13 +126,15 @@ pub record Shows (b : List ℕ) (method : MethNo) (values : List ℤ) (steps : �
   }
   pub listed : list ≡ written_over (take (length room) (map plain_request made)) room
 
--- what a refusal says: there is not the room for as many values as the method left, or it is the
--- fault of the play; nothing is said of memory
-abbrev pub IsPlayRefusal : List ℕ → MethNo → List ℤ → (steps : ℕ) → List Answer → (room : ℕ)
-    → PlayRefusal → Type 0
-IsPlayRefusal b method values steps given room Room = (after : List ℤ)
-    × (option_map (λ o. o.state.values) (played b method values steps given) ≡ Some after)
-    × (length after ≢ room)
-IsPlayRefusal b method values steps given room (Play play_fault.Memory) = ⊤
-IsPlayRefusal b method values steps given room (Play fault) =
-    IsPlayFault b method values steps given fault
+-- what a refusal says: an answer has fewer settings than it says, there is not the room for as many
+-- values as the method left, or it is the fault of the play; nothing is said of memory
+abbrev pub IsPlayRefusal : List ℕ → MethNo → List ℤ → (steps : ℕ) → List Given → List Setting
+    → (room : ℕ) → PlayRefusal → Type 0
+IsPlayRefusal b method values steps givens settings room Settings =
+    have_settings givens settings ≡ false
+IsPlayRefusal b method values steps givens settings room Room = (after : List ℤ)
+    × (option_map (λ o. o.state.values)
+    (played b method values steps (answers_of givens settings)) ≡ Some after) × (length after ≢ room)
+IsPlayRefusal b method values steps givens settings room (Play play_fault.Memory) = ⊤
+IsPlayRefusal b method values steps givens settings room (Play fault) =
+    IsPlayFault b method values steps (answers_of givens settings) fault

@@ -1,5 +1,5 @@
 -- A session as the plain numbers that a program in C keeps of it.
-use Rattle.std.specs.Prelude.{◌≡◌, ◌≤◌, ℕ, ◌+◌, ◌==◌, ℤ, Bool, true, false, ◌&&◌, if◌then◌else◌, List, [], length, take, reverse, Option, Some, None, option_map, nat_le}
+use Rattle.std.specs.Prelude.{◌≡◌, ◌<◌, ◌≤◌, ℕ, ◌+◌, ◌==◌, ℤ, Bool, true, false, ◌&&◌, if◌then◌else◌, List, [], length, take, reverse, Option, Some, None, option_map, nat_le}
 use Rattle.std.specs.List.{AllByRecursion}
 use Rattle.edd_syntax.specs.declared.answer.Trap.{Trap}
 use Rattle.edd_syntax.specs.declared.answer.Trap.TheVariants as trap
@@ -37,7 +37,7 @@ use Rattle.edd_embed.specs.declared.sessions.Parts.{Parts}
 use Rattle.edd_embed.specs.declared.sessions.PlainSession.{PlainSession}
 use Rattle.edd_embed.specs.declared.turns.PlainTurn.{PlainTurn}
 use Rattle.edd_embed.specs.declared.turns.SessionRefusal.{SessionRefusal}
-use Rattle.edd_embed.specs.declared.turns.SessionRefusal.TheVariants.{NoSession, Refused}
+use Rattle.edd_embed.specs.declared.turns.SessionRefusal.TheVariants.{NoSession, Refused, Settings}
 use Rattle.edd_embed.specs.Playing.{answer_with, bare, plain_request, trap_number}
 
 -- ---- what the tags stand for
@@ -220,11 +220,12 @@ pub record Answers (b : List ℕ) (old : PlainSession) (values : List ℤ) (answ
 abbrev pub answer_given : Given → List Setting → Answer
 answer_given g settings = answer_with g (take g.settings settings)
 
--- What a refusal of an answer says: the numbers are no session of the image under these values, or
--- the state that they stand for does not take the answer.
-abbrev pub IsSessionRefusal : List ℕ → PlainSession → (values : List ℤ) → Answer → SessionRefusal
-    → Type 0
-IsSessionRefusal b p values answer NoSession = ¬ IsSession b p values
-IsSessionRefusal b p values answer (Refused fault) = (s : State)
+-- What a refusal of an answer says: there are fewer settings than it says, the numbers are no session
+-- of the image under these values, or the state that they stand for does not take the answer.
+abbrev pub IsSessionRefusal : List ℕ → PlainSession → (values : List ℤ) → Given → List Setting
+    → SessionRefusal → Type 0
+IsSessionRefusal b p values given settings Settings = length settings < given.settings
+IsSessionRefusal b p values given settings NoSession = ¬ IsSession b p values
+IsSessionRefusal b p values given settings (Refused fault) = (s : State)
     × (state_in b p values ≡ Some s) × IsRun b s
-    × (refusal (types_in b) s.status answer ≡ Some (answer_fault_of fault))
+    × (refusal (types_in b) s.status (answer_given given settings) ≡ Some (answer_fault_of fault))

@@ -11,11 +11,11 @@ use Rattle.edd_port.specs.declared.fault.PlayFault.TheVariants as play_fault
 use Rattle.edd_port.specs.declared.fault.StartFault.{StartFault}
 use Rattle.edd_port.specs.declared.fault.StartFault.TheVariants as start_fault
 use Rattle.edd_embed.specs.declared.playing.PlayRefusal.{PlayRefusal}
-use Rattle.edd_embed.specs.declared.playing.PlayRefusal.TheVariants.{Play, Room}
+use Rattle.edd_embed.specs.declared.playing.PlayRefusal.TheVariants as play_refusal
 use Rattle.edd_embed.specs.declared.reading.AttributeFault.{AttributeFault}
 use Rattle.edd_embed.specs.declared.reading.AttributeFault.TheVariants as attribute_fault
 use Rattle.edd_embed.specs.declared.turns.SessionRefusal.{SessionRefusal}
-use Rattle.edd_embed.specs.declared.turns.SessionRefusal.TheVariants.{NoSession, Refused}
+use Rattle.edd_embed.specs.declared.turns.SessionRefusal.TheVariants as session_refusal
 
 -- the call did what was asked
 abbrev pub done : ℕ
@@ -40,6 +40,10 @@ no_room = 261
 -- the numbers are no session of the image under these values
 abbrev pub no_session : ℕ
 no_session = 262
+
+-- an answer has fewer settings than it says
+abbrev pub no_settings : ℕ
+no_settings = 263
 
 -- the number of a fault in loading an image
 abbrev pub load_status : LoadFault → ℕ
@@ -79,10 +83,11 @@ play_status play_fault.BadVariable = 206
 play_status play_fault.OutOfRange = 207
 play_status play_fault.Memory = memory
 
--- the same where there may be too little room for what the play gives
+-- the same where there may be too few settings, or too little room for what the play gives
 abbrev pub refusal_status : PlayRefusal → ℕ
-refusal_status (Play fault) = play_status fault
-refusal_status Room = no_room
+refusal_status (play_refusal.Play fault) = play_status fault
+refusal_status play_refusal.Settings = no_settings
+refusal_status play_refusal.Room = no_room
 
 -- the number of a fault in starting a session
 abbrev pub start_status : StartFault → ℕ
@@ -95,7 +100,8 @@ answer_status answer_fault.NotAsking = 205
 answer_status answer_fault.BadVariable = 206
 answer_status answer_fault.OutOfRange = 207
 
--- the same where the numbers may be no session
+-- the same where there may be too few settings, or the numbers no session
 abbrev pub session_status : SessionRefusal → ℕ
-session_status NoSession = no_session
-session_status (Refused fault) = answer_status fault
+session_status session_refusal.Settings = no_settings
+session_status session_refusal.NoSession = no_session
+session_status (session_refusal.Refused fault) = answer_status fault

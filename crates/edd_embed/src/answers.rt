@@ -2,7 +2,7 @@
 
 ghost use Rattle.std.specs.Prelude.{◌≡◌, IfOk, drop, map, take};
 ghost use Rattle.edd_syntax.specs.Answers.{answer_of};
-ghost use Rattle.edd_embed.specs.Playing.{answer_with, answers_of};
+ghost use Rattle.edd_embed.specs.Playing.{answer_with, answers_of, have_settings};
 
 use edd_syntax::answer::Answer;
 use edd_syntax::numbers::VarNo;
@@ -53,6 +53,21 @@ pub(crate) fn cut(settings: &[Setting], count: u32) -> (&[Setting], &[Setting])
     } else {
         (settings, &[])
     }
+}
+
+/// Whether each answer has as many settings as it says, one after the other.
+pub(crate) fn have_settings(givens: &[Given], settings: &[Setting]) -> bool
+    ensures { result ≡ have_settings givens.now settings.now }
+{
+    let mut rest = settings;
+    for given in givens {
+        if rest.len() < given.settings as usize {
+            return false;
+        }
+        let (_, behind) = cut(rest, given.settings);
+        rest = behind;
+    }
+    true
 }
 
 /// The answers, each with its settings, which are one after the other in the list of all.

@@ -1,9 +1,9 @@
 //! A method that is played under the answers of a program in C.
 
-ghost use Rattle.std.specs.Prelude.{◌≡◌, IfErr, IfOk, IsTrue, OnErr, length};
-ghost use Rattle.edd_embed.specs.Playing.{IsPlayRefusal, Shows, answers_of, ending_number, trap_number, trap_of};
+ghost use Rattle.std.specs.Prelude.{◌≡◌, IfErr, IfOk, IsTrue, OnErr, OnOk, length, true};
+ghost use Rattle.edd_embed.specs.Playing.{IsPlayRefusal, Shows, answers_of, ending_number, have_settings, trap_number, trap_of};
 
-use crate::answers::{Given, Setting, answers_of};
+use crate::answers::{Given, Setting, answers_of, have_settings};
 use crate::requests::{PlainRequest, write_requests};
 use edd_loader::Image;
 use edd_machine::Values;
@@ -27,6 +27,8 @@ pub struct PlainEnding {
 #[derive(Clone, Copy, Debug, PartialEq, Eq)]
 pub enum PlayRefusal {
     Play(PlayFault),
+    /// There are fewer settings than the answers say.
+    Settings,
     /// There is room for another number of values than there are variables.
     Room,
 }
@@ -76,14 +78,8 @@ fn copy_values(numbers: &[i64], room: &mut [i64]) -> bool
     true
 }
 
-/// Plays a method from its start under the answers, which have their settings one after the other,
-/// for at most so many instructions. It writes the requests, as many as there is room for, and the
-/// values as the method left them. It takes memory for the values, the answers and the requests,
-/// and gives it back.
-///
-/// The refusal is the fault of `play`, or says that there is room for another number of values; then
-/// nothing is written.
-pub fn play_into(
+// Plays a method under answers that have their settings.
+fn play_answered(
     alloc: Global,
     image: &Image<'_>,
     method: MethNo,
@@ -96,8 +92,8 @@ pub fn play_into(
 ) -> Result<PlainEnding, PlayRefusal>
     ensures sound { IfOk result (λ shown. Shows image.now method values.now steps
         (answers_of givens.now settings.now) shown requests.old requests.new after.new) }
-    ensures refused { IfErr result (IsPlayRefusal image.now method values.now steps
-        (answers_of givens.now settings.now) (length after.old)) }
+    ensures refused { IfErr result (IsPlayRefusal image.now method values.now steps givens.now
+        settings.now (length after.old)) }
     ensures requests_kept { OnErr result (requests.new ≡ requests.old) }
     ensures after_kept { OnErr result (after.new ≡ after.old) }
 {
@@ -122,4 +118,38 @@ pub fn play_into(
         }
         Err(fault) => Err(PlayRefusal::Play(fault)),
     }
+}
+
+/// Plays a method from its start under the answers, which have their settings one after the other,
+/// for at most so many instructions. It writes the requests, as many as there is room for, and the
+/// values as the method left them. It takes memory for the values, the answers and the requests,
+/// and gives it back.
+///
+/// The refusal says that there are fewer settings than the answers say, is the fault of `play`, or
+/// says that there is room for another number of values; then nothing is written.
+pub fn play_into(
+    alloc: Global,
+    image: &Image<'_>,
+    method: MethNo,
+    values: &[i64],
+    givens: &[Given],
+    settings: &[Setting],
+    steps: u64,
+    requests: &mut [PlainRequest],
+    after: &mut [i64],
+) -> Result<PlainEnding, PlayRefusal>
+    ensures sound { IfOk result (λ shown. Shows image.now method values.now steps
+        (answers_of givens.now settings.now) shown requests.old requests.new after.new) }
+    ensures enough { OnOk result (have_settings givens.now settings.now ≡ true) }
+    ensures refused { IfErr result (IsPlayRefusal image.now method values.now steps givens.now
+        settings.now (length after.old)) }
+    ensures requests_kept { OnErr result (requests.new ≡ requests.old) }
+    ensures after_kept { OnErr result (after.new ≡ after.old) }
+{
+    if !have_settings(givens, settings) {
+        return Err(PlayRefusal::Settings);
+    }
+    play_answered(
+        alloc, image, method, values, givens, settings, steps, requests, after,
+    )
 }

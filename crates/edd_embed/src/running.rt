@@ -170,13 +170,8 @@ fn take_settings(values: &mut [i64], given: Given, settings: &[Setting]) -> Opti
     Some(given.code)
 }
 
-/// Answers the pending request: the first settings, as many as the answer says, are made in their
-/// order, and the code is the request's value. An abort goes on with the abort methods, or ends the
-/// method. Nothing is executed.
-///
-/// The refusal says that the numbers are no session of the image under these values, or why the
-/// answer is not taken; then nothing is written. It takes no memory.
-pub fn answer_session(
+// Answers the pending request by an answer that has its settings.
+fn answer_fully(
     image: &Image<'_>,
     session: &mut PlainSession,
     values: &mut [i64],
@@ -185,8 +180,8 @@ pub fn answer_session(
 ) -> Result<(), SessionRefusal>
     ensures sound { OnOk result (Answers image.now session.old values.old
         (answer_given given settings.now) session.new values.new) }
-    ensures refused { IfErr result (IsSessionRefusal image.now session.old values.old
-        (answer_given given settings.now)) }
+    ensures refused { IfErr result (IsSessionRefusal image.now session.old values.old given
+        settings.now) }
     ensures kept { OnErr result ((session.new ≡ session.old) × (values.new ≡ values.old)) }
 {
     let Some(parts) = parts_of(image, session) else {
@@ -204,6 +199,33 @@ pub fn answer_session(
     go_on(image, &mut machine, code);
     keep(&machine, session);
     Ok(())
+}
+
+/// Answers the pending request: the first settings, as many as the answer says, are made in their
+/// order, and the code is the request's value. An abort goes on with the abort methods, or ends the
+/// method. Nothing is executed.
+///
+/// The refusal says that there are fewer settings than the answer says, that the numbers are no
+/// session of the image under these values, or why the answer is not taken; then nothing is written.
+/// It takes no memory.
+pub fn answer_session(
+    image: &Image<'_>,
+    session: &mut PlainSession,
+    values: &mut [i64],
+    given: Given,
+    settings: &[Setting],
+) -> Result<(), SessionRefusal>
+    ensures sound { OnOk result (Answers image.now session.old values.old
+        (answer_given given settings.now) session.new values.new) }
+    ensures enough { OnOk result (given.settings ≤ length settings.now) }
+    ensures refused { IfErr result (IsSessionRefusal image.now session.old values.old given
+        settings.now) }
+    ensures kept { OnErr result ((session.new ≡ session.old) × (values.new ≡ values.old)) }
+{
+    if settings.len() < given.settings as usize {
+        return Err(SessionRefusal::Settings);
+    }
+    answer_fully(image, session, values, given, settings)
 }
 
 /// Where a session is, by its own numbers: none where they show no turn.

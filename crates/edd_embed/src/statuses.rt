@@ -28,6 +28,9 @@ pub const NO_ROOM: u32 = 261;
 /// The numbers are no session of the image under these values.
 pub const NO_SESSION: u32 = 262;
 
+/// An answer has fewer settings than it says.
+pub const NO_SETTINGS: u32 = 263;
+
 /// The number of the rule that bytes break, or of refused memory.
 pub fn load_status(fault: LoadFault) -> u32
     ensures { result ≡ load_status fault }
@@ -90,6 +93,7 @@ pub fn refusal_status(why: PlayRefusal) -> u32
 {
     match why {
         PlayRefusal::Play(fault) => play_status(fault),
+        PlayRefusal::Settings => NO_SETTINGS,
         PlayRefusal::Room => NO_ROOM,
     }
 }
@@ -119,6 +123,7 @@ pub fn session_status(why: SessionRefusal) -> u32
     ensures { result ≡ session_status why }
 {
     match why {
+        SessionRefusal::Settings => NO_SETTINGS,
         SessionRefusal::NoSession => NO_SESSION,
         SessionRefusal::Refused(fault) => answer_status(fault),
     }

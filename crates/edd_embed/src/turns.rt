@@ -24,6 +24,8 @@ pub struct PlainTurn {
 /// Why an answer is not taken.
 #[derive(Clone, Copy, Debug, PartialEq, Eq)]
 pub enum SessionRefusal {
+    /// There are fewer settings than the answer says.
+    Settings,
     /// The numbers are no session of the image under these values.
     NoSession,
     Refused(AnswerFault),

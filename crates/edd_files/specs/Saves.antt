@@ -61,10 +61,11 @@ abbrev pub IsImageSaving : Option Account → (source image : List ℕ) → Savi
 IsImageSaving account source image s = (s.name ≡ output_name image)
     × (text : List ℕ) × Gave account (input_name source) text × IsImageOf text s.bytes
 
--- What became of a source: it was saved, as an image of so many bytes; or its file gave this text,
--- which is refused for this fault, and nothing was saved.
+-- What became of a source: the image of what its file gave was saved, which has so many bytes; or its
+-- file gave this text, which is refused for this fault, and nothing was saved.
 abbrev pub IsTold : (before after : Option Account) → (source image : List ℕ) → Compiled → Type 0
-IsTold before after source image (Saved count) = (bytes : List ℕ) × (length bytes ≡ count)
+IsTold before after source image (Saved count) = (text bytes : List ℕ)
+    × Gave before (input_name source) text × IsImageOf text bytes × (length bytes ≡ count)
     × (after ≡ option_map (with_saving (image_saving image bytes)) before)
 IsTold before after source image (Refused text fault) =
     Gave before (input_name source) text.items × Explains text.items fault × (after ≡ before)

@@ -1,3 +1,4 @@
+pub mod Done
 pub mod Refusals
 pub mod Runs
 pub mod Saved

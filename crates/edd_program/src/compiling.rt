@@ -1,8 +1,9 @@
 //! What the program does to make an image of a source.
 
-ghost use Rattle.std.specs.Prelude.{IfErr, IfOk};
+ghost use Rattle.std.specs.Prelude.{IfErr, IfOk, OnOk};
 ghost use Rattle.edd_compiler.specs.Images.{IsImageOf};
 ghost use Rattle.edd_files.specs.Saves.{IsImageSaving, SavesOne};
+ghost use Rattle.edd_program.specs.Done.{IsCompiled};
 ghost use Rattle.edd_program.specs.Refusals.{TellsRefusal, TellsRefusalOf};
 
 use crate::stop::Stop;
@@ -22,6 +23,8 @@ pub fn write_image<'a, F: Files, W: Write>(
 ) -> Result<(), Stop<'a>>
     ensures saves { SavesOne (IsImageSaving (F.account files.old) source.now image.now)
         (F.account files.old) (F.account files.new) }
+    ensures done { OnOk result (IsCompiled source.now image.now (F.account files.old)
+        (F.account files.new) (W.contents out.old) (W.contents out.new)) }
     ensures refused { IfErr result (TellsRefusalOf (F.account files.old) source.now) }
 {
     match save_image(alloc, source, image, files)? {

@@ -3,8 +3,11 @@
 //! or nothing, and that no other request saves anything.
 #![tactic(auto)]
 
-ghost use Rattle.std.specs.Prelude.{◌≡◌, ◌≤◌};
+ghost use Rattle.std.specs.Prelude.{◌≡◌, ◌≤◌, [], OnOk};
+ghost use Rattle.std.specs.Io.Buffered.{writer_buffer, writer_contents};
+ghost use Rattle.std.specs.Io.KnownBytes.{Keeps};
 ghost use Rattle.edd_files.specs.Saves.{SavesOne};
+ghost use Rattle.edd_program.specs.Done.{Does};
 ghost use Rattle.edd_program.specs.Saved.{MaySave};
 
 mod compiling;
@@ -44,6 +47,8 @@ pub fn run<F: Files, W: Write>(
     ensures status { result ≤ 4 }
     ensures saves { SavesOne (MaySave request.entry (F.account files.old)) (F.account files.old)
         (F.account files.new) }
+    ensures done { result ≡ 0 → Does request.entry (F.account files.old) (F.account files.new)
+        (W.contents out.old) (W.contents out.new) }
 {
     match print_lines(alloc, request, files, out) {
         Ok(()) => DONE,
@@ -61,23 +66,36 @@ fn print_lines<'a, F: Files, W: Write>(
 ) -> Result<(), Stop<'a>>
     ensures saves { SavesOne (MaySave request.entry (F.account files.old)) (F.account files.old)
         (F.account files.new) }
+    ensures done { OnOk result (Does request.entry (F.account files.old) (F.account files.new)
+        (W.contents out.old) (W.contents out.new)) }
 {
     let Ok(mut lines) = BufWriter::with_capacity(alloc, HELD_BACK, out) else {
         return Err(Stop::Memory);
     };
     let answer = requests::answer(alloc, request, files, &mut lines);
-    let is_written = !matches!(answer, Err(Stop::Output)) && lines.flush().is_ok();
+    let answer = flushed(answer, &mut lines);
     // Taken apart, since a buffer that is dropped tries once more to write what it holds.
     let (_, _) = lines.into_parts();
-    if is_written {
-        answer
-    } else {
-        Err(Stop::Output)
+    answer
+}
+
+// The answer, behind which all lines are written.
+fn flushed<'a, W: Write + Drop>(
+    answer: Result<(), Stop<'a>>,
+    lines: &mut BufWriter<W>,
+) -> Result<(), Stop<'a>>
+    ensures sound { OnOk result (OnOk answer (writer_buffer lines.new ≡ [])) }
+    ensures kept { Keeps (writer_contents W.contents lines.old) (writer_contents W.contents lines.new) }
+{
+    if matches!(answer, Err(Stop::Output)) || lines.flush().is_err() {
+        return Err(Stop::Output);
     }
+    answer
 }
 
 // Says why the program stops, as far as that can be said.
 fn stopped<F: Files, W: Write>(alloc: Global, stop: &Stop<'_>, files: &mut F, out: &mut W) -> u8
+    ensures stopped { 1 ≤ result }
     ensures status { result ≤ 4 }
     ensures kept { F.account files.new ≡ F.account files.old }
 {
@@ -93,7 +111,8 @@ fn stopped<F: Files, W: Write>(alloc: Global, stop: &Stop<'_>, files: &mut F, ou
 
 // Takes no memory itself.
 fn no_memory<W: Write>(out: &mut W) -> u8
-    ensures { result ≤ 4 }
+    ensures stopped { 1 ≤ result }
+    ensures status { result ≤ 4 }
 {
     match out.write_all(b"no memory\n") {
         Ok(()) => MEMORY,

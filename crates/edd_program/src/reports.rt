@@ -46,7 +46,8 @@ pub fn report<W: Write>(alloc: Global, stop: &Stop<'_>, out: &mut W) -> Result<(
 
 /// The exit status of the program that stops so, where that could be printed.
 pub fn status(stop: &Stop<'_>) -> u8
-    ensures { result ≤ 4 }
+    ensures stopped { 1 ≤ result }
+    ensures status { result ≤ 4 }
 {
     match stop {
         Stop::NotCompiled(_)

@@ -1,6 +1,8 @@
 //! What the program does on each request.
 
+ghost use Rattle.std.specs.Prelude.{OnOk};
 ghost use Rattle.edd_files.specs.Saves.{SavesOne};
+ghost use Rattle.edd_program.specs.Done.{Does};
 ghost use Rattle.edd_program.specs.Saved.{MaySave};
 
 use crate::compiling::write_image;
@@ -22,6 +24,8 @@ pub fn answer<'a, F: Files, W: Write>(
 ) -> Result<(), Stop<'a>>
     ensures saves { SavesOne (MaySave request.entry (F.account files.old)) (F.account files.old)
         (F.account files.new) }
+    ensures done { OnOk result (Does request.entry (F.account files.old) (F.account files.new)
+        (W.contents out.old) (W.contents out.new)) }
 {
     match request {
         Request::Compile { source, image } => write_image(alloc, source, image, files, out),

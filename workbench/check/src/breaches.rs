@@ -1,13 +1,16 @@
 //! All rules that a description breaks, but for those that say once more what is said already.
 
-use crate::core::{refused, unit_of};
+use crate::core::{judge, refused, tokens_of, unit_of};
 use crate::refusals::{beyond_limit, number_of};
+use crate::sound::Sound;
 use edd_breaches::RuleFault;
-use edd_findings::Found;
+use edd_compiler::Fault;
+use edd_findings::{Found, Verdict};
 use edd_helps::{Advice, Description, Finding, NameHelp, OtherKinds, explain_breach};
 use edd_lexer::line_of;
 use edd_lexer::token::Token;
 use edd_report::{Diagnostic, Refusal, Report};
+use edd_source::Span;
 use edd_syntax::limits::Limit;
 use std::collections::HashMap;
 
@@ -27,23 +30,69 @@ pub(crate) fn explain_breaches(
         return report;
     };
     let description = Description::of(text, tokens, &unit);
-    let mut told = Told::of(&description, breaches);
+    show_breaches(text, &description, breaches.iter(), &mut report);
+    report
+}
+
+/// Adds the rules that are broken in what is left of a text whose broken parts are taken for blanks, as
+/// far as they do not follow from these. Where whole items are lost, nothing is known of names.
+pub(crate) fn explain_rest(text: &[u8], broken: &[Span], has_lost: bool, report: &mut Report) {
+    let rest = blanked(text, broken);
+    let Verdict::Refused(verdict) = judge(&rest) else {
+        return;
+    };
+    let (fault, _, breaches) = verdict.into_parts();
+    if !matches!(fault, Fault::Rule(_)) {
+        return;
+    }
+    let tokens = tokens_of(&rest);
+    let Some(unit) = unit_of(&rest, &tokens) else {
+        return;
+    };
+    let description = Description::of(&rest, &tokens, &unit);
+    let sound = Sound::of(text, &tokens, broken, has_lost);
+    let known = breaches
+        .iter()
+        .filter(|found| sound.may_tell(&description, found));
+    show_breaches(&rest, &description, known, report);
+}
+
+// Shows breaches, but for those that say once more what is said already.
+fn show_breaches<'f>(
+    text: &[u8],
+    description: &Description<'_>,
+    breaches: impl Iterator<Item = &'f Found> + Clone,
+    report: &mut Report,
+) {
+    let mut told = Told::of(description, breaches.clone());
     for found in breaches {
-        if told.has(&description, found) {
+        if told.has(description, found) {
             continue;
         }
         if report.room() == 0 {
             report.pass(1);
             continue;
         }
-        let mut finding = explain_breach(&description, found);
-        told.add(&description, found, &mut finding);
-        let line = found.rule.place().map(|at| line_of(text, tokens, at));
+        let mut finding = explain_breach(description, found);
+        told.add(description, found, &mut finding);
+        let at = found.rule.place();
+        let line = at.map(|at| line_of(text, description.tokens(), at));
         let refusal = Refusal::of_rule(&found.rule, line);
         let refusal = refusal.unwrap_or_else(|| refused::<Refusal>());
         report.show(Diagnostic::refused(refusal, finding));
     }
-    report
+}
+
+// A text in which some bytes are taken for blanks.
+fn blanked(text: &[u8], broken: &[Span]) -> Vec<u8> {
+    let mut rest = text.to_vec();
+    for span in broken {
+        let bytes = rest.get_mut(span.range()).unwrap_or_default();
+        for byte in bytes.iter_mut().filter(|byte| **byte != b'\n') {
+            *byte = b' ';
+        }
+    }
+    rest
 }
 
 // Whether a fault is none of the breaches that are listed.
@@ -63,7 +112,7 @@ struct Told<'f> {
 
 impl<'f> Told<'f> {
     // Nothing of these breaches.
-    fn of(description: &Description<'_>, breaches: &[Found]) -> Told<'f> {
+    fn of(description: &Description<'_>, breaches: impl Iterator<Item = &'f Found>) -> Told<'f> {
         Told {
             names: HashMap::new(),
             kinds: OtherKinds::of(description, breaches),

@@ -19,9 +19,10 @@
 mod breaches;
 mod core;
 mod refusals;
+mod sound;
 mod warnings;
 
-pub use warnings::{LINTS, Levels, Lint};
+pub use edd_lints::{LINTS, Level, Levels, Lint};
 
 use edd_findings::Verdict;
 use edd_report::Report;

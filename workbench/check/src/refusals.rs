@@ -1,10 +1,10 @@
 //! All that is said of a text that is refused. The compiler's refusal comes first.
 
-use crate::breaches::explain_breaches;
+use crate::breaches::{explain_breaches, explain_rest};
 use crate::core::{refused, tokens_of};
 use edd_compiler::Fault;
 use edd_findings::Found;
-use edd_helps::{Finding, Later, RuleHelp, TextFault, explain as explain_fault, explain_later};
+use edd_helps::{Finding, Later, RuleHelp, TextFault, explain as explain_fault, recover};
 use edd_lexer::line_of;
 use edd_lexer::token::Token;
 use edd_report::{Diagnostic, Refusal, Report};
@@ -54,13 +54,15 @@ fn explain_text(text: &[u8], tokens: &[Token], fault: &TextFault, refusal: Refus
         report.show(image_for_source(refusal, explained.finding.span));
         return report;
     }
-    report.show(Diagnostic::refused(refusal, explained.finding));
+    report.show(Diagnostic::refused(refusal, explained.finding.clone()));
     if let Some(from) = explained.resumes_at {
-        let (later, more) = explain_later(text, from, fault, report.room());
-        for fault in later {
-            report.show(later_diagnostic(fault));
+        let found = recover(text, (fault, &explained.finding), from, report.room());
+        report.pass(found.more);
+        let (broken, has_lost) = (found.broken, found.has_lost);
+        for later in found.later {
+            report.show(later_diagnostic(later));
         }
-        report.pass(more);
+        explain_rest(text, &broken, has_lost, &mut report);
     }
     report
 }

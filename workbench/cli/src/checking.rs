@@ -2,7 +2,7 @@
 
 use crate::failure::Failure;
 use core_std::alloc::Global;
-use edd_check::{Checked, LINTS, Levels, Lint};
+use edd_check::{Checked, LINTS, Level, Levels, Lint};
 use edd_files::{FileFault, Files, read_marked};
 use edd_helps::Finding;
 use edd_report::{Diagnostic, Refusal, Report, Style, json_lines, sarif, text};
@@ -28,15 +28,9 @@ pub(crate) struct Diagnosis<'t>(Checked<'t>);
 /// It stands for every lint.
 const ALL: &str = "all";
 
-/// The name and the meaning of each lint.
-pub(crate) fn lints() -> impl Iterator<Item = (&'static str, &'static str)> {
-    LINTS.into_iter().map(|lint| (lint.name(), lint.meaning()))
-}
-
 /// The names of all lints, with commas.
 pub(crate) fn lint_names() -> String {
-    let names: Vec<_> = lints().map(|(name, _)| name).collect();
-    names.join(", ")
+    LINTS.map(Lint::name).join(", ")
 }
 
 impl LintLevels {
@@ -56,10 +50,10 @@ impl LintLevels {
         let mut levels = Levels::default();
         for lint in LINTS {
             if is_among(allowed, lint) {
-                levels.allow(lint);
+                levels.set(lint, Level::Allow);
             }
             if is_among(denied, lint) {
-                levels.deny(lint);
+                levels.set(lint, Level::Deny);
             }
         }
         Ok(LintLevels(levels))

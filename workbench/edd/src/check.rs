@@ -104,7 +104,7 @@ impl From<&edd_report::Diagnostic> for Diagnostic {
     fn from(diagnostic: &edd_report::Diagnostic) -> Diagnostic {
         let (severity, name) = match &diagnostic.kind {
             Kind::Refused(refusal) => (Severity::Refused, refusal.name()),
-            Kind::Warned(warning) => (Severity::Warning, warning.lint),
+            Kind::Warned(warning) => (Severity::Warning, warning.lint().name()),
         };
         let here = diagnostic.helps.iter().filter(|help| help.span.is_none());
         let related = diagnostic.related().map(|(span, help)| Related {

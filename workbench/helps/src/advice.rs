@@ -20,8 +20,8 @@ pub enum Advice {
     Rule(RuleHelp),
     /// A word of a script.
     Script(ScriptHelp),
-    /// What another package says, as a lint of a second place.
-    Note(String),
+    /// Where what a lint found is in conflict with.
+    OtherPlace,
 }
 
 impl fmt::Display for Advice {
@@ -34,7 +34,7 @@ impl fmt::Display for Advice {
             Advice::Name(help) => help.fmt(f),
             Advice::Rule(help) => help.fmt(f),
             Advice::Script(help) => help.fmt(f),
-            Advice::Note(note) => f.write_str(note),
+            Advice::OtherPlace => f.write_str("the other place is"),
         }
     }
 }

@@ -25,17 +25,6 @@ pub struct Explained {
     pub resumes_at: Option<usize>,
 }
 
-/// What is said of the fault of a later item.
-#[derive(Debug)]
-pub struct Later {
-    /// The fault. Its places are those of the item alone.
-    pub fault: TextFault,
-    /// The line of the fault, counted from 1, where it has one.
-    pub line: Option<u32>,
-    /// Where it is shown, and what helps.
-    pub finding: Finding,
-}
-
 /// The fault of a text that spells no unit, with the tokens that it has.
 pub fn text_fault(text: &[u8]) -> Option<(Vec<Token>, TextFault)> {
     match lex(text) {
@@ -53,22 +42,4 @@ pub fn explain(text: &[u8], tokens: &[Token], fault: &TextFault) -> Explained {
         TextFault::Lex(fault) => text::explain(text, fault),
         TextFault::Parse(fault) => syntax::explain(text, tokens, fault),
     }
-}
-
-/// The faults of the items that begin at a place or after it, of which the first fault of the text is
-/// known: what is said of at most so many, and how many more there are.
-pub fn explain_later(
-    text: &[u8],
-    from: usize,
-    first: &TextFault,
-    most: usize,
-) -> (Vec<Later>, usize) {
-    let faults = syntax::later_faults(text, from, first);
-    let more = faults.len().saturating_sub(most);
-    let explained = faults.into_iter().take(most).map(|later| Later {
-        line: later.line(),
-        finding: later.explain().finding,
-        fault: later.fault,
-    });
-    (explained.collect(), more)
 }

@@ -22,6 +22,7 @@ mod core;
 mod explaining;
 mod help;
 mod near;
+mod recovery;
 mod rules;
 mod script;
 mod sentences;
@@ -30,12 +31,11 @@ mod syntax;
 mod text;
 
 pub use advice::Advice;
-pub use explaining::{Explained, Later, TextFault, explain, explain_later, text_fault};
+pub use explaining::{Explained, TextFault, explain, text_fault};
 pub use help::{Finding, Help};
-pub use rules::{
-    Description, Foreign, NameHelp, OtherKinds, OtherType, RuleHelp, explain_breach,
-};
-pub use script::{ScriptSlip, ScriptHelp, Wrong, explain_script};
+pub use recovery::{Later, Recovered, recover};
+pub use rules::{Description, Foreign, NameHelp, OtherKinds, OtherType, RuleHelp, explain_breach};
+pub use script::{ScriptHelp, ScriptSlip, Wrong, explain_script};
 pub use slips::Slip;
 pub use syntax::{Fitting, SyntaxHelp};
 pub use text::{CharacterHelp, CharacterLooks, TextHelp};

@@ -2,8 +2,10 @@
 
 mod arguments;
 mod description;
+mod enumerators;
 mod foreign;
 mod members;
+mod name_help;
 mod names;
 mod other_types;
 mod sentences;
@@ -11,7 +13,7 @@ mod sentences;
 pub use description::Description;
 pub use foreign::Foreign;
 pub use members::OtherKinds;
-pub use names::NameHelp;
+pub use name_help::NameHelp;
 pub use other_types::OtherType;
 pub use sentences::RuleHelp;
 
@@ -29,7 +31,9 @@ pub fn explain_breach(description: &Description<'_>, found: &Found) -> Finding {
         start: place.start,
         end: place.end,
     }));
-    let at = found.at.map(|at| usize::try_from(at.0).unwrap_or(usize::MAX));
+    let at = found
+        .at
+        .map(|at| usize::try_from(at.0).unwrap_or(usize::MAX));
     say_own(description, &found.rule, at, &mut finding);
     let earlier = found
         .earlier
@@ -61,7 +65,12 @@ fn say_own(
             }
         }
         RuleFault::OtherType { word, .. } => say_type(word, finding),
-        RuleFault::Mismatch { .. } => finding.say(help_of_mismatch(word)),
+        RuleFault::Mismatch { .. } => {
+            finding.say(help_of_mismatch(word));
+            if let Some(at) = at {
+                say_hidden(description, at, finding);
+            }
+        }
         RuleFault::BreakOutside { .. } => finding.say(if word == Keyword::Continue.spelling() {
             RuleHelp::ContinueOutside
         } else {
@@ -75,10 +84,29 @@ fn say_own(
         RuleFault::TooMany(limit) => finding.say(RuleHelp::Limit(*limit)),
         RuleFault::FloatVariable(_) => finding.say(RuleHelp::FloatVariable),
         RuleFault::BadSize(_) => finding.say(RuleHelp::Size),
-        RuleFault::FloatValue { .. } => finding.say(RuleHelp::FloatValue),
+        RuleFault::FloatValue { .. } => finding.say(help_of_float(description, at)),
         RuleFault::ConstRange { .. } => finding.say(RuleHelp::Constant),
         _ => {}
     }
+}
+
+// What is said of a number that is not whole.
+fn help_of_float(description: &Description<'_>, at: Option<usize>) -> RuleHelp {
+    let function = at.and_then(|at| arguments::called_around(description, at));
+    match function {
+        Some(Builtin::Ask(RequestKind::Delay)) => RuleHelp::WholeSeconds,
+        _ => RuleHelp::FloatValue,
+    }
+}
+
+// Says of an argument that is to be a variable of the device, and is a local with its name, where that
+// is declared.
+fn say_hidden(description: &Description<'_>, at: usize, finding: &mut Finding) {
+    let Some((number, name)) = arguments::local_for_variable(description, at) else {
+        return;
+    };
+    let name = name.to_owned();
+    finding.say_at(description.span(number), NameHelp::HidesVariable { name });
 }
 
 // Says which type may be meant by a word.

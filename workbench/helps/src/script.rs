@@ -4,7 +4,7 @@ mod lines;
 mod reasons;
 mod words;
 
-pub use reasons::{ScriptSlip, ScriptHelp};
+pub use reasons::{ScriptHelp, ScriptSlip};
 
 use crate::Finding;
 use crate::core::made;

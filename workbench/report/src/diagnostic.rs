@@ -2,6 +2,7 @@
 
 use crate::Refusal;
 use edd_helps::{Finding, Help};
+use edd_lints::Lint;
 use edd_source::{Fix, Span};
 use std::fmt;
 
@@ -28,12 +29,19 @@ pub enum Kind {
 /// What a lint found.
 #[derive(Clone, Debug, PartialEq, Eq)]
 pub struct Warning {
-    /// The name of the lint.
-    pub lint: &'static str,
     /// What it found.
-    pub message: String,
+    pub kind: edd_lints::Kind,
     /// Whether the lint is denied.
     pub is_denied: bool,
+    /// The changes that may mend it.
+    pub fixes: Vec<Fix>,
+}
+
+impl Warning {
+    /// The lint that found it.
+    pub fn lint(&self) -> Lint {
+        self.kind.lint()
+    }
 }
 
 /// How bad it is.
@@ -94,7 +102,7 @@ impl Diagnostic {
     pub fn lint(&self) -> Option<&'static str> {
         match &self.kind {
             Kind::Refused(_) => None,
-            Kind::Warned(warning) => Some(warning.lint),
+            Kind::Warned(warning) => Some(warning.lint().name()),
         }
     }
 
@@ -107,7 +115,12 @@ impl Diagnostic {
 
     /// The changes that mend it, the most likely first.
     pub fn fixes(&self) -> impl Iterator<Item = &Fix> {
-        self.helps.iter().filter_map(|help| help.fix.as_ref())
+        let found = match &self.kind {
+            Kind::Refused(_) => &[],
+            Kind::Warned(warning) => warning.fixes.as_slice(),
+        };
+        let helped = self.helps.iter().filter_map(|help| help.fix.as_ref());
+        helped.chain(found)
     }
 }
 
@@ -115,7 +128,7 @@ impl fmt::Display for Kind {
     fn fmt(&self, f: &mut fmt::Formatter<'_>) -> fmt::Result {
         match self {
             Kind::Refused(refusal) => refusal.fmt(f),
-            Kind::Warned(warning) => f.write_str(&warning.message),
+            Kind::Warned(warning) => warning.kind.fmt(f),
         }
     }
 }

@@ -58,9 +58,7 @@ fn rich_of(diagnostic: &Diagnostic) -> rich::Diagnostic<()> {
         Some(refusal) => format!("{} {}", refusal.name(), refusal.detail()),
         None => diagnostic.kind.to_string(),
     };
-    let first = diagnostic
-        .span
-        .map(|span| Label::primary((), span.range()));
+    let first = diagnostic.span.map(|span| Label::primary((), span.range()));
     let others = diagnostic.related().map(|(span, help)| {
         Label::secondary((), span.range()).with_message(help.advice.to_string())
     });

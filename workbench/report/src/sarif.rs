@@ -66,7 +66,7 @@ fn notice_of(source: &Source<'_>, report: &Report) -> Option<Notice> {
 fn outcome_of(source: &Source<'_>, diagnostic: &Diagnostic, rules: &mut Rules) -> Outcome {
     let (id, name) = match &diagnostic.kind {
         Kind::Refused(refusal) => (refusal.number().to_string(), refusal.name()),
-        Kind::Warned(warning) => (warning.lint.to_owned(), warning.lint),
+        Kind::Warned(warning) => (warning.lint().name().to_owned(), warning.lint().name()),
     };
     Outcome {
         rule_index: rules.place_of(&id, name),

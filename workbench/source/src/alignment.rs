@@ -124,14 +124,16 @@ fn goes_on(byte: Option<&u8>) -> bool {
 fn is_word_at(line: &[u8], place: usize, word: &[u8]) -> bool {
     let end = place.saturating_add(word.len());
     let before = piece(line, 0, place).last();
-    let is_part = goes_on(before) && goes_on(word.first())
-        || goes_on(line.get(end)) && goes_on(word.last());
+    let is_part =
+        goes_on(before) && goes_on(word.first()) || goes_on(line.get(end)) && goes_on(word.last());
     piece(line, place, end) == word && !is_part
 }
 
 // The place of a word that is between two places once.
 fn only_place(line: &[u8], within: Span, word: &[u8]) -> Option<usize> {
-    let mut places = within.range().filter(|place| is_word_at(line, *place, word));
+    let mut places = within
+        .range()
+        .filter(|place| is_word_at(line, *place, word));
     let first = places.next()?;
     places.next().is_none().then_some(first)
 }

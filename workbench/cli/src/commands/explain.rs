@@ -1,8 +1,8 @@
 //! `edd explain`: what refusals mean and what lints find.
 
-use crate::checking::lints;
 use crate::command_line::Explain;
 use crate::failure::Failure;
+use edd_check::{LINTS, Level, Lint};
 use edd_explain::{Explanation, all, by_name, by_number};
 use std::io::Write;
 
@@ -21,9 +21,8 @@ pub(crate) fn run(args: &Explain, out: &mut impl Write) -> Result<(), Failure> {
         writeln!(out, "{number} {name}\n\n{explanation}")?;
         return Ok(());
     }
-    if let Some((name, meaning)) = lints().find(|(name, _)| name == what) {
-        writeln!(out, "{name}: {meaning}")?;
-        return Ok(());
+    if let Some(lint) = Lint::from_name(what) {
+        return print_lint(lint, out);
     }
     Err(match number {
         Ok(_) => Failure::NoNumber(what.clone()),
@@ -37,8 +36,14 @@ fn list(is_of_lints: bool, out: &mut impl Write) -> Result<(), Failure> {
             writeln!(out, "{number} {name}")?;
         }
     }
-    for (name, meaning) in lints() {
-        writeln!(out, "{name}: {meaning}")?;
-    }
+    LINTS.into_iter().try_for_each(|lint| print_lint(lint, out))
+}
+
+fn print_lint(lint: Lint, out: &mut impl Write) -> Result<(), Failure> {
+    let level = match lint.level() {
+        Level::Allow => " (off unless denied)",
+        Level::Warn | Level::Deny => "",
+    };
+    writeln!(out, "{}: {}{level}", lint.name(), lint.summary())?;
     Ok(())
 }

@@ -29,4 +29,10 @@ needs; or the values after edd_play have not one place for each variable.",
 another image, or a value was changed to one out of its variable's range. Start the method
 anew with edd_start.",
     ),
+    Explanation::new(
+        263,
+        "NO_SETTINGS",
+        "An answer for edd_reply, or the answers for edd_play together, say that they have more
+settings than setting_count is. Nothing was changed. Give a list that has all of them.",
+    ),
 ];

@@ -3,6 +3,7 @@
 //! A name that is proposed has to come about by a slip of typing: one that is chosen on purpose, as
 //! `upper` beside `lower` or `out_min` beside `out_max`, would give a text that means another thing.
 
+use super::parts::slips_in_parts;
 use super::typing::{Slips, slips_between};
 use strsim::levenshtein;
 
@@ -21,8 +22,8 @@ enum Among {
 // How many edits are few enough for a name.
 fn most_of_name(length: usize) -> usize {
     match length {
-        0..=3 => 0,
-        4..=5 => 1,
+        0..=2 => 0,
+        3..=5 => 1,
         _ => 2,
     }
 }
@@ -137,7 +138,7 @@ impl<'w, 'a> Nearest<'w, 'a> {
         match (slips_between(self.word, word, edits), self.among) {
             (Slips::Swapped, _) => Some(1),
             (Slips::Typed, _) | (Slips::Chosen, Among::Words) => Some(edits),
-            (Slips::Chosen, Among::Names) => None,
+            (Slips::Chosen, Among::Names) => slips_in_parts(self.word, word),
         }
     }
 

@@ -39,6 +39,47 @@ pub(super) fn kind_wanted(description: &Description<'_>, number: usize) -> Optio
     }
 }
 
+/// The function of which what stands at a token is the first argument, or a part of it.
+pub(super) fn called_around(description: &Description<'_>, number: usize) -> Option<Builtin> {
+    let (function, before) = function_around(description, number)?;
+    (before == 0)
+        .then(|| Builtin::named(description.word(function)))
+        .flatten()
+}
+
+/// The argument of the function at a token that is to be a variable of the device and is a local with
+/// the name of one: the token that declares it, and the name.
+pub(super) fn local_for_variable<'a>(
+    description: &Description<'a>,
+    function: usize,
+) -> Option<(usize, &'a str)> {
+    let parameters = Builtin::named(description.word(function))?.parameters();
+    let first = function.saturating_add(2);
+    let arguments = first
+        ..first
+            .saturating_add(LONGEST)
+            .min(description.tokens().len());
+    let (mut open, mut commas) = (0_usize, 0_usize);
+    for number in arguments {
+        if is_sign(description.tokens(), number, Symbol::OpenParenthesis) {
+            open = open.saturating_add(1);
+        } else if is_sign(description.tokens(), number, Symbol::CloseParenthesis) {
+            open = open.checked_sub(1)?;
+        } else if is_sign(description.tokens(), number, Symbol::Comma) && open == 0 {
+            commas = commas.saturating_add(1);
+        }
+        let name = description.word(number);
+        let is_wanted = parameters.get(commas) == Some(&Parameter::DeviceVariable);
+        let is_variable = description
+            .item(name)
+            .is_some_and(|item| item.kind() == Kind::Variable);
+        if is_wanted && is_variable {
+            return Some((description.local_before(name, number)?, name));
+        }
+    }
+    None
+}
+
 // The function whose argument is at a token, by the token of its name, and how many arguments are
 // before it.
 fn function_around(description: &Description<'_>, number: usize) -> Option<(usize, usize)> {

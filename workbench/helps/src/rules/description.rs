@@ -1,15 +1,17 @@
 //! A description that breaks rules, and the names that it declares.
 
-use crate::near::Nearest;
+use super::enumerators::Enumerators;
+use crate::near::{Nearest, names_alike};
 use edd_lexer::token::{Token, TokenKind};
-use edd_source::tokens::{is_sign, word_of};
+use edd_source::tokens::{is_sign, is_word, word_of};
 use edd_source::{Outline, Span};
 use edd_syntax::item::{Attribute, Item};
 use edd_syntax::numbers::{Kind, TokenNo};
 use edd_syntax::operators::BUILTINS;
 use edd_syntax::reference::Path;
-use edd_syntax::symbols::Symbol;
+use edd_syntax::symbols::{Keyword, Symbol};
 use edd_syntax::unit::Unit;
+use std::cell::OnceCell;
 use std::collections::HashMap;
 use std::fmt;
 
@@ -30,6 +32,7 @@ pub struct Description<'a> {
     /// in order.
     names: Vec<(&'a str, usize)>,
     declared: HashMap<&'a str, usize>,
+    enumerators: OnceCell<Enumerators<'a>>,
 }
 
 impl fmt::Debug for Description<'_> {
@@ -76,7 +79,32 @@ impl<'a> Description<'a> {
             placed,
             names,
             declared,
+            enumerators: OnceCell::new(),
         }
+    }
+
+    /// The enumerators of the variables, which are looked for when one is asked for.
+    pub(super) fn enumerators(&self) -> &Enumerators<'a> {
+        self.enumerators
+            .get_or_init(|| Enumerators::of(self.text, self.tokens, self))
+    }
+
+    /// The names of items, members and locals that have a word of this one.
+    pub(super) fn names_alike(&self, name: &str) -> Vec<&'a str> {
+        let names = self.names.iter().take(MOST_NAMES).map(|(other, _)| *other);
+        names_alike(name, names)
+    }
+
+    /// The local of this name that is declared before a token, in the item around it.
+    pub(super) fn local_before(&self, name: &str, number: usize) -> Option<usize> {
+        let first = self.around(number).map(|(_, item)| number_of(item.at()))?;
+        let is_local = |at: &usize| {
+            let before = at.saturating_sub(1);
+            let is_type = is_word(self.tokens, before, Keyword::Int)
+                || is_word(self.tokens, before, Keyword::Long);
+            is_type && self.word(*at) == name
+        };
+        (first..number).rev().find(is_local)
     }
 
     /// The place of a token by its number.
@@ -109,6 +137,17 @@ impl<'a> Description<'a> {
     /// The item whose name is a token.
     pub(super) fn item_at(&self, name: usize) -> Option<&'a Item<Path>> {
         self.placed.get(&name).copied()
+    }
+
+    /// The number of the first item with a name.
+    pub fn item_named(&self, name: &str) -> Option<usize> {
+        self.number_of_item(number_of(self.item(name)?.at()))
+    }
+
+    /// The number of the item whose name is a token.
+    pub(super) fn number_of_item(&self, name: usize) -> Option<usize> {
+        let (index, item) = self.around(name.saturating_add(1))?;
+        (number_of(item.at()) == name).then_some(index)
     }
 
     /// The item around a token, the last whose name is before it, with its number.

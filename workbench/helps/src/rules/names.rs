@@ -1,209 +1,20 @@
-//! What is said of a name that means nothing where it is, or something of another kind.
+//! What helps where a name means nothing, or something of another kind.
 
-use super::Foreign;
 use super::arguments::{kind_wanted, parameter_at};
 use super::description::{Description, number_of};
-use super::sentences::named_kind;
+use super::enumerators::compared_with;
+use super::{Foreign, NameHelp};
 use crate::near::Nearest;
 use crate::slips::slip_of_left_out;
 use crate::{Advice, Finding};
-use edd_lexer::token::TokenKind;
+use edd_lexer::token::{Token, TokenKind};
 use edd_source::Confidence;
-use edd_source::tokens::{is_sign, kind_word};
+use edd_source::tokens::is_sign;
 use edd_syntax::item::Item;
 use edd_syntax::numbers::Kind;
-use edd_syntax::operators::Builtin;
+use edd_syntax::operators::{Builtin, Parameter};
 use edd_syntax::reference::Path;
 use edd_syntax::symbols::Symbol;
-use std::fmt;
-
-/// What is said of a name.
-#[derive(Clone, Debug, PartialEq, Eq)]
-pub enum NameHelp {
-    /// A name that other languages have, or EDDL elsewhere.
-    Foreign(Foreign),
-    /// The nearest name.
-    Meant {
-        /// It.
-        near: String,
-    },
-    /// Two names that are as near.
-    EitherMeant {
-        /// One of them.
-        near: String,
-        /// The other one.
-        other: String,
-    },
-    /// A collection has no such member.
-    NoMember {
-        /// The name.
-        name: String,
-    },
-    /// No function has the name.
-    NoFunction {
-        /// The name.
-        name: String,
-    },
-    /// Nothing has the name: how a local is declared.
-    DeclareLocal {
-        /// The name.
-        name: String,
-    },
-    /// Nothing has the name: how an item is declared.
-    DeclareItem {
-        /// The kind of the item.
-        kind: Kind,
-        /// The name.
-        name: String,
-    },
-    /// A method is named as an argument.
-    MethodWithoutParentheses {
-        /// The method.
-        name: String,
-    },
-    /// A method is called.
-    MethodIsNotCalled {
-        /// The method.
-        name: String,
-    },
-    /// An array is read by an element.
-    ElementOfArray {
-        /// The array.
-        name: String,
-    },
-    /// A collection is read by a member.
-    MemberOfCollection {
-        /// The collection.
-        name: String,
-    },
-    /// A command is sent by its number.
-    CommandByNumber {
-        /// The command.
-        name: String,
-    },
-    /// An item is called as a function.
-    NotAFunction {
-        /// The item.
-        name: String,
-        /// Its kind.
-        kind: Kind,
-    },
-    /// A name means something elsewhere.
-    MeansNothingHere {
-        /// The name.
-        name: String,
-    },
-    /// What an item is.
-    IsOfKind {
-        /// The item.
-        name: String,
-        /// Its kind.
-        kind: Kind,
-    },
-    /// A name is that of a local.
-    IsLocal {
-        /// The local.
-        name: String,
-    },
-    /// A function without its parentheses.
-    CallFunction {
-        /// The function.
-        function: Builtin,
-    },
-    /// A member that has no members.
-    HasNoMembers {
-        /// The member.
-        name: String,
-    },
-    /// A member of another kind.
-    OtherKindOfMember {
-        /// The member.
-        name: String,
-    },
-}
-
-impl fmt::Display for NameHelp {
-    fn fmt(&self, f: &mut fmt::Formatter<'_>) -> fmt::Result {
-        match self {
-            NameHelp::Foreign(foreign) => foreign.fmt(f),
-            NameHelp::Meant { near } => write!(f, "{near} may be meant"),
-            NameHelp::EitherMeant { near, other } => write!(f, "{near} or {other} may be meant"),
-            NameHelp::NoMember { name } => write!(f, "the collection has no member {name}"),
-            NameHelp::NoFunction { name } => write!(f, "no function has the name {name}"),
-            NameHelp::DeclareLocal { name } => write!(
-                f,
-                "nothing has this name: a local is declared before it is used, by int {name};"
-            ),
-            NameHelp::DeclareItem { kind, name } => {
-                let (of, attributes) = shape_of(*kind);
-                let word = kind_word(*kind);
-                write!(
-                    f,
-                    "nothing has this name: an item is declared by {word}{of} {name} {attributes}"
-                )
-            }
-            NameHelp::MethodWithoutParentheses { name } => write!(
-                f,
-                "a METHOD is named here without parentheses; {name} is declared"
-            ),
-            NameHelp::MethodIsNotCalled { name } => write!(
-                f,
-                "{name} is a METHOD, which no method calls; it is declared"
-            ),
-            NameHelp::ElementOfArray { name } => write!(
-                f,
-                "an element of an ARRAY is read as {name}[..]; {name} is declared"
-            ),
-            NameHelp::MemberOfCollection { name } => write!(
-                f,
-                "a member of a COLLECTION is read as {name}.member; {name} is declared"
-            ),
-            NameHelp::CommandByNumber { name } => write!(
-                f,
-                "a command is sent by its NUMBER, as in send_command(1); {name} is declared"
-            ),
-            NameHelp::NotAFunction { name, kind } => write!(
-                f,
-                "{name} is {} and no function; it is declared",
-                named_kind(*kind)
-            ),
-            NameHelp::MeansNothingHere { name } => {
-                write!(f, "{name} means nothing here, but is declared")
-            }
-            NameHelp::IsOfKind { name, kind } => {
-                write!(f, "{name} is {}, which is declared", named_kind(*kind))
-            }
-            NameHelp::IsLocal { name } => write!(f, "{name} is a local, which is declared"),
-            NameHelp::CallFunction { function } => {
-                let name = function.name();
-                if function.parameters().is_empty() {
-                    write!(f, "a function is called with parentheses: {name}();")
-                } else {
-                    write!(f, "{name} is a function: its arguments stand in ( )")
-                }
-            }
-            NameHelp::HasNoMembers { name } => write!(
-                f,
-                "{name} has no members: only those of a COLLECTION OF COLLECTION have"
-            ),
-            NameHelp::OtherKindOfMember { name } => {
-                write!(f, "the member {name} is of another kind than fits here")
-            }
-        }
-    }
-}
-
-// How an item of a kind begins, in short.
-fn shape_of(kind: Kind) -> (&'static str, &'static str) {
-    match kind {
-        Kind::Variable => ("", "{ TYPE ..; }"),
-        Kind::Command => ("", "{ NUMBER ..; OPERATION ..; TRANSACTION { .. } }"),
-        Kind::Menu => ("", "{ ITEMS { .. } }"),
-        Kind::Collection => (" OF VARIABLE", "{ MEMBERS { .. } }"),
-        Kind::Method => ("", "{ DEFINITION { .. } }"),
-        Kind::Array => (" OF VARIABLE", "{ ELEMENTS { .. } }"),
-    }
-}
 
 /// Says what helps where a name means nothing: where it does, the nearest one, or how it is declared.
 pub(super) fn say_unknown(
@@ -271,6 +82,7 @@ fn say_new(
     let nearest = description.nearest(name, is_member);
     let statement = statement_meant(description, name, number);
     match (nearest.found.or(statement), nearest.other) {
+        (None, _) if !is_member && say_text(description, name, number, finding) => {}
         (Some(near), None) => {
             let fix = finding.replacement(near, Confidence::Guess);
             let near = near.to_owned();
@@ -283,8 +95,118 @@ fn say_new(
         (None, _) if is_member => finding.say(NameHelp::NoMember {
             name: name.to_owned(),
         }),
-        (None, _) => finding.say(help_to_declare(description, name, number)),
+        (None, _) => finding.say(help_unknown(description, name, number)),
     }
+}
+
+// Says that a name is the text of an enumerator, whose number is meant. Returns whether it is one.
+fn say_text(
+    description: &Description<'_>,
+    name: &str,
+    number: usize,
+    finding: &mut Finding,
+) -> bool {
+    let compared = compared_with(description, number);
+    let Some(enumerator) = description.enumerators().named(name, compared) else {
+        return false;
+    };
+    let (word, variable) = (description.word(enumerator.number), enumerator.variable);
+    // Where something else is compared, or a text is shown, the number is not meant.
+    if compared != Some(variable) {
+        return false;
+    }
+    let fix = finding.replacement(word, Confidence::Guess);
+    finding.propose(
+        NameHelp::TextOfEnumerator {
+            name: name.to_owned(),
+            number: word.to_owned(),
+            variable: variable.to_owned(),
+        },
+        fix,
+    );
+    let variable = variable.to_owned();
+    let place = description.span(enumerator.number);
+    finding.say_at(place, NameHelp::EnumeratorIsThere { variable });
+    true
+}
+
+// What is said of a name that no other one is near to.
+fn help_unknown(description: &Description<'_>, name: &str, number: usize) -> NameHelp {
+    if let Some(help) = qualifier_meant(description, name, number) {
+        return help;
+    }
+    let next = number.saturating_add(1);
+    let is_called = is_sign(description.tokens(), next, Symbol::OpenParenthesis);
+    if !is_called && is_capital(name) && is_number_wanted(description, number) {
+        let name = name.to_owned();
+        return NameHelp::Macro { name };
+    }
+    let names = description.names_alike(name);
+    if !is_called && !names.is_empty() {
+        let names = names.into_iter().map(str::to_owned).collect();
+        return NameHelp::Alike { names };
+    }
+    help_to_declare(description, name, number)
+}
+
+// Whether a name has capitals alone, as those of macros.
+fn is_capital(name: &str) -> bool {
+    let has_letter = name.bytes().any(|byte| byte.is_ascii_uppercase());
+    1 < name.len() && has_letter && !name.bytes().any(|byte| byte.is_ascii_lowercase())
+}
+
+// Whether a number may stand at a token: it is not in a list, which has names alone.
+fn is_number_wanted(description: &Description<'_>, number: usize) -> bool {
+    let tokens = description.tokens();
+    let is_list = [Symbol::Dot, Symbol::OpenBracket]
+        .iter()
+        .any(|sign| is_sign(tokens, number.saturating_add(1), *sign));
+    let kind = description.around(number).map(|(_, item)| item.kind());
+    let has_numbers = match kind {
+        Some(Kind::Method) => {
+            parameter_at(description, number).is_none_or(|parameter| parameter == Parameter::Number)
+        }
+        Some(Kind::Variable) => true,
+        _ => open_parenthesis_before(tokens, number),
+    };
+    !is_list && has_numbers
+}
+
+// Whether a parenthesis is open right before a token, or a comparison stands there, as in a condition.
+fn open_parenthesis_before(tokens: &[Token], number: usize) -> bool {
+    let before = number.checked_sub(1).and_then(|before| tokens.get(before));
+    before.is_some_and(|token| {
+        matches!(
+            token.kind,
+            TokenKind::Symbol(
+                Symbol::OpenParenthesis
+                    | Symbol::Comparison(_)
+                    | Symbol::Operator(_)
+                    | Symbol::LogicalAnd
+                    | Symbol::LogicalOr
+            )
+        )
+    })
+}
+
+// The qualifier that is meant by a word right behind what a menu shows.
+fn qualifier_meant(description: &Description<'_>, name: &str, number: usize) -> Option<NameHelp> {
+    let (_, item) = description.around(number)?;
+    let before = number.checked_sub(1)?;
+    let is_behind_name = description.tokens().get(before)?.kind == TokenKind::Name;
+    if item.kind() != Kind::Menu || !is_behind_name || name.len() < 4 {
+        return None;
+    }
+    let qualifier = ["READ_ONLY", "HIDDEN", "REVIEW", "DISPLAY_VALUE"]
+        .into_iter()
+        .find(|qualifier| {
+            let begins = qualifier.get(..name.len());
+            begins.is_some_and(|begins| begins.eq_ignore_ascii_case(name))
+        })?;
+    Some(NameHelp::Qualifier {
+        item: description.word(before).to_owned(),
+        qualifier,
+    })
 }
 
 // The word of a statement that is misspelled, where a name stands alone as one.

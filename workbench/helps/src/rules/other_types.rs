@@ -48,9 +48,7 @@ impl OtherType {
         for other in TYPES {
             nearest.look(other);
         }
-        nearest
-            .alone()
-            .map_or(OtherType::Unknown, OtherType::Meant)
+        nearest.alone().map_or(OtherType::Unknown, OtherType::Meant)
     }
 }
 

@@ -64,6 +64,8 @@ pub enum RuleHelp {
     Size,
     /// A number that is not whole.
     FloatValue,
+    /// DELAY takes whole seconds.
+    WholeSeconds,
     /// A constant or a mask that is out of range.
     Constant,
     /// Two equal labels.
@@ -183,6 +185,7 @@ impl RuleHelp {
             RuleHelp::FloatValue => {
                 "numbers are whole, without a point or an exponent: take a smaller unit"
             }
+            RuleHelp::WholeSeconds => "DELAY waits for whole seconds, and for no part of one",
             RuleHelp::Constant => "a constant is an octet, 0 to 255, and a mask is not 0",
             RuleHelp::CaseIsThere => "this case is there already",
             RuleHelp::NumberIsThere => "this number is there already",

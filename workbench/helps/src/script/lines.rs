@@ -12,7 +12,10 @@ pub(super) fn wrong_in_line<'a>(image: &Image<'_>, line: &'a str) -> (Word<'a>, 
     match first.text {
         "set" => wrong_in_set(image, &words),
         "answer" => wrong_in_answer(image, &words),
-        "abort" => (word_at(&words, 1), Why::Slip(ScriptSlip::NothingBehindAbort)),
+        "abort" => (
+            word_at(&words, 1),
+            Why::Slip(ScriptSlip::NothingBehindAbort),
+        ),
         text => (first, wrong_in_first(text)),
     }
 }

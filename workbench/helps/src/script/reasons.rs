@@ -101,7 +101,11 @@ impl fmt::Display for ScriptHelp {
                 "`{word}` is no code, a decimal number of 32 bits: `answer CODE NAME=N ..`"
             ),
             ScriptHelp::NoBeginning { is_capital } => {
-                let more = if *is_capital { ", in small letters" } else { "" };
+                let more = if *is_capital {
+                    ", in small letters"
+                } else {
+                    ""
+                };
                 write!(
                     f,
                     "a line of a script begins with set, answer or abort{more}"

@@ -2,9 +2,9 @@
 
 use super::{Placed, Slip};
 use edd_lexer::token::{Token, TokenKind};
-use edd_syntax::symbols::{Keyword, Symbol};
 use edd_source::Span;
 use edd_source::tokens::{is_sign, item_kind, word_of};
+use edd_syntax::symbols::{Keyword, Symbol};
 
 /// How many tokens are looked at for where a statement begins.
 const LONGEST: usize = 64;
@@ -204,6 +204,14 @@ pub(crate) fn opened(tokens: &[Token], number: usize, from: usize, pair: Pair) -
         }
     }
     None
+}
+
+/// The number of the parenthesis that the token of a number closes.
+pub(crate) fn opening_parenthesis(tokens: &[Token], closing: usize) -> Option<usize> {
+    if !is_sign(tokens, closing, Symbol::CloseParenthesis) {
+        return None;
+    }
+    opened(tokens, closing, 0, PARENTHESES)
 }
 
 /// The word before the parentheses that the token of a number closes.

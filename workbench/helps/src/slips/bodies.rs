@@ -1,17 +1,18 @@
 //! Slips in the bodies of methods that are known by the tokens around them.
 use super::around::{
-    Around, At, BRACES, PARENTHESES, is_joined, is_keyword, is_symbol, on, opened,
+    Around, At, BRACES, PARENTHESES, is_integer, is_joined, is_keyword, is_symbol, on,
+    open_parenthesis, opened, word_before,
 };
 use super::branches::{lone_else, no_condition, no_word};
 use super::values::value_slip;
+use super::words::{are_one_function, slip_of_branch, slip_of_label, slip_of_statement};
+use super::{Placed, Slip};
 use edd_lexer::token::{Token, TokenKind};
+use edd_source::Outline;
+use edd_source::tokens::{is_sign, is_word};
 use edd_syntax::numbers::{Attr, Kind};
 use edd_syntax::operators::Operator;
 use edd_syntax::symbols::{Keyword, Symbol};
-use super::words::{are_one_function, slip_of_branch, slip_of_statement};
-use super::{Placed, Slip};
-use edd_source::Outline;
-use edd_source::tokens::{is_sign, is_word};
 
 /// How many tokens are looked at for the `for` whose parts these are.
 const LONGEST: usize = 64;
@@ -40,12 +41,8 @@ fn part_of_for(around: &Around<'_>) -> Option<Placed> {
     let slip = match (around.token.kind, around.word(around.token)) {
         (TokenKind::Symbol(Symbol::Semicolon), _) => Slip::ForHasThreeParts,
         (TokenKind::Symbol(Symbol::Colon | Symbol::CloseParenthesis), _)
-        | (TokenKind::Name, "in" | "of" | "to") => {
-            Slip::ForIsWritten
-        }
-        (TokenKind::Symbol(Symbol::Comma), _) => {
-            Slip::ForPartIsOneExpression
-        }
+        | (TokenKind::Name, "in" | "of" | "to") => Slip::ForIsWritten,
+        (TokenKind::Symbol(Symbol::Comma), _) => Slip::ForPartIsOneExpression,
         _ => return None,
     };
     let word = open_before(around)?.checked_sub(1)?;
@@ -85,9 +82,7 @@ fn cut_off(around: &Around<'_>) -> Option<Placed> {
             | Symbol::OpenParenthesis
             | Symbol::Comma,
         ) => around.on_before(Slip::ValueAfterSign),
-        TokenKind::Keyword(Keyword::MethodElse) => {
-            around.on_before(Slip::StatementAfterElse)
-        }
+        TokenKind::Keyword(Keyword::MethodElse) => around.on_before(Slip::StatementAfterElse),
         TokenKind::Symbol(Symbol::CloseParenthesis) => {
             let word = around.word_before()?;
             match word.kind {
@@ -119,7 +114,7 @@ fn half_of_do(around: &Around<'_>) -> Option<Placed> {
         Symbol::CloseParenthesis,
     );
     let slip = if is_while {
-        Slip::WhileAndDo
+        Slip::DoLeftOut
     } else {
         Slip::DoEndsWithWhile
     };
@@ -147,11 +142,16 @@ fn after_word(around: &Around<'_>) -> Option<Placed> {
                 Some(TokenKind::Keyword(Keyword::Int | Keyword::Long)) => {
                     around.on_before(Slip::LocalIsDeclared)
                 }
-                _ if around.is_second() => around.on_before(Slip::NoLabels),
+                _ if around.is_second() => {
+                    around.on_before(slip_of_label(around.word(around.before)))
+                }
                 _ => None,
             }
         }
-        TokenKind::Name if around.token.kind == TokenKind::Name && are_one_function(around.word(around.before), around.word(around.token)) => {
+        TokenKind::Name
+            if around.token.kind == TokenKind::Name
+                && are_one_function(around.word(around.before), around.word(around.token)) =>
+        {
             around.here(Slip::FunctionIsOneWord)
         }
         TokenKind::Name if begins(around) => {
@@ -175,6 +175,52 @@ fn goes_on_with_value(around: &Around<'_>) -> bool {
                 )
         )
     )
+}
+
+// A `for` in capitals, whose parts are no arguments.
+fn capital_for(around: &Around<'_>) -> Option<Placed> {
+    if !around.is(Symbol::Semicolon) {
+        return None;
+    }
+    let word = around.at.tokens.get(open_before(around)?.checked_sub(1)?)?;
+    let name = around.word(word);
+    if word.kind == TokenKind::Name && name.eq_ignore_ascii_case("for") {
+        return on(word, Slip::ForMeant);
+    }
+    None
+}
+
+// A `do` after the condition of a `while`, and one statement without braces.
+fn do_after_while(around: &Around<'_>) -> Option<Placed> {
+    if !around.follows(Symbol::Semicolon) {
+        return None;
+    }
+    let last = around.at.number.checked_sub(1)?;
+    let before = around.at.tokens.get(..last)?.iter().rev();
+    let inside = before.take(LONGEST).take_while(|token| {
+        !matches!(
+            token.kind,
+            TokenKind::Keyword(Keyword::Do)
+                | TokenKind::Symbol(Symbol::Semicolon | Symbol::OpenBrace | Symbol::CloseBrace)
+        )
+    });
+    let number = last.checked_sub(inside.count())?.checked_sub(1)?;
+    let word = word_before(around.at.tokens, number.checked_sub(1)?)?;
+    if is_word(around.at.tokens, number, Keyword::Do) && is_keyword(word, Keyword::While) {
+        return on(around.at.tokens.get(number)?, Slip::DoLeftOut);
+    }
+    None
+}
+
+// An element of an array in braces.
+fn element_in_braces(around: &Around<'_>) -> Option<Placed> {
+    let is_element = around.is(Symbol::OpenBrace)
+        && around.before.kind == TokenKind::Name
+        && is_joined(around.before, around.token)
+        && is_integer(around.at.ahead()?)
+        && open_parenthesis(around.at).is_some();
+    is_element.then_some(())?;
+    around.here(Slip::ElementInBrackets)
 }
 
 // A call after which no `;` comes: a branch whose word is another one, or in capitals.
@@ -237,9 +283,7 @@ fn in_place(around: &Around<'_>) -> Option<Placed> {
         (
             TokenKind::Symbol(Symbol::OpenParenthesis | Symbol::Comma | Symbol::Equals),
             TokenKind::Symbol(Symbol::Operator(Operator::And | Operator::Multiply)),
-        ) if is_joined(around.token, around.at.ahead()?) => {
-            around.here(Slip::VariableWithoutSign)
-        }
+        ) if is_joined(around.token, around.at.ahead()?) => around.here(Slip::VariableWithoutSign),
         _ => None,
     }
 }
@@ -249,7 +293,9 @@ pub(crate) fn statement_slip(around: &Around<'_>) -> Option<Placed> {
     if !around.at.is_in_body() {
         return None;
     }
-    no_condition(around)
+    capital_for(around)
+        .or_else(|| element_in_braces(around))
+        .or_else(|| no_condition(around))
         .or_else(|| in_place(around))
         .or_else(|| no_word(around))
         .or_else(|| after_parentheses(around))
@@ -257,6 +303,7 @@ pub(crate) fn statement_slip(around: &Around<'_>) -> Option<Placed> {
         .or_else(|| cut_off(around))
         .or_else(|| part_of_for(around))
         .or_else(|| half_of_do(around))
+        .or_else(|| do_after_while(around))
         .or_else(|| value_slip(around))
 }
 
@@ -308,16 +355,10 @@ pub(crate) fn early_end(at: At<'_>, outline: &Outline) -> Option<Placed> {
         return None;
     }
     let slip = match outline.opened(at.tokens, at.number) {
-        None if begins_attribute(at) => {
-            Slip::BraceEndsItem
-        }
+        None if begins_attribute(at) => Slip::BraceEndsItem,
         _ if !begins_statement(at) => return None,
-        None if outline.kind_before(at.number) == Some(Kind::Method) => {
-            Slip::BraceEndsMethod
-        }
-        Some(open) if is_behind_body(at, outline, open) => {
-            Slip::BraceEndsBody
-        }
+        None if outline.kind_before(at.number) == Some(Kind::Method) => Slip::BraceEndsMethod,
+        Some(open) if is_behind_body(at, outline, open) => Slip::BraceEndsBody,
         _ => return None,
     };
     on(brace, slip)

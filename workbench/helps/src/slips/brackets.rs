@@ -1,20 +1,16 @@
 //! Slips at parentheses, brackets and braces: those that are missing, or that do not belong there.
+use super::around::{Around, is_integer, is_symbol};
 use super::lists::{List, is_before_entry, list_around};
-use super::shapes::is_after_type;
+use super::shapes::{is_after_type, is_type};
+use super::{Placed, Slip};
 use edd_lexer::token::TokenKind;
+use edd_source::tokens::item_kind;
 use edd_syntax::operators::Operator;
 use edd_syntax::symbols::Symbol;
-use super::around::{Around, is_integer, is_symbol};
-use super::{Placed, Slip};
-use edd_source::tokens::item_kind;
 
 // Whether the token before is the first of a member.
 fn begins_member(around: &Around<'_>) -> bool {
-    list_around(around) == Some(List::Members)
-        && around
-            .at
-            .back(2)
-            .is_some_and(is_before_entry)
+    list_around(around) == Some(List::Members) && around.at.back(2).is_some_and(is_before_entry)
 }
 
 // A number after another one, after a type, or in brackets.
@@ -42,9 +38,7 @@ fn open_parenthesis(around: &Around<'_>) -> Option<Placed> {
     match around.before.kind {
         TokenKind::String => around.here(Slip::TextHasNoQualifiers),
         TokenKind::Name if !is_after_type(around) && item_kind(around.at.back(2)?).is_none() => {
-            around.on_before(
-                Slip::FunctionsInMethodsAlone,
-            )
+            around.on_before(Slip::FunctionsInMethodsAlone)
         }
         _ => None,
     }
@@ -75,10 +69,12 @@ fn bare_enumerator(around: &Around<'_>) -> Option<Placed> {
 
 // Parentheses with nothing in them, outside of methods.
 fn empty_parentheses(around: &Around<'_>) -> Option<Placed> {
-    if around.follows(Symbol::OpenParenthesis)
-        && around.at.back(2)?.kind == TokenKind::Name
-        && !around.at.is_in_body()
-    {
+    let word = around.at.back(2)?;
+    let is_empty = around.follows(Symbol::OpenParenthesis) && !around.at.is_in_body();
+    if is_empty && is_type(around.word(word)) {
+        return around.on_before(Slip::SizeInTheseParentheses);
+    }
+    if is_empty && word.kind == TokenKind::Name {
         return around.on_before(Slip::NameWithoutParentheses);
     }
     None

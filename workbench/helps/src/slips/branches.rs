@@ -1,9 +1,7 @@
 //! Slips at `else` and at conditions.
 
+use super::around::{Around, PARENTHESES, is_integer, is_keyword, on, open_brace, word_before};
 use super::{Placed, Slip};
-use super::around::{
-    Around, PARENTHESES, is_integer, is_keyword, on, open_brace, word_before,
-};
 use edd_lexer::token::{Token, TokenKind};
 use edd_syntax::symbols::{Keyword, Symbol};
 
@@ -91,10 +89,7 @@ pub(crate) fn no_word(around: &Around<'_>) -> Option<Placed> {
     }
     let open = around.opening(PARENTHESES)?;
     if around.statement() == open {
-        return on(
-            around.at.tokens.get(open)?,
-            Slip::WordBeforeParentheses,
-        );
+        return on(around.at.tokens.get(open)?, Slip::WordBeforeParentheses);
     }
     None
 }

@@ -1,10 +1,10 @@
 //! Slips in the lists of attributes.
-use edd_lexer::token::{Token, TokenKind};
-use edd_syntax::operators::Operator;
-use edd_syntax::symbols::{Keyword, Symbol};
-use super::around::{Around, is_integer, is_symbol, open_brace};
+use super::around::{Around, is_integer, is_symbol, open_brace, open_parenthesis};
 use super::{Placed, Slip};
+use edd_lexer::token::{Token, TokenKind};
 use edd_source::tokens::item_kind;
+use edd_syntax::operators::{Comparison, Operator};
+use edd_syntax::symbols::{Keyword, Symbol};
 
 /// The lists in whose braces a token may be.
 #[derive(Clone, Copy, PartialEq, Eq)]
@@ -80,12 +80,8 @@ fn slip_of_first(list: List, token: TokenKind) -> Option<Slip> {
             TokenKind::Name | TokenKind::String | TokenKind::Symbol(Symbol::OpenBracket),
         ) => Slip::ElementBeginsWithNumber,
         (List::Members, TokenKind::Integer(_) | TokenKind::String) => Slip::MemberBeginsWithName,
-        (List::Codes, TokenKind::Name | TokenKind::String) => {
-            Slip::CodeBeginsWithNumber
-        }
-        (List::Enumerators, TokenKind::Integer(_) | TokenKind::String) => {
-            Slip::EnumeratorHasBraces
-        }
+        (List::Codes, TokenKind::Name | TokenKind::String) => Slip::CodeBeginsWithNumber,
+        (List::Enumerators, TokenKind::Integer(_) | TokenKind::String) => Slip::EnumeratorHasBraces,
         (_, TokenKind::Symbol(Symbol::OpenBrace)) => return slip_of_braces(list),
         _ => return None,
     };
@@ -108,6 +104,47 @@ fn has_two_texts(around: &Around<'_>) -> bool {
     around.before.kind == TokenKind::String
         && around.at.is_back(2, Symbol::Comma)
         && around.at.kind_back(3) == Some(TokenKind::String)
+}
+
+// The parenthesis that is open at the token, in a list.
+fn has_open_parenthesis(around: &Around<'_>) -> bool {
+    open_parenthesis(around.at).is_some()
+}
+
+// Qualifiers with a sign between them, or whose parenthesis is not closed.
+fn qualifier(around: &Around<'_>) -> Option<Placed> {
+    if list_around(around)? != List::Items || !has_open_parenthesis(around) {
+        return None;
+    }
+    let sign = Symbol::Operator(Operator::And);
+    if around.is(sign) || around.is(Symbol::Operator(Operator::Or)) {
+        return around.here(Slip::QualifiersSideBySide);
+    }
+    let is_qualifier = matches!(
+        around.word(around.token),
+        "READ_ONLY" | "HIDDEN" | "REVIEW" | "DISPLAY_VALUE"
+    );
+    if around.follows(Symbol::Comma) && !is_qualifier {
+        return around.on_before(Slip::QualifiersNotClosed);
+    }
+    None
+}
+
+// An enumerator whose brace is not closed before the next one.
+fn open_enumerator(around: &Around<'_>) -> Option<Placed> {
+    let brace = open_brace(around.at.tokens, around.at.number)?;
+    let outer = open_brace(around.at.tokens, brace)?;
+    let is_next = around.is(Symbol::OpenBrace) && around.follows(Symbol::Comma);
+    let is_after_text = around.at.kind_back(2) == Some(TokenKind::String);
+    if is_next && is_after_text && list_at(around, outer)? == List::Enumerators {
+        return around.on_before(Slip::EnumeratorNotClosed);
+    }
+    None
+}
+
+// Whether the token comes after the number of a mask.
+fn is_in_mask(around: &Around<'_>) -> bool {
+    is_integer(around.before) && around.at.is_back(2, Symbol::Comparison(Comparison::Less))
 }
 
 // What goes on in an entry of a list.
@@ -139,9 +176,10 @@ fn slip_of_next(around: &Around<'_>, list: List) -> Option<Slip> {
             Slip::MenuHasNoExpressions
         }
         (List::Message, TokenKind::Symbol(Symbol::Operator(Operator::And))) => Slip::MaskIsWritten,
-        (List::Message, TokenKind::Symbol(Symbol::Operator(_))) => {
-            Slip::MessageHasNoExpressions
+        (List::Message, TokenKind::Symbol(Symbol::Comma)) if is_in_mask(around) => {
+            Slip::MaskIsOneNumber
         }
+        (List::Message, TokenKind::Symbol(Symbol::Operator(_))) => Slip::MessageHasNoExpressions,
         _ => return None,
     };
     Some(slip)
@@ -156,7 +194,9 @@ fn number_after_name(around: &Around<'_>, list: List) -> Option<Placed> {
         (List::Elements, TokenKind::Symbol(Symbol::Comma)) => {
             around.on_before(Slip::SemicolonForComma)
         }
-        (List::Message, TokenKind::Symbol(Symbol::OpenParenthesis)) => around.on_before(Slip::MaskIsWritten),
+        (List::Message, TokenKind::Symbol(Symbol::OpenParenthesis)) => {
+            around.on_before(Slip::MaskIsWritten)
+        }
         _ => None,
     }
 }
@@ -208,6 +248,8 @@ fn entry(around: &Around<'_>, list: List) -> Option<Placed> {
 pub(crate) fn list_slip(around: &Around<'_>) -> Option<Placed> {
     let list = list_around(around);
     lone_comma(around)
+        .or_else(|| open_enumerator(around))
+        .or_else(|| qualifier(around))
         .or_else(|| enumerator(around))
         .or_else(|| named_with_kind(around))
         .or_else(|| number_after_name(around, list?))

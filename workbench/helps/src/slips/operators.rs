@@ -1,17 +1,18 @@
 //! Slips that are known by the tokens around them, each with its own words.
+use super::around::{Around, At, is_integer, is_joined, is_keyword, on, open_parenthesis};
+use super::bodies::statement_slip;
 use super::brackets::bracket_slip;
 use super::lists::list_slip;
+use super::nesting::nesting_slip;
 use super::shapes::shape_slip;
 use super::signs::{are_one_sign, slip_of_signs};
 use super::words::{is_else_if, slip_of_type};
-use edd_lexer::token::{Token, TokenKind};
-use edd_syntax::operators::Operator;
-use edd_syntax::symbols::{Keyword, Symbol};
-use super::around::{Around, At, is_integer, is_joined, is_keyword, on, open_parenthesis};
 use super::{Placed, Slip};
-use super::bodies::statement_slip;
+use edd_lexer::token::{Token, TokenKind};
 use edd_source::Span;
 use edd_source::tokens::{is_sign, item_kind};
+use edd_syntax::operators::Operator;
+use edd_syntax::symbols::{Keyword, Symbol};
 
 // A slip of two signs that are joined.
 fn joined(around: &Around<'_>, one: &Token, other: &Token) -> Option<Placed> {
@@ -71,10 +72,7 @@ fn words(around: &Around<'_>) -> Option<Placed> {
     let is_branch = is_else_if(word);
     let next = around.statement().saturating_add(1);
     if is_branch && is_sign(around.at.tokens, next, Symbol::OpenParenthesis) {
-        return on(
-            first,
-            Slip::ElseIfIsWritten,
-        );
+        return on(first, Slip::ElseIfIsWritten);
     }
     if next == around.at.number {
         return on(first, slip_of_type(word)?);
@@ -98,6 +96,9 @@ fn declaration(around: &Around<'_>) -> Option<Placed> {
     if around.is(Symbol::OpenBracket) {
         return around.here(Slip::LocalIsOneNumber);
     }
+    if around.is(Symbol::OpenParenthesis) && around.before.kind == TokenKind::Name {
+        return on(around.before, Slip::NoFunctions);
+    }
     if !are_names(around) {
         return None;
     }
@@ -118,12 +119,8 @@ fn misplaced_type(around: &Around<'_>) -> Option<Placed> {
     let slip = match around.before.kind {
         TokenKind::Keyword(Keyword::Int | Keyword::Long) => Slip::LocalHasOneType,
         TokenKind::Keyword(Keyword::Method) => Slip::MethodHasNoType,
-        TokenKind::Symbol(Symbol::OpenParenthesis) if is_cast(around)? => {
-            Slip::NoCasts
-        }
-        TokenKind::Name if around.is_on_line() && around.at.is_in_body() => {
-            Slip::TypeBeforeName
-        }
+        TokenKind::Symbol(Symbol::OpenParenthesis) if is_cast(around)? => Slip::NoCasts,
+        TokenKind::Name if around.is_on_line() && around.at.is_in_body() => Slip::TypeBeforeName,
         _ if is_keyword(around.at.back(2)?, Keyword::For) => Slip::LocalBeforeLoop,
         _ => return None,
     };
@@ -165,9 +162,7 @@ fn joined_texts(around: &Around<'_>) -> Option<Placed> {
 // A second text of an attribute, after a comma.
 fn second_text(around: &Around<'_>) -> Option<Placed> {
     match (around.at.back(2)?.kind, around.at.ahead()?.kind) {
-        (TokenKind::Keyword(_), TokenKind::String) => {
-            around.here(Slip::TextHasAllLanguages)
-        }
+        (TokenKind::Keyword(_), TokenKind::String) => around.here(Slip::TextHasAllLanguages),
         _ => None,
     }
 }
@@ -265,9 +260,7 @@ fn neighbours(around: &Around<'_>) -> Option<Placed> {
     let is_word = matches!(around.token.kind, TokenKind::Name | TokenKind::Keyword(_));
     let is_joined = is_joined(around.before, around.token);
     match around.before.kind {
-        TokenKind::String if is_word && is_joined => {
-            around.here(Slip::QuoteInText)
-        }
+        TokenKind::String if is_word && is_joined => around.here(Slip::QuoteInText),
         TokenKind::Name if around.is(Symbol::Operator(Operator::Subtract)) && is_joined => {
             around.here(Slip::NameHasLetters)
         }
@@ -295,10 +288,7 @@ fn marks(around: &Around<'_>) -> Option<Placed> {
     let line = text_from(around.at.text, first);
     if line.starts_with(b"<<<<<<<") || line.starts_with(b"=======") || line.starts_with(b">>>>>>>")
     {
-        return on(
-            first,
-            Slip::MarkOfMerge,
-        );
+        return on(first, Slip::MarkOfMerge);
     }
     let second = around.at.tokens.get(around.at.first.saturating_add(2))?;
     let are_words = second.kind == TokenKind::Name && second.line == first.line;
@@ -311,7 +301,8 @@ fn marks(around: &Around<'_>) -> Option<Placed> {
 /// A slip that is known by the tokens around the one that does not fit.
 pub(crate) fn slip_at(at: At<'_>) -> Option<Placed> {
     let around = Around::of(at)?;
-    neighbours(&around)
+    nesting_slip(&around)
+        .or_else(|| neighbours(&around))
         .or_else(|| marks(&around))
         .or_else(|| shape_slip(&around))
         .or_else(|| list_slip(&around))

@@ -26,6 +26,12 @@ impl Placed {
                 (place, "", Confidence::Guess)
             }
             Slip::DefaultForElse => (place, "default", Confidence::Guess),
+            Slip::EnumeratorNotClosed => (here, " }", Confidence::Sure),
+            Slip::QualifiersNotClosed => (here, ")", Confidence::Sure),
+            Slip::QualifiersSideBySide => (place, "", Confidence::Guess),
+            Slip::DefaultMeant => (place, "default", Confidence::Guess),
+            Slip::CaseMeant => (place, "case", Confidence::Guess),
+            Slip::DoLeftOut => (place, "", Confidence::Guess),
             Slip::IfMeant => (place, "if", Confidence::Sure),
             Slip::WhileMeant => (place, "while", Confidence::Sure),
             Slip::ForMeant => (place, "for", Confidence::Sure),

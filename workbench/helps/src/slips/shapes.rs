@@ -1,11 +1,11 @@
 //! Slips in the shape of items, attributes and types.
+use super::around::{Around, is_integer, is_joined, is_keyword};
+use super::{Placed, Slip};
 use edd_lexer::token::{Token, TokenKind};
+use edd_source::tokens::item_kind;
 use edd_syntax::numbers::{Attr, Kind, ValueKind};
 use edd_syntax::operators::Operator;
 use edd_syntax::symbols::{Keyword, Symbol};
-use super::around::{Around, is_integer, is_joined, is_keyword};
-use super::{Placed, Slip};
-use edd_source::tokens::item_kind;
 
 // The kind of the item whose name is the token before.
 fn kind_named(around: &Around<'_>) -> Option<Kind> {
@@ -22,20 +22,12 @@ fn kind_named(around: &Around<'_>) -> Option<Kind> {
 // What is said of an item that has no braces.
 fn slip_of_item(kind: Kind) -> Slip {
     match kind {
-        Kind::Variable => {
-            Slip::VariableWithoutBraces
-        }
+        Kind::Variable => Slip::VariableWithoutBraces,
         Kind::Command => Slip::CommandWithoutBraces,
         Kind::Menu => Slip::MenuWithoutBraces,
-        Kind::Collection => {
-            Slip::CollectionWithoutBraces
-        }
-        Kind::Method => {
-            Slip::MethodWithoutBraces
-        }
-        Kind::Array => {
-            Slip::ArrayWithoutBraces
-        }
+        Kind::Collection => Slip::CollectionWithoutBraces,
+        Kind::Method => Slip::MethodWithoutBraces,
+        Kind::Array => Slip::ArrayWithoutBraces,
     }
 }
 
@@ -45,12 +37,8 @@ fn late_of(around: &Around<'_>) -> Option<Placed> {
         return None;
     }
     let slip = match around.before.kind {
-        TokenKind::Keyword(Keyword::Array) => {
-            Slip::ArrayOfBeforeName
-        }
-        TokenKind::Keyword(Keyword::Collection) => {
-            Slip::CollectionOfBeforeName
-        }
+        TokenKind::Keyword(Keyword::Array) => Slip::ArrayOfBeforeName,
+        TokenKind::Keyword(Keyword::Collection) => Slip::CollectionOfBeforeName,
         _ => return None,
     };
     around.here(slip)
@@ -68,8 +56,9 @@ fn item(around: &Around<'_>) -> Option<Placed> {
         TokenKind::Symbol(Symbol::OpenBracket) if kind == Kind::Array => {
             around.here(Slip::ArrayHasNoSize)
         }
-        TokenKind::Symbol(Symbol::OpenParenthesis) if kind == Kind::Method => around
-            .here(Slip::MethodTakesNothing),
+        TokenKind::Symbol(Symbol::OpenParenthesis) if kind == Kind::Method => {
+            around.here(Slip::MethodTakesNothing)
+        }
         _ if item_kind(around.token).is_some() => around.behind(slip_of_item(kind)),
         _ => None,
     }
@@ -83,12 +72,8 @@ fn slip_of_list(word: Keyword) -> Option<Slip> {
         Keyword::Members => Slip::MembersInBraces,
         Keyword::Request => Slip::RequestInBraces,
         Keyword::Reply => Slip::ReplyInBraces,
-        Keyword::ResponseCodes => {
-            Slip::CodesInBraces
-        }
-        Keyword::Transaction => {
-            Slip::MessagesInBraces
-        }
+        Keyword::ResponseCodes => Slip::CodesInBraces,
+        Keyword::Transaction => Slip::MessagesInBraces,
         Keyword::Definition => Slip::StatementsInBraces,
         _ => return None,
     };
@@ -102,9 +87,7 @@ fn no_braces(around: &Around<'_>) -> Option<Placed> {
     };
     let slip = slip_of_list(word)?;
     match around.token.kind {
-        TokenKind::Symbol(Symbol::Semicolon) => {
-            around.here(Slip::ListWithoutBraces)
-        }
+        TokenKind::Symbol(Symbol::Semicolon) => around.here(Slip::ListWithoutBraces),
         TokenKind::Symbol(Symbol::OpenBracket | Symbol::OpenParenthesis) => {
             let is_number = word == Keyword::Transaction && is_integer(around.at.ahead()?);
             around.here(if is_number {
@@ -123,12 +106,8 @@ fn bracket_of_type(around: &Around<'_>) -> Option<Placed> {
         return None;
     }
     match around.word(around.before) {
-        "ENUMERATED" | "BIT_ENUMERATED" => {
-            around.here(Slip::EnumeratorsInBraces)
-        }
-        "INTEGER" | "UNSIGNED_INTEGER" => {
-            around.here(Slip::SizeInParentheses)
-        }
+        "ENUMERATED" | "BIT_ENUMERATED" => around.here(Slip::EnumeratorsInBraces),
+        "INTEGER" | "UNSIGNED_INTEGER" => around.here(Slip::SizeInParentheses),
         _ => None,
     }
 }
@@ -161,9 +140,7 @@ fn value(around: &Around<'_>) -> Option<Placed> {
         return None;
     }
     let slip = match word {
-        Keyword::Class => {
-            Slip::ClassesWithoutBrackets
-        }
+        Keyword::Class => Slip::ClassesWithoutBrackets,
         Keyword::Handling => Slip::HandlingWithoutBrackets,
         Keyword::Validity => Slip::ValidityWithoutBrackets,
         Keyword::Operation => Slip::OperationWithoutBrackets,
@@ -192,9 +169,7 @@ fn type_of_c(around: &Around<'_>) -> Option<Placed> {
         | Keyword::Char
         | Keyword::Short
         | Keyword::Signed
-        | Keyword::Unsigned => {
-            Slip::TypeOfVariable
-        }
+        | Keyword::Unsigned => Slip::TypeOfVariable,
         Keyword::Float | Keyword::Double => Slip::NoFloat,
         _ => return None,
     };
@@ -216,8 +191,13 @@ fn parted_type(around: &Around<'_>) -> Option<Placed> {
 
 /// Whether the word before the token is that of a type.
 pub(crate) fn is_after_type(around: &Around<'_>) -> bool {
+    is_type(around.word(around.before))
+}
+
+/// Whether a word is that of a type.
+pub(crate) fn is_type(word: &str) -> bool {
     matches!(
-        around.word(around.before),
+        word,
         "INTEGER" | "UNSIGNED_INTEGER" | "ENUMERATED" | "BIT_ENUMERATED"
     )
 }
@@ -228,9 +208,7 @@ fn after_type(around: &Around<'_>) -> Option<Placed> {
         return None;
     }
     let slip = match around.token.kind {
-        TokenKind::Symbol(Symbol::Equals) => {
-            Slip::DefaultInBraces
-        }
+        TokenKind::Symbol(Symbol::Equals) => Slip::DefaultInBraces,
         TokenKind::Name
         | TokenKind::Keyword(Keyword::Unsigned | Keyword::Signed | Keyword::Int) => {
             Slip::TypeIsOneWord

@@ -1,9 +1,11 @@
 //! Slips in the values of methods, and in what functions take.
 use super::around::{Around, is_integer, is_symbol, open_parenthesis};
-use edd_lexer::token::TokenKind;
-use edd_syntax::symbols::{Keyword, Symbol};
 use super::words::{is_misspelled_type, is_operator, is_unit};
 use super::{Placed, Slip};
+use crate::near::Nearest;
+use edd_lexer::token::TokenKind;
+use edd_syntax::operators::{BUILTINS, Builtin};
+use edd_syntax::symbols::{Keyword, Symbol};
 
 // Whether a sign stands in the statement before the token.
 fn has_sign(around: &Around<'_>, sign: Symbol) -> bool {
@@ -55,23 +57,31 @@ fn signs(around: &Around<'_>) -> Option<Placed> {
 fn no_value(around: &Around<'_>) -> Option<Placed> {
     match around.token.kind {
         _ if !around.follows(Symbol::Equals) => None,
-        TokenKind::Keyword(Keyword::MethodIf) => {
-            around.here(Slip::ChoiceIsWritten)
-        }
-        TokenKind::Symbol(Symbol::OpenBrace) => {
-            around.here(Slip::LocalHasOneValue)
-        }
+        TokenKind::Keyword(Keyword::MethodIf) => around.here(Slip::ChoiceIsWritten),
+        TokenKind::Symbol(Symbol::OpenBrace) => around.here(Slip::LocalHasOneValue),
         _ => None,
     }
+}
+
+// Whether a name is that of a function, or by a slip of typing.
+fn is_function(name: &str) -> bool {
+    let mut nearest = Nearest::to(name);
+    for function in BUILTINS {
+        nearest.look(function.name());
+    }
+    Builtin::named(name).is_some() || nearest.found.is_some()
 }
 
 // What stands right after a name that begins a statement.
 fn after_first_name(around: &Around<'_>) -> Option<Placed> {
     let is_in_braces = around.is(Symbol::OpenBrace) && is_integer(around.at.ahead()?);
-    if is_integer(around.token) || is_in_braces {
+    let before = around.word(around.before);
+    if is_function(before) && (is_integer(around.token) || is_in_braces) {
         return around.here(Slip::ArgumentInParentheses);
     }
-    let before = around.word(around.before);
+    if is_integer(around.token) && around.is_on_line() {
+        return around.here(Slip::AssignmentOrSemicolon);
+    }
     let is_assigned = around.token.kind == TokenKind::Name
         && around.is_on_line()
         && !is_operator(before)
@@ -118,8 +128,7 @@ fn side_by_side(around: &Around<'_>) -> Option<Placed> {
     let is_first = around.is_second();
     match around.before.kind {
         TokenKind::Integer(_)
-            if around.token.kind == TokenKind::Name
-                && is_unit(around.word(around.token)) =>
+            if around.token.kind == TokenKind::Name && is_unit(around.word(around.token)) =>
         {
             around.here(Slip::NumberWithoutUnit)
         }

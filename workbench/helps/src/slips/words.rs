@@ -1,6 +1,7 @@
 //! Words of other languages, and what is said where they stand.
 
 use super::Slip;
+use crate::near::Nearest;
 
 /// A word before a name that other languages have there.
 pub(crate) fn slip_of_type(word: &str) -> Option<Slip> {
@@ -26,6 +27,7 @@ pub(crate) fn slip_of_statement(word: &str) -> Option<Slip> {
         "try" | "catch" | "throw" => Slip::NoTry,
         "print" | "printf" => Slip::TextIsShown,
         "unless" => Slip::NoUnless,
+        "until" | "UNTIL" => Slip::NoUntil,
         "foreach" | "loop" => Slip::LoopIsWritten,
         "set" | "let" | "call" => Slip::WordLeftOut,
         "then" => Slip::ThenLeftOut,
@@ -39,6 +41,18 @@ pub(crate) fn slip_of_statement(word: &str) -> Option<Slip> {
         _ => return None,
     };
     Some(slip)
+}
+
+/// A name with a `:` behind it, where a label begins.
+pub(crate) fn slip_of_label(word: &str) -> Slip {
+    let mut nearest = Nearest::to_word(word);
+    nearest.look("default");
+    nearest.look("case");
+    match (word, nearest.alone()) {
+        ("otherwise" | "others" | "OTHERWISE", _) | (_, Some("default")) => Slip::DefaultMeant,
+        (_, Some("case")) => Slip::CaseMeant,
+        _ => Slip::NoLabels,
+    }
 }
 
 /// A branch or a loop whose word is written in capitals.
@@ -66,7 +80,8 @@ pub(crate) fn is_operator(word: &str) -> bool {
 pub(crate) fn is_misspelled_type(word: &str) -> bool {
     matches!(
         word,
-        "Int" | "INT"
+        "Int"
+            | "INT"
             | "in"
             | "itn"
             | "nit"

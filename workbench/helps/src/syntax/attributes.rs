@@ -53,7 +53,9 @@ fn help_of_attribute(kind: Kind, attribute: Attr) -> Option<SyntaxHelp> {
     } else if attribute.may_belong_to(kind) {
         None
     } else {
-        let owners = KINDS.into_iter().filter(|kind| attribute.may_belong_to(*kind));
+        let owners = KINDS
+            .into_iter()
+            .filter(|kind| attribute.may_belong_to(*kind));
         Some(SyntaxHelp::AttributeOfOthers {
             kind: kind_word(kind),
             word,

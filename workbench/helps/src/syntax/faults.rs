@@ -8,13 +8,15 @@ use super::fitting::what_fits;
 use super::trials::{best_change, best_word, wants_text};
 use super::unsupported::say_unsupported;
 use crate::slips::{
-    At, early_end, is_symbol, open_bracket, open_parenthesis, slip_at, slip_of_left_out,
+    At, Placed, Slip, early_end, is_symbol, nested_comment, open_bracket, open_parenthesis,
+    opening_parenthesis, slip_at, slip_of_left_out,
 };
 use crate::text::long_string;
-use crate::{Explained, Finding, TextHelp};
+use crate::{Advice, Explained, Finding, TextHelp};
 use edd_lexer::token::{Token, TokenKind};
 use edd_source::tokens::{item_kind, tokens_before, word_of};
 use edd_source::{Confidence, Fix, Outline, Span};
+use edd_syntax::operators::Builtin;
 use edd_syntax::symbols::{Keyword, Symbol};
 use edd_token_reader::fault::ParseFault;
 
@@ -64,9 +66,13 @@ fn say_misfit(at: At<'_>, outline: &Outline, finding: &mut Finding) {
     if may_be_braces(at, token, outline) && say_braces(at, outline, finding) {
         return;
     }
-    if let Some(slip) = slip_at(at) {
+    if let Some(slip) = slip_at(at).or_else(|| first_comment(at, token)) {
         finding.span = Some(slip.place);
-        return finding.propose(slip.slip, slip.fix());
+        finding.propose(slip.slip, slip.fix());
+        if slip.slip == Slip::ItemInItem {
+            say_open(at, outline, finding);
+        }
+        return;
     }
     if let Some(end) = early_end(at, outline) {
         return finding.say_at(Some(end.place), end.slip);
@@ -77,6 +83,14 @@ fn say_misfit(at: At<'_>, outline: &Outline, finding: &mut Finding) {
         return;
     }
     say_change(at, token, outline, finding);
+}
+
+// A comment before the first token in which another one begins.
+fn first_comment(at: At<'_>, token: &Token) -> Option<Placed> {
+    match at.number {
+        0 => nested_comment(at.text, None, token),
+        _ => None,
+    }
 }
 
 // Whether a token may be one that does not fit since a brace before it is missing or too much.
@@ -100,12 +114,21 @@ fn say_end(at: At<'_>, outline: &Outline, finding: &mut Finding) {
         return;
     }
     finding.span = at.tokens.last().map(Span::behind);
-    finding.say(if at.tokens.is_empty() {
-        SyntaxHelp::Identification
+    if at.tokens.is_empty() {
+        finding.say(help_of_beginning(at.text));
     } else {
-        SyntaxHelp::TextEnds
-    });
+        finding.say(SyntaxHelp::TextEnds);
+    }
     say_open(at, outline, finding);
+}
+
+// What is said where no identification begins.
+fn help_of_beginning(text: &[u8]) -> Advice {
+    if text.contains(&b'\r') && !text.contains(&b'\n') {
+        TextHelp::CarriageReturns.into()
+    } else {
+        SyntaxHelp::Identification.into()
+    }
 }
 
 // Says which brace is open.
@@ -134,9 +157,9 @@ fn say_change(at: At<'_>, token: &Token, outline: &Outline, finding: &mut Findin
 fn workshop_of(at: At<'_>, outline: &Outline) -> Workshop {
     let begins = |number: &usize| {
         let token = at.tokens.get(*number);
-        let is_after_of = number.checked_sub(1).is_some_and(|before| {
-            edd_source::tokens::is_word(at.tokens, before, Keyword::Of)
-        });
+        let is_after_of = number
+            .checked_sub(1)
+            .is_some_and(|before| edd_source::tokens::is_word(at.tokens, before, Keyword::Of));
         token.is_some_and(|token| item_kind(token).is_some())
             && outline.opened(at.tokens, *number).is_none()
             && !is_after_of
@@ -206,11 +229,55 @@ fn say_behind(at: At<'_>, sign: &'static str, finding: &mut Finding) {
     if let Some(before) = at.back(1) {
         finding.span = Some(Span::behind(before));
     }
+    if sign == ")" && say_call(at, finding) {
+        return;
+    }
     match (sign, far_bracket(at), open_parenthesis(at)) {
         ("]", Some(open), _) => finding.say_at(Some(open), missing_up_to("[", "]")),
         (")", _, Some(open)) => finding.say_at(Some(open), missing_up_to("(", ")")),
         _ => finding.say_missing_here(sign),
     }
+}
+
+// Says that a `)` is missing before a comparison that stands in the parentheses of a function which
+// takes a number alone, where those of a branch are not closed. Returns whether it is so.
+fn say_call(at: At<'_>, finding: &mut Finding) -> bool {
+    let Some((function, sign)) = compared_argument(at) else {
+        return false;
+    };
+    let (Some(before), Some(token)) = (
+        sign.checked_sub(1).and_then(|before| at.tokens.get(before)),
+        at.tokens.get(sign),
+    ) else {
+        return false;
+    };
+    finding.span = Some(Span::behind(before));
+    let fix = finding.replacement(")", Confidence::Guess);
+    let help = SyntaxHelp::ParenthesisOfCall {
+        function,
+        sign: short(at.text, token).to_owned(),
+    };
+    finding.propose(help, fix);
+    true
+}
+
+// The function before whose closing `)` something is compared, right before the token that does not
+// fit, and the token of the comparison.
+fn compared_argument(at: At<'_>) -> Option<(Builtin, usize)> {
+    let closing = at.number.checked_sub(1)?;
+    let open = opening_parenthesis(at.tokens, closing)?;
+    let name = at.tokens.get(open.checked_sub(1)?)?;
+    let function = Builtin::named(word_of(at.text, name))?;
+    let is_comparison = |number: &usize| {
+        at.tokens.get(*number).is_some_and(|token| {
+            matches!(
+                token.kind,
+                TokenKind::Symbol(Symbol::Comparison(_) | Symbol::LogicalAnd | Symbol::LogicalOr)
+            )
+        })
+    };
+    let sign = (open..closing).find(is_comparison)?;
+    Some((function, sign))
 }
 
 fn missing_up_to(opens: &'static str, closes: &'static str) -> SyntaxHelp {
@@ -224,9 +291,9 @@ fn far_bracket(at: At<'_>) -> Option<Span> {
 }
 
 // What is said of a token that no change mends.
-fn help_of_word(at: At<'_>, token: &Token, workshop: &mut Workshop) -> crate::Advice {
+fn help_of_word(at: At<'_>, token: &Token, workshop: &mut Workshop) -> Advice {
     if at.number == 0 {
-        return SyntaxHelp::Identification.into();
+        return help_of_beginning(at.text);
     }
     if at.is_ahead(Symbol::Semicolon) && wants_text(at, token, workshop) {
         return SyntaxHelp::TextBelongsHere.into();

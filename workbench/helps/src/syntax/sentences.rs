@@ -1,6 +1,7 @@
 //! What is said where a token does not fit.
 
 use super::Fitting;
+use edd_syntax::operators::Builtin;
 use std::fmt;
 
 /// What is said where a token does not fit.
@@ -19,6 +20,13 @@ pub enum SyntaxHelp {
         opens: &'static str,
         /// The sign that is missing.
         closes: &'static str,
+    },
+    /// A parenthesis is missing before a comparison, which stands in those of a function.
+    ParenthesisOfCall {
+        /// The function.
+        function: Builtin,
+        /// The sign of the comparison.
+        sign: String,
     },
     /// A sign is missing before a token.
     SignBefore {
@@ -128,7 +136,17 @@ impl fmt::Display for SyntaxHelp {
         match self {
             SyntaxHelp::MissingHere { sign } => write!(f, "a {sign} is missing here"),
             SyntaxHelp::MissingUpTo { opens, closes } => {
-                write!(f, "a {closes} is missing, up to here, for the {opens} that is open")
+                write!(
+                    f,
+                    "a {closes} is missing, up to here, for the {opens} that is open"
+                )
+            }
+            SyntaxHelp::ParenthesisOfCall { function, sign } => {
+                write!(
+                    f,
+                    "a ) is missing before {sign}, for the ( of {}",
+                    function.name()
+                )
             }
             SyntaxHelp::SignBefore { sign, word } => write!(f, "a {sign} is missing before {word}"),
             SyntaxHelp::WantedBefore { wanted, word } => {
@@ -155,7 +173,11 @@ impl fmt::Display for SyntaxHelp {
                 write!(f, "{word} stands in the braces of TRANSACTION")
             }
             SyntaxHelp::AttributeOfOthers { kind, word, owners } => {
-                write!(f, "{kind} has no {word}; it stands in {}", owners.join(", "))
+                write!(
+                    f,
+                    "{kind} has no {word}; it stands in {}",
+                    owners.join(", ")
+                )
             }
             SyntaxHelp::NoCondition { word } => write!(f, "{word} has no condition"),
             SyntaxHelp::Unsupported { word, instead } => {

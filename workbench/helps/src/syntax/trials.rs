@@ -1,8 +1,6 @@
 //! Changes of the token that does not fit, of which the best one is what helps.
 
-use super::candidates::{
-    BEFORE, BEHIND, missing_before, nearest_word, signs_for, word_for,
-};
+use super::candidates::{BEFORE, BEHIND, missing_before, nearest_word, signs_for, word_for};
 use super::change::{Change, Workshop};
 use crate::slips::{At, is_symbol};
 use edd_lexer::token::{Token, TokenKind};

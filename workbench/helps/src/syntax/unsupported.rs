@@ -2,8 +2,8 @@
 
 use super::SyntaxHelp;
 use super::braces::say_response_codes;
-use super::sections::is_item_word;
 use crate::Finding;
+use crate::recovery::is_item_word;
 use crate::slips::At;
 use edd_source::Outline;
 use edd_syntax::symbols::Keyword;

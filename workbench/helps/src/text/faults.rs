@@ -1,14 +1,14 @@
 //! What is said of a text that has no tokens.
 
+use super::TextHelp;
 use super::characters::CharacterHelp;
 use super::numbers::help_of_number;
 use super::places::{has_end, place_of};
 use super::quotes::{is_before_quote, long_string, missing_quote};
-use super::TextHelp;
 use crate::{Advice, Explained, Finding};
 use edd_lexer::fault::LexFault;
 use edd_source::Span;
-use edd_source::pieces::{byte_at, line_length};
+use edd_source::pieces::{byte_at, line_length, pieces_of};
 
 /// The most bytes of a name.
 const LONGEST_NAME: usize = 255;
@@ -85,7 +85,20 @@ fn help_at(text: &[u8], fault: &LexFault, place: Option<Span>) -> Option<Advice>
     if is_remark(text, fault, place) {
         return Some(TextHelp::CommentIsWritten.into());
     }
+    let place = place.map_or(0, |place| place.start);
+    if matches!(fault, LexFault::BadNumber { .. }) && word.contains("..") && is_in_for(text, place)
+    {
+        return Some(TextHelp::ForIsWritten.into());
+    }
     help_of(fault, word, before, after).map(Advice::from)
+}
+
+// Whether a `for` stands before a place on its line.
+fn is_in_for(text: &[u8], place: usize) -> bool {
+    let before = text.get(..place).unwrap_or_default();
+    let line = before.rsplit(|byte| *byte == b'\n').next();
+    let line = line.unwrap_or_default();
+    pieces_of(line).any(|piece| piece.span.read(line).eq_ignore_ascii_case("for"))
 }
 
 // The character past ASCII that no token has.

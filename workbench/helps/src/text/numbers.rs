@@ -13,8 +13,12 @@ pub(super) fn help_of_number(word: &str, before: u8) -> TextHelp {
         TextHelp::NumberIsDecimal
     } else if word.contains("..") {
         TextHelp::NumberIsOne
+    } else if is_based && !is_of(word, "0123456789abcdefABCDEFxX") {
+        TextHelp::HexDigits
     } else if is_based {
         TextHelp::NumberHasRange
+    } else if is_member(word) {
+        TextHelp::MemberIsNamed
     } else if word.contains('.') {
         TextHelp::NumberIsWhole
     } else {
@@ -39,6 +43,14 @@ fn help_of_letters(word: &str) -> TextHelp {
     } else {
         TextHelp::NumberHasRange
     }
+}
+
+// Whether a word is a name with a number behind a `.`.
+fn is_member(word: &str) -> bool {
+    let begins = |part: &str, is: fn(&char) -> bool| part.chars().next().is_some_and(|it| is(&it));
+    word.split_once('.').is_some_and(|(name, member)| {
+        begins(name, char::is_ascii_alphabetic) && begins(member, char::is_ascii_digit)
+    })
 }
 
 // Whether all letters of a word are among some.

@@ -111,10 +111,8 @@ fn is_mark_of_order(text: &[u8], place: usize) -> bool {
 fn is_alike(one: &LexFault, other: &LexFault) -> bool {
     matches!(
         (one, other),
-        (
-            LexFault::BadCharacter { .. },
-            LexFault::BadCharacter { .. }
-        ) | (LexFault::BadEscape { .. }, LexFault::BadEscape { .. })
+        (LexFault::BadCharacter { .. }, LexFault::BadCharacter { .. })
+            | (LexFault::BadEscape { .. }, LexFault::BadEscape { .. })
             | (LexFault::BadNumber { .. }, LexFault::BadNumber { .. })
     )
 }
@@ -155,9 +153,10 @@ fn first_bad_escape(text: &[u8], span: Span) -> Span {
     let Some(behind) = bad else {
         return span;
     };
-    let end = span.start.saturating_add(behind).saturating_add(1);
+    let start = span.start.saturating_add(behind);
+    let character = Span { start, ..span }.read(text).chars().next();
     Span {
-        start: end.saturating_sub(2),
-        end,
+        start: start.saturating_sub(1),
+        end: start.saturating_add(character.map_or(1, char::len_utf8)),
     }
 }

@@ -69,6 +69,19 @@ fn is_too_long(text: &[u8], string: Span) -> bool {
     }
 }
 
+// Whether the quote that ends a string stands inside of a text: a word follows it, and then a quote on
+// the same line that closes a text.
+fn is_inside(text: &[u8], string: Span) -> bool {
+    let behind = text.get(string.end..).unwrap_or_default();
+    let is_of_text = |byte: &u8| goes_on(*byte) || *byte == b' ';
+    let count = behind.iter().take_while(|byte| is_of_text(byte)).count();
+    let follows = byte_at(behind, count.saturating_add(1));
+    goes_on(byte_at(behind, 0))
+        && !string.read(text).contains('\n')
+        && byte_at(behind, count) == b'"'
+        && matches!(follows, b';' | b',' | b')' | b'}')
+}
+
 // The strings that begin before a place.
 fn strings_before(text: &[u8], place: usize) -> impl Iterator<Item = Span> {
     pieces_of(text)
@@ -80,6 +93,16 @@ fn strings_before(text: &[u8], place: usize) -> impl Iterator<Item = Span> {
 /// The first string before a place that goes up to the quote of another one.
 pub(super) fn missing_quote(text: &[u8], before: usize) -> Option<MissingQuote> {
     let string = strings_before(text, before).find(|string| is_too_long(text, *string))?;
+    if is_inside(text, string) {
+        let end = string.end;
+        return Some(MissingQuote {
+            string: Span {
+                start: end.saturating_sub(1),
+                end,
+            },
+            help: TextHelp::QuoteInText,
+        });
+    }
     let help = if closes(text, string) {
         TextHelp::QuoteAtBeginning
     } else {

@@ -5,9 +5,9 @@ use crate::spots::Place;
 use crate::walk::{Item, Map};
 use edd_lexer::token::{Token, TokenKind};
 use edd_sinks::ListSink;
+use edd_source::tokens::is_sign;
 use edd_syntax::numbers::Kind;
 use edd_syntax::symbols::Symbol;
-use edd_source::tokens::is_sign;
 use std::alloc::{AllocError, Global};
 
 /// What is declared. Items, collections and arrays are meant by their places in the list of items.

@@ -7,10 +7,10 @@ use crate::meanings::{Meanings, collection_of, meanings_of};
 use crate::spots::{Place, Spot};
 use crate::walk::{Item, Map, map_of};
 use edd_lexer::token::{Token, TokenKind};
-use edd_syntax::symbols::{Keyword, Symbol};
-use indexmap::IndexMap;
 use edd_source::Span;
 use edd_source::tokens::word_of;
+use edd_syntax::symbols::{Keyword, Symbol};
+use indexmap::IndexMap;
 use std::alloc::{AllocError, Global};
 
 /// A text with its tokens, what may stand where, and what its names mean. It is made once for each

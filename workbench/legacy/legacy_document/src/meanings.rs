@@ -6,9 +6,9 @@ use crate::scopes::Scopes;
 use crate::spots::{Place, Spot};
 use crate::walk::{Item, Map};
 use edd_lexer::token::{Token, TokenKind};
+use edd_source::tokens::is_sign;
 use edd_syntax::numbers::Kind;
 use edd_syntax::symbols::Symbol;
-use edd_source::tokens::is_sign;
 use std::alloc::{AllocError, Global};
 
 /// What is declared, and which declaration each token names.

@@ -4,9 +4,9 @@ use std::prelude::v1::*;
 use crate::spots::{Braces, Place, Spot, is_attribute, is_number_word, is_type_part};
 use edd_lexer::token::{Token, TokenKind};
 use edd_sinks::ListSink;
+use edd_source::tokens::{is_sign, is_word, item_kind};
 use edd_syntax::numbers::Kind;
 use edd_syntax::symbols::{Keyword, Symbol};
-use edd_source::tokens::{is_sign, is_word, item_kind};
 use std::alloc::{AllocError, Global};
 
 /// An item by the numbers of its tokens.

@@ -1,8 +1,8 @@
 //! What is answered.
 use std::prelude::v1::*;
 
-use edd_syntax::numbers::Kind;
 use edd_source::Span;
+use edd_syntax::numbers::Kind;
 use std::alloc::AllocError;
 
 /// What is told of a place.

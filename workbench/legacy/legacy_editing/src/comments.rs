@@ -1,8 +1,8 @@
 //! Comments, which are between tokens.
 use std::prelude::v1::*;
 
-use legacy_document::Document;
 use edd_source::Span;
+use legacy_document::Document;
 
 /// A comment, and whether it is a block.
 #[derive(Clone, Copy)]

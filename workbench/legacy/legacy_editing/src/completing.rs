@@ -7,12 +7,12 @@ use crate::comments::is_unread;
 use crate::offers::Offers;
 use crate::place_terms::role_at;
 use edd_lexer::token::TokenKind;
+use edd_source::Span;
 use edd_syntax::numbers::{ATTRIBUTES, Attr, Home, Kind};
 use edd_syntax::operators::Parameter;
 use edd_syntax::symbols::{Keyword, Symbol};
 use legacy_document::Document;
 use legacy_document::spots::{Braces, Place, is_number_word};
-use edd_source::Span;
 use std::alloc::{AllocError, Global};
 
 /// The words with which items begin.

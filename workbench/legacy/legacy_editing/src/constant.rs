@@ -10,13 +10,13 @@ use edd_lexer::token::TokenKind;
 use edd_names::resolve;
 use edd_parser::fault::ParseFault;
 use edd_parser::parse;
+use edd_source::Span;
 use edd_syntax::cond::Cond;
 use edd_syntax::item::{Attribute, Item, TypePart};
 use edd_syntax::numbers::NumberOption;
 use edd_syntax::reference::Target;
 use edd_syntax::symbols::Symbol;
 use legacy_document::Document;
-use edd_source::Span;
 use std::alloc::{AllocError, Global};
 
 /// How many tokens to each side are looked at.

@@ -4,14 +4,14 @@ use std::prelude::v1::*;
 use crate::markdown::{push_code, push_escaped, push_paragraph};
 use edd_lexer::token::TokenKind;
 use edd_sinks::TextSink;
+use edd_source::Span;
+use edd_source::tokens::kind_word;
 use edd_strings::{StringFault, choose, split};
 use edd_syntax::symbols::{Keyword, Symbol};
 use edd_syntax::words::{Variant, Words};
 use legacy_document::declarations::Sort;
 use legacy_document::spots::Place;
 use legacy_document::{Document, Item};
-use edd_source::Span;
-use edd_source::tokens::kind_word;
 use std::alloc::{AllocError, Global};
 
 const ENGLISH: &str = "en";

@@ -2,8 +2,8 @@
 use std::prelude::v1::*;
 
 use edd_sinks::{ListSink, TextSink};
-use edd_syntax::operators::{Builtin, Parameter, RequestKind};
 use edd_source::Span;
+use edd_syntax::operators::{Builtin, Parameter, RequestKind};
 use std::alloc::{AllocError, Global};
 
 // What a request asks for, in a line.

@@ -12,9 +12,9 @@ use crate::place_terms::meaning_at;
 use edd_instructions::Sort;
 use edd_lexer::token::TokenKind;
 use edd_sinks::TextSink;
+use edd_source::Span;
 use edd_syntax::operators::Builtin;
 use legacy_document::Document;
-use edd_source::Span;
 use std::alloc::{AllocError, Global};
 
 /// The page that tells of the language.

@@ -25,9 +25,9 @@ pub use answers::{
 };
 pub use call::signature;
 pub use completing::completions;
+pub use edd_source::Span;
 pub use edd_syntax::numbers::Kind;
 pub use hovering::hover;
 pub use legacy_document::Document;
-pub use edd_source::Span;
 pub use listing::{folds, symbols};
 pub use naming::{declaration, references, rename, renameable};

@@ -5,9 +5,9 @@ use crate::answers::{Fold, Symbol};
 use crate::comments::comment_from;
 use edd_lexer::token::TokenKind;
 use edd_sinks::ListSink;
+use edd_source::Span;
 use edd_syntax::symbols::Symbol as Sign;
 use legacy_document::Document;
-use edd_source::Span;
 use std::alloc::{AllocError, Global};
 
 /// The items of a text, in their order.

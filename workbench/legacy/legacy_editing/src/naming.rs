@@ -5,9 +5,9 @@ use crate::answers::RenameFault;
 use edd_lexer::fault::LexFault;
 use edd_lexer::lex;
 use edd_lexer::token::TokenKind;
+use edd_source::Span;
 use legacy_document::Document;
 use legacy_document::declarations::Sort;
-use edd_source::Span;
 use std::alloc::{AllocError, Global};
 
 /// The longest name, in bytes.

@@ -13,7 +13,7 @@ use edd_syntax::symbols::Keyword;
 use indexmap::IndexMap;
 use legacy_document::Document;
 use legacy_document::declarations::Sort;
-use legacy_lints::classes::CLASSES;
+use edd_lints::CLASSES;
 use std::alloc::{AllocError, Global};
 
 /// The words that are offered so far.

@@ -3,7 +3,7 @@ use std::prelude::v1::*;
 
 use edd_syntax::symbols::Keyword;
 use legacy_document::spots::Place;
-use legacy_lints::classes::CLASSES;
+use edd_lints::CLASSES;
 
 /// Where a word means something.
 #[derive(Clone, Copy, PartialEq, Eq)]

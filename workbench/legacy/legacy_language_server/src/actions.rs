@@ -8,10 +8,10 @@ use edd_check::{Levels, check};
 use edd_helps::Help;
 use edd_report::{Diagnostic, Kind, Report};
 use edd_sinks::ListSink;
+use edd_source::{Fix, Span};
 use legacy_open_documents::diagnostic;
 use legacy_protocol::{list_at, range_at};
 use legacy_protocol_shapes::{Action, WorkspaceEdit};
-use edd_source::{Fix, Span};
 use std::alloc::AllocError;
 
 /// Once so many edits are found, no further finding is looked at.

@@ -3,8 +3,8 @@ use std::prelude::v1::*;
 
 use crate::query::{Query, Refusal};
 use edd_lexer::fault::LexFault;
-use legacy_protocol_shapes::TextEdit;
 use edd_source::Span;
+use legacy_protocol_shapes::TextEdit;
 use std::alloc::{AllocError, Global};
 
 // A text as it is laid out; as it is where it has no tokens.

@@ -3,10 +3,10 @@ use std::prelude::v1::*;
 
 use crate::query::{Query, Refusal};
 use edd_sinks::ListSink;
+use edd_source::tokens::kind_word;
 use edd_syntax::numbers::Kind;
 use legacy_editing::{Fold as Braces, Symbol, folds as folds_of, symbols as symbols_of};
 use legacy_protocol_shapes::{Fold, Located, Outlined};
-use edd_source::tokens::kind_word;
 use std::alloc::AllocError;
 
 /// A kind of item as the protocol counts kinds of symbols.

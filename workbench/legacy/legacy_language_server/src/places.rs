@@ -2,10 +2,10 @@
 use std::prelude::v1::*;
 
 use crate::query::{Query, Refusal};
+use edd_source::Span;
 use legacy_editing::{declaration, references as named_at};
 use legacy_protocol::flag_at;
 use legacy_protocol_shapes::{Highlight, Location};
-use edd_source::Span;
 use std::alloc::AllocError;
 
 /// Answers with the place of the declaration, or `null`.

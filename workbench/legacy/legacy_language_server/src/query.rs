@@ -2,11 +2,11 @@
 use std::prelude::v1::*;
 
 use crate::server::Server;
+use edd_source::Span;
 use legacy_editing::Document;
 use legacy_open_documents::View;
 use legacy_protocol::{Call, ErrorCode, Id, Position, Range, answer, position_at, refuse, text_at};
 use legacy_protocol_shapes::TextEdit;
-use edd_source::Span;
 use serde::Serialize;
 use serde_json::Value;
 use std::alloc::{AllocError, AllocFailed, Global};

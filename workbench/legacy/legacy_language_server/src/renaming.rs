@@ -2,10 +2,10 @@
 use std::prelude::v1::*;
 
 use crate::query::{Query, Refusal, bad_params};
+use edd_source::Span;
 use legacy_editing::{RenameFault, rename as renamed, renameable};
 use legacy_protocol::text_at;
 use legacy_protocol_shapes::{Renamed, TextEdit, WorkspaceEdit};
-use edd_source::Span;
 use std::alloc::AllocError;
 use std::collections::BTreeMap;
 

@@ -2,9 +2,9 @@
 use std::prelude::v1::*;
 
 use crate::query::{Query, Refusal};
+use edd_source::Span;
 use legacy_editing::{Signature as Found, signature as found_at};
 use legacy_protocol_shapes::{Label, Parameter, Signature, Signatures};
-use edd_source::Span;
 use std::alloc::AllocError;
 
 // How many UTF-16 units come before a byte of a label.

@@ -7,9 +7,9 @@ use edd_check::{Levels, check};
 use edd_helps::Help;
 use edd_report::{Kind, Report};
 use edd_sinks::{ListSink, TextSink};
+use edd_source::Span;
 use legacy_protocol::{Range, notify};
 use legacy_protocol_shapes::{Code, Diagnostic, Diagnostics, Location, Related, Severity};
-use edd_source::Span;
 use std::alloc::{AllocError, Global};
 
 /// Who says what is wrong.
@@ -67,9 +67,9 @@ fn words_of(alloc: Global, kind: &Kind) -> Words {
             }
         }
         Kind::Warned(warning) => {
-            message.push_str(&warning.message);
+            write!(message, "{}", warning.kind);
             Words {
-                code: Some(Code::Name(warning.lint)),
+                code: Some(Code::Name(warning.lint().name())),
                 message,
                 severity: if warning.is_denied {
                     Severity::Error
@@ -130,7 +130,13 @@ pub fn diagnostic<'a>(
         severity,
     } = words_of(alloc, &found.kind);
     let mut related = ListSink::new(alloc);
-    add_helps(alloc, view, found.helps.as_slice(), &mut message, &mut related);
+    add_helps(
+        alloc,
+        view,
+        found.helps.as_slice(),
+        &mut message,
+        &mut related,
+    );
     let related = related.finish()?;
     Ok(Diagnostic {
         range: view.range(found.span.unwrap_or(BEGINNING)),

@@ -1,8 +1,8 @@
 //! The documents that an editor has open.
 use std::prelude::v1::*;
 
-use edd_report::Report;
 use crate::contents::Content;
+use edd_report::Report;
 use std::alloc::{AllocError, Global};
 
 /// A document that is open.

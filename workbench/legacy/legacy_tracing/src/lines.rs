@@ -6,10 +6,10 @@ use edd_instructions::{Record, Request};
 use edd_loader::Image;
 use edd_machine::{ReadFault, Values, attribute};
 use edd_panel::{bits_of, first_number, is_enumerator, of_variable};
+use edd_source::{Source, Span};
 use edd_syntax::answer::Trap;
 use edd_syntax::numbers::{Attr, ItemNo, VarNo};
 use edd_syntax::types::VarType;
-use edd_source::{Source, Span};
 use std::alloc::{AllocError, Global};
 use std::io::Write;
 

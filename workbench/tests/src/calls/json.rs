@@ -6,7 +6,7 @@
 
 use crate::images::number;
 use crate::playing::NoAnswer;
-use edd_check::{Checked, Levels, Lint};
+use edd_check::{Checked, Level, Levels, Lint};
 use edd_report::json_lines;
 use serde_json::Value;
 
@@ -16,7 +16,7 @@ const HEAD: &str = "MANUFACTURER 1, DEVICE_TYPE 2, DEVICE_REVISION 3, DD_REVISIO
 fn printed(name: &str, items: &str, denied: Option<Lint>) -> Result<String, NoAnswer> {
     let mut levels = Levels::default();
     if let Some(lint) = denied {
-        levels.deny(lint);
+        levels.set(lint, Level::Deny);
     }
     let text = format!("{HEAD}{items}\n");
     let checked = Checked::of(name, text.as_bytes(), &levels);

@@ -9,8 +9,9 @@
 use crate::playing::NoAnswer;
 use edd_compiler::checked_of;
 use edd_lexer::lex;
+use edd_lints::{LINTS, Level, Levels, Lint, Warning, find};
 use edd_plain_std::alloc::Global;
-use legacy_warnings::{LINTS, Lint, Spot, Warning, warnings};
+use edd_source::Span;
 
 const HEAD: &str = "MANUFACTURER 1 DEVICE_TYPE 2 DEVICE_REVISION 3 DD_REVISION 4\n";
 
@@ -29,26 +30,48 @@ COMMAND c { NUMBER 130; OPERATION READ; TRANSACTION 0 { } } METHOD m { DEFINITIO
     "} } METHOD n { DEFINITION { a = f[1]; } }",
 );
 
+/// The lints that are off unless asked for, and that rows ask for without saying so.
+const ASKED: [Lint; 5] = [
+    Lint::LiteralCondition,
+    Lint::UndeclaredCommand,
+    Lint::UnreachedMethod,
+    Lint::UnreachedMenu,
+    Lint::TrapAfterAbortMethod,
+];
+
+/// Returns the levels with which rows are played.
+fn levels() -> Levels {
+    let mut levels = Levels::default();
+    for lint in ASKED {
+        levels.set(lint, Level::Warn);
+    }
+    levels
+}
+
 /// Returns the warnings of a text, unless it is refused.
 fn warnings_of(text: &[u8]) -> Result<Vec<Warning>, NoAnswer> {
     let refused = NoAnswer::Row("items that are refused");
     let tokens = lex(Global, text).map_err(|_| refused)?;
     let checked = checked_of(Global, text).map_err(|_| refused)?;
-    let warnings = warnings(Global, text, &tokens, &checked)?;
-    Ok(warnings.into_real())
+    Ok(find(text, &tokens, &checked, &levels()))
 }
 
 /// Writes the line and the word of a place.
-fn line_and_word(text: &[u8], at: Spot) -> String {
-    let word = text.get(at.start..at.end).unwrap_or_default();
-    format!("{} {}", at.line, String::from_utf8_lossy(word))
+fn line_and_word(text: &[u8], at: Span) -> String {
+    let before = text.get(..at.start).unwrap_or_default();
+    let line = before.split(|byte| *byte == b'\n').count();
+    let word = text.get(at.range()).unwrap_or_default();
+    format!("{line} {}", String::from_utf8_lossy(word))
 }
 
 /// Writes a warning without its message.
 fn written(text: &[u8], warning: &Warning) -> String {
-    let (at, name) = (line_and_word(text, warning.at), warning.lint.name());
-    match warning.other {
-        Some(other) => format!("{at} {name} at {}", line_and_word(text, other)),
+    let (at, name) = (
+        line_and_word(text, warning.span),
+        warning.kind.lint().name(),
+    );
+    match warning.related.first() {
+        Some(other) => format!("{at} {name} at {}", line_and_word(text, other.span)),
         None => format!("{at} {name}"),
     }
 }
@@ -83,7 +106,7 @@ pub fn message_of_body(asked: &str, body: &str) -> Result<String, NoAnswer> {
 pub fn first_message(items: &str) -> Result<String, NoAnswer> {
     let text = format!("{HEAD}{items}");
     let warnings = warnings_of(text.as_bytes())?;
-    let first = warnings.first().map(|first| first.message.to_string());
+    let first = warnings.first().map(|first| first.kind.to_string());
     Ok(first.unwrap_or_default())
 }
 

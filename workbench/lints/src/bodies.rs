@@ -1,0 +1,72 @@
+//! The bodies of methods.
+
+mod aborts;
+mod cases;
+mod choices;
+pub(crate) mod flow;
+mod layout;
+mod locals;
+pub(crate) mod loops;
+mod statements;
+mod stores;
+mod waits;
+
+use crate::context::Context;
+use crate::expressions::walk::Walk;
+use crate::kind::MethodKind;
+use crate::settled::check_body;
+use crate::source::{TokenIndex, index};
+use crate::warning::Findings;
+use aborts::check_abort_methods;
+use choices::check_choices;
+use edd_instructions::Sort;
+use edd_syntax::expr::Expr;
+use edd_syntax::item::{Attribute, Item};
+use edd_syntax::numbers::ItemNo;
+use edd_syntax::operators::Builtin;
+use edd_syntax::reference::Target;
+use edd_syntax::stmt::{Part, Stmt};
+use locals::check_locals;
+use statements::check_parts;
+
+/// How many abort methods there may be.
+const MOST_ABORT_METHODS: usize = 8;
+
+// The place of a call that adds an abort method, which is the whole statement.
+fn adding(part: &Part<Target>) -> Option<TokenIndex> {
+    match part {
+        Part::Statement(Stmt::Evaluate(Expr::Call {
+            at,
+            function: Target::Function(Builtin::AddAbortMethod),
+            ..
+        })) => Some(index(*at)),
+        _ => None,
+    }
+}
+
+fn check_added(parts: &[Part<Target>], findings: &mut Findings<'_>) {
+    for at in parts.iter().filter_map(adding).skip(MOST_ABORT_METHODS) {
+        findings.add(at, MethodKind::NinthAbortMethod);
+    }
+}
+
+/// Checks the definition of a method.
+pub(crate) fn check_method<'d>(
+    method: &Item<Target>,
+    own: Option<ItemNo>,
+    context: &Context<'d>,
+    findings: &mut Findings<'d>,
+) {
+    for attribute in &method.attributes {
+        if let Attribute::Definition(at, parts) = attribute {
+            let mut walk = Walk::new(Sort::Method, context, findings);
+            // The body begins behind the brace.
+            check_parts(parts, index(*at).saturating_add(1), &mut walk);
+            check_locals(parts, &mut walk);
+            check_added(parts, findings);
+            check_abort_methods(own, parts, context, findings);
+            check_choices(parts, context, findings);
+            check_body(parts, context, findings);
+        }
+    }
+}

@@ -1,0 +1,369 @@
+//! Statements: what is never reached, what does nothing, and cases that go on with the next.
+
+use super::cases::{check_block_after, check_fall, check_label_part, label_at};
+use super::flow::{Flow, counts, is_abort, is_empty_block};
+use super::layout::{check_else, check_layout};
+use super::loops::{Head, Loop, check_head, check_loop, has_no_body};
+use super::stores::check_stores;
+use super::waits::{check_counting, check_wait};
+use crate::expressions::operands::selected_variable;
+use crate::expressions::stores::{check_wrapped, without_parentheses};
+use crate::expressions::walk::Walk;
+use crate::expressions::{Test, check_condition, check_expression, check_tested};
+use crate::kind::MethodKind;
+use crate::source::TokenIndex;
+use edd_syntax::expr::Expr;
+use edd_syntax::operators::{Builtin, RequestKind};
+use edd_syntax::reference::Target;
+use edd_syntax::stmt::{Declarator, Part, Stmt};
+
+// Does a step of a walk, and returns whether the host is asked in it.
+fn asks_in<'w, 'd>(walk: &mut Walk<'w, 'd>, step: impl FnOnce(&mut Walk<'w, 'd>)) -> bool {
+    let before = walk.asks;
+    step(walk);
+    before != walk.asks
+}
+
+fn check_declarators(declarators: &[Declarator<Target>], walk: &mut Walk<'_, '_>) -> bool {
+    asks_in(walk, |walk| {
+        for declarator in declarators {
+            if let Some(e) = &declarator.value {
+                check_wrapped(e, walk);
+                check_expression(e, false, walk);
+                walk.write(declarator.place);
+            }
+        }
+    })
+}
+
+// A statement of a block, whose flow so far goes on.
+fn check_next(s: &Stmt<Target>, so_far: Flow, walk: &mut Walk<'_, '_>) -> Flow {
+    let is_reported = so_far.ends.is_some() && counts(s);
+    if let Some(end) = so_far.ends.filter(|_| is_reported) {
+        let word = walk.context.source.word(end).to_owned();
+        walk.findings.add(end, MethodKind::Unreachable(word));
+    }
+    let flow = check_statement(s, walk);
+    Flow {
+        ends: if is_reported {
+            flow.ends
+        } else {
+            so_far.ends.or(flow.ends)
+        },
+        breaks: so_far.breaks || flow.breaks,
+        leaves: so_far.leaves || flow.leaves,
+        is_remarked: flow.is_remarked,
+    }
+}
+
+/// Checks what is between braces, of which the first is at a token.
+pub(super) fn check_parts(
+    parts: &[Part<Target>],
+    open: TokenIndex,
+    walk: &mut Walk<'_, '_>,
+) -> Flow {
+    check_layout(parts, walk);
+    check_stores(parts, walk);
+    let mut flow = Flow::default();
+    let mut has_statement = false;
+    let mut is_dead = false;
+    let mut head = None;
+    // The token behind what was passed.
+    let mut next = open.saturating_add(1);
+    for (number, part) in parts.iter().enumerate() {
+        match part {
+            Part::Declare(declarators) => {
+                flow.leaves |= check_declarators(declarators, walk);
+                head = None;
+                next = behind_declaration(declarators, walk).max(next);
+            }
+            Part::Statement(s) => {
+                let place = walk.context.places.statement(s);
+                check_block_after(head, s, walk);
+                head = has_no_body(s).then_some(place.sign);
+                is_dead = is_dead || flow.ends.is_some();
+                flow = check_next(s, flow, walk);
+                check_empty_else(s, parts.get(number.saturating_add(1)), walk);
+                has_statement = true;
+                next = place.extent.end;
+            }
+            Part::CaseLabel { .. } | Part::DefaultLabel { .. } => {
+                let label = label_at(part).unwrap_or(next);
+                if has_statement && !is_dead {
+                    check_fall(flow, label, parts.get(number.saturating_add(1)), walk);
+                }
+                check_label_part(part, walk);
+                flow.ends = None;
+                has_statement = false;
+                is_dead = false;
+                next = behind_label(part, label);
+            }
+        }
+    }
+    flow.is_remarked = walk.context.source.has_comment_before(next);
+    flow
+}
+
+// An `else` without a statement. Where a block follows, a ; is before it.
+fn check_empty_else(s: &Stmt<Target>, next: Option<&Part<Target>>, walk: &mut Walk<'_, '_>) {
+    let Stmt::IfElse(_, _, otherwise) = s else {
+        return;
+    };
+    let is_block = matches!(next, Some(Part::Statement(Stmt::Block(_))));
+    let at = walk.context.places.statement(otherwise).sign;
+    let is_remarked = walk.context.source.has_comment_before(at);
+    if matches!(**otherwise, Stmt::Empty) && !is_block && !is_remarked {
+        walk.findings
+            .add(at.saturating_sub(1), MethodKind::EmptyElse);
+    }
+}
+
+// The token behind the semicolon of a declaration.
+fn behind_declaration(declarators: &[Declarator<Target>], walk: &Walk<'_, '_>) -> TokenIndex {
+    let last = declarators.last().map_or(0, |declarator| {
+        let name = walk.context.places.declarator(declarator);
+        match &declarator.value {
+            Some(value) => walk.context.places.expression(value).extent.end,
+            None => name.saturating_add(1),
+        }
+    });
+    last.saturating_add(1)
+}
+
+// The token behind the colon of a label.
+fn behind_label(part: &Part<Target>, label: TokenIndex) -> TokenIndex {
+    let tokens = match part {
+        Part::CaseLabel { label, .. } if *label < 0 => 4,
+        Part::CaseLabel { .. } => 3,
+        _ => 2,
+    };
+    label.saturating_add(tokens)
+}
+
+// Whether nothing is done with what an expression gives. A plain number may be what is left of a
+// macro, and a comparison has a warning of its own.
+fn is_dropped(e: &Expr<Target>) -> bool {
+    !matches!(without_parentheses(e), Expr::Literal(_) | Expr::Compare(..))
+}
+
+// An expression as a statement: an abort ends what comes after it.
+fn check_evaluated(e: &Expr<Target>, at: TokenIndex, walk: &mut Walk<'_, '_>) -> Flow {
+    let before = walk.acts;
+    let asks = asks_in(walk, |walk| check_expression(e, true, walk));
+    if before == walk.acts && is_dropped(e) {
+        walk.findings.add(at, MethodKind::DroppedValue);
+    }
+    if let Expr::Call {
+        function: Target::Function(Builtin::Ask(RequestKind::SelectFromList)),
+        ..
+    } = without_parentheses(e)
+    {
+        walk.findings.add(at, MethodKind::DroppedChoice);
+    }
+    let aborts = is_abort(e);
+    Flow {
+        ends: aborts.then_some(at),
+        leaves: asks || aborts,
+        ..Flow::default()
+    }
+}
+
+fn check_if(
+    condition: &Expr<Target>,
+    first: &Stmt<Target>,
+    at: TokenIndex,
+    walk: &mut Walk<'_, '_>,
+) -> Flow {
+    let asks = asks_in(walk, |walk| {
+        check_condition(condition, at, Test::Condition, walk);
+    });
+    if let Stmt::Empty = first {
+        walk.findings.add(at, MethodKind::EmptyStatement);
+    }
+    check_else(at, first, walk);
+    let flow = check_statement(first, walk);
+    if is_empty_block(first) && !asks && !flow.is_remarked {
+        walk.findings.add(at, MethodKind::EmptyBlock);
+    }
+    Flow::joined(at, asks, flow, Flow::default())
+}
+
+fn check_if_else(
+    condition: &Expr<Target>,
+    branches: [&Stmt<Target>; 2],
+    at: TokenIndex,
+    walk: &mut Walk<'_, '_>,
+) -> Flow {
+    let asks = asks_in(walk, |walk| {
+        check_condition(condition, at, Test::Condition, walk);
+    });
+    let is_empty = matches!(branches, [Stmt::Empty, _])
+        || branches.first().is_some_and(|first| is_empty_block(first));
+    let [first, second] = branches.map(|branch| check_statement(branch, walk));
+    if is_empty && !asks && !first.is_remarked {
+        walk.findings.add(at, MethodKind::EmptyThen);
+    }
+    Flow::joined(at, asks, first, second)
+}
+
+fn open_loop(walk: &mut Walk<'_, '_>) {
+    walk.loops = walk.loops.saturating_add(1);
+}
+
+fn close_loop(walk: &mut Walk<'_, '_>) {
+    walk.loops = walk.loops.saturating_sub(1);
+}
+
+fn check_while(
+    condition: &Expr<Target>,
+    body: &Stmt<Target>,
+    at: TokenIndex,
+    walk: &mut Walk<'_, '_>,
+) -> Flow {
+    let from = walk.uses.len();
+    open_loop(walk);
+    let asks = asks_in(walk, |walk| check_tested(condition, Test::Condition, walk));
+    let tested = walk.uses.len();
+    let flow = check_statement(body, walk);
+    close_loop(walk);
+    let looped = Loop {
+        at,
+        test_at: at,
+        condition: Some(condition),
+        is_do: false,
+        asks,
+        from,
+        test: from..tested,
+    };
+    check_loop(&looped, flow, walk)
+}
+
+fn check_do(
+    body: &Stmt<Target>,
+    condition: &Expr<Target>,
+    at: TokenIndex,
+    walk: &mut Walk<'_, '_>,
+) -> Flow {
+    let from = walk.uses.len();
+    open_loop(walk);
+    let flow = check_statement(body, walk);
+    let test = walk.uses.len();
+    let asks = asks_in(walk, |walk| check_tested(condition, Test::Condition, walk));
+    close_loop(walk);
+    let looped = Loop {
+        at,
+        // The body ends before `while`.
+        test_at: walk.context.places.statement(body).extent.end,
+        condition: Some(condition),
+        is_do: true,
+        asks,
+        from,
+        test: test..walk.uses.len(),
+    };
+    check_loop(&looped, flow, walk)
+}
+
+fn check_for(head: Head<'_>, body: &Stmt<Target>, at: TokenIndex, walk: &mut Walk<'_, '_>) -> Flow {
+    let [initial, condition, update] = head.map(Option::as_ref);
+    if let Some(e) = initial {
+        check_expression(e, true, walk);
+    }
+    open_loop(walk);
+    let from = walk.uses.len();
+    let before = walk.asks;
+    if let Some(e) = condition {
+        check_tested(e, Test::Condition, walk);
+    }
+    let tested = walk.uses.len();
+    if let Some(e) = update {
+        check_expression(e, true, walk);
+    }
+    let asks = before != walk.asks;
+    let begin = walk.uses.len();
+    let flow = check_statement(body, walk);
+    close_loop(walk);
+    check_head(at, head, begin, matches!(body, Stmt::Empty), walk);
+    let looped = Loop {
+        at,
+        test_at: at,
+        condition,
+        is_do: false,
+        asks,
+        from,
+        test: from..tested,
+    };
+    check_loop(&looped, flow, walk)
+}
+
+fn check_switch(
+    on: &Expr<Target>,
+    parts: &[Part<Target>],
+    at: TokenIndex,
+    walk: &mut Walk<'_, '_>,
+) -> Flow {
+    let asks = asks_in(walk, |walk| check_condition(on, at, Test::Selection, walk));
+    if parts.is_empty() {
+        walk.findings.add(at, MethodKind::EmptySwitch);
+    }
+    walk.selected.push(selected_variable(on));
+    // The brace is behind the parenthesis that closes.
+    let open = walk
+        .context
+        .places
+        .expression(on)
+        .extent
+        .end
+        .saturating_add(1);
+    let flow = check_parts(parts, open, walk);
+    walk.selected.pop();
+    let has_default = parts
+        .iter()
+        .any(|part| matches!(part, Part::DefaultLabel { .. }));
+    Flow {
+        ends: (has_default && !flow.breaks && flow.ends.is_some()).then_some(at),
+        leaves: asks || flow.leaves,
+        ..Flow::default()
+    }
+}
+
+fn check_statement(s: &Stmt<Target>, walk: &mut Walk<'_, '_>) -> Flow {
+    let at = walk.context.places.statement(s).sign;
+    match s {
+        Stmt::Empty => Flow::default(),
+        Stmt::Evaluate(e) => check_evaluated(e, at, walk),
+        Stmt::Block(parts) => check_parts(parts, at, walk),
+        Stmt::If(condition, first) => check_if(condition, first, at, walk),
+        Stmt::IfElse(condition, first, otherwise) => {
+            check_if_else(condition, [first, otherwise], at, walk)
+        }
+        Stmt::While(condition, body) => {
+            check_wait(Some(condition), None, body, at, walk);
+            check_while(condition, body, at, walk)
+        }
+        Stmt::Do(body, condition) => {
+            check_wait(Some(condition), None, body, at, walk);
+            check_do(body, condition, at, walk)
+        }
+        Stmt::For {
+            initial,
+            condition,
+            update,
+            body,
+        } => {
+            let head = [initial, condition, update];
+            check_wait(condition.as_ref(), update.as_ref(), body, at, walk);
+            check_counting(head.map(Option::as_ref), body, at, walk);
+            check_for(head, body, at, walk)
+        }
+        Stmt::Switch(on, parts) => check_switch(on, parts, at, walk),
+        Stmt::Break { .. } => Flow {
+            breaks: true,
+            ..Flow::leading_on(at)
+        },
+        Stmt::Continue { .. } => Flow::leading_on(at),
+        Stmt::Return => Flow {
+            leaves: true,
+            ..Flow::leading_on(at)
+        },
+    }
+}

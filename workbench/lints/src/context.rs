@@ -1,0 +1,12 @@
+//! What all lints look at.
+
+use crate::instrument::Instrument;
+use crate::places::Places;
+use crate::source::Source;
+
+/// What all lints look at.
+pub(crate) struct Context<'d> {
+    pub(crate) source: Source<'d>,
+    pub(crate) places: Places,
+    pub(crate) instrument: Instrument<'d>,
+}

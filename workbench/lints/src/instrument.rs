@@ -1,0 +1,267 @@
+//! What is known of the items of a description.
+
+use crate::lists::{enumerators_of, is_total, values_in};
+use crate::range::Range;
+use crate::types::{number_of, number_parts};
+use edd_syntax::cond::Cond;
+use edd_syntax::item::{Attribute, Item, ItemKind, TypePart, TypeWord};
+use edd_syntax::numbers::{Element, ItemNo, NumberOption};
+use edd_syntax::reference::Target;
+use edd_syntax::types::{Handling, VarType};
+use std::collections::{HashMap, HashSet};
+
+/// What is known of a variable.
+pub(crate) struct Variable<'i> {
+    pub(crate) item: &'i Item<Target>,
+    pub(crate) kind: Option<VarType>,
+    pub(crate) range: Option<Range>,
+    /// The enumerators of all branches.
+    pub(crate) enumerators: HashSet<i64>,
+    /// Whether HANDLING is READ, under no condition.
+    pub(crate) is_read_only: bool,
+    /// The least MIN_VALUE and the greatest MAX_VALUE of all branches, where these are constants.
+    pub(crate) least: Option<i64>,
+    pub(crate) greatest: Option<i64>,
+}
+
+/// What is known of a command.
+#[derive(Default)]
+struct Command {
+    transactions: HashSet<u32>,
+    /// Its response codes.
+    codes: HashSet<u32>,
+    /// Whether all transactions have their numbers written.
+    are_numbered: bool,
+}
+
+/// What is known of the items of a description.
+pub(crate) struct Instrument<'i> {
+    pub(crate) items: &'i [Item<Target>],
+    /// The index of each item, by kind and number.
+    by_kind: HashMap<u8, Vec<usize>>,
+    variables: Vec<Variable<'i>>,
+    elements: HashSet<(u16, u32)>,
+    /// The arrays with elements.
+    arrays: HashSet<u16>,
+    /// The commands by their numbers.
+    commands: HashMap<u32, Command>,
+    /// The names of all items.
+    names: HashSet<&'i str>,
+}
+
+/// The variable that a target is.
+pub(crate) fn variable_of(target: Target) -> Option<u16> {
+    match target {
+        Target::Item(ItemNo::Variable(variable)) => Some(variable.0),
+        _ => None,
+    }
+}
+
+impl<'i> Variable<'i> {
+    fn of(item: &'i Item<Target>) -> Variable<'i> {
+        let mut variable = Variable {
+            item,
+            kind: None,
+            range: None,
+            enumerators: HashSet::new(),
+            is_read_only: false,
+            least: None,
+            greatest: None,
+        };
+        for part in number_parts(variable.parts()).filter(|part| is_total(part.value)) {
+            let values = values_in(part.value);
+            let numbers: Option<Vec<_>> = values.iter().map(|one| number_of(one.value)).collect();
+            let numbers = numbers.into_iter().flatten();
+            match part.which {
+                NumberOption::MinValue => variable.least = numbers.min(),
+                NumberOption::MaxValue => variable.greatest = numbers.max(),
+                NumberOption::DefaultValue => {}
+            }
+        }
+        for attribute in &item.attributes {
+            match attribute {
+                Attribute::TypeOf {
+                    word: TypeWord::Known { kind, size },
+                    parts,
+                    ..
+                } => {
+                    variable.kind = Some(*kind);
+                    variable.range = Some(Range::of(*kind, *size));
+                    let listed = enumerators_of(parts);
+                    variable.enumerators = listed.iter().map(|one| one.value.value).collect();
+                }
+                Attribute::Handling(_, Cond::Value(Handling::Read)) => variable.is_read_only = true,
+                _ => {}
+            }
+        }
+        variable
+    }
+
+    pub(crate) fn name(&self) -> &'i str {
+        self.item.name()
+    }
+
+    /// All bits that its enumerators name, if it is one of bits and has some.
+    pub(crate) fn named_bits(&self) -> Option<i64> {
+        let is_of_bits = self.kind == Some(VarType::BitEnumerated);
+        let has_names = is_of_bits && !self.enumerators.is_empty();
+        has_names.then(|| self.enumerators.iter().fold(0, |bits, one| bits | one))
+    }
+
+    /// What is in the braces of its type.
+    pub(crate) fn parts(&self) -> &'i [TypePart<Target>] {
+        let mut types = self.item.attributes.iter();
+        let parts = types.find_map(|attribute| match attribute {
+            Attribute::TypeOf { parts, .. } => Some(&**parts),
+            _ => None,
+        });
+        parts.unwrap_or_default()
+    }
+
+    /// Whether the variable is one of enumerators, of which a number is none.
+    pub(crate) fn lacks(&self, number: i64) -> bool {
+        self.kind == Some(VarType::Enumerated)
+            && !self.enumerators.is_empty()
+            && !self.enumerators.contains(&number)
+    }
+}
+
+impl Command {
+    fn add(&mut self, attributes: &[Attribute<Target>]) {
+        for attribute in attributes {
+            match attribute {
+                Attribute::Transaction { number, .. } => {
+                    self.are_numbered &= number.is_some();
+                    self.transactions.extend(number);
+                }
+                Attribute::ResponseCodes(_, codes) => {
+                    self.codes.extend(codes.iter().map(|code| code.number));
+                }
+                _ => {}
+            }
+        }
+    }
+}
+
+fn command_number(command: &Item<Target>) -> Option<u32> {
+    command
+        .attributes
+        .iter()
+        .find_map(|attribute| match attribute {
+            Attribute::Number(_, number) => Some(*number),
+            _ => None,
+        })
+}
+
+impl<'i> Instrument<'i> {
+    /// What is known of items and of the elements of their arrays.
+    pub(crate) fn of(items: &'i [Item<Target>], elements: &[Element]) -> Instrument<'i> {
+        let mut instrument = Instrument {
+            items,
+            by_kind: HashMap::new(),
+            variables: Vec::new(),
+            elements: elements
+                .iter()
+                .map(|element| (element.array.0, element.number))
+                .collect(),
+            arrays: elements.iter().map(|element| element.array.0).collect(),
+            commands: HashMap::new(),
+            names: items.iter().map(Item::name).collect(),
+        };
+        for (number, item) in items.iter().enumerate() {
+            let kind = item.kind().number();
+            instrument.by_kind.entry(kind).or_default().push(number);
+            match item.sort {
+                ItemKind::Variable => instrument.variables.push(Variable::of(item)),
+                ItemKind::Command => instrument.add_command(item),
+                _ => {}
+            }
+        }
+        instrument
+    }
+
+    fn add_command(&mut self, command: &Item<Target>) {
+        if let Some(number) = command_number(command) {
+            let known = self.commands.entry(number).or_default();
+            // Of two commands with one number the one whose transactions all have numbers counts.
+            let mut own = Command {
+                are_numbered: true,
+                ..Command::default()
+            };
+            own.add(&command.attributes);
+            known.are_numbered |= own.are_numbered;
+            known.transactions.extend(own.transactions);
+            known.codes.extend(own.codes);
+        }
+    }
+
+    /// The index of an item among all items.
+    pub(crate) fn place_of(&self, item: ItemNo) -> Option<usize> {
+        let kind = self.by_kind.get(&item.kind().number())?;
+        kind.get(usize::from(item.index())).copied()
+    }
+
+    /// What is known of the variables, in their order.
+    pub(crate) fn variables(&self) -> &[Variable<'i>] {
+        &self.variables
+    }
+
+    /// What is known of the variable of a number.
+    pub(crate) fn variable(&self, variable: u16) -> Option<&Variable<'i>> {
+        self.variables.get(usize::from(variable))
+    }
+
+    /// The name of the variable of a number.
+    pub(crate) fn name_of(&self, variable: u16) -> String {
+        let known = self.variable(variable);
+        known.map_or_else(String::new, |variable| variable.name().to_owned())
+    }
+
+    /// What the variable of a number can hold.
+    pub(crate) fn range(&self, variable: u16) -> Option<Range> {
+        self.variable(variable)?.range
+    }
+
+    /// Whether an item has a name.
+    pub(crate) fn has_name(&self, name: &str) -> bool {
+        self.names.contains(name)
+    }
+
+    /// Whether an array has an element of a number.
+    pub(crate) fn has_element(&self, array: u16, number: i64) -> bool {
+        u32::try_from(number).is_ok_and(|number| self.elements.contains(&(array, number)))
+    }
+
+    /// Whether an array has an element.
+    pub(crate) fn has_elements(&self, array: u16) -> bool {
+        self.arrays.contains(&array)
+    }
+
+    /// Whether there are commands, of which none has a number.
+    pub(crate) fn lacks_command(&self, command: i64) -> bool {
+        let has = u32::try_from(command).is_ok_and(|command| self.commands.contains_key(&command));
+        !has && !self.commands.is_empty()
+    }
+
+    /// Whether a command lists response codes, of which none is this one.
+    pub(crate) fn lacks_code(&self, command: i64, code: i64) -> bool {
+        let number = u32::try_from(command).ok();
+        let command = number.and_then(|number| self.commands.get(&number));
+        command.is_some_and(|command| {
+            let has = u32::try_from(code).is_ok_and(|code| command.codes.contains(&code));
+            !has && !command.codes.is_empty()
+        })
+    }
+
+    /// Whether the command of a number is one of the description, all of whose transactions have
+    /// their numbers written, and none has this one.
+    pub(crate) fn lacks_transaction(&self, command: i64, transaction: i64) -> bool {
+        let number = u32::try_from(command).ok();
+        let command = number.and_then(|number| self.commands.get(&number));
+        command.is_some_and(|command| {
+            let has = u32::try_from(transaction)
+                .is_ok_and(|transaction| command.transactions.contains(&transaction));
+            !has && command.are_numbered
+        })
+    }
+}

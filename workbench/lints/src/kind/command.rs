@@ -1,0 +1,37 @@
+//! Warnings on commands.
+
+use super::kinds;
+
+kinds! {
+    /// What a warning on a command is about.
+    CommandKind {
+        RepeatedCommand(number: i64) RepeatedCommandNumber
+            "the command number {number} is there already"
+        RepeatedResponseCode(number: i64) RepeatedResponseCode
+            "the response code {number} is there already"
+        RepeatedTransaction(number: i64) RepeatedTransactionNumber
+            "the transaction number {number} is there already"
+        RepeatedDataItem(variable: String) RepeatedDataItem
+            "{variable} is in this reply already"
+        OverlappingMask OverlappingMasks
+            "this mask has bits that one before it has, of the same variable"
+        WideMask(mask: u32, most: i64) WideMask
+            "{mask} has bits that its variable, of at most {most}, does not have"
+        ReadsNothing SilentRead
+            "this READ sends variables and gets none: REPLY is meant"
+        WritesNothing SilentWrite
+            "this WRITE sends nothing: its REQUEST has no data"
+        WrittenReadOnly(variable: String) WrittenReadOnly
+            "the HANDLING of {variable} is READ, and no method sets it: only what was read is written"
+        WideNumber(number: u32) WideCommandNumber
+            "two octets do not hold {number}"
+        AmbiguousTransaction AmbiguousTransaction
+            "this transaction can't be told from another one: without a number it counts as 0"
+        FailingZero FailingZero
+            "0 is the code of what went well, and this is no SUCCESS"
+        NoResponseCodes EmptyResponseCodes
+            "there are no response codes here"
+        UnorderedResponseCode(number: u32) UnorderedResponseCodes
+            "{number} is smaller than the response code before it"
+    }
+}

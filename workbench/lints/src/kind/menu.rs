@@ -1,0 +1,47 @@
+//! Warnings on menus, on their entries, and on items that nothing uses.
+
+use super::kinds;
+
+kinds! {
+    /// What a warning on menus and on uses is about.
+    MenuKind {
+        Cyclic(menu: String) CyclicMenu
+            "the menu {menu} contains itself"
+        Empty(menu: String) EmptyMenu
+            "the menu {menu} has no entries"
+        RepeatedEntry(item: String) RepeatedEntry
+            "{item} is in this list already"
+        MissingLabel(item: String) MissingLabel
+            "{item} has no LABEL, and a menu shows it"
+        UnknownClass(word: String) UnknownClass
+            "{word} is no class"
+        MisspelledClass(word: String, near: &'static str) UnknownClass
+            "{word} is no class: {near} may be meant"
+        Unused(item: String) UnusedItem
+            "nothing refers to {item}"
+        UnreachedMethod(item: String) UnreachedMethod
+            "no menu leads to {item}"
+        UnreachedMenu(item: String) UnreachedMenu
+            "no other menu leads to {item}"
+        RepeatedLabel(item: String, other: String) RepeatedLabel
+            "{item} has the LABEL of {other} in this list"
+        QuotedItem(item: String) QuotedItem
+            "this is a text: without quotes it is the item {item}"
+        HiddenMenu(menu: String) HiddenMenu
+            "the menu {menu} hides all of its entries"
+        InvalidEntry(item: String) InvalidEntry
+            "{item} is not valid under this condition, so it is never shown"
+        MisplacedQualifier(qualifier: &'static str, item: String) MisplacedQualifier
+            "{qualifier} does nothing for {item}"
+        RepeatedQualifier(qualifier: String) RepeatedQualifier
+            "{qualifier} is there already"
+        HiddenQualifiers HiddenQualifier
+            "this entry is HIDDEN, so its other qualifiers do nothing"
+        RepeatedMember(item: String) RepeatedMember
+            "{item} is in this list already"
+        EmptyList(item: String) EmptyList
+            "{item} has nothing in it"
+        EmptyMethod(method: String) EmptyMethod
+            "the method {method} does nothing"
+    }
+}

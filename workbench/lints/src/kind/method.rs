@@ -1,0 +1,118 @@
+//! Warnings on the bodies of methods.
+
+use super::kinds;
+use crate::range::Range;
+
+kinds! {
+    /// What a warning on the body of a method is about.
+    MethodKind {
+        DroppedComparison DroppedComparison
+            "what this comparison gives is not used: = assigns"
+        DroppedValue DroppedValue
+            "this statement does nothing: its value is not used"
+        AssignedCondition AssignedCondition
+            "this assigns, and what it assigned is the condition: == compares"
+        AssignedSelection AssignedCondition
+            "this assigns, and what it assigned selects the case: a second pair of parentheses says so"
+        AssignedToItself AssignedToItself
+            "this assigns a value to itself"
+        EmptyStatement EmptyBranch
+            "nothing is done where this condition holds: a ; stands right after it"
+        EmptyBlock EmptyBranch
+            "nothing is done where this condition holds"
+        DetachedBlock EmptyBranch
+            "a ; stands between this and the block after it"
+        EmptyLoop EmptyBranch
+            "this loop only counts: a ; stands right after its head"
+        StoreOutOfRange(number: i64, range: Range) StoreOutOfRange
+            "{number} is outside of the variable's {range}, so another number is kept"
+        WrappedNumber(number: u32, kept: i64) WrappedNumber
+            "{number} is {kept} here: methods compute with 32 bits"
+        MissingCommand(command: i64) MissingCommand
+            "no command has the number {command}"
+        UndeclaredCommand(command: i64) UndeclaredCommand
+            "no command has the number {command}"
+        MissingTransaction(command: i64, transaction: i64) MissingTransaction
+            "the command {command} has no transaction {transaction}"
+        UnwritableVariable(variable: String) UnwritableVariable
+            "{variable} can't be entered: its HANDLING is READ"
+        Unreachable(end: String) UnreachableStatement
+            "what stands behind this {end} is never reached"
+        NothingEnds EndlessLoop
+            "nothing ends this loop: it has no break, no return and no request"
+        NothingChanges EndlessLoop
+            "nothing in this loop changes what its condition reads"
+        NeverRuns DeadLoop
+            "this loop never runs"
+        NeverBegins(start: i64) DeadLoop
+            "this loop never runs: it begins at {start}"
+        CountsAway BackwardLoop
+            "this loop counts away from its limit"
+        FallsThrough FallThrough
+            "the case before this one goes on here: a break is missing, or a comment"
+        NinthAbortMethod AbortMethodLimit
+            "this lists nothing: eight are listed"
+        NestedAbortMethod(method: String) NestedAbortMethod
+            "{method} is an abort method, in which this lists nothing"
+        UnreadLocal(local: String) UnreadLocal
+            "the local {local} is never read"
+        NeverSetLocal(local: String) UnsetLocal
+            "nothing ever sets the local {local}: it is 0"
+        EarlyLocal(local: String) UnsetLocal
+            "the local {local} is read before anything sets it"
+        HidingLocal(item: String) HidingLocal
+            "this local hides the item {item}"
+        ReversedAssignment(sign: String) ReversedAssignment
+            "this is = with a {sign} after it: {sign}= is meant, or a blank between"
+        SteppedAssignment SteppedAssignment
+            "this sets a place to what it counts: one of both is enough"
+        StoredAnswer(variable: String) StoredAnswer
+            "this replaces what was entered for {variable} by the code of the answer"
+        DroppedChoice DroppedChoice
+            "what is chosen here makes no difference"
+        MissingChoice(number: i64) MissingChoice
+            "there is no choice {number}: choices are counted from 0"
+        NegativeDelay(seconds: i64) NegativeDelay
+            "a DELAY of {seconds} seconds has no time"
+        LongDelay(seconds: i64) LongDelay
+            "this waits for {seconds} seconds: milliseconds are meant"
+        UnlistedCode(code: i64, command: i64) UnlistedResponseCode
+            "{code} is no response code of the command {command}"
+        ComparedArgument ComparedArgument
+            "this takes 0 or 1, which the comparison gives: the parenthesis closes too late"
+        StoreBelowLimit(number: i64, least: i64) StoreOutsideLimits
+            "{number} is below the variable's MIN_VALUE {least}"
+        StoreOverLimit(number: i64, greatest: i64) StoreOutsideLimits
+            "{number} is over the variable's MAX_VALUE {greatest}"
+        DeadStore DeadStore
+            "what is stored here is replaced before anything reads it"
+        EmptyThen EmptyThen
+            "nothing is done where this condition holds: ! says so"
+        EmptyElse EmptyElse
+            "nothing is done in this else: a ; stands right after it"
+        EmptySwitch EmptySwitch
+            "this switch has no cases"
+        LooksInner(word: String) MisleadingIndentation
+            "this looks like part of the {word} before it, and is executed in any case"
+        DanglingElse DanglingElse
+            "this else belongs to the inner if, and not to the one that it stands below"
+        UnmovedCounter UnmovedCounter
+            "nothing in this loop changes what its condition reads, so only the host ends it"
+        UnrefreshedWait(variable: String) UnrefreshedWait
+            "nothing in this loop reads {variable} from the device: a command does"
+        CountedTwice CountedTwice
+            "the head of this loop counts this as well"
+        SkippedLimit(limit: i64) SkippedLimit
+            "this loop counts past {limit} and never comes to it"
+        OwnAbortMethod OwnAbortMethod
+            "this method is its own abort method"
+        RepeatedAbortMethod RepeatedAbortMethod
+            "this abort method is added already"
+        LateAbortMethod LateAbortMethod
+            "nothing comes behind this that could abort"
+        LoopedAbortMethod LoopedAbortMethod
+            "this adds the abort method again in each turn"
+        HidingLocals(local: String) HidingLocal
+            "this local hides the local {local} around it"
+    }
+}

@@ -1,0 +1,78 @@
+//! Warnings on variables and their types.
+
+use super::kinds;
+use crate::range::Range;
+use edd_syntax::numbers::NumberOption;
+use std::fmt;
+
+/// What a number of a type is for.
+#[derive(Clone, Copy, Debug, PartialEq, Eq)]
+pub enum NumberRole {
+    /// It is an enumerator.
+    Enumerator,
+    /// It is the value of an option.
+    Option(NumberOption),
+}
+
+impl fmt::Display for NumberRole {
+    fn fmt(&self, f: &mut fmt::Formatter<'_>) -> fmt::Result {
+        match self {
+            NumberRole::Enumerator => write!(f, "the enumerator"),
+            NumberRole::Option(option) => write!(f, "{}", option.attr().word()),
+        }
+    }
+}
+
+kinds! {
+    /// What a warning on a variable is about.
+    VariableKind {
+        OutOfRange(role: NumberRole, number: i64, range: Range) ValueOutOfRange
+            "{role} {number} is outside of the type's {range}"
+        CrossedLimits(least: i64, greatest: i64) LimitsCrossed
+            "MIN_VALUE {least} is over MAX_VALUE {greatest}"
+        DefaultBelow(default: i64, least: i64) DefaultOutsideLimits
+            "DEFAULT_VALUE {default} is below MIN_VALUE {least}"
+        DefaultOver(default: i64, greatest: i64) DefaultOutsideLimits
+            "DEFAULT_VALUE {default} is over MAX_VALUE {greatest}"
+        RepeatedEnumerator(number: i64) RepeatedEnumerator
+            "the enumerator {number} is there already"
+        NoBit EnumeratorBits
+            "0 has no bit, and each enumerator names one"
+        SeveralBits(number: i64, bits: u32) EnumeratorBits
+            "{number} has {bits} bits, and each enumerator names one"
+        UnnamedBits(number: i64) UnlistedValue
+            "{number} has bits that no enumerator names"
+        Unlisted(number: i64, variable: String) UnlistedValue
+            "{number} is no enumerator of {variable}"
+        UnlistedCase(number: i64, variable: String) UnlistedValue
+            "the case {number} is no enumerator of {variable}"
+        MeaninglessFormat MeaninglessFormat
+            "this is no format of a whole number, as 4d or 04x is"
+        NoEnumerators(variable: String) MissingEnumerators
+            "{variable} has no enumerators"
+        RepeatedText RepeatedEnumeratorText
+            "an enumerator before this one has the same text"
+        SingleEnumerator(variable: String) SingleEnumerator
+            "{variable} has one enumerator: there is nothing to choose"
+        SingleValue(number: i64) SingleValueLimits
+            "MIN_VALUE and MAX_VALUE are both {number}: no other value can be entered"
+        CircularLimits(variable: String) CircularLimits
+            "the limits of {variable} depend on {variable} itself"
+        CircularValidity(variable: String) CircularValidity
+            "whether {variable} is valid depends on {variable} itself"
+        CircularHandling(variable: String) CircularHandling
+            "the HANDLING of {variable} depends on {variable} itself"
+        RepeatedClass(class: String) RepeatedClass
+            "{class} is in this CLASS already"
+        ConstantAndDynamic ConflictingClasses
+            "a value that is CONSTANT is not DYNAMIC"
+        UnreadableDynamic(variable: String) UnreadableDynamic
+            "{variable} is DYNAMIC, and its HANDLING keeps it from being read"
+        WideFormat(width: u32) WideFormat
+            "no number has {width} digits"
+        UnreadDynamic(variable: String) UnreadDynamic
+            "no command reads {variable}, which is DYNAMIC"
+        Ineffective(variable: String) IneffectiveVariable
+            "what is entered for {variable} has no effect: no command sends it, and nothing reads it"
+    }
+}

@@ -1,0 +1,294 @@
+//! Limits that cross under conditions, and attributes that depend on themselves.
+
+use crate::context::Context;
+use crate::cycles::{Cycle, find_cycles};
+use crate::instrument::Variable;
+use crate::kind::VariableKind;
+use crate::settled::variables_read;
+use crate::source::{Source, TokenIndex, index};
+use crate::types::{NumberPart, number_parts};
+use crate::values::Values;
+use crate::values::environment::Environment;
+use crate::values::evaluation::Nobody;
+use crate::visit::{Visitor, visit_conditional};
+use crate::warning::Findings;
+use edd_instructions::Sort;
+use edd_syntax::cond::{Arm, Cond};
+use edd_syntax::expr::Expr;
+use edd_syntax::item::Attribute;
+use edd_syntax::numbers::NumberOption;
+use edd_syntax::operators::Comparison;
+use edd_syntax::reference::Target;
+use edd_syntax::types::VarType;
+use std::collections::HashMap;
+
+/// What an option gives in one of its branches.
+struct Leaf {
+    /// The conditions around it, as they are written, with the branch of each.
+    path: String,
+    values: Values,
+}
+
+/// A walk over the branches of an option.
+struct Leaves<'c, 'd> {
+    context: &'c Context<'d>,
+    all: Vec<Leaf>,
+}
+
+fn written(e: &Expr<Target>, context: &Context<'_>) -> String {
+    let extent = context.places.expression(e).extent;
+    let source: Source<'_> = context.source;
+    (extent.start..extent.end)
+        .map(|at| source.word(at))
+        .collect::<Vec<_>>()
+        .join(" ")
+}
+
+impl<'c, 'd> Leaves<'c, 'd> {
+    fn of(part: &NumberPart<'_>, context: &'c Context<'d>) -> Vec<Leaf> {
+        let mut leaves = Leaves {
+            context,
+            all: Vec::new(),
+        };
+        leaves.add(part.value, "", &Environment::new(Sort::Attribute, context));
+        leaves.all
+    }
+
+    fn add(&mut self, c: &Cond<Target, Expr<Target>>, path: &str, known: &Environment<'c, 'd>) {
+        match c {
+            Cond::Value(e) => self.all.push(Leaf {
+                path: path.to_owned(),
+                values: known.clone().evaluate(e, &mut Nobody),
+            }),
+            Cond::If {
+                condition,
+                first,
+                otherwise,
+            } => {
+                let text = written(condition, self.context);
+                for (branch, truth) in [(first, true), (otherwise, false)] {
+                    if let Some(known) = known.clone().refined(condition, truth) {
+                        self.add_all(branch, &format!("{path}{text}={truth};"), &known);
+                    }
+                }
+            }
+            Cond::Select { on, arms } => {
+                let text = written(on, self.context);
+                for arm in arms {
+                    self.add_arm(arm, on, &format!("{path}{text}="), known);
+                }
+            }
+        }
+    }
+
+    fn add_arm(
+        &mut self,
+        arm: &Arm<Target, Expr<Target>>,
+        on: &Expr<Target>,
+        path: &str,
+        known: &Environment<'c, 'd>,
+    ) {
+        match arm {
+            Arm::Case { label, body } => {
+                if let Some(known) = known.clone().selected(on, Comparison::Equal, *label) {
+                    self.add_all(body, &format!("{path}{label};"), &known);
+                }
+            }
+            Arm::Default { body, .. } => self.add_all(body, &format!("{path}default;"), known),
+        }
+    }
+
+    fn add_all(
+        &mut self,
+        all: &[Cond<Target, Expr<Target>>],
+        path: &str,
+        known: &Environment<'c, 'd>,
+    ) {
+        for c in all {
+            self.add(c, path, known);
+        }
+    }
+}
+
+// The least of the low ends, and the greatest of the high ends.
+fn ends_of<'l>(leaves: impl Iterator<Item = &'l Leaf> + Clone) -> Option<(i64, i64)> {
+    let low = leaves.clone().map(|leaf| leaf.values.range.low).min()?;
+    let high = leaves.map(|leaf| leaf.values.range.high).max()?;
+    Some((low, high))
+}
+
+// Two numbers of which the first is surely over the second: in all branches, or in those of one
+// path.
+fn crossed(low: &[Leaf], high: &[Leaf]) -> Option<(i64, i64)> {
+    let whole = ends_of(low.iter()).zip(ends_of(high.iter()));
+    if let Some(((least, _), (_, greatest))) = whole.filter(|(low, high)| high.1 < low.0) {
+        return Some((least, greatest));
+    }
+    let by_path: HashMap<_, _> = high.iter().map(|leaf| (leaf.path.as_str(), leaf)).collect();
+    let plain = |leaves: &[Leaf]| match leaves {
+        [one] if one.path.is_empty() => Some(one.values),
+        _ => None,
+    };
+    let pairs = low.iter().filter_map(|leaf| {
+        let other = plain(high).or_else(|| by_path.get(leaf.path.as_str()).map(|leaf| leaf.values));
+        Some((leaf.values, other?))
+    });
+    let others = high
+        .iter()
+        .filter_map(|leaf| Some((plain(low)?, leaf.values)));
+    let mut pairs = pairs.chain(others);
+    let found = pairs.find(|(low, high)| high.range.high < low.range.low)?;
+    Some((found.0.range.low, found.1.range.high))
+}
+
+fn part_of<'t>(variable: &Variable<'t>, which: NumberOption) -> Option<NumberPart<'t>> {
+    number_parts(variable.parts()).find(|part| part.which == which)
+}
+
+// Two options of which the first should not be over the second. Of two constants it is checked with
+// the type.
+fn check_order(
+    low: Option<NumberPart<'_>>,
+    high: Option<NumberPart<'_>>,
+    kind: impl Fn(i64, i64) -> VariableKind,
+    context: &Context<'_>,
+) -> Option<(TokenIndex, VariableKind, TokenIndex)> {
+    let (low, high) = (low?, high?);
+    if low.number().is_some() && high.number().is_some() {
+        return None;
+    }
+    let (least, greatest) = crossed(&Leaves::of(&low, context), &Leaves::of(&high, context))?;
+    Some((low.at, kind(least, greatest), high.at))
+}
+
+/// Checks the limits of a variable, which may be under conditions.
+pub(crate) fn check_limits_under_conditions(
+    variable: &Variable<'_>,
+    context: &Context<'_>,
+    findings: &mut Findings<'_>,
+) {
+    let least = || part_of(variable, NumberOption::MinValue);
+    let greatest = || part_of(variable, NumberOption::MaxValue);
+    let default = || part_of(variable, NumberOption::DefaultValue);
+    let crossed = check_order(least(), greatest(), VariableKind::CrossedLimits, context);
+    let over = check_order(default(), greatest(), VariableKind::DefaultOver, context);
+    for (at, kind, other) in crossed.into_iter().chain(over) {
+        findings.add_beside(at, kind, other);
+    }
+    let below = |least, default| VariableKind::DefaultBelow(default, least);
+    if let Some((other, kind, at)) = check_order(least(), default(), below, context) {
+        findings.add_beside(at, kind, other);
+    }
+    check_single_value(variable, least(), greatest(), findings);
+}
+
+fn check_single_value(
+    variable: &Variable<'_>,
+    least: Option<NumberPart<'_>>,
+    greatest: Option<NumberPart<'_>>,
+    findings: &mut Findings<'_>,
+) {
+    let (Some(least), Some(greatest)) = (least, greatest) else {
+        return;
+    };
+    let is_number = matches!(
+        variable.kind,
+        Some(VarType::Integer | VarType::UnsignedInteger)
+    );
+    let same = least
+        .number()
+        .filter(|number| greatest.number() == Some(*number));
+    if let Some(number) = same.filter(|_| is_number && !variable.is_read_only) {
+        findings.add_beside(least.at, VariableKind::SingleValue(number), greatest.at);
+    }
+}
+
+/// The variables that an attribute reads, and where the attribute is.
+#[derive(Default)]
+struct Reading {
+    at: TokenIndex,
+    read: Vec<u16>,
+}
+
+impl<'t> Visitor<'t> for Reading {
+    fn expression(&mut self, e: &'t Expr<Target>, _: Sort) {
+        if let Expr::Reference(_) = e {
+            variables_read(e, &mut self.read);
+        }
+    }
+}
+
+/// What attributes of variables may depend on themselves.
+#[derive(Clone, Copy, PartialEq, Eq)]
+enum Circular {
+    Validity,
+    Least,
+    Greatest,
+    Handling,
+}
+
+impl Circular {
+    fn kind(self, variable: String) -> VariableKind {
+        match self {
+            Circular::Validity => VariableKind::CircularValidity(variable),
+            Circular::Least | Circular::Greatest => VariableKind::CircularLimits(variable),
+            Circular::Handling => VariableKind::CircularHandling(variable),
+        }
+    }
+
+    fn reading(self, variable: &Variable<'_>) -> Reading {
+        let mut reading = Reading::default();
+        for attribute in &variable.item.attributes {
+            match (self, attribute) {
+                (Circular::Validity, Attribute::Validity(at, c)) => {
+                    reading.at = index(*at);
+                    visit_conditional(c, &mut reading);
+                }
+                (Circular::Handling, Attribute::Handling(at, c)) => {
+                    reading.at = index(*at);
+                    visit_conditional(c, &mut reading);
+                }
+                _ => {}
+            }
+        }
+        let limit = match self {
+            Circular::Least => NumberOption::MinValue,
+            Circular::Greatest => NumberOption::MaxValue,
+            Circular::Validity | Circular::Handling => return reading,
+        };
+        for part in number_parts(variable.parts()).filter(|part| part.which == limit) {
+            reading.at = part.at;
+            visit_conditional(part.value, &mut reading);
+        }
+        reading
+    }
+}
+
+/// Checks which attributes of variables depend on themselves, by way of others or not.
+pub(crate) fn check_circular(context: &Context<'_>, findings: &mut Findings<'_>) {
+    let variables = context.instrument.variables();
+    let all = [
+        Circular::Validity,
+        Circular::Least,
+        Circular::Greatest,
+        Circular::Handling,
+    ];
+    for which in all {
+        let all: Vec<_> = variables.iter().map(|one| which.reading(one)).collect();
+        let next = all
+            .iter()
+            .map(|reading| reading.read.iter().copied().map(usize::from).collect())
+            .collect();
+        for Cycle { node, by } in find_cycles(next) {
+            let places = all.get(node).zip(all.get(by));
+            if let (Some((own, other)), Some(variable)) = (places, variables.get(node)) {
+                let kind = which.kind(variable.name().to_owned());
+                if node == by {
+                    findings.add(own.at, kind);
+                } else {
+                    findings.add_beside(own.at, kind, other.at);
+                }
+            }
+        }
+    }
+}

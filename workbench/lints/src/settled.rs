@@ -1,0 +1,128 @@
+//! Conditions that what is known at their place settles: by the conditions around them, by what was
+//! stored, and by the bits and the ranges of their operands.
+
+mod attributes;
+mod counters;
+mod indexes;
+mod statements;
+
+pub(crate) use attributes::{check_attributes, variables_read};
+pub(crate) use statements::check_body;
+
+use crate::context::Context;
+use crate::expressions::operands::referred;
+use crate::expressions::stores::without_parentheses;
+use crate::kind::ConditionKind;
+use crate::source::TokenIndex;
+use crate::values::Values;
+use crate::values::environment::{Environment, Storage};
+use crate::values::evaluation::{Nobody, Observer};
+use crate::visit::children;
+use crate::warning::Findings;
+use edd_constants::{Known, evaluate};
+use edd_instructions::Sort;
+use edd_syntax::expr::Expr;
+use edd_syntax::operators::UnaryOperator;
+use edd_syntax::reference::Target;
+use std::collections::BTreeMap;
+
+/// A walk over the ways through an item, with what is known on each of them.
+struct Ways<'c, 'd, 'f> {
+    context: &'c Context<'d>,
+    findings: &'f mut Findings<'d>,
+    /// What the counters of the loops around come to, where they come to each number of a range.
+    counters: BTreeMap<Storage, Values>,
+}
+
+fn depends(e: &Expr<Target>, sort: Sort) -> bool {
+    evaluate(e, sort) == Known::Nothing
+}
+
+// Whether a place is compared with a constant.
+fn is_with_constant(first: &Expr<Target>, second: &Expr<Target>, sort: Sort) -> bool {
+    let is_pair = |one: &Expr<Target>, other: &Expr<Target>| {
+        referred(one).is_some() && evaluate(other, sort).number().is_some()
+    };
+    is_pair(first, second) || is_pair(second, first)
+}
+
+impl Observer for Ways<'_, '_, '_> {
+    fn observe(&mut self, e: &Expr<Target>, values: Values, known: &Environment<'_, '_>) {
+        match e {
+            Expr::Compare(_, first, second) if depends(e, known.sort) => {
+                // What the type of a place says of a constant is reported elsewhere.
+                let is_of_type = is_with_constant(first, second, known.sort)
+                    && self.by_types(e, known.sort).number().is_some();
+                if let Some(number) = values.number().filter(|_| !is_of_type) {
+                    let at = self.context.places.sign(e);
+                    self.findings
+                        .add(at, ConditionKind::SettledHere(number != 0));
+                }
+            }
+            Expr::Indexed(array, index) => indexes::check_index(self, e, *array, index, known),
+            Expr::LogicalAnd(first, second) | Expr::LogicalOr(first, second) => {
+                for operand in [first, second] {
+                    self.check_operand(operand, known);
+                }
+            }
+            _ => {}
+        }
+    }
+}
+
+impl<'c, 'd> Ways<'c, 'd, '_> {
+    // What an expression gives by the types of what it reads.
+    fn by_types(&self, e: &Expr<Target>, sort: Sort) -> Values {
+        Environment::new(sort, self.context).evaluate(e, &mut Nobody)
+    }
+
+    /// Follows the condition of a loop. Where the loop has a warning, none is told of its condition.
+    fn test_loop(&mut self, at: TokenIndex, e: &Expr<Target>, known: &mut Environment<'c, 'd>) {
+        if self.findings.is_reported(self.context.source.span(at)) {
+            known.evaluate(e, &mut Nobody);
+        } else {
+            self.test(e, known);
+        }
+    }
+
+    // Whether an operator of an expression has a warning: then no other one is told of it.
+    fn is_reported(&self, e: &Expr<Target>) -> bool {
+        let span = self.context.source.span(self.context.places.sign(e));
+        self.findings.is_reported(span) || children(e).any(|inner| self.is_reported(inner))
+    }
+
+    /// Follows an expression.
+    fn follow(&mut self, e: &Expr<Target>, known: &mut Environment<'c, 'd>) -> Values {
+        if self.is_reported(e) {
+            return known.evaluate(e, &mut Nobody);
+        }
+        known.evaluate(e, self)
+    }
+
+    /// Follows a condition, whose truth alone counts.
+    fn test(&mut self, e: &Expr<Target>, known: &mut Environment<'c, 'd>) {
+        let is_reported = self.is_reported(e);
+        if !is_reported {
+            self.check_operand(e, &known.clone());
+        }
+        self.follow(e, known);
+    }
+
+    // An operand of which the truth counts: bits, or a complement, that are never or always 0.
+    fn check_operand(&mut self, e: &Expr<Target>, known: &Environment<'_, '_>) {
+        let e = without_parentheses(e);
+        let counts = match e {
+            Expr::Binary(..) | Expr::Unary(UnaryOperator::Complement, _) => true,
+            Expr::Unary(UnaryOperator::Not, inner) => return self.check_operand(inner, known),
+            _ => false,
+        };
+        if !counts || !depends(e, known.sort) {
+            return;
+        }
+        let mut fresh = known.clone();
+        if let Some(truth) = fresh.evaluate(e, &mut Nobody).truth() {
+            let at = self.context.places.sign(e);
+            self.findings.add(at, ConditionKind::SettledTest(truth));
+        }
+    }
+}

@@ -1,0 +1,105 @@
+//! The counters of `for` loops.
+
+use crate::bodies::loops::{limit_of, start_of, step_of};
+use crate::range::Range;
+use crate::values::environment::{Storage, storage_of};
+use crate::visit::{Visitor, visit_statement};
+use edd_arithmetic::holds;
+use edd_constants::evaluate;
+use edd_instructions::Sort;
+use edd_syntax::expr::Expr;
+use edd_syntax::operators::Comparison;
+use edd_syntax::reference::Target;
+use edd_syntax::stmt::Stmt;
+
+/// The parts of a `for`.
+pub(super) struct ForLoop<'t> {
+    pub(super) initial: Option<&'t Expr<Target>>,
+    pub(super) condition: Option<&'t Expr<Target>>,
+    pub(super) update: Option<&'t Expr<Target>>,
+    pub(super) body: &'t Stmt<Target>,
+}
+
+/// What a statement does with a place.
+struct Uses {
+    target: Target,
+    sets: bool,
+    /// Whether an `if` in it tests the place.
+    tests: bool,
+}
+
+fn mentions(e: &Expr<Target>, target: Target) -> bool {
+    matches!(e, Expr::Reference(to) if *to == target)
+        || crate::visit::children(e).any(|inner| mentions(inner, target))
+}
+
+impl<'t> Visitor<'t> for Uses {
+    fn expression(&mut self, e: &'t Expr<Target>, _: Sort) {
+        match e {
+            Expr::Assign(to, _) | Expr::CompoundAssign(_, to, _) | Expr::Increment(_, to) => {
+                self.sets |= *to == self.target;
+            }
+            Expr::Call { arguments, .. } => {
+                let written = crate::expressions::calls::target_of_argument(arguments, 0);
+                self.sets |= written == Some(self.target);
+            }
+            Expr::Conditional(test, ..) | Expr::LogicalAnd(test, _) | Expr::LogicalOr(test, _) => {
+                self.tests |= mentions(test, self.target)
+            }
+            _ => {}
+        }
+    }
+
+    fn statement(&mut self, s: &'t Stmt<Target>) {
+        if let Stmt::If(test, _)
+        | Stmt::IfElse(test, ..)
+        | Stmt::While(test, _)
+        | Stmt::Switch(test, _) = s
+        {
+            self.tests |= is_plain_test(test, self.target);
+        }
+    }
+}
+
+// Whether a condition tests a place itself, and not only an element by it.
+fn is_plain_test(e: &Expr<Target>, target: Target) -> bool {
+    match e {
+        Expr::Indexed(..) => false,
+        Expr::Reference(to) => *to == target,
+        _ => crate::visit::children(e).any(|inner| is_plain_test(inner, target)),
+    }
+}
+
+/// The counter of a loop that comes to each number of a range, and is set and tested in its head
+/// alone.
+pub(super) fn counter_of(looped: &ForLoop<'_>) -> Option<(Storage, Range)> {
+    let (target, start) = start_of(looped.initial)?;
+    let (compared, comparison, limit) = limit_of(looped.condition)?;
+    let (counted, step) = step_of(looped.update)?;
+    let limit = evaluate(limit, Sort::Method).number()?;
+    let is_one = target == compared && target == counted && holds(comparison, start, limit);
+    let range = counted_range(start, comparison, limit, step)?;
+    let mut uses = Uses {
+        target,
+        sets: false,
+        tests: false,
+    };
+    visit_statement(looped.body, &mut uses);
+    let is_plain = is_one && !uses.sets && !uses.tests;
+    Some((storage_of(target)?, range)).filter(|_| is_plain)
+}
+
+fn counted_range(start: i64, comparison: Comparison, limit: i64, step: i64) -> Option<Range> {
+    let last = match (comparison, step) {
+        (Comparison::LessOrEqual, 1) | (Comparison::GreaterOrEqual, -1) => limit,
+        (Comparison::Less, 1) => limit.checked_sub(1)?,
+        (Comparison::Greater, -1) => limit.checked_add(1)?,
+        (Comparison::NotEqual, 1) if start < limit => limit.checked_sub(1)?,
+        (Comparison::NotEqual, -1) if limit < start => limit.checked_add(1)?,
+        _ => return None,
+    };
+    Some(Range {
+        low: start.min(last),
+        high: start.max(last),
+    })
+}

@@ -1,0 +1,222 @@
+//! Ways through the body of a method.
+
+use super::counters::{ForLoop, counter_of};
+use super::{Ways, depends};
+use crate::bodies::flow::is_abort;
+use crate::context::Context;
+use crate::kind::ConditionKind;
+use crate::values::environment::Environment;
+use crate::visit::{Visitor, visit_parts, visit_statement};
+use crate::warning::Findings;
+use edd_instructions::Sort;
+use edd_syntax::expr::Expr;
+use edd_syntax::operators::Comparison;
+use edd_syntax::reference::Target;
+use edd_syntax::stmt::{Declarator, Part, Stmt};
+use std::collections::BTreeMap;
+
+/// Forgets what the nodes that it visits may change.
+struct Forgetting<'k, 'c, 'd> {
+    known: &'k mut Environment<'c, 'd>,
+}
+
+impl<'t> Visitor<'t> for Forgetting<'_, '_, '_> {
+    fn expression(&mut self, e: &'t Expr<Target>, _: Sort) {
+        self.known.forget_change(e);
+    }
+}
+
+type Way<'c, 'd> = Option<Environment<'c, 'd>>;
+
+fn joined<'c, 'd>(one: Way<'c, 'd>, other: Way<'c, 'd>) -> Way<'c, 'd> {
+    match (one, other) {
+        (Some(one), Some(other)) => Some(one.join(&other)),
+        (one, other) => one.or(other),
+    }
+}
+
+impl<'c, 'd> Ways<'c, 'd, '_> {
+    fn parts(&mut self, parts: &[Part<Target>], known: Environment<'c, 'd>) -> Way<'c, 'd> {
+        let mut known = known;
+        for part in parts {
+            match part {
+                Part::Declare(declarators) => self.declare(declarators, &mut known),
+                Part::Statement(s) => known = self.statement(s, known)?,
+                Part::CaseLabel { .. } | Part::DefaultLabel { .. } => {}
+            }
+        }
+        Some(known)
+    }
+
+    fn declare(&mut self, declarators: &[Declarator<Target>], known: &mut Environment<'c, 'd>) {
+        for declarator in declarators {
+            known.forget_target(declarator.place);
+            if let Some(e) = &declarator.value {
+                let values = self.follow(e, known);
+                known.store(declarator.place, values);
+            }
+        }
+    }
+
+    /// Follows a statement, and returns what is known behind it; nothing where it does not go on.
+    fn statement(&mut self, s: &Stmt<Target>, known: Environment<'c, 'd>) -> Way<'c, 'd> {
+        let mut known = known;
+        let at = self.context.places.statement(s).sign;
+        match s {
+            Stmt::Empty => Some(known),
+            Stmt::Evaluate(e) => {
+                self.follow(e, &mut known);
+                (!is_abort(e)).then_some(known)
+            }
+            Stmt::Block(parts) => self.parts(parts, known),
+            Stmt::If(condition, first) => {
+                self.test(condition, &mut known);
+                let taken = known.clone().refined(condition, true);
+                let taken = taken.and_then(|inner| self.statement(first, inner));
+                joined(taken, Some(known))
+            }
+            Stmt::IfElse(condition, first, otherwise) => {
+                self.branches(condition, [first, otherwise], known)
+            }
+            Stmt::While(condition, body) => {
+                self.forget_in(s, &mut known);
+                self.test_loop(at, condition, &mut known);
+                if let Some(inner) = known.clone().refined(condition, true) {
+                    self.statement(body, inner);
+                }
+                Some(known)
+            }
+            Stmt::Do(body, condition) => {
+                self.forget_in(s, &mut known);
+                if let Some(mut behind) = self.statement(body, known.clone()) {
+                    self.test_loop(at, condition, &mut behind);
+                }
+                Some(known)
+            }
+            Stmt::For {
+                initial,
+                condition,
+                update,
+                body,
+            } => {
+                let looped = ForLoop {
+                    initial: initial.as_ref(),
+                    condition: condition.as_ref(),
+                    update: update.as_ref(),
+                    body,
+                };
+                Some(self.for_loop(s, &looped, known))
+            }
+            Stmt::Switch(on, parts) => Some(self.switch(on, parts, known)),
+            Stmt::Break { .. } | Stmt::Continue { .. } | Stmt::Return => None,
+        }
+    }
+
+    fn forget_in(&self, s: &Stmt<Target>, known: &mut Environment<'c, 'd>) {
+        visit_statement(s, &mut Forgetting { known });
+    }
+
+    fn branches(
+        &mut self,
+        condition: &Expr<Target>,
+        branches: [&Stmt<Target>; 2],
+        known: Environment<'c, 'd>,
+    ) -> Way<'c, 'd> {
+        let mut known = known;
+        self.test(condition, &mut known);
+        let [first, otherwise] = branches;
+        let taken = known.clone().refined(condition, true);
+        let taken = taken.and_then(|inner| self.statement(first, inner));
+        // A condition after `else` is compared with those of its chain elsewhere.
+        let other = match otherwise {
+            Stmt::If(..) | Stmt::IfElse(..) => Some(known),
+            _ => known.refined(condition, false),
+        };
+        let other = other.and_then(|inner| self.statement(otherwise, inner));
+        joined(taken, other)
+    }
+
+    fn for_loop(
+        &mut self,
+        s: &Stmt<Target>,
+        looped: &ForLoop<'_>,
+        known: Environment<'c, 'd>,
+    ) -> Environment<'c, 'd> {
+        let mut known = known;
+        if let Some(e) = looped.initial {
+            self.follow(e, &mut known);
+        }
+        self.forget_in(s, &mut known);
+        let mut inner = Some(known.clone());
+        if let Some(condition) = looped.condition {
+            let at = self.context.places.statement(s).sign;
+            self.test_loop(at, condition, &mut known);
+            inner = known.clone().refined(condition, true);
+        }
+        let Some(mut inner) = inner else {
+            return known;
+        };
+        let counter = counter_of(looped);
+        if let Some((storage, range)) = counter {
+            inner.set_counter(storage, range);
+            self.counters.insert(storage, inner.get(storage));
+        }
+        if let Some(mut behind) = self.statement(looped.body, inner)
+            && let Some(e) = looped.update
+        {
+            self.follow(e, &mut behind);
+        }
+        if let Some((storage, _)) = counter {
+            self.counters.remove(&storage);
+        }
+        known
+    }
+
+    fn switch(
+        &mut self,
+        on: &Expr<Target>,
+        parts: &[Part<Target>],
+        known: Environment<'c, 'd>,
+    ) -> Environment<'c, 'd> {
+        let mut known = known;
+        let is_told = self.is_reported(on) || !depends(on, Sort::Method);
+        let values = self.follow(on, &mut known);
+        if let Some(number) = values.number().filter(|_| !is_told) {
+            let at = self.context.places.expression(on).extent.start;
+            self.findings
+                .add(at, ConditionKind::SettledSelection(number));
+        }
+        let mut way: Way<'c, 'd> = None;
+        for part in parts {
+            match part {
+                Part::CaseLabel { label, .. } => {
+                    let entered = known.clone().selected(on, Comparison::Equal, *label);
+                    way = joined(way, entered);
+                }
+                Part::DefaultLabel { .. } => way = joined(way, Some(known.clone())),
+                Part::Declare(declarators) => {
+                    if let Some(known) = &mut way {
+                        self.declare(declarators, known);
+                    }
+                }
+                Part::Statement(s) => way = way.and_then(|known| self.statement(s, known)),
+            }
+        }
+        visit_parts(parts, &mut Forgetting { known: &mut known });
+        known
+    }
+}
+
+/// Follows the ways through a body.
+pub(crate) fn check_body<'d>(
+    parts: &[Part<Target>],
+    context: &Context<'d>,
+    findings: &mut Findings<'d>,
+) {
+    let mut ways = Ways {
+        context,
+        findings,
+        counters: BTreeMap::new(),
+    };
+    ways.parts(parts, Environment::new(Sort::Method, context));
+}

@@ -1,0 +1,152 @@
+//! Lints on commands.
+
+use super::Row;
+use crate::levels::Level;
+use crate::lint::Lint;
+
+pub(super) const ROWS: &[Row] = &[
+    Row {
+        lint: Lint::RepeatedCommandNumber,
+        name: "repeated-command-number",
+        level: Level::Warn,
+        summary: "two commands with one NUMBER",
+        details: "two commands with one NUMBER. `send_command` and the device can't tell them apart.",
+        example: "COMMAND c { NUMBER 1; OPERATION READ; TRANSACTION { } }
+COMMAND d { NUMBER 1; OPERATION WRITE; TRANSACTION { } }",
+        counterexample: "COMMAND c { NUMBER 1; OPERATION READ; TRANSACTION { } }
+COMMAND d { NUMBER 2; OPERATION WRITE; TRANSACTION { } }",
+        notes: "",
+    },
+    Row {
+        lint: Lint::RepeatedResponseCode,
+        name: "repeated-response-code",
+        level: Level::Warn,
+        summary: "two response codes of a command with one number",
+        details: "two response codes of one command with one number.",
+        example: r#"COMMAND c { NUMBER 1; OPERATION READ; TRANSACTION { } RESPONSE_CODES { 0, SUCCESS, "OK"; 8, MODE_ERROR, "Locked"; 8, MISC_ERROR, "Busy" } }"#,
+        counterexample: r#"COMMAND c { NUMBER 1; OPERATION READ; TRANSACTION { } RESPONSE_CODES { 0, SUCCESS, "OK"; 8, MODE_ERROR, "Locked" } }"#,
+        notes: "",
+    },
+    Row {
+        lint: Lint::RepeatedTransactionNumber,
+        name: "repeated-transaction-number",
+        level: Level::Warn,
+        summary: "two transactions of a command with one number",
+        details: "two transactions of one command with one written number.",
+        example: "COMMAND c { NUMBER 1; OPERATION READ; TRANSACTION 1 { } TRANSACTION 1 { } }",
+        counterexample: "COMMAND c { NUMBER 1; OPERATION READ; TRANSACTION 0 { } TRANSACTION 1 { } }",
+        notes: "",
+    },
+    Row {
+        lint: Lint::RepeatedDataItem,
+        name: "repeated-data-item",
+        level: Level::Warn,
+        summary: "a variable that is twice in a reply without masks",
+        details: "a variable that is twice in one list of a REPLY, once at least without a mask, and not for INFO: the second value replaces the first.",
+        example: "VARIABLE a { TYPE INTEGER; }
+COMMAND c { NUMBER 1; OPERATION READ; TRANSACTION { REPLY { a, a } } }",
+        counterexample: "VARIABLE a { TYPE INTEGER; }
+COMMAND c { NUMBER 1; OPERATION READ; TRANSACTION { REPLY { a <0x0F>, a <0xF0> } } }",
+        notes: "`a <0x0F>, a <0xF0>` has no warning, and neither have two branches of a condition, nor a REQUEST.",
+    },
+    Row {
+        lint: Lint::OverlappingMasks,
+        name: "overlapping-masks",
+        level: Level::Warn,
+        summary: "two masks of a variable in one message that have a bit in common",
+        details: "two masks of one variable in one list that have a bit in common.",
+        example: "VARIABLE a { TYPE BIT_ENUMERATED; }
+COMMAND c { NUMBER 1; OPERATION READ; TRANSACTION { REPLY { a <0x0F>, a <0x18> } } }",
+        counterexample: "VARIABLE a { TYPE BIT_ENUMERATED; }
+COMMAND c { NUMBER 1; OPERATION READ; TRANSACTION { REPLY { a <0x0F>, a <0x30> } } }",
+        notes: "`a <0x0F>, a <0x30>` has no warning. Masks of two variables are not compared: no rule of this profile says which of them share an octet.",
+    },
+    Row {
+        lint: Lint::WideMask,
+        name: "wide-mask",
+        level: Level::Warn,
+        summary: "a mask with bits that its variable does not have",
+        details: "a mask with bits that its variable does not have. `a <0x80>` of a variable of one octet has no warning.",
+        example: "VARIABLE a { TYPE BIT_ENUMERATED; }
+COMMAND c { NUMBER 1; OPERATION READ; TRANSACTION { REPLY { a <0x100> } } }",
+        counterexample: "VARIABLE a { TYPE BIT_ENUMERATED; }
+COMMAND c { NUMBER 1; OPERATION READ; TRANSACTION { REPLY { a <0x80> } } }",
+        notes: "",
+    },
+    Row {
+        lint: Lint::SilentRead,
+        name: "silent-read",
+        level: Level::Warn,
+        summary: "a READ command that asks for variables and gets nothing",
+        details: "a transaction of a READ command with variables in its REQUEST and nothing in its REPLY: REPLY is meant.",
+        example: "VARIABLE a { TYPE INTEGER; }
+COMMAND c { NUMBER 1; OPERATION READ; TRANSACTION { REQUEST { a } REPLY { } } }",
+        counterexample: "VARIABLE a { TYPE INTEGER; }
+COMMAND c { NUMBER 1; OPERATION READ; TRANSACTION { REQUEST { } REPLY { a } } }",
+        notes: "A transaction without anything may be there for later, and has no warning.",
+    },
+    Row {
+        lint: Lint::SilentWrite,
+        name: "silent-write",
+        level: Level::Warn,
+        summary: "a WRITE command that sends nothing",
+        details: "a WRITE command none of whose transactions has anything in its REQUEST, though one has variables in its REPLY.",
+        example: "VARIABLE a { TYPE INTEGER; }
+COMMAND c { NUMBER 1; OPERATION WRITE; TRANSACTION { REPLY { a } } }",
+        counterexample: "VARIABLE a { TYPE INTEGER; }
+COMMAND c { NUMBER 1; OPERATION WRITE; TRANSACTION { REQUEST { a } REPLY { a } } }",
+        notes: "",
+    },
+    Row {
+        lint: Lint::WrittenReadOnly,
+        name: "written-read-only",
+        level: Level::Warn,
+        summary: "a variable with HANDLING READ in the REQUEST of a WRITE command",
+        details: "a variable with HANDLING READ, under no condition, in the REQUEST of a WRITE command, which no method sets: nothing but what was read can be written. With a mask, INFO or INDEX it says something else and has no warning.",
+        example: "VARIABLE a { HANDLING READ; TYPE INTEGER; }
+COMMAND c { NUMBER 1; OPERATION WRITE; TRANSACTION { REQUEST { a } } }",
+        counterexample: "VARIABLE a { HANDLING READ; TYPE INTEGER; }
+COMMAND c { NUMBER 1; OPERATION WRITE; TRANSACTION { REQUEST { a (INFO) } } }",
+        notes: "",
+    },
+    Row {
+        lint: Lint::WideCommandNumber,
+        name: "wide-command-number",
+        level: Level::Warn,
+        summary: "a NUMBER of a command over 65535",
+        details: "a NUMBER of a command that two octets do not hold.",
+        example: "COMMAND c { NUMBER 70000; OPERATION READ; TRANSACTION { } }",
+        counterexample: "COMMAND c { NUMBER 700; OPERATION READ; TRANSACTION { } }",
+        notes: "",
+    },
+    Row {
+        lint: Lint::AmbiguousTransaction,
+        name: "ambiguous-transaction",
+        level: Level::Warn,
+        summary: "two transactions that can't be told apart, since one has no number",
+        details: "a transaction without a number in a command with another one that has none either, or 0: one without a number counts as 0.",
+        example: "COMMAND c { NUMBER 1; OPERATION READ; TRANSACTION 0 { } TRANSACTION { } }",
+        counterexample: "COMMAND c { NUMBER 1; OPERATION READ; TRANSACTION 0 { } TRANSACTION 1 { } }",
+        notes: "",
+    },
+    Row {
+        lint: Lint::FailingZero,
+        name: "failing-zero",
+        level: Level::Warn,
+        summary: "the response code 0 with another class than SUCCESS",
+        details: "the response code 0 with another class than SUCCESS: it is the code of what went well.",
+        example: r#"COMMAND c { NUMBER 1; OPERATION READ; TRANSACTION { } RESPONSE_CODES { 0, MODE_ERROR, "Locked" } }"#,
+        counterexample: r#"COMMAND c { NUMBER 1; OPERATION READ; TRANSACTION { } RESPONSE_CODES { 0, SUCCESS, "OK" } }"#,
+        notes: "",
+    },
+    Row {
+        lint: Lint::EmptyResponseCodes,
+        name: "empty-response-codes",
+        level: Level::Warn,
+        summary: "RESPONSE_CODES without any",
+        details: "RESPONSE_CODES without any, which says the same as none.",
+        example: "COMMAND c { NUMBER 1; OPERATION READ; TRANSACTION { } RESPONSE_CODES { } }",
+        counterexample: "COMMAND c { NUMBER 1; OPERATION READ; TRANSACTION { } }",
+        notes: "",
+    },
+];

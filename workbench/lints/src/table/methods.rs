@@ -1,0 +1,313 @@
+//! Lints on statements, calls and values in methods.
+
+use super::Row;
+use crate::levels::Level;
+use crate::lint::Lint;
+
+pub(super) const ROWS: &[Row] = &[
+    Row {
+        lint: Lint::DroppedComparison,
+        name: "dropped-comparison",
+        level: Level::Warn,
+        summary: "a statement that is a comparison: = is meant",
+        details: "a statement that is a comparison, or the first or the third part of a `for` that is one. `=` is meant in place of `==`.",
+        example: "METHOD m { DEFINITION { int i; i == 5; } }",
+        counterexample: "METHOD m { DEFINITION { int i; i = 5; } }",
+        notes: "",
+    },
+    Row {
+        lint: Lint::DroppedValue,
+        name: "dropped-value",
+        level: Level::Warn,
+        summary: "a statement that computes a value and does nothing with it",
+        details: "a statement that computes a value, sets nothing and asks for nothing. A plain number, as a macro may leave it, has no warning.",
+        example: "METHOD m { DEFINITION { int i; i = 2; i + 1; } }",
+        counterexample: "METHOD m { DEFINITION { int i; i = 2; i++; } }",
+        notes: "`i++;` has no warning.",
+    },
+    Row {
+        lint: Lint::AssignedCondition,
+        name: "assigned-condition",
+        level: Level::Warn,
+        summary: "an assignment as a condition: == is meant, or a second pair of parentheses",
+        details: "an assignment as the condition of an `if`, `switch` or loop. In a second pair of parentheses it says so on purpose and has no warning.",
+        example: "METHOD m { DEFINITION { int i; if (i = 5) save_values(); } }",
+        counterexample: "METHOD m { DEFINITION { int i; if ((i = 5)) save_values(); } }",
+        notes: "",
+    },
+    Row {
+        lint: Lint::AssignedToItself,
+        name: "assigned-to-itself",
+        level: Level::Warn,
+        summary: "a variable or a local that is set to itself",
+        details: "a variable or a local that is set to itself, by `=`, iassign or lassign.",
+        example: "METHOD m { DEFINITION { int i; i = i; } }",
+        counterexample: "METHOD m { DEFINITION { int i; i = i + 1; } }",
+        notes: "",
+    },
+    Row {
+        lint: Lint::EmptyBranch,
+        name: "empty-branch",
+        level: Level::Warn,
+        summary: "an if that does nothing, or a ; between a loop and its block",
+        details: "a `;` right after the condition of an `if` without `else`: the statement after it is executed in any case. So it is of a block that comes after a `;` behind a loop or an `else`, of `if (..) { }` without `else`, comment and request, and of a `for` without a body that counts to a constant. Other loops may have no body, as `while (send_command(1));`.",
+        example: "VARIABLE e { TYPE INTEGER; }
+METHOD m { DEFINITION { if (e == 5); e = 6; } }",
+        counterexample: "VARIABLE e { TYPE INTEGER; }
+METHOD m { DEFINITION { if (e == 5) e = 6; } }",
+        notes: "",
+    },
+    Row {
+        lint: Lint::StoreOutOfRange,
+        name: "store-out-of-range",
+        level: Level::Warn,
+        summary: "a constant that is assigned to a variable which can't hold it",
+        details: "a constant that is assigned to a variable, by `=`, iassign or lassign, and that its type and size can't hold: the variable keeps another number. `v = ~0;` means all bits that it has, and has no warning.",
+        example: "VARIABLE v { TYPE UNSIGNED_INTEGER; }
+METHOD m { DEFINITION { v = 256; } }",
+        counterexample: "VARIABLE v { TYPE UNSIGNED_INTEGER; }
+METHOD m { DEFINITION { v = 255; } }",
+        notes: "",
+    },
+    Row {
+        lint: Lint::WrappedNumber,
+        name: "wrapped-number",
+        level: Level::Warn,
+        summary: "a number of a method that does not fit in 32 bits with a sign",
+        details: "a number over 2147483647, written with decimal digits, that a method assigns to a local or compares by order: with 32 bits it is negative. What is written with `0x` is meant as bits.",
+        example: "METHOD m { DEFINITION { int i = 3000000000; send_command(i); } }",
+        counterexample: "METHOD m { DEFINITION { int i = 0xF0000000; send_command(i); } }",
+        notes: "`0xF0000000` has no warning, and neither has `v = 3000000000;` of an unsigned variable of four octets.",
+    },
+    Row {
+        lint: Lint::MissingCommand,
+        name: "missing-command",
+        level: Level::Warn,
+        summary: "a command over 127, or below 0, that the description does not have",
+        details: "a constant number of a command that is over 127 or negative, in a description with commands of which none has it. Numbers up to 127 may be those that every device of the protocol has ([`undeclared-command`](#off-unless-denied) asks for them).",
+        example: "COMMAND c { NUMBER 130; OPERATION READ; TRANSACTION { } }
+METHOD m { DEFINITION { send_command(131); } }",
+        counterexample: "COMMAND c { NUMBER 130; OPERATION READ; TRANSACTION { } }
+METHOD m { DEFINITION { send_command(130); } }",
+        notes: "`send_command(130)` and `send_command(3)` have no warning.",
+    },
+    Row {
+        lint: Lint::MissingTransaction,
+        name: "missing-transaction",
+        level: Level::Warn,
+        summary: "a transaction that the command does not have",
+        details: "a `send_command_trans` with two constants of which the first is the NUMBER of a command of the description, all of whose transactions have their numbers written, and the second is none of them. Of a command that is not declared it says nothing.",
+        example: "COMMAND c { NUMBER 3; OPERATION READ; TRANSACTION 0 { REQUEST { } REPLY { } } }
+METHOD m { DEFINITION { send_command_trans(3, 1); } }",
+        counterexample:
+            "COMMAND c { NUMBER 3; OPERATION READ; TRANSACTION 0 { REQUEST { } REPLY { } } }
+METHOD m { DEFINITION { send_command_trans(3, 0); } }",
+        notes: "",
+    },
+    Row {
+        lint: Lint::UnwritableVariable,
+        name: "unwritable-variable",
+        level: Level::Warn,
+        summary: "a value that is asked for, of a variable with HANDLING READ",
+        details: "a GET_DEV_VAR_VALUE of a variable with HANDLING READ, under no condition: the technician may not enter it.",
+        example: r#"VARIABLE a { HANDLING READ; TYPE INTEGER; }
+METHOD m { DEFINITION { GET_DEV_VAR_VALUE("Level?", a); } }"#,
+        counterexample: r#"VARIABLE a { HANDLING READ & WRITE; TYPE INTEGER; }
+METHOD m { DEFINITION { GET_DEV_VAR_VALUE("Level?", a); } }"#,
+        notes: "With `HANDLING READ & WRITE`, and without HANDLING, there is no warning.",
+    },
+    Row {
+        lint: Lint::ReversedAssignment,
+        name: "reversed-assignment",
+        level: Level::Warn,
+        summary: "=+, =- or =! in place of +=, -= or !=",
+        details: "`=` with `+`, `-` or `!` right behind it and a blank after that: two signs that look like one.",
+        example: "METHOD m { DEFINITION { int i = 5; i =+ 1; send_command(i); } }",
+        counterexample: "METHOD m { DEFINITION { int i = 5; i = +1; send_command(i); } }",
+        notes: "`i =-1` has no warning.",
+    },
+    Row {
+        lint: Lint::SteppedAssignment,
+        name: "stepped-assignment",
+        level: Level::Warn,
+        summary: "a place that is set to what it counts, as in i = i++",
+        details: "an assignment of `i++` or `i--`, before or behind, to the place itself.",
+        example: "METHOD m { DEFINITION { int i = 0; i = i++; send_command(i); } }",
+        counterexample: "METHOD m { DEFINITION { int i = 0; i++; send_command(i); } }",
+        notes: "",
+    },
+    Row {
+        lint: Lint::StoredAnswer,
+        name: "stored-answer",
+        level: Level::Warn,
+        summary: "the code of GET_DEV_VAR_VALUE stored in the variable that was asked for",
+        details: "an assignment to a variable of the code with which a GET_DEV_VAR_VALUE of it was answered: it replaces what was entered.",
+        example: r#"VARIABLE a { TYPE INTEGER; }
+METHOD m { DEFINITION { a = GET_DEV_VAR_VALUE("Limit?", a); } }"#,
+        counterexample: r#"VARIABLE a { TYPE INTEGER; }
+METHOD m { DEFINITION { int code; code = GET_DEV_VAR_VALUE("Limit?", a); if (code) abort(); } }"#,
+        notes: "",
+    },
+    Row {
+        lint: Lint::DroppedChoice,
+        name: "dropped-choice",
+        level: Level::Warn,
+        summary: "a SELECT_FROM_LIST whose answer is not used",
+        details: "a SELECT_FROM_LIST as a statement: what was chosen makes no difference.",
+        example: r#"METHOD m { DEFINITION { SELECT_FROM_LIST("Go?", "Yes;No"); } }"#,
+        counterexample: r#"METHOD m { DEFINITION { if (SELECT_FROM_LIST("Go?", "Yes;No")) abort(); } }"#,
+        notes: "",
+    },
+    Row {
+        lint: Lint::MissingChoice,
+        name: "missing-choice",
+        level: Level::Warn,
+        summary: "a choice that the list of a SELECT_FROM_LIST does not have",
+        details: "what a SELECT_FROM_LIST, or a local that keeps answers of such alone, is compared with by `==` or `!=`, or a label of a `switch` over it, that is no choice: they are counted from 0.",
+        example: r#"METHOD m { DEFINITION { if (SELECT_FROM_LIST("Go?", "Yes;No") == 2) abort(); } }"#,
+        counterexample: r#"METHOD m { DEFINITION { if (SELECT_FROM_LIST("Go?", "Yes;No") == 1) abort(); } }"#,
+        notes: "",
+    },
+    Row {
+        lint: Lint::NegativeDelay,
+        name: "negative-delay",
+        level: Level::Warn,
+        summary: "a DELAY of less than no time",
+        details: "a constant time of a DELAY that is negative.",
+        example: r#"METHOD m { DEFINITION { DELAY(-1, "Wait"); } }"#,
+        counterexample: r#"METHOD m { DEFINITION { DELAY(1, "Wait"); } }"#,
+        notes: "",
+    },
+    Row {
+        lint: Lint::LongDelay,
+        name: "long-delay",
+        level: Level::Warn,
+        summary: "a DELAY of a thousand seconds or more",
+        details: "a constant time of a DELAY from 1000 on: milliseconds are meant.",
+        example: r#"METHOD m { DEFINITION { DELAY(5000, "Wait"); } }"#,
+        counterexample: r#"METHOD m { DEFINITION { DELAY(5, "Wait"); } }"#,
+        notes: "",
+    },
+    Row {
+        lint: Lint::UnlistedResponseCode,
+        name: "unlisted-response-code",
+        level: Level::Warn,
+        summary: "a code that the command does not list",
+        details: "a constant other than 0 with which the answer of a command is compared by `==` or `!=`, and that is none of the response codes which the command lists.",
+        example: r#"COMMAND c { NUMBER 1; OPERATION READ; TRANSACTION { } RESPONSE_CODES { 0, SUCCESS, "OK"; 16, MODE_ERROR, "Locked" } }
+METHOD m { DEFINITION { if (send_command(1) == 5) abort(); } }"#,
+        counterexample: r#"COMMAND c { NUMBER 1; OPERATION READ; TRANSACTION { } RESPONSE_CODES { 0, SUCCESS, "OK"; 16, MODE_ERROR, "Locked" } }
+METHOD m { DEFINITION { if (send_command(1) == 16) abort(); } }"#,
+        notes: "",
+    },
+    Row {
+        lint: Lint::ComparedArgument,
+        name: "compared-argument",
+        level: Level::Warn,
+        summary: "a comparison as the number of a command or of a DELAY",
+        details: "a comparison, `&&` or `||` as an argument of send_command, send_command_trans or DELAY: the parenthesis closes too late.",
+        example: "METHOD m { DEFINITION { if (send_command(1 != 0)) abort(); } }",
+        counterexample: "METHOD m { DEFINITION { if (send_command(1) != 0) abort(); } }",
+        notes: "",
+    },
+    Row {
+        lint: Lint::StoreOutsideLimits,
+        name: "store-outside-limits",
+        level: Level::Warn,
+        summary: "a constant outside of the limits of the variable that it is assigned to",
+        details: "a constant that is assigned to a variable, and is below its MIN_VALUE or over its MAX_VALUE, in all branches of these. 0 often says that there is none, and has no warning.",
+        example: "VARIABLE a { TYPE INTEGER (2) { MAX_VALUE 100; } }
+METHOD m { DEFINITION { a = 200; send_command(1); } }",
+        counterexample: "VARIABLE a { TYPE INTEGER (2) { MAX_VALUE 100; } }
+METHOD m { DEFINITION { a = 100; send_command(1); } }",
+        notes: "",
+    },
+    Row {
+        lint: Lint::DeadStore,
+        name: "dead-store",
+        level: Level::Warn,
+        summary: "a value that is replaced before anything reads it",
+        details: "a value that is stored by a statement, and replaced by one after it in the same block, with other assignments between at most, none of which reads it.",
+        example: "VARIABLE a { TYPE INTEGER; }
+METHOD m { DEFINITION { a = 5; a = 6; send_command(1); } }",
+        counterexample: "VARIABLE a { TYPE INTEGER; }
+METHOD m { DEFINITION { a = 5; send_command(1); a = 6; send_command(1); } }",
+        notes: "The value of a declaration is left alone, and so is that of a request.",
+    },
+    Row {
+        lint: Lint::EmptyThen,
+        name: "empty-then",
+        level: Level::Warn,
+        summary: "an if that does something only after else",
+        details: "a `;` or `{ }` without a comment between the condition of an `if` and its `else`: `!` says the same.",
+        example: "VARIABLE a { TYPE INTEGER; }
+METHOD m { DEFINITION { if (a) ; else send_command(1); } }",
+        counterexample: "VARIABLE a { TYPE INTEGER; }
+METHOD m { DEFINITION { if (!a) send_command(1); } }",
+        notes: "",
+    },
+    Row {
+        lint: Lint::EmptyElse,
+        name: "empty-else",
+        level: Level::Warn,
+        summary: "an else with nothing but a ;",
+        details: "an `else` with nothing but a `;`, and no comment before that.",
+        example: "VARIABLE a { TYPE INTEGER; }
+METHOD m { DEFINITION { if (a) send_command(1); else ; } }",
+        counterexample: "VARIABLE a { TYPE INTEGER; }
+METHOD m { DEFINITION { if (a) send_command(1); else /* nothing */ ; } }",
+        notes: "",
+    },
+    Row {
+        lint: Lint::EmptySwitch,
+        name: "empty-switch",
+        level: Level::Warn,
+        summary: "a switch without statements",
+        details: "a `switch` without statements and labels.",
+        example: "VARIABLE a { TYPE INTEGER; }
+METHOD m { DEFINITION { switch (a) { } } }",
+        counterexample: "VARIABLE a { TYPE INTEGER; }
+METHOD m { DEFINITION { switch (a) { case 1: send_command(1); } } }",
+        notes: "",
+    },
+    Row {
+        lint: Lint::MisleadingIndentation,
+        name: "misleading-indentation",
+        level: Level::Warn,
+        summary: "a statement that looks like part of the one before it",
+        details: "a statement that stands below what is in the `if`, `else`, `while` or `for` before it, which has no braces: it is executed in any case.",
+        example: "VARIABLE a { TYPE INTEGER; }
+METHOD m { DEFINITION {
+    if (a)
+        send_command(1);
+        send_command(2);
+} }",
+        counterexample: "VARIABLE a { TYPE INTEGER; }
+METHOD m { DEFINITION {
+    if (a)
+        send_command(1);
+    send_command(2);
+} }",
+        notes: "",
+    },
+    Row {
+        lint: Lint::DanglingElse,
+        name: "dangling-else",
+        level: Level::Warn,
+        summary: "an else below an if that it does not belong to",
+        details: "an `else` that stands below an `if`, and belongs to an `if` in that one.",
+        example: "VARIABLE a { TYPE INTEGER; }
+METHOD m { DEFINITION {
+    if (a > 5)
+        if (a > 10) send_command(1);
+    else send_command(2);
+} }",
+        counterexample: "VARIABLE a { TYPE INTEGER; }
+METHOD m { DEFINITION {
+    if (a > 5)
+        if (a > 10) send_command(1);
+        else send_command(2);
+} }",
+        notes: "",
+    },
+];

@@ -1,0 +1,28 @@
+//! Texts and comments.
+
+mod codes;
+mod comments;
+mod languages;
+mod signs;
+mod spoken;
+mod translations;
+mod usual;
+pub(crate) mod variants;
+
+use crate::context::Context;
+use crate::warning::Findings;
+use comments::check_comments;
+use languages::check_languages;
+use signs::check_signs;
+use spoken::spoken_in;
+use translations::{check_insides, check_translations};
+
+/// Checks all texts and comments.
+pub(crate) fn check_texts(context: &Context<'_>, findings: &mut Findings<'_>) {
+    let texts = spoken_in(context.source);
+    check_languages(&texts, findings);
+    check_signs(&texts, findings);
+    check_translations(&texts, findings);
+    check_insides(&texts, context, findings);
+    check_comments(context.source, findings);
+}

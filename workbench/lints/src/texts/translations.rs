@@ -1,0 +1,102 @@
+//! Texts in one language where most others have two, braces around the name of an item, and escapes
+//! of escapes.
+
+use super::codes::code_text;
+use super::spoken::Spoken;
+use super::variants::{Variant, Variants};
+use crate::context::Context;
+use crate::kind::TextKind;
+use crate::warning::Findings;
+use edd_syntax::symbols::Keyword;
+
+/// How many letters, of which all but the first are small, make a word that is to be translated.
+const WORD: usize = 4;
+
+/// How many texts of two languages there have to be.
+const FEWEST: usize = 3;
+
+// Whether a text has a word of some letters, and not only a unit, a number or an abbreviation.
+fn has_word(words: &[u8]) -> bool {
+    let mut runs = words.split(|byte| !byte.is_ascii_alphabetic());
+    runs.any(|run| {
+        let small = run.iter().filter(|byte| byte.is_ascii_lowercase()).count();
+        WORD <= run.len() && run.len() <= small.saturating_add(1)
+    })
+}
+
+// What a text has, where it is in one language.
+fn single_language(raw: &[u8]) -> Option<Variant<'_>> {
+    let mut variants = Variants::of(raw);
+    let first = variants.next()?;
+    variants.next().is_none().then_some(first)
+}
+
+fn is_for_readers(spoken: &Spoken<'_>) -> bool {
+    matches!(
+        spoken.section,
+        Some(
+            Keyword::Label
+                | Keyword::Help
+                | Keyword::Type
+                | Keyword::ResponseCodes
+                | Keyword::Members
+                | Keyword::Elements
+                | Keyword::Definition
+        )
+    )
+}
+
+/// Warns of texts in one language, where nearly all others have more.
+pub(super) fn check_translations(texts: &[Spoken<'_>], findings: &mut Findings<'_>) {
+    let worded = || {
+        texts
+            .iter()
+            .filter(|spoken| is_for_readers(spoken) && has_word(&spoken.raw))
+    };
+    let all = worded().count();
+    let translated = worded()
+        .filter(|spoken| single_language(&spoken.raw).is_none())
+        .count();
+    // Three of four are translated.
+    if translated < FEWEST || translated.saturating_mul(4) < all.saturating_mul(3) {
+        return;
+    }
+    for spoken in texts {
+        let Some(Variant { code, words }) = single_language(&spoken.raw) else {
+            continue;
+        };
+        let says_language = spoken.raw.starts_with(b"|");
+        if has_word(words) && (says_language || is_for_readers(spoken)) {
+            let code = code_text(code).to_owned();
+            findings.add(spoken.at, TextKind::Untranslated(code));
+        }
+    }
+}
+
+// The name of an item in braces, as other languages replace it.
+fn braced_item(raw: &[u8], context: &Context<'_>) -> Option<String> {
+    let mut parts = raw.split(|byte| *byte == b'{');
+    parts.next()?;
+    let names = parts.filter_map(|part| part.split(|byte| *byte == b'}').next());
+    let mut names = names.filter_map(|name| str::from_utf8(name).ok());
+    let name = names.find(|name| context.instrument.has_name(name))?;
+    Some(name.to_owned())
+}
+
+/// Checks what stands in texts for something else.
+pub(super) fn check_insides(
+    texts: &[Spoken<'_>],
+    context: &Context<'_>,
+    findings: &mut Findings<'_>,
+) {
+    for spoken in texts {
+        let has_percent = spoken.raw.contains(&b'%');
+        if let Some(name) = braced_item(&spoken.raw, context).filter(|_| !has_percent) {
+            findings.add(spoken.at, TextKind::BracedItem(name));
+        }
+        let escapes = spoken.raw.windows(3);
+        if escapes.into_iter().any(|window| window == br"\\n") {
+            findings.add(spoken.at, TextKind::EscapedEscape);
+        }
+    }
+}

@@ -1,0 +1,196 @@
+//! Commands that read or write nothing, transactions that can't be told apart, response codes, and
+//! variables that no command carries.
+
+use crate::commands::code_places;
+use crate::context::Context;
+use crate::instrument::Variable;
+use crate::kind::{CommandKind, TextKind, VariableKind};
+use crate::lists::values_of;
+use crate::source::{TokenIndex, index};
+use crate::traits::{classes_of, quoted};
+use crate::usage::{Usage, carried, operation_of};
+use crate::warning::Findings;
+use edd_syntax::cond::Cond;
+use edd_syntax::item::{Attribute, DataItem, Item, ResponseCode, TransactionPart};
+use edd_syntax::reference::Target;
+use edd_syntax::types::{Handling, Operation, ResponseClass};
+use std::collections::HashMap;
+
+/// The greatest number of a command that two octets hold.
+const MOST: u32 = 65_535;
+
+/// The lists of a transaction.
+struct Transaction<'t> {
+    at: TokenIndex,
+    number: Option<u32>,
+    request: Vec<&'t DataItem<Target>>,
+    reply: Vec<&'t DataItem<Target>>,
+}
+
+fn transactions_of(command: &Item<Target>) -> Vec<Transaction<'_>> {
+    let attributes = command.attributes.iter();
+    let all = attributes.filter_map(|attribute| match attribute {
+        Attribute::Transaction { at, number, parts } => {
+            let mut transaction = Transaction {
+                at: index(*at),
+                number: *number,
+                request: Vec::new(),
+                reply: Vec::new(),
+            };
+            for part in parts {
+                let (list, items) = match part {
+                    TransactionPart::Request(_, items) => (&mut transaction.request, items),
+                    TransactionPart::Reply(_, items) => (&mut transaction.reply, items),
+                };
+                list.extend(values_of(items).iter().map(|listed| listed.value));
+            }
+            Some(transaction)
+        }
+        _ => None,
+    });
+    all.collect()
+}
+
+fn has_variable(items: &[&DataItem<Target>]) -> bool {
+    items.iter().any(|item| carried(item).is_some())
+}
+
+// A transaction without a number counts as 0.
+fn check_numbers(transactions: &[Transaction<'_>], findings: &mut Findings<'_>) {
+    let mut seen = HashMap::new();
+    for transaction in transactions {
+        let number = transaction.number.unwrap_or(0);
+        let earlier = seen.insert(number, transaction);
+        if let Some(earlier) =
+            earlier.filter(|one| one.number.is_none() || transaction.number.is_none())
+        {
+            findings.add_beside(
+                transaction.at,
+                CommandKind::AmbiguousTransaction,
+                earlier.at,
+            );
+        }
+    }
+}
+
+// Variables that a WRITE command sets, and that nothing else lets a technician or a method set.
+fn check_written(
+    transaction: &Transaction<'_>,
+    usage: &Usage,
+    context: &Context<'_>,
+    findings: &mut Findings<'_>,
+) {
+    for item in &transaction.request {
+        let DataItem::Variable {
+            at,
+            mask: None,
+            qualifiers,
+            ..
+        } = item
+        else {
+            continue;
+        };
+        let is_plain = !qualifiers.info && !qualifiers.index;
+        let number = carried(item).filter(|number| is_plain && !usage.set.contains(number));
+        let variable = number.and_then(|number| context.instrument.variable(number));
+        if let Some(variable) = variable.filter(|variable| variable.is_read_only) {
+            let name = variable.name().to_owned();
+            findings.add(index(*at), CommandKind::WrittenReadOnly(name));
+        }
+    }
+}
+
+fn check_codes(
+    at: TokenIndex,
+    codes: &[ResponseCode],
+    context: &Context<'_>,
+    findings: &mut Findings<'_>,
+) {
+    if codes.is_empty() {
+        findings.add(at, CommandKind::NoResponseCodes);
+    }
+    let mut before = None;
+    for (code, at) in codes.iter().zip(code_places(at, codes, context)) {
+        if code.number == 0 && code.class != ResponseClass::Success {
+            findings.add(at, CommandKind::FailingZero);
+        }
+        if quoted(&code.text).is_some_and(str::is_empty) {
+            findings.add(at, TextKind::EmptyText);
+        }
+        if before.is_some_and(|before| code.number < before) {
+            findings.add(at, CommandKind::UnorderedResponseCode(code.number));
+        }
+        before = Some(code.number);
+    }
+}
+
+/// Checks what a command reads and writes.
+pub(crate) fn check_traffic(
+    command: &Item<Target>,
+    usage: &Usage,
+    context: &Context<'_>,
+    findings: &mut Findings<'_>,
+) {
+    let transactions = transactions_of(command);
+    check_numbers(&transactions, findings);
+    match operation_of(command) {
+        Some(Operation::Read) => {
+            let silent =
+                |one: &&Transaction<'_>| has_variable(&one.request) && one.reply.is_empty();
+            for transaction in transactions.iter().filter(silent) {
+                findings.add(transaction.at, CommandKind::ReadsNothing);
+            }
+        }
+        Some(Operation::Write) => {
+            let sends = transactions.iter().any(|one| !one.request.is_empty());
+            let receives = transactions.iter().any(|one| has_variable(&one.reply));
+            if !sends && receives {
+                findings.add(index(command.at), CommandKind::WritesNothing);
+            }
+            for transaction in &transactions {
+                check_written(transaction, usage, context, findings);
+            }
+        }
+        _ => {}
+    }
+    for attribute in &command.attributes {
+        let at = index(attribute.at());
+        match attribute {
+            Attribute::ResponseCodes(_, codes) => check_codes(at, codes, context, findings),
+            Attribute::Number(_, number) if MOST < *number => {
+                findings.add(at, CommandKind::WideNumber(*number));
+            }
+            _ => {}
+        }
+    }
+}
+
+fn may_be_written(variable: &Variable<'_>) -> bool {
+    variable.item.attributes.iter().all(|attribute| {
+        !matches!(attribute, Attribute::Handling(_, handling)
+            if !matches!(handling, Cond::Value(Handling::Write | Handling::ReadWrite)))
+    })
+}
+
+/// Checks which variables no command carries, though they are such as commands carry.
+pub(crate) fn check_carried(usage: &Usage, context: &Context<'_>, findings: &mut Findings<'_>) {
+    for (number, variable) in (0u16..).zip(context.instrument.variables()) {
+        let is_carried = usage.requested.contains(&number) || usage.replied.contains(&number);
+        let classes = classes_of(variable);
+        if is_carried || usage.set.contains(&number) || classes.contains("LOCAL") {
+            continue;
+        }
+        let at = index(variable.item.at);
+        let name = || variable.name().to_owned();
+        let is_used = usage.shown.contains(&number) || usage.mentioned.contains(&number);
+        if classes.contains("DYNAMIC") && usage.has_read_command && is_used {
+            findings.add(at, VariableKind::UnreadDynamic(name()));
+        } else if usage.has_write_command
+            && usage.offered.contains(&number)
+            && !usage.mentioned.contains(&number)
+            && may_be_written(variable)
+        {
+            findings.add(at, VariableKind::Ineffective(name()));
+        }
+    }
+}

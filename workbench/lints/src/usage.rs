@@ -1,0 +1,143 @@
+//! Where variables are used: in messages of commands, in menus, in expressions and methods.
+
+use crate::expressions::calls::target_of_argument;
+use crate::instrument::variable_of;
+use crate::lists::values_of;
+use crate::menus::{entries_of, item_shown};
+use crate::visit::{Visitor, visit_item};
+use edd_instructions::Sort;
+use edd_syntax::expr::Expr;
+use edd_syntax::item::{Attribute, DataItem, Item, ItemKind, TransactionPart};
+use edd_syntax::numbers::ItemNo;
+use edd_syntax::operators::{Builtin, RequestKind};
+use edd_syntax::reference::Target;
+use edd_syntax::types::Operation;
+use std::collections::HashSet;
+
+/// The variables of a description by what uses them.
+#[derive(Default)]
+pub(crate) struct Usage {
+    /// In a REQUEST.
+    pub(crate) requested: HashSet<u16>,
+    /// In a REPLY.
+    pub(crate) replied: HashSet<u16>,
+    /// Entries of menus by which they may be set.
+    pub(crate) offered: HashSet<u16>,
+    /// Entries of menus.
+    pub(crate) shown: HashSet<u16>,
+    /// Set by methods.
+    pub(crate) set: HashSet<u16>,
+    /// In an expression, an array or a collection.
+    pub(crate) mentioned: HashSet<u16>,
+    pub(crate) has_read_command: bool,
+    pub(crate) has_write_command: bool,
+}
+
+/// The operation of a command.
+pub(crate) fn operation_of(command: &Item<Target>) -> Option<Operation> {
+    let mut attributes = command.attributes.iter();
+    attributes.find_map(|attribute| match attribute {
+        Attribute::Operation(_, operation) => Some(*operation),
+        _ => None,
+    })
+}
+
+/// The variable of an item of a message.
+pub(crate) fn carried(item: &DataItem<Target>) -> Option<u16> {
+    match item {
+        DataItem::Variable { variable, .. } => variable_of(*variable),
+        DataItem::Constant { .. } => None,
+    }
+}
+
+impl Usage {
+    /// The uses in items.
+    pub(crate) fn of(items: &[Item<Target>]) -> Usage {
+        let mut usage = Usage::default();
+        for item in items {
+            visit_item(item, &mut usage);
+            for attribute in &item.attributes {
+                usage.add_attribute(attribute);
+            }
+            match item.sort {
+                ItemKind::Command => usage.add_command(item),
+                ItemKind::Menu => usage.add_menu(item),
+                _ => {}
+            }
+        }
+        usage
+    }
+
+    fn add_attribute(&mut self, attribute: &Attribute<Target>) {
+        match attribute {
+            Attribute::Members(_, members) => {
+                let members = members.iter().filter_map(|member| variable_of(member.item));
+                self.mentioned.extend(members);
+            }
+            Attribute::Elements(_, elements) => {
+                let elements = elements.iter().filter_map(|one| variable_of(one.variable));
+                self.mentioned.extend(elements);
+            }
+            Attribute::Transaction { parts, .. } => {
+                for part in parts {
+                    let (carriers, items) = match part {
+                        TransactionPart::Request(_, items) => (&mut self.requested, items),
+                        TransactionPart::Reply(_, items) => (&mut self.replied, items),
+                    };
+                    let items = values_of(items);
+                    carriers.extend(items.iter().filter_map(|listed| carried(listed.value)));
+                }
+            }
+            _ => {}
+        }
+    }
+
+    fn add_command(&mut self, command: &Item<Target>) {
+        match operation_of(command) {
+            Some(Operation::Read) => self.has_read_command = true,
+            Some(Operation::Write) => self.has_write_command = true,
+            _ => {}
+        }
+    }
+
+    fn add_menu(&mut self, menu: &Item<Target>) {
+        for listed in entries_of(menu) {
+            if let Some((ItemNo::Variable(variable), qualifiers)) = item_shown(listed.value) {
+                self.shown.insert(variable.0);
+                if !qualifiers.read_only && !qualifiers.hidden {
+                    self.offered.insert(variable.0);
+                }
+            }
+        }
+    }
+
+    fn add_set(&mut self, target: Option<Target>) {
+        self.set.extend(target.and_then(variable_of));
+    }
+}
+
+impl<'t> Visitor<'t> for Usage {
+    fn expression(&mut self, e: &'t Expr<Target>, _: Sort) {
+        match e {
+            Expr::Reference(target) => self.mentioned.extend(variable_of(*target)),
+            Expr::Assign(to, _) | Expr::CompoundAssign(_, to, _) | Expr::Increment(_, to) => {
+                self.mentioned.extend(variable_of(*to));
+                self.add_set(Some(*to));
+            }
+            Expr::Call {
+                function: Target::Function(function),
+                arguments,
+                ..
+            } => match function {
+                Builtin::Iassign | Builtin::Lassign => {
+                    self.add_set(target_of_argument(arguments, 0));
+                }
+                Builtin::Ask(RequestKind::GetDevVarValue) => {
+                    self.add_set(target_of_argument(arguments, 1));
+                }
+                _ => {}
+            },
+            _ => {}
+        }
+    }
+}
