@@ -108,7 +108,7 @@ impl<'t> Diagnosis<'t> {
         Ok(())
     }
 
-    /// Tells the lines beside the output.
+    /// Prints the lines as hints.
     pub(crate) fn hint(&self, files: &mut impl Files) {
         let Checked { source, report } = &self.0;
         for line in text(source, report, Style::Plain).lines() {

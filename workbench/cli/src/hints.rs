@@ -1,4 +1,4 @@
-//! What helps where a command is refused. It is told beside the output.
+//! Hints: what helps where a command refuses something. They go to the standard error.
 
 use crate::checking::{Diagnosis, LintLevels};
 use crate::failure::Failure;
@@ -28,32 +28,32 @@ pub(crate) struct Inputs<'a> {
     pub(crate) script: Option<Input<'a>>,
 }
 
-/// Tells where the source, the device or the script is wrong that is refused so, and what helps.
-pub(crate) fn tell(
+/// Prints hints for a refusal: where the source, the device or the script is wrong, and what helps.
+pub(crate) fn explain(
     refusal: &RunError,
     inputs: &Inputs<'_>,
     files: &mut impl Files,
 ) -> Result<(), Failure> {
     match refusal {
-        RunError::Source(_) => tell_source(Some(inputs.description), files),
-        RunError::Device { .. } => tell_source(inputs.device, files),
+        RunError::Source(_) => explain_source(Some(inputs.description), files),
+        RunError::Device { .. } => explain_source(inputs.device, files),
         RunError::Script(ScriptFault::Line { line }) => {
             let line = u32::try_from(*line).unwrap_or(u32::MAX);
             let refusal = Refusal::on_line(300, "SCRIPT", line);
-            tell_slip(Wrong::Line, refusal, inputs, files)
+            explain_slip(Wrong::Line, refusal, inputs, files)
         }
         RunError::Values(ValuesFault::Range) => {
-            tell_slip(Wrong::Range, Refusal::new(202, "RANGE", ""), inputs, files)
+            explain_slip(Wrong::Range, Refusal::new(202, "RANGE", ""), inputs, files)
         }
         RunError::Play(PlayFault::OutOfRange) => {
             let refusal = Refusal::new(207, "OUT_OF_RANGE", "");
-            tell_slip(Wrong::Answer, refusal, inputs, files)
+            explain_slip(Wrong::Answer, refusal, inputs, files)
         }
         _ => Ok(()),
     }
 }
 
-fn tell_source(source: Option<Input<'_>>, files: &mut impl Files) -> Result<(), Failure> {
+fn explain_source(source: Option<Input<'_>>, files: &mut impl Files) -> Result<(), Failure> {
     let Some(Input { name, bytes }) = source else {
         return Ok(());
     };
@@ -61,8 +61,8 @@ fn tell_source(source: Option<Input<'_>>, files: &mut impl Files) -> Result<(), 
     Ok(())
 }
 
-/// Tells which word of the script is wrong.
-fn tell_slip(
+/// Prints which word of the script is wrong.
+fn explain_slip(
     wrong: Wrong,
     refusal: Refusal,
     inputs: &Inputs<'_>,
@@ -86,8 +86,8 @@ fn tell_slip(
     Ok(())
 }
 
-/// Tells which command runs a source that was played as an image.
-pub(crate) fn tell_of_text(refusal: &RunError, input: Input<'_>, files: &mut impl Files) {
+/// Prints the command that runs a source, where one was played as an image.
+pub(crate) fn suggest_try(refusal: &RunError, input: Input<'_>, files: &mut impl Files) {
     if matches!(refusal, RunError::Image(LoadFault::Magic)) && is_text(input.bytes) {
         let name = input.name;
         files.hint(&format!(

@@ -11,7 +11,7 @@ pub(crate) struct Recorder<'f, F> {
     files: &'f mut F,
     pub(crate) read: Vec<Rc<[u8]>>,
     fault: Option<FileFault>,
-    /// Whether nothing is told beside the output.
+    /// Whether no hint is printed.
     is_quiet: bool,
     /// Whether the second file that is read is an empty one: a script that is not given.
     has_empty_script: bool,
@@ -42,8 +42,8 @@ impl<'f, F: Files> Recorder<'f, F> {
         self
     }
 
-    /// Tells why a file failed, if one did.
-    pub(crate) fn tell_fault(&mut self) {
+    /// Prints why a file failed as a hint, if one did.
+    pub(crate) fn explain_fault(&mut self) {
         if let Some(fault) = self.fault {
             self.hint(reason(fault));
         }

@@ -9,11 +9,17 @@ use edd_lexer::fault::LexFault;
 use edd_lexer::lex;
 use std::str;
 
-/// Drafts the layout of a source. `edd_layout` decides whether a draft is taken.
+/// Drafts the layout of a source, for callers that have the core save it. The core decides whether a
+/// draft is taken.
 ///
 /// # Errors
 ///
 /// The source has no tokens.
+///
+/// ```
+/// assert_eq!(edd_fmt::draft(b"a  &&b")?, b"a && b\n");
+/// # Ok::<(), edd_fmt::LexFault>(())
+/// ```
 pub fn draft(source: &[u8]) -> Result<Vec<u8>, LexFault> {
     let tokens = lex(Global, source)?;
     let drafted = str::from_utf8(source).ok().and_then(|text| {

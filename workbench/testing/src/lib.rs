@@ -1,7 +1,7 @@
 //! A maker's tests of descriptions. The core reads files of tests, compares what was printed with
 //! what is expected, and saves files that are updated.
 //!
-//! [`run_tests`] runs the tests of files and tells a [`Report`] what becomes of each. [`Lines`] and
+//! [`run_tests`] runs the tests of files, and passes the result of each to a [`Report`]. [`Lines`] and
 //! [`JUnit`] are the reports that the program prints.
 
 mod case;

@@ -1,4 +1,4 @@
-//! What is told of tests while they run.
+//! What is reported of tests while they run.
 
 use crate::Verdict;
 use edd_cases::Misread;

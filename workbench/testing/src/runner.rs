@@ -92,7 +92,7 @@ impl<F: Files, R: Report> Run<'_, F, R> {
                 fault: TestFault::Memory,
                 ..
             }) => Err(TestError::Memory),
-            Err(misread) => self.tell(Event::Refused {
+            Err(misread) => self.report_event(Event::Refused {
                 file: source.name,
                 misread,
             }),
@@ -114,7 +114,7 @@ impl<F: Files, R: Report> Run<'_, F, R> {
         }
         if self.request.is_update && updated.as_bytes() != source.text.as_slice() {
             save_update(self.request.words, file, updated.as_str(), self.files)?;
-            self.tell(Event::Updated { file })?;
+            self.report_event(Event::Updated { file })?;
         }
         Ok(())
     }
@@ -142,14 +142,14 @@ impl<F: Files, R: Report> Run<'_, F, R> {
             }
             _ => Verdict::Passed,
         };
-        self.tell(Event::Tested {
+        self.report_event(Event::Tested {
             file,
             name: case.name,
             verdict: &verdict,
         })
     }
 
-    fn tell(&mut self, event: Event<'_>) -> Result<(), TestError> {
+    fn report_event(&mut self, event: Event<'_>) -> Result<(), TestError> {
         self.summary.count(event);
         self.report.add(event)?;
         Ok(())

@@ -1,5 +1,5 @@
 //! `compile`, `view`, `show`, `play` and `try`. The core does them: their lines, their statuses and what
-//! they save are its own. Added here is what is told of a refusal beside the output.
+//! they save are its own. This module adds hints where they refuse something.
 
 use crate::command_line::{self, Compile, DeviceState, Hints, Play, Show, Try, View};
 use crate::failure::{DONE, FILE, Failure, REFUSED};
@@ -23,7 +23,7 @@ pub(crate) struct CoreCommand<'a> {
     request: Request<'a>,
     /// The script that is given. Without one the core gets an empty one.
     script: Option<&'a str>,
-    /// Whether nothing is told beside the output.
+    /// Whether no hint is printed.
     is_quiet: bool,
 }
 
@@ -69,11 +69,11 @@ impl<'a> CoreCommand<'a> {
         let mut recorder = self.recorder(files);
         let mut output = CoreOutput(output);
         let status = edd_program::run(Global, self.request, &mut recorder, &mut output);
-        self.tell_why(status, &mut recorder);
+        self.explain_status(status, &mut recorder);
         status
     }
 
-    /// Runs `try`, and tells of the run.
+    /// Runs `try`, and prints the trace of the run.
     pub(crate) fn run_traced(self, files: &mut impl Files, output: &mut dyn Write) -> u8 {
         let mut recorder = self.recorder(files);
         let status = super::print(output, &mut recorder, |recorder, out| {
@@ -82,12 +82,12 @@ impl<'a> CoreCommand<'a> {
             out.write_all(&lines)?;
             match (status, self.request, recorder.read.as_slice()) {
                 (DONE, Request::Try { source, run }, [text, script]) => {
-                    super::trace::tell(source, text, &under(&run, script), None, out)
+                    super::trace::print(source, text, &under(&run, script), None, out)
                 }
                 _ => Err(Failure::Printed(status)),
             }
         });
-        self.tell_why(status, &mut recorder);
+        self.explain_status(status, &mut recorder);
         status
     }
 
@@ -101,20 +101,20 @@ impl<'a> CoreCommand<'a> {
         }
     }
 
-    /// Tells beside the output why the command ended with this status. What there is no memory for is
-    /// left out.
-    fn tell_why<F: Files>(self, status: u8, recorder: &mut Recorder<'_, F>) {
+    /// Prints hints on why the command ended with this status. One for which there is no memory is left
+    /// out.
+    fn explain_status<F: Files>(self, status: u8, recorder: &mut Recorder<'_, F>) {
         match status {
-            FILE => recorder.tell_fault(),
+            FILE => recorder.explain_fault(),
             REFUSED if !self.is_quiet => {
-                let _ = self.tell_refusal(recorder);
+                let _ = self.explain_refusal(recorder);
             }
             _ => {}
         }
     }
 
     /// Asks the core again, for the refusal as a value.
-    fn tell_refusal<F: Files>(self, recorder: &mut Recorder<'_, F>) -> Result<(), Failure> {
+    fn explain_refusal<F: Files>(self, recorder: &mut Recorder<'_, F>) -> Result<(), Failure> {
         let read = recorder.read.clone();
         let Some((description, rest)) = read.split_first() else {
             return Ok(());
@@ -133,11 +133,11 @@ impl<'a> CoreCommand<'a> {
                 bytes: script,
             }),
         };
-        // Of a text that is shown as an image the core tells by itself.
+        // The core itself prints the hint for a text that is shown as an image.
         if matches!(self.request, Request::Play { .. }) {
-            hints::tell_of_text(&refusal, inputs.description, recorder);
+            hints::suggest_try(&refusal, inputs.description, recorder);
         }
-        hints::tell(&refusal, &inputs, recorder)
+        hints::explain(&refusal, &inputs, recorder)
     }
 }
 

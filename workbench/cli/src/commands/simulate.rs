@@ -35,8 +35,8 @@ impl Simulation<'_> {
             answer
         });
         if let Some(refusal) = refusal.filter(|_| !self.is_quiet) {
-            // What there is no memory for is left out.
-            let _ = self.tell_why(&refusal, &mut recorder);
+            // A hint for which there is no memory is left out.
+            let _ = self.explain_refusal(&refusal, &mut recorder);
         }
         status
     }
@@ -68,12 +68,12 @@ impl Simulation<'_> {
         };
         let ended = edd_run::play_with_device(image, device, &run, out);
         if self.is_traced && matches!(ended, Ok(()) | Err(RunError::NoAnswer(_))) {
-            super::trace::tell(self.file, &description, &run, Some(device), out)?;
+            super::trace::print(self.file, &description, &run, Some(device), out)?;
         }
         Ok(ended?)
     }
 
-    fn tell_why<F: Files>(
+    fn explain_refusal<F: Files>(
         self,
         refusal: &RunError,
         files: &mut Recorder<'_, F>,
@@ -97,10 +97,10 @@ impl Simulation<'_> {
         };
         match refusal {
             RunError::Image(_) => {
-                hints::tell_of_text(refusal, inputs.description, files);
+                hints::suggest_try(refusal, inputs.description, files);
                 Ok(())
             }
-            _ => hints::tell(refusal, &inputs, files),
+            _ => hints::explain(refusal, &inputs, files),
         }
     }
 }

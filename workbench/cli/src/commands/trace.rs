@@ -8,8 +8,8 @@ use edd_loader::load;
 use edd_run::{DeviceSource, MethodRun, RunError, find_method};
 use legacy_tracing::Followed;
 
-/// Tells of the run of a method of a source, which did not fail.
-pub(crate) fn tell(
+/// Prints the trace of a run of a method, which was not refused.
+pub(crate) fn print(
     name: &str,
     source: &[u8],
     run: &MethodRun<'_>,
