@@ -1,6 +1,9 @@
 //! The public calls of the core, each by its name, parameters and result, and with answers that were worked
 //! out by hand. The compiler does not take a call that has changed its form.
 
+#![expect(clippy::type_complexity, reason = "the forms of calls are what is tested")]
+#![expect(clippy::panic, reason = "a source of the test that is refused fails it")]
+
 use edd_attrs::lower_attribute;
 use edd_breaches::RuleFault;
 use edd_compiler::{Fault, compile};
@@ -39,7 +42,10 @@ fn source(items: &str) -> Vec<u8> {
 }
 
 fn image_of(items: &str) -> List<u8> {
-    compile(Global, &source(items)).unwrap()
+    let Ok(bytes) = compile(Global, &source(items)) else {
+        panic!("the items are accepted");
+    };
+    bytes
 }
 
 /// An answer that goes on with a code and sets variables.
