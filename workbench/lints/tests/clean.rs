@@ -20,7 +20,11 @@ fn warnings_of(text: &str) -> Vec<String> {
     let written = warnings.iter().map(|warning| {
         let line = text.get(..warning.span.start).unwrap_or_default();
         let line = line.matches('\n').count();
-        format!("{} at line {line}: {}", warning.kind.lint().name(), warning.kind)
+        format!(
+            "{} at line {line}: {}",
+            warning.kind.lint().name(),
+            warning.kind
+        )
     });
     written.collect()
 }

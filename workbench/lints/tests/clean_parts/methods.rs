@@ -67,7 +67,13 @@ pub(crate) fn method() -> impl Strategy<Value = Method> {
 }
 
 impl Step {
-    fn write(self, number: usize, inputs: usize, modes: u8, f: &mut fmt::Formatter<'_>) -> fmt::Result {
+    fn write(
+        self,
+        number: usize,
+        inputs: usize,
+        modes: u8,
+        f: &mut fmt::Formatter<'_>,
+    ) -> fmt::Result {
         match self {
             Step::Read => writeln!(f, "    if (send_command(1) != 0)\n        abort();"),
             Step::ReadWithCode => writeln!(
@@ -76,7 +82,9 @@ impl Step {
                  if (code_{number} == 16) {{\n            ACKNOWLEDGE(\"|en|It is locked|de|Es ist gesperrt\");\n            \
                  abort();\n        }}\n    }}"
             ),
-            Step::SetMode(mode) => writeln!(f, "    mode = {mode};\n    send_command_trans(130, 0);"),
+            Step::SetMode(mode) => {
+                writeln!(f, "    mode = {mode};\n    send_command_trans(130, 0);")
+            }
             Step::SetSetting(by) => writeln!(
                 f,
                 "    setting_0 = setting_0 + {by};\n    if (send_command_trans(130, 0) != 0)\n        PUT_MESSAGE(\"|en|Not written|de|Nicht geschrieben\");"
@@ -86,8 +94,14 @@ impl Step {
                 "    GET_DEV_VAR_VALUE(\"|en|What is measured?|de|Was wird gemessen?\", entered);"
             ),
             Step::Choose(choices) => {
-                let english = (0..choices).map(|n| format!("Way {n}")).collect::<Vec<_>>().join(";");
-                let german = (0..choices).map(|n| format!("Weg {n}")).collect::<Vec<_>>().join(";");
+                let english = (0..choices)
+                    .map(|n| format!("Way {n}"))
+                    .collect::<Vec<_>>()
+                    .join(";");
+                let german = (0..choices)
+                    .map(|n| format!("Weg {n}"))
+                    .collect::<Vec<_>>()
+                    .join(";");
                 writeln!(
                     f,
                     "    switch (SELECT_FROM_LIST(\"|en|Which way?|de|Welcher Weg?\", \"|en|{english}|de|{german}\")) {{\n        \
@@ -116,9 +130,15 @@ impl Step {
                 "    do {{\n        DELAY(1, \"|en|Please wait|de|Bitte warten\");\n        if (send_command(1) == 8)\n            break;\n    }} while (state & 1);"
             ),
             Step::Switch => {
-                writeln!(f, "    switch (mode) {{\n        case 0:\n            entered = 1;\n            break;")?;
+                writeln!(
+                    f,
+                    "    switch (mode) {{\n        case 0:\n            entered = 1;\n            break;"
+                )?;
                 if 2 < modes {
-                    writeln!(f, "        case 2:\n            entered = 3;\n            break;")?;
+                    writeln!(
+                        f,
+                        "        case 2:\n            entered = 3;\n            break;"
+                    )?;
                 }
                 writeln!(f, "        default:\n            entered = 2;\n    }}")
             }
@@ -160,7 +180,11 @@ impl Method {
         modes: u8,
         f: &mut fmt::Formatter<'_>,
     ) -> fmt::Result {
-        writeln!(f, "METHOD method_{number} {{\n    LABEL {};", text(number + 1, number + 40))?;
+        writeln!(
+            f,
+            "METHOD method_{number} {{\n    LABEL {};",
+            text(number + 1, number + 40)
+        )?;
         writeln!(f, "    DEFINITION {{")?;
         if self.restores {
             writeln!(f, "    add_abort_method(restore);")?;

@@ -71,14 +71,19 @@ fn setting() -> impl Strategy<Value = Setting> {
         1 => Just(Form::Locked),
         1 => Just(Form::Optional),
     ];
-    let numbers = (prop_oneof![Just(2u32), Just(4u32)], -500..500i32, 40..900i32, 0..20i32);
+    let numbers = (
+        prop_oneof![Just(2u32), Just(4u32)],
+        -500..500i32,
+        40..900i32,
+        0..20i32,
+    );
     let texts = (
         proptest::option::of(0..UNITS.len()),
         proptest::option::of(0..FORMATS.len()),
         any::<bool>(),
     );
-    (numbers, texts, form).prop_map(|((size, low, width, default), (unit, format, help), form)| {
-        Setting {
+    (numbers, texts, form).prop_map(
+        |((size, low, width, default), (unit, format, help), form)| Setting {
             size,
             low,
             width,
@@ -87,8 +92,8 @@ fn setting() -> impl Strategy<Value = Setting> {
             format,
             help,
             form,
-        }
-    })
+        },
+    )
 }
 
 /// Any description of a device.
@@ -125,17 +130,26 @@ impl Setting {
         writeln!(f, "VARIABLE setting_{number} {{")?;
         writeln!(f, "    LABEL {};", text(number + 3, number))?;
         if self.help {
-            writeln!(f, "    HELP \"|en|Set before the start|de|Vor dem Start einstellen\";")?;
+            writeln!(
+                f,
+                "    HELP \"|en|Set before the start|de|Vor dem Start einstellen\";"
+            )?;
         }
         if let Some(unit) = self.unit {
             writeln!(f, "    CONSTANT_UNIT \"{}\";", UNITS[unit])?;
         }
         match self.form {
             Form::Locked => {
-                writeln!(f, "    HANDLING IF (mode == 1) {{ READ; }} ELSE {{ READ & WRITE; }}")?;
+                writeln!(
+                    f,
+                    "    HANDLING IF (mode == 1) {{ READ; }} ELSE {{ READ & WRITE; }}"
+                )?;
             }
             Form::Optional => {
-                writeln!(f, "    VALIDITY IF (mode != 0) {{ TRUE; }} ELSE {{ FALSE; }}")?;
+                writeln!(
+                    f,
+                    "    VALIDITY IF (mode != 0) {{ TRUE; }} ELSE {{ FALSE; }}"
+                )?;
             }
             _ => {}
         }
@@ -146,7 +160,9 @@ impl Setting {
             Form::Computed if 0 < number => format!("{high} + setting_{} / 2;", number - 1),
             _ => format!("{high};"),
         };
-        let format = self.format.map(|format| format!(" EDIT_FORMAT \"{}\";", FORMATS[format]));
+        let format = self
+            .format
+            .map(|format| format!(" EDIT_FORMAT \"{}\";", FORMATS[format]));
         writeln!(
             f,
             "    TYPE INTEGER ({}) {{ DEFAULT_VALUE {}; MIN_VALUE {low}; MAX_VALUE {most}{} }}\n}}",
@@ -172,25 +188,47 @@ impl Device {
         for (number, setting) in self.settings.iter().enumerate() {
             setting.write(number, f)?;
         }
-        write!(f, "VARIABLE mode {{ LABEL \"|en|Mode|de|Modus\"; TYPE ENUMERATED {{")?;
-        let names = [("Off", "Aus"), ("Automatic", "Automatik"), ("Manual", "Hand"), ("Hold", "Halten")];
+        write!(
+            f,
+            "VARIABLE mode {{ LABEL \"|en|Mode|de|Modus\"; TYPE ENUMERATED {{"
+        )?;
+        let names = [
+            ("Off", "Aus"),
+            ("Automatic", "Automatik"),
+            ("Manual", "Hand"),
+            ("Hold", "Halten"),
+        ];
         for (number, (english, german)) in names.iter().enumerate().take(usize::from(self.modes)) {
             write!(f, " {{ {number}, \"|en|{english}|de|{german}\" }}")?;
         }
-        write!(f, " }} }}\nVARIABLE state {{ LABEL \"|en|State|de|Zustand\"; CLASS DYNAMIC & DIAGNOSTIC; ")?;
+        write!(
+            f,
+            " }} }}\nVARIABLE state {{ LABEL \"|en|State|de|Zustand\"; CLASS DYNAMIC & DIAGNOSTIC; "
+        )?;
         write!(f, "HANDLING READ; TYPE BIT_ENUMERATED {{")?;
         for bit in 0..self.bits {
             let value = 1 << bit;
             write!(f, " {{ {value}, \"|en|Fault {bit}|de|Fehler {bit}\" }}")?;
         }
         writeln!(f, " }} }}")?;
-        writeln!(f, "VARIABLE entered {{ LABEL \"|en|Reference|de|Referenz\"; CLASS LOCAL; TYPE INTEGER (2) {{ MIN_VALUE 1; MAX_VALUE 5000; }} }}")
+        writeln!(
+            f,
+            "VARIABLE entered {{ LABEL \"|en|Reference|de|Referenz\"; CLASS LOCAL; TYPE INTEGER (2) {{ MIN_VALUE 1; MAX_VALUE 5000; }} }}"
+        )
     }
 
     fn write_parts(&self, f: &mut fmt::Formatter<'_>) -> fmt::Result {
-        write!(f, "ARRAY OF VARIABLE inputs {{ LABEL \"|en|Inputs|de|Eingänge\"; ELEMENTS {{")?;
+        write!(
+            f,
+            "ARRAY OF VARIABLE inputs {{ LABEL \"|en|Inputs|de|Eingänge\"; ELEMENTS {{"
+        )?;
         for number in 0..self.measured.len() {
-            write!(f, " {}, measured_{number}, {};", number + 1, text(number, number + 20))?;
+            write!(
+                f,
+                " {}, measured_{number}, {};",
+                number + 1,
+                text(number, number + 20)
+            )?;
         }
         writeln!(f, " }} }}")?;
         if self.has_parts {
@@ -204,21 +242,39 @@ impl Device {
     }
 
     fn write_commands(&self, f: &mut fmt::Formatter<'_>) -> fmt::Result {
-        write!(f, "COMMAND read_all {{ NUMBER 1; OPERATION READ; TRANSACTION {{ REPLY {{ state, mode")?;
+        write!(
+            f,
+            "COMMAND read_all {{ NUMBER 1; OPERATION READ; TRANSACTION {{ REPLY {{ state, mode"
+        )?;
         for number in 0..self.measured.len() {
             write!(f, ", measured_{number}")?;
         }
-        writeln!(f, " }} }} RESPONSE_CODES {{ 0, SUCCESS, \"|en|Done|de|Erledigt\"; 8, MISC_WARNING, \"|en|Starts|de|Startet\"; }} }}")?;
-        write!(f, "COMMAND write_all {{ NUMBER 130; OPERATION WRITE; TRANSACTION 0 {{ REQUEST {{ mode")?;
+        writeln!(
+            f,
+            " }} }} RESPONSE_CODES {{ 0, SUCCESS, \"|en|Done|de|Erledigt\"; 8, MISC_WARNING, \"|en|Starts|de|Startet\"; }} }}"
+        )?;
+        write!(
+            f,
+            "COMMAND write_all {{ NUMBER 130; OPERATION WRITE; TRANSACTION 0 {{ REQUEST {{ mode"
+        )?;
         for number in 0..self.settings.len() {
             write!(f, ", setting_{number}")?;
         }
-        writeln!(f, " }} REPLY {{ mode }} }} TRANSACTION 1 {{ REQUEST {{ 1 }} }}")?;
-        writeln!(f, "    RESPONSE_CODES {{ 0, SUCCESS, \"|en|Done|de|Erledigt\"; 16, MODE_ERROR, \"|en|Locked|de|Gesperrt\"; }} }}")
+        writeln!(
+            f,
+            " }} REPLY {{ mode }} }} TRANSACTION 1 {{ REQUEST {{ 1 }} }}"
+        )?;
+        writeln!(
+            f,
+            "    RESPONSE_CODES {{ 0, SUCCESS, \"|en|Done|de|Erledigt\"; 16, MODE_ERROR, \"|en|Locked|de|Gesperrt\"; }} }}"
+        )
     }
 
     fn write_menus(&self, f: &mut fmt::Formatter<'_>) -> fmt::Result {
-        write!(f, "MENU main {{ LABEL \"|en|Main|de|Haupt\"; ITEMS {{ state (READ_ONLY), mode")?;
+        write!(
+            f,
+            "MENU main {{ LABEL \"|en|Main|de|Haupt\"; ITEMS {{ state (READ_ONLY), mode"
+        )?;
         for number in 0..self.measured.len() {
             write!(f, ", measured_{number} (READ_ONLY DISPLAY_VALUE)")?;
         }
@@ -226,7 +282,10 @@ impl Device {
         for number in 0..self.settings.len() {
             write!(f, ", setting_{number}")?;
         }
-        write!(f, ", IF (state & 1) {{ \"|en|Look at the sensor|de|Den Fühler ansehen\" }}")?;
+        write!(
+            f,
+            ", IF (state & 1) {{ \"|en|Look at the sensor|de|Den Fühler ansehen\" }}"
+        )?;
         if self.has_parts {
             write!(f, ", parts_menu")?;
         }
@@ -257,7 +316,10 @@ impl Device {
 
 impl fmt::Display for Device {
     fn fmt(&self, f: &mut fmt::Formatter<'_>) -> fmt::Result {
-        writeln!(f, "MANUFACTURER 17, DEVICE_TYPE 90, DEVICE_REVISION 1, DD_REVISION 1")?;
+        writeln!(
+            f,
+            "MANUFACTURER 17, DEVICE_TYPE 90, DEVICE_REVISION 1, DD_REVISION 1"
+        )?;
         self.write_variables(f)?;
         self.write_parts(f)?;
         self.write_commands(f)?;
@@ -265,9 +327,15 @@ impl fmt::Display for Device {
         for (number, method) in self.methods.iter().enumerate() {
             method.write(number, self.measured.len(), self.modes, f)?;
         }
-        writeln!(f, "METHOD use_all {{ LABEL \"|en|Compare|de|Vergleichen\"; DEFINITION {{")?;
+        writeln!(
+            f,
+            "METHOD use_all {{ LABEL \"|en|Compare|de|Vergleichen\"; DEFINITION {{"
+        )?;
         writeln!(f, "    if (inputs[1] > entered) send_command(1);\n}} }}")?;
-        writeln!(f, "METHOD restore {{ LABEL \"|en|Restore|de|Wiederherstellen\"; VALIDITY FALSE; DEFINITION {{")?;
+        writeln!(
+            f,
+            "METHOD restore {{ LABEL \"|en|Restore|de|Wiederherstellen\"; VALIDITY FALSE; DEFINITION {{"
+        )?;
         writeln!(f, "    mode = 0;\n    send_command_trans(130, 0);\n}} }}")
     }
 }
