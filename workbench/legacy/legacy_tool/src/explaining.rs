@@ -21,6 +21,20 @@ fn print_lint<W: Write>(lint: Lint, printer: &mut Printer<'_, W>) {
     printer.print(format_args!("{}: {}{level}", lint.name(), lint.summary()))
 }
 
+// The lint with an example, and with one near it.
+fn print_lint_whole<W: Write>(lint: Lint, printer: &mut Printer<'_, W>) {
+    print_lint(lint, printer);
+    print_items("With a warning:", lint.example(), printer);
+    print_items("Without one:", lint.counterexample(), printer)
+}
+
+fn print_items<W: Write>(heading: &str, items: &str, printer: &mut Printer<'_, W>) {
+    printer.print(format_args!("\n{heading}\n"));
+    for line in items.lines() {
+        printer.print(format_args!("    {line}"));
+    }
+}
+
 fn print_lints<W: Write>(printer: &mut Printer<'_, W>) {
     for lint in LINTS {
         print_lint(lint, printer);
@@ -53,7 +67,7 @@ pub fn print_asked<'a, W: Write>(
     match what {
         Some(what) => match (refusal_of(what), Lint::from_name(what)) {
             (Some(explanation), _) => print_refusal(explanation, &mut printer),
-            (None, Some(lint)) => print_lint(lint, &mut printer),
+            (None, Some(lint)) => print_lint_whole(lint, &mut printer),
             (None, None) => return Err(Stop::NoRefusal(what)),
         },
         None => {
