@@ -1,5 +1,7 @@
 //! Methods as a careful maker writes them.
 
+#![expect(clippy::arithmetic_side_effects, reason = "small numbers of a test")]
+
 use super::text;
 use proptest::collection::vec;
 use proptest::prelude::*;

@@ -1,6 +1,12 @@
 //! Parts of descriptions as a careful maker writes them: measured values, settings, choices, bits,
 //! the commands that carry them, menus and methods.
 
+#![expect(
+    clippy::arithmetic_side_effects,
+    clippy::indexing_slicing,
+    reason = "small numbers of a test"
+)]
+
 mod methods;
 
 use methods::{Method, method};
