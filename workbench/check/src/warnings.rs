@@ -78,6 +78,7 @@ fn diagnostic(warning: &legacy_warnings::Warning, is_denied: bool) -> Diagnostic
         span: Some(span_of(warning.at)),
         kind: Kind::Warned(Warning {
             lint: warning.lint.name(),
+            meaning: warning.lint.meaning(),
             message: warning.message.as_str().to_owned(),
             is_denied,
         }),

@@ -30,6 +30,8 @@ pub enum Kind {
 pub struct Warning {
     /// The name of the lint.
     pub lint: &'static str,
+    /// What the lint finds.
+    pub meaning: &'static str,
     /// What it found.
     pub message: String,
     /// Whether the lint is denied.
