@@ -10,8 +10,8 @@ import subprocess
 import sys
 
 # Debian's packages of the crates that the edition uses, and of what further systems need.
-SOURCES = ("librust-arrayvec-dev", "librust-clap-dev", "librust-serde-dev", "librust-serde-derive-dev", "librust-serde-json-dev",
-           "librust-unicode-width-dev")
+SOURCES = ("librust-arrayvec-dev", "librust-clap-dev", "librust-codespan-reporting-dev", "librust-serde-dev", "librust-serde-derive-dev",
+           "librust-serde-json-dev", "librust-strsim-dev", "librust-unicode-width-dev")
 # The same with those of the player of the tables.
 TESTS = (*SOURCES, "librust-thiserror-dev")
 # The same with those of the tests of the workbench.

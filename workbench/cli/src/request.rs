@@ -136,6 +136,7 @@ impl From<CheckForm> for Form {
         match form {
             CheckForm::Text => Form::Text,
             CheckForm::Json => Form::Json,
+            CheckForm::Rich => Form::Rich,
             CheckForm::Sarif => Form::Sarif,
         }
     }

@@ -3,7 +3,7 @@ use std::prelude::v1::*;
 
 use crate::request::{Checking, Form, Lints};
 use edd_check::{Checked, LINTS, Levels, Lint};
-use edd_report::{Style, json_lines, sarif, text};
+use edd_report::{Style, json_lines, rich, sarif, text};
 use legacy_files::{Files, Source, Stop, read_sources};
 use legacy_stops::add_originals;
 use std::alloc::Global;
@@ -67,13 +67,13 @@ fn print_text<'a, W: Write>(text: &str, out: &mut W) -> Result<(), Stop<'a>> {
     }
 }
 
-// Prints JSON, which can always be made of what is said.
-fn print_json<'a, S: AsRef<str>, E, W: Write>(
-    json: Result<S, E>,
+// Prints JSON or excerpts, which can always be made of what is said.
+fn print_made<'a, S: AsRef<str>, E, W: Write>(
+    made: Result<S, E>,
     out: &mut W,
 ) -> Result<(), Stop<'a>> {
-    match json {
-        Ok(json) => print_text(json.as_ref(), out),
+    match made {
+        Ok(made) => print_text(made.as_ref(), out),
         Err(_) => Err(Stop::Output),
     }
 }
@@ -92,10 +92,16 @@ fn print_looks<'a, W: Write>(
         Style::Plain
     };
     match form {
-        Form::Sarif => print_json(sarif(all), out),
+        Form::Sarif => print_made(sarif(all), out),
         Form::Json => {
             for (source, report) in all {
-                print_json(json_lines(source, report), out)?;
+                print_made(json_lines(source, report), out)?;
+            }
+            Ok(())
+        }
+        Form::Rich => {
+            for (source, report) in all {
+                print_made(rich(source, report, style), out)?;
             }
             Ok(())
         }

@@ -41,7 +41,7 @@ fn print_differences<'a, W: Write>(
             Ok(lines) => print(&lines, out)?,
             Err(_) => return Err(Stop::Memory),
         },
-        Form::Text | Form::Sarif => print(&differences, out)?,
+        Form::Text | Form::Rich | Form::Sarif => print(&differences, out)?,
     }
     if differences.all().is_empty() {
         Ok(())

@@ -74,6 +74,8 @@ pub enum Form {
     Json,
     /// Of `check` alone.
     Sarif,
+    /// Excerpts of the source.
+    Rich,
 }
 
 /// Sources that are to be checked.
