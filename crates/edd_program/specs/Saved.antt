@@ -1,5 +1,5 @@
 -- What a request may save.
-use Rattle.std.specs.Prelude.{Option, ⊥}
+use Rattle.std.specs.Prelude.{Option}
 use Rattle.edd_files.specs.Saves.{Account, IsImageSaving, Saving}
 use Rattle.edd_program.specs.declared.request.Request.{Request}
 use Rattle.edd_program.specs.declared.request.Request.TheVariants.{Compile}

@@ -3,7 +3,7 @@
 //! or nothing, and that no other request saves anything.
 #![tactic(auto)]
 
-ghost use Rattle.std.specs.Prelude.{◌≡◌, ◌≤◌, [], OnOk};
+ghost use Rattle.std.specs.Prelude.{◌≡◌, ◌≤◌, [], IsOk, OnOk};
 ghost use Rattle.std.specs.Io.Buffered.{writer_buffer, writer_contents};
 ghost use Rattle.std.specs.Io.KnownBytes.{Keeps};
 ghost use Rattle.edd_files.specs.Saves.{SavesOne};
@@ -57,7 +57,7 @@ pub fn run<F: Files, W: Write>(
 }
 
 // All lines are written before the answer, but where a write failed: after that none is tried.
-#[tactic(auto, using(edd_files::proofs::SavesLaws::saves_none))]
+#[tactic(auto, using(edd_files::proofs::SavesLaws::saves_none, crate::proofs::DoneLaws::done_unbuffered))]
 fn print_lines<'a, F: Files, W: Write>(
     alloc: Global,
     request: Request<'a>,
@@ -84,7 +84,7 @@ fn flushed<'a, W: Write + Drop>(
     answer: Result<(), Stop<'a>>,
     lines: &mut BufWriter<W>,
 ) -> Result<(), Stop<'a>>
-    ensures sound { OnOk result (OnOk answer (writer_buffer lines.new ≡ [])) }
+    ensures sound { OnOk result (IsOk answer.entry × (writer_buffer lines.new ≡ [])) }
     ensures kept { Keeps (writer_contents W.contents lines.old) (writer_contents W.contents lines.new) }
 {
     if matches!(answer, Err(Stop::Output)) || lines.flush().is_err() {
