@@ -2,15 +2,29 @@
 
 use crate::Document;
 use crate::comments::is_unread;
+use crate::hints::names_command;
+use crate::languages::code_before;
 use crate::offers::{Completion, CompletionKind, Offers};
 use crate::place_terms::role_at;
-use crate::signature::call_before;
+use crate::signature::{Call, call_before};
+use crate::snippets::{attribute_snippet, item_snippet, statement_snippet};
 use crate::spots::{Braces, Place, is_number_word};
 use edd_lexer::token::TokenKind;
 use edd_source::Span;
 use edd_syntax::numbers::{ATTRIBUTES, Attr, Home, Kind};
 use edd_syntax::operators::Parameter;
 use edd_syntax::symbols::{Keyword, Symbol};
+
+/// The words of the header, in their order.
+const HEADER: [Keyword; 4] = [
+    Keyword::Manufacturer,
+    Keyword::DeviceType,
+    Keyword::DeviceRevision,
+    Keyword::DdRevision,
+];
+
+/// How many tokens a header has at most.
+const MOST_HEADER: usize = 16;
 
 /// The words with which items begin.
 const ITEMS: [Keyword; 6] = [
@@ -88,24 +102,21 @@ struct Cursor {
 }
 
 impl Document {
-    /// What may be written at a byte, and the part of a word before it that it replaces. In comments,
-    /// numbers and strings, and on a line behind a lexical fault, there is nothing.
+    /// What may be written at a byte, and the part of a word before it that it replaces. In strings
+    /// there are the codes of languages; in comments and numbers, and on a line behind a lexical fault,
+    /// there is nothing.
     pub fn completions(&self, byte: usize) -> Completions<'_> {
         let byte = byte.min(self.text().len());
         let mut offers = Offers::new(self);
         let mut replaced = Span::before(byte);
-        if let Some(cursor) = cursor_at(self, byte)
+        if let Some(begun) = code_before(self, byte) {
+            replaced = begun;
+            offers.add_languages(byte);
+        } else if let Some(cursor) = cursor_at(self, byte)
             && !is_unread(self, byte)
         {
             replaced = cursor.replaced;
-            let token = cursor.token;
-            if kind_before(self, token) != Some(TokenKind::Symbol(Symbol::Dot)) {
-                offers.add_at(cursor);
-            } else if let Some(owner) = token.checked_sub(2)
-                && let Some(collection) = self.collection_at(owner)
-            {
-                offers.add_members(collection);
-            }
+            offers.add_behind(cursor);
         }
         Completions {
             replaced,
@@ -209,6 +220,19 @@ fn begins_statement(document: &Document, token: usize) -> bool {
     )
 }
 
+/// Whether a token comes right behind the braces of an IF.
+fn is_behind_if(document: &Document, token: usize) -> bool {
+    let opened = || {
+        let close = token.checked_sub(1)?;
+        if !document.is_sign(close, Symbol::CloseBrace) {
+            return None;
+        }
+        let before = document.spot(close).open?.checked_sub(1)?;
+        document.word_before_parentheses(before)
+    };
+    opened() == Some(Keyword::If)
+}
+
 /// Whether the value of an attribute may depend on conditions.
 fn may_be_conditional(word: Keyword) -> bool {
     !matches!(
@@ -218,16 +242,37 @@ fn may_be_conditional(word: Keyword) -> bool {
 }
 
 impl Offers<'_> {
-    /// What may stand at a cursor that is behind no dot.
+    /// What may stand at a cursor: members behind a dot, elements behind a bracket, else what its
+    /// place says.
+    fn add_behind(&mut self, cursor: Cursor) {
+        let document = self.document;
+        let owner = cursor.token.checked_sub(2);
+        match kind_before(document, cursor.token) {
+            Some(TokenKind::Symbol(Symbol::Dot)) => {
+                if let Some(collection) = owner.and_then(|owner| document.collection_at(owner)) {
+                    self.add_members(collection);
+                }
+            }
+            Some(TokenKind::Symbol(Symbol::OpenBracket)) => {
+                if let Some(array) = owner.and_then(|owner| document.first_item(owner)) {
+                    self.add_elements(array);
+                }
+                self.add_at(cursor);
+            }
+            _ => self.add_at(cursor),
+        }
+    }
+
+    /// What may stand at a cursor by its place.
     fn add_at(&mut self, cursor: Cursor) {
         let token = cursor.token;
         match self.document.spot(token).place {
-            Place::Top => self.add_words(&ITEMS, CompletionKind::Keyword),
+            Place::Top => self.add_top(cursor),
             Place::Head(_) => self.add_head(token),
             Place::Start(braces) => self.add_parts(cursor, braces),
             Place::Value(word) => self.add_value(token, word),
-            Place::Expression => self.add_items_of(&VALUES),
-            Place::Entry(word) => self.add_entry(word),
+            Place::Expression => self.add_expression(token),
+            Place::Entry(word) => self.add_entry(token, word),
             Place::MemberItem(Some(kind)) => self.add_items(kind),
             Place::MemberItem(None) => self.add_items_of(&KINDS_OF_MEMBERS),
             Place::ElementVariable => self.add_items(Kind::Variable),
@@ -259,7 +304,8 @@ impl Offers<'_> {
         // A command may have several transactions.
         let is_missing = |word: &Keyword| *word == Keyword::Transaction || !written.contains(word);
         let missing: Vec<_> = words.into_iter().filter(is_missing).collect();
-        self.add_words(&missing, CompletionKind::Attribute);
+        self.add_else(cursor.token);
+        self.add_beginnings(&missing, CompletionKind::Attribute, attribute_snippet);
     }
 
     /// What may come before the braces of an item.
@@ -281,11 +327,70 @@ impl Offers<'_> {
         }
     }
 
-    /// The value of an attribute.
-    fn add_value(&mut self, token: usize, word: Keyword) {
-        if !wants_value(self.document, token) {
+    /// The header's words that are missing, in their order, and the words of items. Behind a word of
+    /// the header is a number.
+    fn add_top(&mut self, cursor: Cursor) {
+        let document = self.document;
+        let token = cursor.token;
+        if let Some(TokenKind::Keyword(word)) = kind_before(document, token)
+            && HEADER.contains(&word)
+        {
             return;
         }
+        if document
+            .items()
+            .first()
+            .is_none_or(|item| token <= item.first)
+        {
+            let is_written = |word: &Keyword| {
+                let before = (0..token).take(MOST_HEADER);
+                before.into_iter().any(|it| document.is_keyword(it, *word))
+            };
+            let missing: Vec<_> = HEADER.into_iter().filter(|it| !is_written(it)).collect();
+            self.add_words(&missing, CompletionKind::Keyword);
+        }
+        self.add_beginnings(&ITEMS, CompletionKind::Keyword, item_snippet);
+    }
+
+    /// ELSE behind the braces of an IF.
+    fn add_else(&mut self, token: usize) {
+        if is_behind_if(self.document, token) {
+            self.add_words(&[Keyword::Else], CompletionKind::Keyword);
+        }
+    }
+
+    /// The words of the cases of SELECT where one may begin, and whether one may.
+    fn add_cases(&mut self, token: usize) -> bool {
+        let document = self.document;
+        let begins = matches!(
+            kind_before(document, token),
+            Some(TokenKind::Symbol(
+                Symbol::OpenBrace | Symbol::Semicolon | Symbol::CloseBrace
+            ))
+        );
+        if document.selector_of(token).is_none() {
+            return false;
+        }
+        if begins {
+            self.add_words(&[Keyword::Case, Keyword::Default], CompletionKind::Keyword);
+        }
+        begins
+    }
+
+    /// The value of an attribute.
+    fn add_value(&mut self, token: usize, word: Keyword) {
+        if let Some(variable) = self.document.compared_with(token) {
+            self.add_enumerators(variable);
+        }
+        if self
+            .document
+            .is_keyword(token.saturating_sub(1), Keyword::Case)
+            || !wants_value(self.document, token)
+            || self.add_cases(token)
+        {
+            return;
+        }
+        self.add_else(token);
         if is_number_word(word) {
             self.add_items_of(&VALUES);
         } else if let Some(role) = role_at(Place::Value(word)) {
@@ -298,7 +403,14 @@ impl Offers<'_> {
     }
 
     /// An element of a list.
-    fn add_entry(&mut self, word: Keyword) {
+    fn add_entry(&mut self, token: usize, word: Keyword) {
+        let is_first = self
+            .document
+            .is_sign(token.saturating_sub(1), Symbol::OpenBrace);
+        if self.add_cases(token) && is_first {
+            return;
+        }
+        self.add_else(token);
         let kinds: &[Kind] = if word == Keyword::Items {
             &ENTRIES
         } else {
@@ -317,11 +429,50 @@ impl Offers<'_> {
             Some(Parameter::DeviceVariable) => return self.add_items_of(&HOLDERS),
             Some(Parameter::Number) | None => {}
         }
+        if let Some(call) = call {
+            self.add_command_argument(token, call);
+        }
+        if let Some(variable) = self.document.compared_with(token) {
+            self.add_enumerators(variable);
+        }
+        if self
+            .document
+            .is_keyword(token.saturating_sub(1), Keyword::MethodCase)
+        {
+            return;
+        }
         self.add_locals(token);
         self.add_items_of(&VALUES);
         self.add_functions();
         if begins_statement(self.document, token) {
-            self.add_words(&STATEMENTS, CompletionKind::Keyword);
+            self.add_beginnings(&STATEMENTS, CompletionKind::Keyword, statement_snippet);
+        }
+    }
+
+    /// What an expression in an attribute may have.
+    fn add_expression(&mut self, token: usize) {
+        if let Some(variable) = self.document.compared_with(token) {
+            self.add_enumerators(variable);
+        }
+        self.add_items_of(&VALUES);
+    }
+
+    /// The numbers of commands and of their transactions, where an argument begins that is one.
+    fn add_command_argument(&mut self, token: usize, call: Call) {
+        if !names_command(call.function) {
+            return;
+        }
+        let document = self.document;
+        let first = call.open.saturating_add(1);
+        if call.argument == 0 && token == first {
+            self.add_command_numbers();
+        }
+        let is_second =
+            call.argument == 1 && document.is_sign(token.saturating_sub(1), Symbol::Comma);
+        if is_second && let Some(command) = document.command_named(first) {
+            for number in document.transactions(command) {
+                self.add_number(number, document.word(command.name));
+            }
         }
     }
 }
