@@ -49,7 +49,7 @@ pub(crate) fn code_before(document: &Document, byte: usize) -> Option<Span> {
         end: byte,
     };
     let before = before.text(document.text())?;
-    let is_code = before.starts_with('|') && parts_of(before).count() % 2 == 0;
+    let is_code = before.starts_with('|') && parts_of(before).count().is_multiple_of(2);
     let begun = parts_of(before).last().filter(|_| is_code)?;
     Some(Span {
         start: byte.saturating_sub(begun.len()),

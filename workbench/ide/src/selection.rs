@@ -50,14 +50,16 @@ impl Document {
             open = self.spot(brace).open;
         }
         spans.extend(self.spans_up_to(item.first, item.last));
-        // What is smaller than what is inside of it is none of its outer spans.
-        let mut widest = Span::before(0);
+        // A brace is in no statement of its own braces, and two spans may be the same.
+        let mut widest: Option<Span> = None;
         spans.retain(|span| {
-            let is_wider = widest.is_empty() || (span.len() > widest.len());
-            if is_wider {
-                widest = *span;
+            let is_around = widest.is_none_or(|inner| {
+                span.start <= inner.start && inner.end <= span.end && inner != *span
+            });
+            if is_around {
+                widest = Some(*span);
             }
-            is_wider
+            is_around
         });
     }
 
