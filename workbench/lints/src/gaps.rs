@@ -11,6 +11,7 @@ use edd_syntax::item::{Attribute, Item};
 use edd_syntax::numbers::TextAttribute;
 use edd_syntax::reference::Target;
 use edd_syntax::types::{Handling, VarType};
+use std::collections::HashSet;
 
 /// What a conditional gives in its branches.
 #[derive(Default)]
@@ -92,15 +93,16 @@ impl Gaps<'_, '_, '_> {
         let Some(variable) = known.filter(|known| known.kind == Some(VarType::Enumerated)) else {
             return;
         };
-        let has_case = |number: &i64| {
-            arms.iter()
-                .any(|arm| matches!(arm, Arm::Case { label, .. } if label == number))
-        };
+        let labels = arms.iter().filter_map(|arm| match arm {
+            Arm::Case { label, .. } => Some(*label),
+            Arm::Default { .. } => None,
+        });
+        let labels: HashSet<i64> = labels.collect();
         let missing = variable
             .enumerators
             .iter()
             .copied()
-            .filter(|number| !has_case(number));
+            .filter(|number| !labels.contains(number));
         if let Some(number) = missing.min() {
             let name = variable.name().to_owned();
             self.add(c, ConditionKind::MissingCase(number, name));

@@ -27,6 +27,7 @@ mod listings;
 mod lists;
 mod menus;
 mod messages;
+mod page;
 mod places;
 mod range;
 mod remarks;
@@ -51,5 +52,6 @@ pub use kind::{
 };
 pub use levels::{Level, Levels};
 pub use lint::{LINTS, Lint};
+pub use page::page;
 pub use range::Range;
 pub use warning::{Related, Role, Warning};

@@ -22,7 +22,7 @@ pub(crate) fn run(args: &Explain, out: &mut impl Write) -> Result<(), Failure> {
         return Ok(());
     }
     if let Some(lint) = Lint::from_name(what) {
-        return print_lint(lint, out);
+        return print_lint_whole(lint, out);
     }
     Err(match number {
         Ok(_) => Failure::NoNumber(what.clone()),
@@ -37,6 +37,21 @@ fn list(is_of_lints: bool, out: &mut impl Write) -> Result<(), Failure> {
         }
     }
     LINTS.into_iter().try_for_each(|lint| print_lint(lint, out))
+}
+
+/// Prints a lint with an example, and with one near it.
+fn print_lint_whole(lint: Lint, out: &mut impl Write) -> Result<(), Failure> {
+    print_lint(lint, out)?;
+    print_items("With a warning:", lint.example(), out)?;
+    print_items("Without one:", lint.counterexample(), out)
+}
+
+fn print_items(heading: &str, items: &str, out: &mut impl Write) -> Result<(), Failure> {
+    writeln!(out, "\n{heading}\n")?;
+    for line in items.lines() {
+        writeln!(out, "    {line}")?;
+    }
+    Ok(())
 }
 
 fn print_lint(lint: Lint, out: &mut impl Write) -> Result<(), Failure> {

@@ -4,20 +4,24 @@ use crate::expressions::stores::is_itself;
 use crate::expressions::walk::Walk;
 use crate::kind::MethodKind;
 use crate::source::TokenIndex;
+use crate::values::environment::{Storage, storage_of};
 use crate::visit::children;
 use edd_syntax::expr::Expr;
 use edd_syntax::reference::Target;
 use edd_syntax::stmt::{Part, Stmt};
+use std::collections::BTreeMap;
 
-/// What was stored by the statements before, and not read since.
+/// What was stored by the statements before, and not read since, with the places of the stores.
 #[derive(Default)]
 struct Pending {
-    stores: Vec<(Target, TokenIndex)>,
+    stores: BTreeMap<Storage, TokenIndex>,
 }
 
 impl Pending {
     fn forget(&mut self, target: Target) {
-        self.stores.retain(|(stored, _)| *stored != target);
+        if let Some(storage) = storage_of(target) {
+            self.stores.remove(&storage);
+        }
     }
 
     // Forgets all that an expression may read. An element may be any variable, and a call may show
@@ -29,13 +33,18 @@ impl Pending {
             | Expr::CompoundAssign(_, target, _) => self.forget(*target),
             Expr::Indexed(..) | Expr::Call { .. } => {
                 self.stores
-                    .retain(|(stored, _)| matches!(stored, Target::Local(_)));
+                    .retain(|stored, _| matches!(stored, Storage::Local(_)));
             }
             _ => {}
         }
         for inner in children(e) {
             self.read(inner);
         }
+    }
+
+    // Notes a store, and returns the one that it replaces.
+    fn store(&mut self, target: Target, at: TokenIndex) -> Option<TokenIndex> {
+        self.stores.insert(storage_of(target)?, at)
     }
 }
 
@@ -57,14 +66,12 @@ pub(super) fn check_stores(parts: &[Part<Target>], walk: &mut Walk<'_, '_>) {
         };
         pending.read(value);
         let at = walk.context.places.sign(e);
-        let earlier = pending.stores.iter().find(|(stored, _)| stored == to);
-        if let Some((_, earlier)) = earlier.copied() {
+        if let Some(earlier) = pending.store(*to, at) {
             walk.findings.add_beside(earlier, MethodKind::DeadStore, at);
         }
-        pending.forget(*to);
         // A place that is set to itself has a warning of its own.
-        if !has_call(value) && !is_itself(*to, value) {
-            pending.stores.push((*to, at));
+        if has_call(value) || is_itself(*to, value) {
+            pending.forget(*to);
         }
     }
 }

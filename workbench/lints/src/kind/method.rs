@@ -87,7 +87,7 @@ kinds! {
         DeadStore DeadStore
             "what is stored here is replaced before anything reads it"
         EmptyThen EmptyThen
-            "nothing is done where this condition holds: ! says so"
+            "nothing is done where this condition holds: negate it, and leave out the else"
         EmptyElse EmptyElse
             "nothing is done in this else: a ; stands right after it"
         EmptySwitch EmptySwitch

@@ -45,7 +45,7 @@ VARIABLE b { TYPE INTEGER; }",
         name: "misread-operators",
         level: Level::Warn,
         summary: "operators that bind otherwise than they look: parentheses say what is meant",
-        details: "operators that bind otherwise than they look: a comparison that is an operand of `&`, `|` or `^` without parentheses, since comparisons bind closer; a comparison of what a comparison gives, as in `1 < a < 5`; and `!` before a comparison. `!a == !b` and `a == 1 | a == 2` are evaluated as they look and have no warning.",
+        details: "operators that bind otherwise than they look: a comparison that is an operand of `&`, `|` or `^` without parentheses, since comparisons bind closer; a comparison of what a comparison gives, as in `1 < a < 5`; and `!` before a comparison, or before an operand of `&`, `|` or `^`, as in `!flags & 4`. `!a == !b` and `a == 1 | a == 2` are evaluated as they look and have no warning.",
         example: "VARIABLE a { TYPE INTEGER { MAX_VALUE b & 2 == 2; } }
 VARIABLE b { TYPE INTEGER; }",
         counterexample: "VARIABLE a { TYPE INTEGER { MAX_VALUE (b & 2) == 2; } }

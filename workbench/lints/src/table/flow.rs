@@ -114,7 +114,7 @@ METHOD c { DEFINITION { } }",
         name: "hiding-local",
         level: Level::Warn,
         summary: "a local with the name of an item, which can't be reached there",
-        details: "a local with the name of an item, which can't be reached where the local is.",
+        details: "a local with the name of an item or of a local around it, which can't be reached where the local is.",
         example: "VARIABLE level { TYPE INTEGER; }
 METHOD m { DEFINITION { int level = 2; send_command(level); } }",
         counterexample: "VARIABLE level { TYPE INTEGER; }

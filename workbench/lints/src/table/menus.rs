@@ -32,7 +32,7 @@ MENU b { ITEMS { "x" } }"#,
         name: "repeated-entry",
         level: Level::Warn,
         summary: "an entry that is twice in one list of a menu",
-        details: "an item that is twice in one list of a menu with the same qualifiers. Texts, as lines between entries, may come again, and so may an entry under a condition.",
+        details: "an item that is twice in one list of a menu with the same qualifiers. Texts, as lines between entries, may come again, and so may an entry under another condition. Branches of the same condition are one list.",
         example: r#"VARIABLE a { LABEL "Level"; TYPE INTEGER; }
 MENU m { ITEMS { a, a } }"#,
         counterexample: r#"VARIABLE a { LABEL "Level"; TYPE INTEGER; }

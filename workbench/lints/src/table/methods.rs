@@ -40,7 +40,7 @@ pub(super) const ROWS: &[Row] = &[
         name: "assigned-to-itself",
         level: Level::Warn,
         summary: "a variable or a local that is set to itself",
-        details: "a variable or a local that is set to itself, by `=`, iassign or lassign.",
+        details: "a variable or a local that is set to itself, by `=`, iassign or lassign, also by way of ivar_value or lvar_value.",
         example: "METHOD m { DEFINITION { int i; i = i; } }",
         counterexample: "METHOD m { DEFINITION { int i; i = i + 1; } }",
         notes: "",

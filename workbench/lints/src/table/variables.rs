@@ -33,7 +33,7 @@ pub(super) const ROWS: &[Row] = &[
         details: "a constant DEFAULT_VALUE below a constant MIN_VALUE or over a constant MAX_VALUE.",
         example: "VARIABLE a { TYPE INTEGER { DEFAULT_VALUE 3; MIN_VALUE 4; } }",
         counterexample: "VARIABLE a { TYPE INTEGER { DEFAULT_VALUE 4; MIN_VALUE 4; } }",
-        notes: "These two look at options that are under no condition.",
+        notes: "Both look at options under conditions as well: whether they cross in all branches, or in the branches of one condition.",
     },
     Row {
         lint: Lint::RepeatedEnumerator,
@@ -43,7 +43,7 @@ pub(super) const ROWS: &[Row] = &[
         details: "a value twice in one list of enumerators. A host shows one text of the two.",
         example: r#"VARIABLE a { TYPE ENUMERATED { { 1, "on" } { 2, "off" } { 1, "standby" } } }"#,
         counterexample: r#"VARIABLE a { TYPE ENUMERATED { { 1, "on" } { 2, "off" } { 3, "standby" } } }"#,
-        notes: "The list of each branch of a condition is a list of its own, so two branches may have one value.",
+        notes: "The list of each branch of a condition is a list of its own, so two branches may have one value. What is under no condition is in the lists of all branches.",
     },
     Row {
         lint: Lint::EnumeratorBits,

@@ -27,6 +27,9 @@ pub(crate) fn storage_of(target: Target) -> Option<Storage> {
     }
 }
 
+/// Of how many places something is known at most, so that a copy takes no long time.
+const MOST_KNOWN: usize = 64;
+
 /// What is known of the variables and the locals, beside their types.
 #[derive(Clone)]
 pub(crate) struct Environment<'c, 'd> {
@@ -73,9 +76,16 @@ impl<'c, 'd> Environment<'c, 'd> {
         let Range { low, high } = self.typed(storage).range;
         let is_kept = low <= values.range.low && values.range.high <= high;
         if is_kept {
-            self.known.insert(storage, values);
+            self.know(storage, values);
         } else {
             self.known.remove(&storage);
+        }
+    }
+
+    fn know(&mut self, storage: Storage, values: Values) {
+        let has_room = self.known.len() < MOST_KNOWN || self.known.contains_key(&storage);
+        if has_room {
+            self.known.insert(storage, values);
         }
     }
 
@@ -105,7 +115,7 @@ impl<'c, 'd> Environment<'c, 'd> {
 
     // Keeps of a place what is left; nothing where the place can't be so.
     fn narrow(mut self, storage: Storage, left: Option<Values>) -> Option<Environment<'c, 'd>> {
-        self.known.insert(storage, left?);
+        self.know(storage, left?);
         Some(self)
     }
 

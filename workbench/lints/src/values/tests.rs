@@ -55,7 +55,10 @@ fn ranged() -> impl Strategy<Value = (Range, i64)> {
 }
 
 fn runner() -> TestRunner {
-    let config = Config::with_cases(4_000);
+    let config = Config {
+        failure_persistence: None,
+        ..Config::with_cases(4_000)
+    };
     let rng = TestRng::deterministic_rng(config.rng_algorithm);
     TestRunner::new_with_rng(config, rng)
 }

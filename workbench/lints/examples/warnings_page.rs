@@ -1,0 +1,5 @@
+//! Prints docs/WARNINGS.md.
+
+fn main() {
+    print!("{}", edd_lints::page());
+}
