@@ -10,7 +10,7 @@ import subprocess
 import sys
 
 # Debian's packages of the crates that the workbench uses.
-SOURCES = ("librust-arrayvec-dev", "librust-clap-dev", "librust-proptest+std-dev", "librust-serde-dev", "librust-serde-derive-dev",
+SOURCES = ("librust-arrayvec-dev", "librust-clap-dev", "librust-codespan-reporting-dev", "librust-proptest+std-dev", "librust-serde-dev", "librust-serde-derive-dev",
            "librust-serde-json-dev", "librust-similar-dev", "librust-strsim-dev", "librust-thiserror-dev", "librust-unicode-width-dev")
 COMPILER = ("rustc-web", "cargo-web")
 # A compiler with the source of its standard library, of which one is made for other systems, and their linkers.

@@ -143,7 +143,10 @@ pub unsafe extern "C" fn edd_name(
     name: *mut Words,
 ) -> u32 {
     let image = with_image!(bytes, length, image);
-    given!(edd_embed::name_of(&image, kind, number).map(Words::of), name)
+    given!(
+        edd_embed::name_of(&image, kind, number).map(Words::of),
+        name
+    )
 }
 
 #[unsafe(no_mangle)]
@@ -158,7 +161,10 @@ pub unsafe extern "C" fn edd_text(
 ) -> u32 {
     let image = with_image!(bytes, length, image);
     let code = unsafe { list(code, code_length) };
-    given!(edd_embed::text_for(&image, string, code).map(Words::of), text)
+    given!(
+        edd_embed::text_for(&image, string, code).map(Words::of),
+        text
+    )
 }
 
 #[unsafe(no_mangle)]

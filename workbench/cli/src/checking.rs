@@ -5,9 +5,10 @@ use core_std::alloc::Global;
 use edd_check::{Checked, LINTS, Level, Levels, Lint};
 use edd_files::{FileFault, Files, read_marked};
 use edd_helps::Finding;
-use edd_report::{Diagnostic, Refusal, Report, Style, json_lines, sarif, text};
+pub(crate) use edd_report::Style;
+use edd_report::{Diagnostic, Refusal, Report, json_lines, rich, sarif, text};
 use edd_source::Source;
-use std::io::Write;
+use std::io::{self, Write};
 
 /// The lints that are allowed and denied.
 pub(crate) struct LintLevels(Levels);
@@ -15,8 +16,10 @@ pub(crate) struct LintLevels(Levels);
 /// In which form a diagnosis is printed.
 #[derive(Clone, Copy, Debug, PartialEq, Eq)]
 pub(crate) enum Form {
-    Text,
-    Colors,
+    /// Lines for a reader.
+    Text(Style),
+    /// Excerpts with second places.
+    Rich(Style),
     /// An object on each line.
     Json,
 }
@@ -100,8 +103,8 @@ impl<'t> Diagnosis<'t> {
     pub(crate) fn print(&self, form: Form, output: &mut impl Write) -> Result<(), Failure> {
         let Checked { source, report } = &self.0;
         let lines = match form {
-            Form::Text => text(source, report, Style::Plain),
-            Form::Colors => text(source, report, Style::Coloured),
+            Form::Text(style) => text(source, report, style),
+            Form::Rich(style) => rich(source, report, style).map_err(io::Error::other)?,
             Form::Json => json_lines(source, report)?,
         };
         output.write_all(lines.as_bytes())?;

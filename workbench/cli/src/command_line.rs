@@ -147,7 +147,7 @@ pub(crate) struct Check {
     /// Ends with status 1 where this lint finds something
     #[arg(long, value_name = "LINT")]
     pub(crate) deny: Vec<String>,
-    /// Lines for a reader, an object of JSON on each line, or a document of SARIF
+    /// Lines for a reader, excerpts, an object of JSON on each line, or a document of SARIF
     #[arg(long, value_name = "FORM", default_value = "text")]
     pub(crate) format: CheckForm,
     /// Colours in lines for a reader; auto is as never, but for ./edd on a terminal
@@ -158,6 +158,7 @@ pub(crate) struct Check {
 #[derive(Debug, Clone, Copy, PartialEq, Eq, ValueEnum)]
 pub(crate) enum CheckForm {
     Text,
+    Rich,
     Json,
     Sarif,
 }

@@ -200,7 +200,11 @@ impl Growing<'_> {
         let test = self.expression(2);
         // An element of an array can be read, and not set.
         let is_member = self.has_groups && self.dice.one_in(3);
-        let variable = if is_member { "k.second".to_owned() } else { self.name() };
+        let variable = if is_member {
+            "k.second".to_owned()
+        } else {
+            self.name()
+        };
         let choices = if depth == 0 { 7 } else { 11 };
         match self.dice.below(choices) {
             0 => self.add(format_args!("{variable} = {test};\n")),

@@ -51,10 +51,10 @@ impl Finding {
         self.helps.push(Help { span, advice, fix });
     }
 
-    /// Adds that a sign is missing where the fault is shown.
-    pub(crate) fn say_missing_here(&mut self, sign: &'static str) {
+    /// Adds that a sign is missing where the fault is shown, which is so sure.
+    pub(crate) fn say_missing_here(&mut self, sign: &'static str, confidence: Confidence) {
         let here = self.span.map(|span| Span::before(span.start));
-        let fix = here.map(|here| Fix::replace(here, sign, Confidence::Sure));
+        let fix = here.map(|here| Fix::replace(here, sign, confidence));
         self.propose(SyntaxHelp::MissingHere { sign }, fix);
     }
 

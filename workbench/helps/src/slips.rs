@@ -15,7 +15,9 @@ mod slip;
 mod values;
 mod words;
 
-pub(crate) use around::{At, is_symbol, open_bracket, open_parenthesis, opening_parenthesis};
+pub(crate) use around::{
+    Around, At, is_symbol, open_bracket, open_parenthesis, opening_parenthesis,
+};
 pub(crate) use bodies::early_end;
 pub(crate) use left_out::slip_of_left_out;
 pub(crate) use nesting::nested_comment;

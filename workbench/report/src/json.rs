@@ -2,7 +2,7 @@
 
 use crate::{Diagnostic, Report};
 use edd_helps::Help;
-use edd_source::{Source, Span};
+use edd_source::{Confidence, Fix, Source, Span};
 use serde::Serialize;
 
 /// What is wrong as an object. `null` stands for what there is none of.
@@ -21,6 +21,7 @@ struct Object<'a> {
     lint: Option<&'static str>,
     message: String,
     helps: Vec<HelpObject<'a>>,
+    fixes: Vec<FixObject<'a>>,
 }
 
 /// A help as an object.
@@ -30,6 +31,24 @@ struct HelpObject<'a> {
     line: Option<usize>,
     column: Option<usize>,
     origin: Option<OriginObject<'a>>,
+}
+
+/// A change that mends what is wrong.
+#[derive(Serialize)]
+struct FixObject<'a> {
+    text: String,
+    sure: bool,
+    edits: Vec<EditObject<'a>>,
+}
+
+/// What stands in the place of what.
+#[derive(Serialize)]
+struct EditObject<'a> {
+    line: Option<usize>,
+    column: Option<usize>,
+    end_line: Option<usize>,
+    end_column: Option<usize>,
+    text: &'a str,
 }
 
 /// The file and the line that a preprocessor has marked, and where that file was read the column.
@@ -96,6 +115,11 @@ fn object_of<'a>(source: &'a Source<'_>, diagnostic: &'a Diagnostic) -> Object<'
             .iter()
             .map(|help| help_object(source, help))
             .collect(),
+        fixes: diagnostic
+            .helps
+            .iter()
+            .filter_map(|help| Some(fix_object(source, help, help.fix.as_ref()?)))
+            .collect(),
     }
 }
 
@@ -106,6 +130,25 @@ fn help_object<'a>(source: &'a Source<'_>, help: &Help) -> HelpObject<'a> {
         line,
         column,
         origin: help.span.and_then(|span| origin_at(source, span)),
+    }
+}
+
+fn fix_object<'a>(source: &'a Source<'_>, help: &Help, fix: &'a Fix) -> FixObject<'a> {
+    let edits = fix.edits.iter().map(|edit| {
+        let (line, column) = corner_at(source, Some(edit.span.start));
+        let (end_line, end_column) = corner_at(source, Some(edit.span.end));
+        EditObject {
+            line,
+            column,
+            end_line,
+            end_column,
+            text: &edit.text,
+        }
+    });
+    FixObject {
+        text: help.advice.to_string(),
+        sure: fix.confidence == Confidence::Sure,
+        edits: edits.collect(),
     }
 }
 

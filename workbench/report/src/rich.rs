@@ -14,15 +14,10 @@ use edd_source::Source;
 /// # Errors
 ///
 /// None is known: the places lie inside of the text.
-pub fn rich(
-    source: &Source<'_>,
-    text: &[u8],
-    report: &Report,
-    style: Style,
-) -> Result<String, Error> {
+pub fn rich(source: &Source<'_>, report: &Report, style: Style) -> Result<String, Error> {
     let bytes = match style {
-        Style::Plain => written(source, text, report, NoColor::new(Vec::new()))?.into_inner(),
-        Style::Coloured => written(source, text, report, Ansi::new(Vec::new()))?.into_inner(),
+        Style::Plain => written(source, report, NoColor::new(Vec::new()))?.into_inner(),
+        Style::Coloured => written(source, report, Ansi::new(Vec::new()))?.into_inner(),
     };
     let mut excerpts = String::from_utf8_lossy(&bytes).into_owned();
     if 0 < report.more {
@@ -31,13 +26,8 @@ pub fn rich(
     Ok(excerpts)
 }
 
-fn written<W: WriteColor>(
-    source: &Source<'_>,
-    text: &[u8],
-    report: &Report,
-    mut out: W,
-) -> Result<W, Error> {
-    let text = String::from_utf8_lossy(text);
+fn written<W: WriteColor>(source: &Source<'_>, report: &Report, mut out: W) -> Result<W, Error> {
+    let text = String::from_utf8_lossy(source.lines.text());
     let file = SimpleFile::new(source.name, text);
     for diagnostic in &report.shown {
         emit(&mut out, &Config::default(), &file, &rich_of(diagnostic))?;

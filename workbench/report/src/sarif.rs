@@ -6,7 +6,7 @@ mod places;
 use crate::{Diagnostic, Kind, Report, Severity};
 use document::{Document, Driver, Invocation, Message, Notice, Outcome, Rule, Run, Tool};
 use edd_source::Source;
-use places::{first_location, related_locations};
+use places::{changes_of, first_location, related_locations};
 use std::collections::HashMap;
 
 const SCHEMA: &str = "https://json.schemastore.org/sarif-2.1.0.json";
@@ -64,13 +64,10 @@ fn notice_of(source: &Source<'_>, report: &Report) -> Option<Notice> {
 }
 
 fn outcome_of(source: &Source<'_>, diagnostic: &Diagnostic, rules: &mut Rules) -> Outcome {
-    let (id, name) = match &diagnostic.kind {
-        Kind::Refused(refusal) => (refusal.number().to_string(), refusal.name()),
-        Kind::Warned(warning) => (warning.lint().name().to_owned(), warning.lint().name()),
-    };
+    let (rule_id, rule_index) = rules.of(&diagnostic.kind);
     Outcome {
-        rule_index: rules.place_of(&id, name),
-        rule_id: id,
+        rule_index,
+        rule_id,
         level: match diagnostic.severity() {
             Severity::Warning => "warning",
             Severity::Refused | Severity::Denied => "error",
@@ -78,7 +75,14 @@ fn outcome_of(source: &Source<'_>, diagnostic: &Diagnostic, rules: &mut Rules) -
         message: message_of(diagnostic),
         locations: [first_location(source, diagnostic)],
         related_locations: related_locations(source, diagnostic),
+        fixes: changes_of(source, diagnostic),
     }
+}
+
+// The first paragraph of a text, on one line.
+fn first_paragraph(text: &str) -> String {
+    let lines = text.lines().take_while(|line| !line.is_empty());
+    lines.collect::<Vec<_>>().join(" ")
 }
 
 // What is said, and a line for each help.
@@ -91,18 +95,30 @@ fn message_of(diagnostic: &Diagnostic) -> Message {
 }
 
 impl Rules {
-    // The place of a rule, which is added where it is not there.
-    fn place_of(&mut self, id: &str, name: &'static str) -> usize {
-        if let Some(place) = self.places.get(id) {
-            return *place;
+    // The id of a rule and its place, where it is added if it is not there.
+    fn of(&mut self, kind: &Kind) -> (String, usize) {
+        let (id, name, meaning) = match kind {
+            Kind::Refused(refusal) => {
+                let number = refusal.number();
+                let meaning = edd_explain::by_number(number.into()).map(|it| it.meaning);
+                (number.to_string(), refusal.name(), meaning)
+            }
+            Kind::Warned(warning) => {
+                let lint = warning.lint();
+                (lint.name().to_owned(), lint.name(), Some(lint.summary()))
+            }
+        };
+        if let Some(place) = self.places.get(&id) {
+            return (id, *place);
         }
         let place = self.list.len();
-        self.places.insert(id.to_owned(), place);
+        self.places.insert(id.clone(), place);
         self.list.push(Rule {
-            id: id.to_owned(),
+            id: id.clone(),
             name,
+            short_description: Message::new(first_paragraph(meaning.unwrap_or(name))),
             help: Message::new(format!("`edd explain {id}` says what it means")),
         });
-        place
+        (id, place)
     }
 }

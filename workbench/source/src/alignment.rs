@@ -2,6 +2,7 @@
 //!
 //! What stands before the part, and what stands behind it, is looked for in the line, blanks not
 //! counted. Where neither is found, a macro of the line has become what holds the part.
+
 use crate::Span;
 
 /// A part of a line as it was written.

@@ -45,6 +45,11 @@ impl<'a> Lines<'a> {
         }
     }
 
+    /// The bytes of the text.
+    pub fn text(&self) -> &'a [u8] {
+        self.text
+    }
+
     // The line that a byte is on, counted from 0.
     fn line_of(&self, byte: usize) -> usize {
         self.starts

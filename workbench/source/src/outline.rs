@@ -1,4 +1,5 @@
 //! Where the items of a text are declared, and which braces are open.
+
 use crate::tokens::{is_sign, is_word, item_kind};
 use edd_lexer::token::{Token, TokenKind};
 use edd_syntax::numbers::Kind;

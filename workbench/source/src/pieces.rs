@@ -1,4 +1,5 @@
 //! A text cut into pieces by its bytes, whether or not it has tokens.
+
 use crate::Span;
 
 /// What a piece of a text is, as far as it can be told from its first bytes.

@@ -1,8 +1,14 @@
 //! The public calls of the core, each by its name, parameters and result, and with answers that were worked
 //! out by hand. The compiler does not take a call that has changed its form.
 
-#![expect(clippy::type_complexity, reason = "the forms of calls are what is tested")]
-#![expect(clippy::panic, reason = "a source of the test that is refused fails it")]
+#![expect(
+    clippy::type_complexity,
+    reason = "the forms of calls are what is tested"
+)]
+#![expect(
+    clippy::panic,
+    reason = "a source of the test that is refused fails it"
+)]
 
 use edd_attrs::lower_attribute;
 use edd_breaches::RuleFault;

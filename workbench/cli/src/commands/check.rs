@@ -1,6 +1,6 @@
 //! `edd check`: where sources are refused, what helps, and what is clearly a mistake.
 
-use crate::checking::{Diagnosis, Form, LintLevels, print_sarif};
+use crate::checking::{Diagnosis, Form, LintLevels, Style, print_sarif};
 use crate::command_line::{Check, CheckForm, Color};
 use crate::failure::{FILE, Failure, REFUSED, reason};
 use core_std::alloc::Global;
@@ -33,7 +33,7 @@ pub(crate) fn run(
         match (found, form_of(args)) {
             (Ok(diagnosis), Some(form)) => diagnosis.print(form, out)?,
             (Ok(diagnosis), None) => diagnoses.push(diagnosis),
-            (Err(fault), Some(Form::Text | Form::Colors)) => {
+            (Err(fault), Some(Form::Text(_) | Form::Rich(_))) => {
                 writeln!(out, "file {name}\n{}", reason(fault))?;
             }
             // The output has nothing but JSON.
@@ -66,9 +66,13 @@ fn read_sources<'a>(
 
 /// The form in which each source is printed by itself. A document has all of them.
 fn form_of(args: &Check) -> Option<Form> {
+    let style = match args.color {
+        Color::Always => Style::Coloured,
+        Color::Auto | Color::Never => Style::Plain,
+    };
     match args.format {
-        CheckForm::Text if args.color == Color::Always => Some(Form::Colors),
-        CheckForm::Text => Some(Form::Text),
+        CheckForm::Text => Some(Form::Text(style)),
+        CheckForm::Rich => Some(Form::Rich(style)),
         CheckForm::Json => Some(Form::Json),
         CheckForm::Sarif => None,
     }

@@ -33,6 +33,8 @@ pub struct Description<'a> {
     names: Vec<(&'a str, usize)>,
     declared: HashMap<&'a str, usize>,
     enumerators: OnceCell<Enumerators<'a>>,
+    /// How often each name stands in the text.
+    counts: OnceCell<HashMap<&'a str, usize>>,
 }
 
 impl fmt::Debug for Description<'_> {
@@ -80,6 +82,7 @@ impl<'a> Description<'a> {
             names,
             declared,
             enumerators: OnceCell::new(),
+            counts: OnceCell::new(),
         }
     }
 
@@ -87,6 +90,19 @@ impl<'a> Description<'a> {
     pub(super) fn enumerators(&self) -> &Enumerators<'a> {
         self.enumerators
             .get_or_init(|| Enumerators::of(self.text, self.tokens, self))
+    }
+
+    /// How often a name stands in the text.
+    pub(super) fn count(&self, name: &str) -> usize {
+        let counts = self.counts.get_or_init(|| {
+            let mut counts: HashMap<&str, usize> = HashMap::new();
+            for token in self.tokens.iter().filter(|it| it.kind == TokenKind::Name) {
+                let count = counts.entry(word_of(self.text, token)).or_default();
+                *count = count.saturating_add(1);
+            }
+            counts
+        });
+        counts.get(name).copied().unwrap_or(0)
     }
 
     /// The names of items, members and locals that have a word of this one.

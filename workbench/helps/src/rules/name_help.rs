@@ -17,6 +17,11 @@ pub enum NameHelp {
         /// It.
         near: String,
     },
+    /// A name that nothing uses, which is near to one that several places use.
+    NothingUses {
+        /// It.
+        near: String,
+    },
     /// Two names that are as near.
     EitherMeant {
         /// One of them.
@@ -153,6 +158,9 @@ impl fmt::Display for NameHelp {
         match self {
             NameHelp::Foreign(foreign) => foreign.fmt(f),
             NameHelp::Meant { near } => write!(f, "{near} may be meant"),
+            NameHelp::NothingUses { near } => {
+                write!(f, "nothing uses {near}, which is declared")
+            }
             NameHelp::EitherMeant { near, other } => write!(f, "{near} or {other} may be meant"),
             NameHelp::EnumeratorIsThere { variable } => {
                 write!(f, "the enumerator of {variable} is")

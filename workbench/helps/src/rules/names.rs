@@ -85,8 +85,13 @@ fn say_new(
         (None, _) if !is_member && say_text(description, name, number, finding) => {}
         (Some(near), None) => {
             let fix = finding.replacement(near, Confidence::Guess);
-            let near = near.to_owned();
-            finding.propose(NameHelp::Meant { near }, fix);
+            finding.propose(
+                NameHelp::Meant {
+                    near: near.to_owned(),
+                },
+                fix,
+            );
+            say_misspelled(description, name, near, finding);
         }
         (Some(near), Some(other)) => finding.say(NameHelp::EitherMeant {
             near: near.to_owned(),
@@ -96,6 +101,16 @@ fn say_new(
             name: name.to_owned(),
         }),
         (None, _) => finding.say(help_unknown(description, name, number)),
+    }
+}
+
+// Says where a name is declared that nothing uses, where another one is used that is near: then the
+// declaration may be what is misspelled.
+fn say_misspelled(description: &Description<'_>, name: &str, near: &str, finding: &mut Finding) {
+    let is_unused = description.count(near) == 1 && 1 < description.count(name);
+    if let Some(declared) = description.declared(near).filter(|_| is_unused) {
+        let near = near.to_owned();
+        finding.say_at(description.span(declared), NameHelp::NothingUses { near });
     }
 }
 

@@ -1,4 +1,5 @@
 //! Slips in the bodies of methods that are known by the tokens around them.
+
 use super::around::{
     Around, At, BRACES, PARENTHESES, is_integer, is_joined, is_keyword, is_symbol, on,
     open_parenthesis, opened, word_before,

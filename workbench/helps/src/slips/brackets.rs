@@ -1,4 +1,5 @@
 //! Slips at parentheses, brackets and braces: those that are missing, or that do not belong there.
+
 use super::around::{Around, is_integer, is_symbol};
 use super::lists::{List, is_before_entry, list_around};
 use super::shapes::{is_after_type, is_type};

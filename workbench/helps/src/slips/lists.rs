@@ -1,4 +1,5 @@
 //! Slips in the lists of attributes.
+
 use super::around::{Around, is_integer, is_symbol, open_brace, open_parenthesis};
 use super::{Placed, Slip};
 use edd_lexer::token::{Token, TokenKind};

@@ -1,4 +1,5 @@
 //! Slips that are known by the tokens around them, each with its own words.
+
 use super::around::{Around, At, is_integer, is_joined, is_keyword, on, open_parenthesis};
 use super::bodies::statement_slip;
 use super::brackets::bracket_slip;

@@ -19,8 +19,8 @@ impl Placed {
             Slip::SemicolonHere => (here, ";", Confidence::Sure),
             Slip::BracketHere => (here, "]", Confidence::Sure),
             Slip::ParenthesisHere => (here, ")", Confidence::Sure),
-            Slip::BraceBeforeElse => (here, "} ", Confidence::Sure),
-            Slip::SemicolonForComma => (place, ";", Confidence::Sure),
+            Slip::BraceBeforeElse => (here, "} ", Confidence::Guess),
+            Slip::SemicolonForComma => (place, ";", Confidence::Guess),
             Slip::SemicolonLeftOut => (place, "", Confidence::Sure),
             Slip::WordLeftOut | Slip::ThenLeftOut | Slip::CapitalThenLeftOut => {
                 (place, "", Confidence::Guess)

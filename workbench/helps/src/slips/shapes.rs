@@ -1,4 +1,5 @@
 //! Slips in the shape of items, attributes and types.
+
 use super::around::{Around, is_integer, is_joined, is_keyword};
 use super::{Placed, Slip};
 use edd_lexer::token::{Token, TokenKind};

@@ -1,4 +1,5 @@
 //! Slips in the values of methods, and in what functions take.
+
 use super::around::{Around, is_integer, is_symbol, open_parenthesis};
 use super::words::{is_misspelled_type, is_operator, is_unit};
 use super::{Placed, Slip};

@@ -176,7 +176,7 @@ fn head_before<'a>(at: At<'a>, crooked: Crooked) -> Option<&'a Token> {
 // Says that an opening brace is missing after a token.
 fn say_open(at: At<'_>, head: &Token, crooked: Crooked, finding: &mut Finding) {
     finding.span = Some(Span::behind(head));
-    finding.say_missing_here("{");
+    finding.say_missing_here("{", Confidence::Guess);
     let closed = at.tokens.get(crooked.close).map(Span::of);
     finding.say_at(closed, SyntaxHelp::ClosedByLayout);
 }
@@ -186,13 +186,13 @@ fn say_close(at: At<'_>, before: usize, finding: &mut Finding) {
     if let Some(token) = at.tokens.get(before.saturating_sub(1)) {
         finding.span = Some(Span::behind(token));
     }
-    finding.say_missing_here("}");
+    finding.say_missing_here("}", Confidence::Guess);
 }
 
 // Says that a closing brace is one too many.
 fn say_too_many(at: At<'_>, crooked: Crooked, finding: &mut Finding) {
     finding.span = at.tokens.get(crooked.close).map(Span::of);
-    let fix = finding.replacement("", Confidence::Sure);
+    let fix = finding.replacement("", Confidence::Guess);
     let word = "}".to_owned();
     finding.propose(SyntaxHelp::LeftOut { word }, fix);
     let opened = at.tokens.get(crooked.open).map(Span::of);

@@ -8,7 +8,7 @@ use super::fitting::what_fits;
 use super::trials::{best_change, best_word, wants_text};
 use super::unsupported::say_unsupported;
 use crate::slips::{
-    At, Placed, Slip, early_end, is_symbol, nested_comment, open_bracket, open_parenthesis,
+    Around, At, Placed, Slip, early_end, is_symbol, nested_comment, open_bracket, open_parenthesis,
     opening_parenthesis, slip_at, slip_of_left_out,
 };
 use crate::text::long_string;
@@ -16,6 +16,7 @@ use crate::{Advice, Explained, Finding, TextHelp};
 use edd_lexer::token::{Token, TokenKind};
 use edd_source::tokens::{item_kind, tokens_before, word_of};
 use edd_source::{Confidence, Fix, Outline, Span};
+use edd_syntax::numbers::Attr;
 use edd_syntax::operators::Builtin;
 use edd_syntax::symbols::{Keyword, Symbol};
 use edd_token_reader::fault::ParseFault;
@@ -196,19 +197,19 @@ fn describe(at: At<'_>, token: &Token, change: Change, finding: &mut Finding) {
         Change::Behind(sign) => say_behind(at, sign, finding),
         Change::Before(sign) => {
             let here = finding.span.map(|span| Span::before(span.start));
-            let fix = here.map(|here| Fix::replace(here, format!("{sign} "), Confidence::Sure));
+            let fix = here.map(|here| Fix::replace(here, format!("{sign} "), Confidence::Guess));
             finding.propose(SyntaxHelp::SignBefore { sign, word }, fix);
         }
         Change::Missing(_, wanted) => finding.say(SyntaxHelp::WantedBefore { wanted, word }),
         Change::Instead(meant) => {
             finding.span = Some(Span::of(token));
-            let fix = finding.replacement(meant, confidence_in(token));
+            let fix = finding.replacement(meant, Confidence::Guess);
             let fix = fix.filter(|_| !meant.contains(' '));
             finding.propose(SyntaxHelp::Instead { meant, word }, fix);
         }
         Change::LeaveOut => {
             finding.span = Some(Span::of(token));
-            let fix = finding.replacement("", confidence_in(token));
+            let fix = finding.replacement("", confidence_without(at));
             finding.propose(SyntaxHelp::LeftOut { word }, fix);
         }
         Change::Quoted => finding.say(SyntaxHelp::Quotes { word }),
@@ -216,11 +217,55 @@ fn describe(at: At<'_>, token: &Token, change: Change, finding: &mut Finding) {
     }
 }
 
-// A sign is surely meant as another one, where a word may be meant otherwise.
-fn confidence_in(token: &Token) -> Confidence {
+// How sure it is that a sign is missing before a token: what ends a statement or parts a list is where
+// the line breaks, else something else may be missing or too much.
+fn confidence_of(at: At<'_>, sign: &str) -> Confidence {
+    let (Some(before), Some(token)) = (at.back(1), at.token()) else {
+        return Confidence::Guess;
+    };
+    let breaks = before.line != token.line || is_symbol(token, Symbol::CloseBrace);
+    let are_names = before.kind == TokenKind::Name && token.kind == TokenKind::Name;
+    let is_sure = match sign {
+        ";" => (breaks && !begins_with_parenthesis(at)) || begins_attribute(token),
+        "," => breaks || are_names,
+        ")" => true,
+        _ => false,
+    };
+    if is_sure {
+        Confidence::Sure
+    } else {
+        Confidence::Guess
+    }
+}
+
+fn begins_attribute(token: &Token) -> bool {
     match token.kind {
-        TokenKind::Symbol(_) => Confidence::Sure,
-        _ => Confidence::Guess,
+        TokenKind::Keyword(word) => Attr::begun_by(word).is_some(),
+        _ => false,
+    }
+}
+
+// Whether the statement before a token begins with parentheses, whose word may be missing.
+fn begins_with_parenthesis(at: At<'_>) -> bool {
+    let first = Around::of(at).and_then(|around| around.so_far().first());
+    first.is_some_and(|token| is_symbol(token, Symbol::OpenParenthesis))
+}
+
+// How sure it is that a token is one too many: a `;` behind another one, or behind a brace.
+fn confidence_without(at: At<'_>) -> Confidence {
+    let is_idle = at
+        .token()
+        .is_some_and(|token| is_symbol(token, Symbol::Semicolon))
+        && matches!(
+            at.kind_back(1),
+            Some(TokenKind::Symbol(
+                Symbol::Semicolon | Symbol::OpenBrace | Symbol::CloseBrace
+            ))
+        );
+    if is_idle {
+        Confidence::Sure
+    } else {
+        Confidence::Guess
     }
 }
 
@@ -235,7 +280,7 @@ fn say_behind(at: At<'_>, sign: &'static str, finding: &mut Finding) {
     match (sign, far_bracket(at), open_parenthesis(at)) {
         ("]", Some(open), _) => finding.say_at(Some(open), missing_up_to("[", "]")),
         (")", _, Some(open)) => finding.say_at(Some(open), missing_up_to("(", ")")),
-        _ => finding.say_missing_here(sign),
+        _ => finding.say_missing_here(sign, confidence_of(at, sign)),
     }
 }
 

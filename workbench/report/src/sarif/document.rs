@@ -32,9 +32,11 @@ pub(super) struct Driver {
 
 /// What is refused or warned of, by the word that `edd explain` takes.
 #[derive(Serialize)]
+#[serde(rename_all = "camelCase")]
 pub(super) struct Rule {
     pub(super) id: String,
     pub(super) name: &'static str,
+    pub(super) short_description: Message,
     pub(super) help: Message,
 }
 
@@ -72,6 +74,29 @@ pub(super) struct Outcome {
     pub(super) message: Message,
     pub(super) locations: [Location; 1],
     pub(super) related_locations: Vec<Location>,
+    pub(super) fixes: Vec<Change>,
+}
+
+/// A change that mends what is wrong.
+#[derive(Serialize)]
+#[serde(rename_all = "camelCase")]
+pub(super) struct Change {
+    pub(super) description: Message,
+    pub(super) artifact_changes: [ArtifactChange; 1],
+}
+
+#[derive(Serialize)]
+#[serde(rename_all = "camelCase")]
+pub(super) struct ArtifactChange {
+    pub(super) artifact_location: Artifact,
+    pub(super) replacements: Vec<Replacement>,
+}
+
+#[derive(Serialize)]
+#[serde(rename_all = "camelCase")]
+pub(super) struct Replacement {
+    pub(super) deleted_region: Region,
+    pub(super) inserted_content: Message,
 }
 
 #[derive(Serialize)]

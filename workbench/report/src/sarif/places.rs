@@ -1,6 +1,8 @@
 //! Where diagnostics and helps are, as SARIF has it.
 
-use super::document::{Artifact, Location, Message, Physical, Region};
+use super::document::{
+    Artifact, ArtifactChange, Change, Location, Message, Physical, Region, Replacement,
+};
 use crate::Diagnostic;
 use edd_source::{Source, Span, Spot};
 
@@ -30,6 +32,29 @@ pub(super) fn related_locations(source: &Source<'_>, diagnostic: &Diagnostic) ->
         location_at(source, span, Some(message))
     });
     read.into_iter().chain(helps).collect()
+}
+
+/// The changes that mend it, in the text that was read.
+pub(super) fn changes_of(source: &Source<'_>, diagnostic: &Diagnostic) -> Vec<Change> {
+    let helps = diagnostic.helps.iter();
+    let fixes = helps.filter_map(|help| Some((help, help.fix.as_ref()?)));
+    fixes
+        .map(|(help, fix)| {
+            let replacements = fix.edits.iter().map(|edit| Replacement {
+                deleted_region: region_in_text(source, edit.span),
+                inserted_content: Message::new(edit.text.clone()),
+            });
+            Change {
+                description: Message::new(help.advice.to_string()),
+                artifact_changes: [ArtifactChange {
+                    artifact_location: Artifact {
+                        uri: uri_of(source.name),
+                    },
+                    replacements: replacements.collect(),
+                }],
+            }
+        })
+        .collect()
 }
 
 // Where a span is: in the file that a mark names, or in the text.
