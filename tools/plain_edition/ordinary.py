@@ -16,6 +16,8 @@ PROGRAM, CLI, BINARY = "edd-cli", "cli", "edd"
 CORE, LEGACY, LIBRARY = "core", "legacy", "edd"
 # What a manifest names by a path, without the way up.
 NAMED = re.compile(r'path = "(?:\.\./)+([\w/]+)"')
+# What tests alone need, and no edition has.
+OF_TESTS = re.compile(r"^proptest = .*\n", re.MULTILINE)
 # The way to the core in the checkout.
 TO_CORE = re.compile(r'(path = "(?:\.\./)+)core/')
 
@@ -63,4 +65,4 @@ def below(names):
 
 def in_edition(path, text):
     """A file of a package as it stands in an edition."""
-    return TO_CORE.sub(r"\1", text) if path == "Cargo.toml" else text
+    return OF_TESTS.sub("", TO_CORE.sub(r"\1", text)) if path == "Cargo.toml" else text

@@ -122,9 +122,10 @@ class Edition:
         raise Stopped(f"crates.txt: {crate.name} uses {used}, for which plain/ has nothing")
 
     def add_package(self, place):
-        """A package of ordinary Rust, which names the core beside it."""
+        """A package of ordinary Rust, which names the core beside it. Its tests are played in the workbench."""
         for path, text in folder_files(os.path.join(ordinary.WORKBENCH, place)):
-            self.files[f"{place}/{path}"] = ordinary.in_edition(path, text)
+            if not path.startswith(("tests/", "examples/")):
+                self.files[f"{place}/{path}"] = ordinary.in_edition(path, text)
 
     def add_own(self, more):
         """The crates of `plain/` that the crates at hand use, and these more."""

@@ -57,7 +57,7 @@ def commands(examples):
     device = os.path.join(examples, "valve_positioner.device.edd")
     yield from ((["open", source, "--device", device], (1, 3)), (["open", "image", "--record", "made"], (1,)))
     yield from ((["try", source, "calibrate", "--device", device], (1, 4)), (["test", "one.test"], (1,)))
-    yield from ((["compile", source, "made"], (1,)), (["view", source, script], (1, 2)), (["check", source], (1,)))
+    yield from ((["compile", source, "made"], (1,)), (["view", source, script], (1, 2)))
     yield from ((["check", "wrong"], (1,)), (["check", "wrong", "--format", "json"], (1,)), (["show", "image"], (1,)))
     yield from ((["play", "image", "calibrate", script], (1, 3)), (["try", source, "calibrate", script], (1, 3)))
 
@@ -86,7 +86,8 @@ def of_program(score, program):
     return f"{behind} requests behind the command line were refused; in front of it {aborted} of the others ended the program"
 
 
-# A text without quotes and line ends: where `serde_json` reads an escape it takes memory that can't be refused.
+# A text without quotes and line ends: where `serde_json` reads an escape it takes memory that can't be refused. It is refused, as
+# it is before the edit: of a text that is accepted the lints take memory as other programs in Rust do.
 EDITED = (
     "MANUFACTURER 1, DEVICE_TYPE 2, DEVICE_REVISION 3, DD_REVISION 4 "
     "VARIABLE flow { LABEL [flow]; TYPE INTEGER (2) { MAX_VALUE 5 * 20; } } "
@@ -107,7 +108,7 @@ def conversation():
     document = {"textDocument": {"uri": URI}}
     whole = {"start": {"line": 0, "character": 0}, "end": {"line": 0, "character": len(EDITED)}}
     asked = [("initialize", {"capabilities": {"textDocument": {"codeAction": {"codeActionLiteralSupport": {}}}}})]
-    told = [("initialized", {}), ("textDocument/didOpen", {"textDocument": {"uri": URI, "version": 1, "text": EDITED.replace("flwo", "flow")}})]
+    told = [("initialized", {}), ("textDocument/didOpen", {"textDocument": {"uri": URI, "version": 1, "text": EDITED.replace("flwo", "folw")}})]
     told += [("textDocument/didChange", {"textDocument": {"uri": URI, "version": 2}, "contentChanges": [{"text": EDITED}]})]
     for method in ("hover", "definition", "documentHighlight", "prepareRename", "completion"):
         asked.append((f"textDocument/{method}", place("flow, all")))
