@@ -232,7 +232,7 @@ METHOD m { DEFINITION { a = 100; send_command(1); } }",
 METHOD m { DEFINITION { a = 5; a = 6; send_command(1); } }",
         counterexample: "VARIABLE a { TYPE INTEGER; }
 METHOD m { DEFINITION { a = 5; send_command(1); a = 6; send_command(1); } }",
-        notes: "The value of a declaration is left alone, and so is that of a request.",
+        notes: "The value of a declaration is left alone, and so are 0 and that of a request.",
     },
     Row {
         lint: Lint::EmptyThen,
