@@ -120,7 +120,7 @@ pub(super) const ROWS: &[Row] = &[
         name: "untranslated-text",
         level: Level::Warn,
         summary: "a text in one language where most others have more",
-        details: "a LABEL, HELP, message, enumerator, member, element or response code in one language, where three of four such texts have two or more; and any other text that names its one language. Units, numbers and abbreviations, which have no word of four letters in small ones, are left alone.",
+        details: "a LABEL, HELP, message, enumerator, member, element or response code in one language, where three of four such texts have two or more; and any other text that names its one language. Units, numbers and abbreviations, which have no word of four letters in small ones, are left alone, and so are words that several languages write alike, such as `Version`.",
         example: r#"MENU a { LABEL "|en|Level|de|Stand"; HELP "|en|Main menu|de|Hauptmenü"; ITEMS { m, b, c } }
 METHOD m { LABEL "|en|Reset|de|Rücksetzen"; DEFINITION { PUT_MESSAGE("Done now"); } }
 MENU b { LABEL "|en|Inner|de|Innen"; ITEMS { "x" } }
