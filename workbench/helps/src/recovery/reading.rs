@@ -55,7 +55,9 @@ struct Reader<'t> {
 pub fn recover(text: &[u8], first: (&TextFault, &Finding), from: usize, most: usize) -> Recovered {
     let (first, finding) = first;
     let is_left_out = matches!(first, TextFault::Parse(ParseFault::Unsupported { .. }));
-    let sections = sections(text, from, is_left_out);
+    // Where a text has no tokens, the items before its fault are not read so far.
+    let is_lexical = matches!(first, TextFault::Lex(_));
+    let sections = sections(text, if is_lexical { 0 } else { from }, is_left_out);
     let mut reader = Reader {
         text,
         first: finding,
@@ -70,13 +72,17 @@ pub fn recover(text: &[u8], first: (&TextFault, &Finding), from: usize, most: us
     let end = sections
         .first()
         .map_or(text.len(), |section| section.span.start);
-    if let Some((start, line)) = item_before(text, from, end) {
+    if !is_lexical && let Some((start, line)) = item_before(text, from, end) {
         let item = Span { start, end };
         reader.read(Alone::of(text, item, line), Some(from), true);
     }
     for (number, section) in sections.iter().enumerate() {
-        let next = sections.get(number.saturating_add(1));
-        reader.read_section(section, next);
+        if is_lexical && section.span.range().contains(&from) {
+            let alone = Alone::of(text, section.span, section.line);
+            reader.read(alone, Some(from), true);
+        } else {
+            reader.read_section(section, sections.get(number.saturating_add(1)));
+        }
     }
     reader.found
 }
@@ -227,7 +233,7 @@ fn region(
     may_be_open: bool,
 ) -> Option<Region> {
     let tokens = match &outcome.fault {
-        Some(TextFault::Lex(_)) => alone.tokens_without(alone.lexical_place(outcome)?),
+        Some(TextFault::Lex(_)) => alone.tokens_without_faults(),
         _ => outcome.tokens.clone(),
     };
     if may_be_open && !are_braces_even(&tokens) || tokens.is_empty() {
