@@ -40,7 +40,7 @@ def set_up():
 
 
 def edition():
-    return workspace.Edition(LIBRARIES, ["page"])
+    return workspace.Edition(LIBRARIES, ["page", "serde_json"])
 
 
 def module():
