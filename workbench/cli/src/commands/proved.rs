@@ -79,8 +79,7 @@ impl<'a> CoreCommand<'a> {
         let mut recorder = self.recorder(files);
         let status = super::print(output, &mut recorder, |recorder, out| {
             let mut lines = CoreVec::new(Global);
-            let Ended { status, .. } =
-                edd_program::run(Global, self.request, recorder, &mut lines);
+            let Ended { status, .. } = edd_program::run(Global, self.request, recorder, &mut lines);
             out.write_all(&lines)?;
             match (status, self.request, recorder.read.as_slice()) {
                 (DONE, Request::Try { source, run }, [text, script]) => {
