@@ -26,7 +26,7 @@ pub(crate) fn run(
     command: &Command,
     words: &[CoreString],
     files: &mut impl Files,
-    output: &mut impl Write,
+    output: &mut (impl Write + Send),
 ) -> u8 {
     match command {
         Command::Compile(args) => proved::compile(args, files, output),
@@ -49,7 +49,7 @@ pub(crate) fn run(
     }
 }
 
-fn run_play(args: &Play, files: &mut impl Files, output: &mut impl Write) -> u8 {
+fn run_play(args: &Play, files: &mut impl Files, output: &mut (impl Write + Send)) -> u8 {
     let Some(device) = &args.run.device else {
         return CoreCommand::play(args).run(files, output);
     };
@@ -64,7 +64,7 @@ fn run_play(args: &Play, files: &mut impl Files, output: &mut impl Write) -> u8 
     simulation.run(files, output)
 }
 
-fn run_try(args: &Try, files: &mut impl Files, output: &mut impl Write) -> u8 {
+fn run_try(args: &Try, files: &mut impl Files, output: &mut (impl Write + Send)) -> u8 {
     let Some(device) = &args.run.device else {
         let command = CoreCommand::try_source(args);
         return if args.trace {
@@ -87,7 +87,7 @@ fn run_try(args: &Try, files: &mut impl Files, output: &mut impl Write) -> u8 {
 /// Prints the lines of a command and why it ended early, and returns the exit status. After a write
 /// that failed none is tried.
 fn print<F: Files>(
-    output: &mut dyn Write,
+    output: &mut (dyn Write + Send),
     files: &mut F,
     command: impl FnOnce(&mut F, &mut Lines<'_>) -> Result<(), Failure>,
 ) -> u8 {

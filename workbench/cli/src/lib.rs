@@ -22,13 +22,13 @@ pub use output::StandardOutput;
 use std::io::Write;
 
 /// Runs a command line over the system's files, as [`run`] does.
-pub fn run_on_system(words: Vec<String>, output: &mut impl Write) -> u8 {
+pub fn run_on_system(words: Vec<String>, output: &mut (impl Write + Send)) -> u8 {
     run(words, &mut program_files(&HostRuntime), output)
 }
 
 /// Runs a command line over these files, prints to `output`, and returns the exit status. The first
 /// of the words is the program's name.
-pub fn run(words: Vec<String>, files: &mut impl Files, output: &mut impl Write) -> u8 {
+pub fn run(words: Vec<String>, files: &mut impl Files, output: &mut (impl Write + Send)) -> u8 {
     let command_line = match CommandLine::try_parse_from(&words) {
         Ok(command_line) => command_line,
         Err(error) => return print_instead(&error, output),

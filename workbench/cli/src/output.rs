@@ -25,10 +25,10 @@ impl Write for StandardOutput {
 }
 
 /// An output whose lines are held back. The core writes to it too.
-pub(crate) struct Lines<'o>(BufWriter<&'o mut dyn Write>);
+pub(crate) struct Lines<'o>(BufWriter<&'o mut (dyn Write + Send)>);
 
 impl<'o> Lines<'o> {
-    pub(crate) fn new(output: &'o mut dyn Write) -> Lines<'o> {
+    pub(crate) fn new(output: &'o mut (dyn Write + Send)) -> Lines<'o> {
         Lines(BufWriter::with_capacity(HELD_BACK, output))
     }
 

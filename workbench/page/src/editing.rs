@@ -1,7 +1,7 @@
 //! What the editor of the page asks about a text. Places count bytes.
 use crate::{Stop, json};
+use edd_ide::Document;
 use edd_lexer::fault::LexFault;
-use legacy_editing::{Document, completions, hover};
 use std::alloc::Global;
 use std::vec::Vec;
 
@@ -35,10 +35,15 @@ pub fn layout(text: &[u8]) -> Result<Vec<u8>, Stop> {
         .map_err(|fault| Stop::of(&fault, matches!(fault, LexFault::Memory)))
 }
 
+/// What is known of a text. The page sends UTF-8; of other bytes nothing is known.
+fn document(text: &[u8]) -> Document {
+    Document::new(str::from_utf8(text).unwrap_or_default())
+}
+
 /// The words that may stand at a byte.
 pub fn offered(text: &[u8], byte: usize) -> Result<Vec<u8>, Stop> {
-    let document = Document::of(Global, text)?;
-    let found = completions(Global, &document, byte)?;
+    let document = document(text);
+    let found = document.completions(byte);
     let mut entries = Vec::with_capacity(Global, found.entries.len())?;
     for entry in &found.entries {
         entries.push(Entry {
@@ -55,11 +60,10 @@ pub fn offered(text: &[u8], byte: usize) -> Result<Vec<u8>, Stop> {
 
 /// What is told of the word at a byte, or `null`.
 pub fn told(text: &[u8], byte: usize) -> Result<Vec<u8>, Stop> {
-    let document = Document::of(Global, text)?;
-    let found = hover(Global, &document, byte)?;
+    let found = document(text).hover(byte);
     json(&found.as_ref().map(|it| Told {
-        start: it.place.start,
-        end: it.place.end,
+        start: it.span.start,
+        end: it.span.end,
         markdown: it.markdown.as_str(),
     }))
 }

@@ -1,39 +1,31 @@
 //! `edd lsp`: answers an editor.
 
 use crate::failure::{Failure, REFUSED};
-use core_std::alloc::Global;
-use core_std::io::Read;
-use core_std::vec::Vec as CoreVec;
+use core_std::io::Read as CoreRead;
 use edd_files::{FileFault, Files, INPUT, of_file};
-use legacy_language_server::{Framing, Next, Server, feed};
-use std::io::Write;
+use edd_lsp::{Ending, ServeError, serve};
+use std::io::{self, Read, Write};
 
-const PIECE: usize = 8192;
+/// The input as the rest of Rust reads it.
+struct Input<R>(R);
+
+impl<R: CoreRead> Read for Input<R> {
+    fn read(&mut self, bytes: &mut [u8]) -> io::Result<usize> {
+        self.0.read(bytes)
+    }
+}
 
 /// Answers what comes on the standard input, up to `exit`. The status is 0 where the editor has asked
 /// for the shutdown before.
-pub(crate) fn run(files: &mut impl Files, out: &mut impl Write) -> Result<(), Failure> {
-    let mut input = files.open(INPUT).map_err(|fault| of_file(INPUT, fault))?;
-    let mut server = Server::new(Global);
-    let mut framing = Framing::new(Global);
-    let mut piece = [0; PIECE];
-    loop {
-        let count = input.read(&mut piece).map_err(|_| Failure::File {
+pub(crate) fn run(files: &mut impl Files, out: &mut (impl Write + Send)) -> Result<(), Failure> {
+    let input = files.open(INPUT).map_err(|fault| of_file(INPUT, fault))?;
+    match serve(&mut Input(input), out) {
+        Ok(Ending::Clean) => Ok(()),
+        Ok(Ending::Unclean) => Err(Failure::Printed(REFUSED)),
+        Err(ServeError::Output(error)) => Err(Failure::Output(error)),
+        Err(ServeError::Input(_)) => Err(Failure::File {
             name: INPUT.to_owned(),
             fault: FileFault::Failed,
-        })?;
-        // An input that ends has not ended well.
-        let Some(bytes) = piece.get(..count).filter(|bytes| !bytes.is_empty()) else {
-            return Err(Failure::Printed(REFUSED));
-        };
-        let mut sent = CoreVec::new(Global);
-        let next = feed(Global, &mut server, &mut framing, bytes, &mut sent)?;
-        out.write_all(&sent)?;
-        out.flush()?;
-        match next {
-            Next::GoOn => {}
-            Next::Exit { is_clean: true } => return Ok(()),
-            Next::Exit { is_clean: false } => return Err(Failure::Printed(REFUSED)),
-        }
+        }),
     }
 }

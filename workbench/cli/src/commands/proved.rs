@@ -65,7 +65,7 @@ impl<'a> CoreCommand<'a> {
     }
 
     /// Runs the command, and returns its exit status.
-    pub(crate) fn run(self, files: &mut impl Files, output: &mut dyn Write) -> u8 {
+    pub(crate) fn run(self, files: &mut impl Files, output: &mut (dyn Write + Send)) -> u8 {
         let mut recorder = self.recorder(files);
         let mut lines = Lines::new(output);
         let ended = edd_program::run(Global, self.request, &mut recorder, &mut lines);
@@ -75,7 +75,7 @@ impl<'a> CoreCommand<'a> {
     }
 
     /// Runs `try`, and prints the trace of the run.
-    pub(crate) fn run_traced(self, files: &mut impl Files, output: &mut dyn Write) -> u8 {
+    pub(crate) fn run_traced(self, files: &mut impl Files, output: &mut (dyn Write + Send)) -> u8 {
         let mut recorder = self.recorder(files);
         let status = super::print(output, &mut recorder, |recorder, out| {
             let mut lines = CoreVec::new(Global);
@@ -143,7 +143,11 @@ impl<'a> CoreCommand<'a> {
 }
 
 /// Runs `compile`. Where it is quiet, no line is printed of an image that is saved.
-pub(crate) fn compile(args: &Compile, files: &mut impl Files, output: &mut dyn Write) -> u8 {
+pub(crate) fn compile(
+    args: &Compile,
+    files: &mut impl Files,
+    output: &mut (dyn Write + Send),
+) -> u8 {
     let command = CoreCommand {
         request: Request::Compile {
             source: &args.source,

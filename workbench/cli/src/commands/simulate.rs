@@ -24,7 +24,7 @@ pub(crate) struct Simulation<'a> {
 
 impl Simulation<'_> {
     /// Runs the method, prints what it did, and returns the exit status.
-    pub(crate) fn run(self, files: &mut impl Files, output: &mut dyn Write) -> u8 {
+    pub(crate) fn run(self, files: &mut impl Files, output: &mut (dyn Write + Send)) -> u8 {
         let mut recorder = Recorder::new(files, self.is_quiet);
         let mut refusal = None;
         let status = super::print(output, &mut recorder, |recorder, out| {

@@ -1,11 +1,7 @@
 //! Writes the answers to an editor's queries as text. A place is a line and a column, both counted from 1.
 
-use edd_plain_std::alloc::{AllocError, Global};
+use edd_ide::{Completion, CompletionKind, Document, RenameError, Span};
 use edd_source::tokens::kind_word;
-use legacy_editing::{
-    Completion, CompletionKind, Document, RenameFault, Span, completions, declaration, folds,
-    hover, references, rename, renameable, signature, symbols,
-};
 
 /// What an editor asks.
 #[derive(Debug, Clone, Copy, PartialEq, Eq)]
@@ -49,22 +45,22 @@ impl<'t> Query<'t> {
 }
 
 /// A document, and the byte where something is asked.
-#[derive(Clone, Copy)]
-pub struct At<'d, 't> {
-    pub document: &'d Document<'t>,
+#[derive(Debug, Clone, Copy)]
+pub struct At<'d> {
+    pub document: &'d Document,
     pub byte: usize,
 }
 
-impl At<'_, '_> {
+impl At<'_> {
     /// Answers a query.
-    pub fn answer(self, query: Query<'_>) -> Result<String, AllocError> {
+    pub fn answer(self, query: Query<'_>) -> String {
         let At { document, byte } = self;
         match query {
             Query::Hover => self.hover(),
-            Query::Declaration => Ok(self.place_or_none(declaration(document, byte))),
-            Query::References => Ok(self.places(&references(Global, document, byte, true)?)),
-            Query::Uses => Ok(self.places(&references(Global, document, byte, false)?)),
-            Query::Renameable => Ok(self.place_or_none(renameable(document, byte))),
+            Query::Declaration => self.place_or_none(document.declaration(byte)),
+            Query::References => self.places(&document.references(byte, true)),
+            Query::Uses => self.places(&document.references(byte, false)),
+            Query::Renameable => self.place_or_none(document.renameable(byte)),
             Query::Rename(name) => self.rename(name),
             Query::Symbols => self.symbols(),
             Query::Folds => self.folds(),
@@ -74,10 +70,15 @@ impl At<'_, '_> {
         }
     }
 
+    fn read(self, span: Span) -> String {
+        span.read(self.document.text().as_bytes()).to_owned()
+    }
+
     /// Writes the line and the column of a byte.
     fn place(self, byte: usize) -> String {
-        let before = self.document.text().get(..byte).unwrap_or_default();
-        let lines = before.split(|byte| *byte == b'\n');
+        let text = self.document.text().as_bytes();
+        let lines = text.get(..byte).unwrap_or_default();
+        let lines = lines.split(|byte| *byte == b'\n');
         let column = lines.clone().next_back().map_or(0, <[u8]>::len);
         format!("{}:{}", lines.count(), column.saturating_add(1))
     }
@@ -95,60 +96,56 @@ impl At<'_, '_> {
         span.map_or_else(|| "none".to_owned(), |span| self.place(span.start))
     }
 
-    fn hover(self) -> Result<String, AllocError> {
-        Ok(match hover(Global, self.document, self.byte)? {
-            Some(told) => {
-                let word = told.place.read(self.document.text());
-                format!("{word}\n{}", told.markdown)
-            }
+    fn hover(self) -> String {
+        match self.document.hover(self.byte) {
+            Some(told) => format!("{}\n{}", self.read(told.span), told.markdown),
             None => "none".to_owned(),
-        })
+        }
     }
 
-    fn rename(self, name: &str) -> Result<String, AllocError> {
-        Ok(match rename(Global, self.document, self.byte, name) {
+    fn rename(self, name: &str) -> String {
+        match self.document.rename(self.byte, name) {
             Ok(places) => self.places(&places),
-            Err(RenameFault::Memory) => return Err(AllocError),
-            Err(RenameFault::NothingHere) => "nothing here".to_owned(),
-            Err(RenameFault::NotAName) => "not a name".to_owned(),
-            Err(RenameFault::Reserved) => "reserved".to_owned(),
-            Err(RenameFault::Clash(span)) => format!("clash {}", self.place(span.start)),
-        })
+            Err(RenameError::NothingHere) => "nothing here".to_owned(),
+            Err(RenameError::NotAName) => "not a name".to_owned(),
+            Err(RenameError::Reserved) => "reserved".to_owned(),
+            Err(RenameError::Clash(span)) => format!("clash {}", self.place(span.start)),
+        }
     }
 
-    fn symbols(self) -> Result<String, AllocError> {
-        let symbols = symbols(Global, self.document)?;
+    fn symbols(self) -> String {
+        let symbols = self.document.symbols();
         let lines = symbols.iter().map(|symbol| {
             let (kind, name) = (kind_word(symbol.kind), symbol.name);
-            let (place, name_place) = (self.span(symbol.place), self.span(symbol.name_place));
+            let (place, name_place) = (self.span(symbol.span), self.span(symbol.name_span));
             format!("{kind} {name} {place} {name_place}")
         });
-        Ok(lines.collect::<Vec<_>>().join("; "))
+        lines.collect::<Vec<_>>().join("; ")
     }
 
-    fn folds(self) -> Result<String, AllocError> {
-        let folds = folds(Global, self.document)?;
+    fn folds(self) -> String {
+        let folds = self.document.folds();
         let lines = folds.iter().map(|fold| {
             let kind = if fold.is_comment { "comment " } else { "" };
             format!("{kind}{} {}", self.span(fold.start), self.span(fold.end))
         });
-        Ok(lines.collect::<Vec<_>>().join("; "))
+        lines.collect::<Vec<_>>().join("; ")
     }
 
     /// Writes the word that is replaced, and each completion.
-    fn completions(self, written: fn(&Completion<'_>) -> String) -> Result<String, AllocError> {
-        let found = completions(Global, self.document, self.byte)?;
-        let mut answer = format!("{}:", found.replaced.read(self.document.text()));
+    fn completions(self, written: fn(&Completion<'_>) -> String) -> String {
+        let found = self.document.completions(self.byte);
+        let mut answer = format!("{}:", self.read(found.replaced));
         for entry in &found.entries {
             answer.push(' ');
             answer.push_str(&written(entry));
         }
-        Ok(answer)
+        answer
     }
 
-    fn signature(self) -> Result<String, AllocError> {
-        let Some(called) = signature(Global, self.document, self.byte)? else {
-            return Ok("none".to_owned());
+    fn signature(self) -> String {
+        let Some(called) = self.document.signature(self.byte) else {
+            return "none".to_owned();
         };
         let parameters = called.parameters.iter().enumerate();
         let words = parameters.map(|(number, parameter)| {
@@ -156,7 +153,7 @@ impl At<'_, '_> {
             format!(" {mark}{}", parameter.read(called.label.as_bytes()))
         });
         let words = words.collect::<Vec<_>>().concat();
-        Ok(format!("{}:{words}", called.label))
+        format!("{}:{words}", called.label)
     }
 }
 
@@ -188,7 +185,7 @@ mod tests {
 
     #[test]
     fn places_are_counted_from_1() {
-        let document = Document::of(Global, b"ab\ncd\n").unwrap();
+        let document = Document::new("ab\ncd\n");
         let at = At {
             document: &document,
             byte: 0,

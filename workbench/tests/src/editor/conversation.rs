@@ -9,9 +9,7 @@
 
 use crate::playing::NoAnswer;
 use crate::table::{Part, unescaped};
-use edd_plain_std::alloc::{AllocError, Global};
-use edd_plain_std::vec::Vec as PlainVec;
-use legacy_language_server::{Frame, Framing, Next, Server, feed};
+use edd_lsp::{Ending, Framing, Outgoing, Session};
 use std::collections::VecDeque;
 
 /// The parameters of `initialize` of an editor that supports everything the server asks about.
@@ -28,41 +26,33 @@ const PLAIN: &str = r#"{"capabilities":{}}"#;
 
 /// A conversation so far.
 struct Conversation {
-    server: Server,
+    session: Session,
     framing: Framing,
     /// The messages of the server that no line has named so far.
     untold: VecDeque<String>,
-    next: Next,
     /// What is wrong so far.
     wrong: Vec<String>,
 }
 
-/// Splits what the server sent into messages.
-fn contents(bytes: &[u8]) -> Result<VecDeque<String>, AllocError> {
-    let mut framing = Framing::new(Global);
-    let mut contents = VecDeque::new();
-    let mut left = bytes;
-    while !left.is_empty() {
-        let (taken, frame) = framing.take(left)?;
-        left = left.get(taken..).unwrap_or_default();
-        match frame {
-            Frame::Whole => contents.push_back(String::from_utf8_lossy(framing.content()).into()),
-            Frame::Faulty(fault) => contents.push_back(fault.message().to_owned()),
-            Frame::Partial if taken == 0 => break,
-            Frame::Partial => {}
-        }
+/// The content of a message that the server sent.
+fn content(message: &Outgoing) -> String {
+    let bytes = message.to_bytes().unwrap_or_default();
+    let mut framing = Framing::default();
+    framing.push(&bytes);
+    match framing.next_content() {
+        Some(Ok(content)) => String::from_utf8_lossy(&content).into(),
+        Some(Err(error)) => error.to_string(),
+        None => "no message".to_owned(),
     }
-    Ok(contents)
 }
 
 impl Conversation {
     /// Begins a conversation of this kind.
     fn begin(word: &str) -> Result<Self, NoAnswer> {
         let mut conversation = Conversation {
-            server: Server::new(Global),
-            framing: Framing::new(Global),
+            session: Session::default(),
+            framing: Framing::default(),
             untold: VecDeque::new(),
-            next: Next::GoOn,
             wrong: Vec::new(),
         };
         let params = match word {
@@ -73,24 +63,27 @@ impl Conversation {
         };
         conversation.send(&format!(
             r#"{{"jsonrpc":"2.0","id":0,"method":"initialize","params":{params}}}"#
-        ))?;
+        ));
         conversation.untold.clear();
         Ok(conversation)
     }
 
-    fn send(&mut self, message: &str) -> Result<(), AllocError> {
+    fn send(&mut self, message: &str) {
         let length = message.len();
         let framed = format!("Content-Length: {length}\r\n\r\n{message}");
-        self.send_bytes(framed.as_bytes())
+        self.send_bytes(framed.as_bytes());
     }
 
     /// Sends bytes. Messages that no line has named by then are wrong.
-    fn send_bytes(&mut self, bytes: &[u8]) -> Result<(), AllocError> {
+    fn send_bytes(&mut self, bytes: &[u8]) {
         self.note_untold();
-        let mut out = PlainVec::new(Global);
-        self.next = feed(Global, &mut self.server, &mut self.framing, bytes, &mut out)?;
-        self.untold = contents(&out)?;
-        Ok(())
+        self.framing.push(bytes);
+        while let Some(content) = self.framing.next_content() {
+            self.session.receive(content.into());
+        }
+        while let Some(sent) = self.session.step() {
+            self.untold.extend(sent.iter().map(content));
+        }
     }
 
     fn note_untold(&mut self) {
@@ -113,10 +106,10 @@ impl Conversation {
 
     /// Compares whether the conversation is over, and how.
     fn compare_next(&mut self, word: &str) {
-        let came = match self.next {
-            Next::GoOn => "goes on",
-            Next::Exit { is_clean: true } => "clean",
-            Next::Exit { is_clean: false } => "unclean",
+        let came = match self.session.ending() {
+            None => "goes on",
+            Some(Ending::Clean) => "clean",
+            Some(Ending::Unclean) => "unclean",
         };
         if came != word {
             self.wrong.push(format!("  wanted {word}\n  ends   {came}"));
@@ -127,11 +120,11 @@ impl Conversation {
     fn take(&mut self, line: &str) -> Result<(), NoAnswer> {
         let (sign, rest) = line.split_once(' ').unwrap_or((line, ""));
         match sign {
-            ">" => self.send(rest)?,
+            ">" => self.send(rest),
             "<" => self.compare(rest),
             "-" => {
                 let bytes = unescaped(rest).ok_or(NoAnswer::Row("an escape without its end"))?;
-                self.send_bytes(&bytes)?;
+                self.send_bytes(&bytes);
             }
             "=" => self.compare_next(rest),
             "#" => {}
@@ -216,12 +209,5 @@ mod tests {
         assert!(wrong("utf-8", "+ a").is_err());
         assert!(wrong("utf-8", "- \\x0").is_err());
         assert_eq!(wrong("utf-32", ""), Err(NoAnswer::Kind));
-    }
-
-    #[test]
-    fn contents_are_cut_out_of_bytes() {
-        let cut =
-            contents(b"Content-Length: 2\r\n\r\nabContent-Length: 1\r\n\r\ncContent").unwrap();
-        assert_eq!(cut, ["ab", "c"]);
     }
 }

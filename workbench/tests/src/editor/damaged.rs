@@ -1,16 +1,15 @@
 //! Asks everything at every byte of a text, and around the end of each of its prefixes.
 
 use super::answered::{At, Query};
-use edd_plain_std::alloc::{AllocError, Global};
-use legacy_editing::{Document, Span, declaration, folds, hover, references, symbols};
+use edd_ide::{Document, Span};
 use std::fmt::{self, Display};
 
-const TEXT: &[u8] =
-    b"\xef\xbb\xbfVARIABLE a { LABEL \"|en|\xc3\xa4\"; TYPE INTEGER (2) { MIN_VALUE 1; } }
-COLLECTION OF VARIABLE c { MEMBERS { x, a; } } /* \xe2\x82\xac */ ARRAY OF VARIABLE r { ELEMENTS { 1, a; } }
+const TEXT: &str =
+    "\u{feff}VARIABLE a { LABEL \"|en|\u{e4}\"; TYPE INTEGER (2) { MIN_VALUE 1; } }
+COLLECTION OF VARIABLE c { MEMBERS { x, a; } } /* \u{20ac} */ ARRAY OF VARIABLE r { ELEMENTS { 1, a; } }
 MENU m { ITEMS { c.x (HIDDEN), a } } // end
 METHOD n { DEFINITION { int k = 1; { int l; l = r[1] + c.x; } DELAY(k, \"a\"); } }
-\xff\"";
+@\"";
 
 const QUERIES: [Query<'static>; 11] = [
     Query::Hover,
@@ -49,61 +48,46 @@ impl Display for Outside {
 }
 
 /// Returns all places that are answered at a byte.
-fn places(at: At<'_, '_>) -> Result<Vec<Span>, AllocError> {
-    let mut places = references(Global, at.document, at.byte, true)?.into_real();
-    places.extend(
-        symbols(Global, at.document)?
-            .iter()
-            .map(|symbol| symbol.place),
-    );
-    places.extend(
-        folds(Global, at.document)?
-            .iter()
-            .flat_map(|fold| [fold.start, fold.end]),
-    );
-    places.extend(hover(Global, at.document, at.byte)?.map(|told| told.place));
-    places.extend(declaration(at.document, at.byte));
-    Ok(places)
+fn places(At { document, byte }: At<'_>) -> Vec<Span> {
+    let symbols = document.symbols().into_iter().map(|symbol| symbol.span);
+    let folds = document.folds().into_iter();
+    let mut places = document.references(byte, true);
+    places.extend(symbols);
+    places.extend(folds.flat_map(|fold| [fold.start, fold.end]));
+    places.extend(document.hover(byte).map(|told| told.span));
+    places.extend(document.declaration(byte));
+    places
 }
 
 /// Asks everything at a byte, and returns the first place outside of the text.
-fn outside(at: At<'_, '_>) -> Result<Option<Outside>, AllocError> {
+fn outside(at: At<'_>) -> Option<Outside> {
     for query in QUERIES {
-        at.answer(query)?;
+        at.answer(query);
     }
     let length = at.document.text().len();
     let is_inside = |place: &Span| place.start <= place.end && place.end <= length;
-    let found = places(at)?.into_iter().find(|place| !is_inside(place));
-    Ok(found.map(|place| Outside {
+    let place = places(at).into_iter().find(|place| !is_inside(place))?;
+    Some(Outside {
         length,
         asked: at.byte,
         place,
-    }))
+    })
 }
 
 /// Asks everything at these bytes of a text, and returns the first place outside of it.
-fn outside_at(
-    text: &[u8],
-    bytes: impl IntoIterator<Item = usize>,
-) -> Result<Option<Outside>, AllocError> {
-    let document = Document::of(Global, text)?;
-    for byte in bytes {
-        if let Some(found) = outside(At {
+fn outside_at(text: &str, bytes: impl IntoIterator<Item = usize>) -> Option<Outside> {
+    let document = Document::new(text);
+    bytes.into_iter().find_map(|byte| {
+        outside(At {
             document: &document,
             byte,
-        })? {
-            return Ok(Some(found));
-        }
-    }
-    Ok(None)
+        })
+    })
 }
 
 /// Asks everything of the text and of its prefixes, and returns the first place outside of them.
-pub fn outside_of_damaged() -> Result<Option<Outside>, AllocError> {
-    if let Some(found) = outside_at(TEXT, 0..TEXT.len())? {
-        return Ok(Some(found));
-    }
-    for end in 0..TEXT.len() {
+pub fn outside_of_damaged() -> Option<Outside> {
+    let prefixes = TEXT.char_indices().map(|(end, _)| end).find_map(|end| {
         let text = TEXT.get(..end).unwrap_or_default();
         let around = [
             end,
@@ -111,9 +95,7 @@ pub fn outside_of_damaged() -> Result<Option<Outside>, AllocError> {
             end.saturating_add(1),
             usize::MAX,
         ];
-        if let Some(found) = outside_at(text, around)? {
-            return Ok(Some(found));
-        }
-    }
-    Ok(None)
+        outside_at(text, around)
+    });
+    outside_at(TEXT, 0..TEXT.len()).or(prefixes)
 }

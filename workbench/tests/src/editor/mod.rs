@@ -38,7 +38,7 @@ pub fn converse(part: &Part<'_>, score: &mut Score) {
 /// Asks everything of a damaged text.
 pub fn damage(part: &Part<'_>, score: &mut Score) {
     score_one(part, score, || {
-        let outside = damaged::outside_of_damaged()?;
+        let outside = damaged::outside_of_damaged();
         Ok(outside.map(|outside| outside.to_string()))
     });
 }

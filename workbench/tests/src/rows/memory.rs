@@ -3,9 +3,9 @@
 use super::row::{File, INPUT};
 use edd_cli::{FileFault, Files};
 use edd_plain_std::io::Read;
-use std::cell::Cell;
 use std::fmt::{self, Display};
 use std::io::{self, Write};
+use std::sync::{Mutex, MutexGuard, PoisonError};
 
 /// The file of this name has no end, and its reads don't count.
 pub const ENDLESS: &str = "endless";
@@ -57,7 +57,7 @@ pub enum Failing {
 #[derive(Debug)]
 pub struct Calls {
     failing: Option<Call>,
-    state: Cell<Failing>,
+    state: Mutex<Failing>,
 }
 
 impl Calls {
@@ -65,7 +65,7 @@ impl Calls {
     pub fn passing() -> Calls {
         Calls {
             failing: None,
-            state: Cell::new(Failing::After(0)),
+            state: Mutex::new(Failing::After(0)),
         }
     }
 
@@ -73,12 +73,17 @@ impl Calls {
     pub fn failing(call: Call, after: u32) -> Calls {
         Calls {
             failing: Some(call),
-            state: Cell::new(Failing::After(after)),
+            state: Mutex::new(Failing::After(after)),
         }
     }
 
     pub fn state(&self) -> Failing {
-        self.state.get()
+        *self.lock()
+    }
+
+    /// The state, which another thread may have left in the middle of a call.
+    fn lock(&self) -> MutexGuard<'_, Failing> {
+        self.state.lock().unwrap_or_else(PoisonError::into_inner)
     }
 
     /// Counts a call.
@@ -86,12 +91,13 @@ impl Calls {
         if self.failing != Some(call) {
             return Ok(());
         }
-        let (state, outcome) = match self.state.get() {
+        let mut now = self.lock();
+        let (state, outcome) = match *now {
             Failing::After(0) => (Failing::Failed, Err(io::ErrorKind::Other.into())),
             Failing::After(left) => (Failing::After(left.saturating_sub(1)), Ok(())),
             Failing::Failed | Failing::WentOn => (Failing::WentOn, Ok(())),
         };
-        self.state.set(state);
+        *now = state;
         outcome
     }
 }

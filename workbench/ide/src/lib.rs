@@ -1,0 +1,51 @@
+//! What an editor asks about the text of a description: what a name means, where it is declared and
+//! used, what may be written at a place, what is wrong and what mends it. The text may be unfinished
+//! or refused.
+//!
+//! A [`Document`] is a version of a text. It answers about places, which count bytes, and knows of no
+//! protocol:
+//!
+//! ```
+//! use edd_ide::Document;
+//!
+//! let document = Document::new("VARIABLE p { TYPE INTEGER; LA }");
+//! let found = document.completions(29);
+//! assert_eq!(found.replaced.read(document.text().as_bytes()), "LA");
+//! assert_eq!(found.entries[0].label, "LABEL");
+//! ```
+
+mod comments;
+mod completion;
+mod constant;
+mod core;
+mod declarations;
+mod described;
+mod document;
+mod fixes;
+mod formatting;
+mod functions;
+mod hover;
+mod keyword_terms;
+mod lexing;
+mod listing;
+mod markdown;
+mod meanings;
+mod naming;
+mod offers;
+mod place_terms;
+mod scopes;
+mod signature;
+mod spots;
+mod syntax;
+mod walk;
+
+pub use completion::Completions;
+pub use document::Document;
+pub use edd_source::{Edit, Span};
+pub use edd_syntax::numbers::Kind;
+pub use fixes::QuickFix;
+pub use hover::Hover;
+pub use listing::{Fold, Symbol};
+pub use naming::RenameError;
+pub use offers::{Completion, CompletionKind};
+pub use signature::Signature;

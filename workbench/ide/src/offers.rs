@@ -1,0 +1,144 @@
+//! The words that are offered at a place, as they are gathered.
+
+use crate::Document;
+use crate::declarations::Sort;
+use crate::functions::as_called;
+use crate::keyword_terms::meaning_of;
+use crate::place_terms::{CLASS_MEANING, Role, terms_of};
+use edd_lints::CLASSES;
+use edd_syntax::numbers::Kind;
+use edd_syntax::operators::BUILTINS;
+use edd_syntax::symbols::Keyword;
+use std::collections::HashSet;
+
+/// What a completion is.
+#[derive(Clone, Copy, Debug, PartialEq, Eq)]
+pub enum CompletionKind {
+    /// An item.
+    Item(Kind),
+    /// A member of a collection.
+    Member,
+    /// A local of a method.
+    Local,
+    /// A function that methods may call.
+    Builtin,
+    /// The word of an attribute.
+    Attribute,
+    /// A reserved word that is no attribute.
+    Keyword,
+    /// A word that stands for a value, as READ.
+    Value,
+}
+
+/// A word that may stand at a place.
+#[derive(Clone, Debug, PartialEq, Eq)]
+pub struct Completion<'d> {
+    /// The word.
+    pub label: &'d str,
+    /// What it is.
+    pub kind: CompletionKind,
+    /// One line on it, which may be empty.
+    pub detail: String,
+}
+
+/// The words that are offered so far.
+pub(crate) struct Offers<'d> {
+    pub(crate) document: &'d Document,
+    pub(crate) entries: Vec<Completion<'d>>,
+}
+
+impl<'d> Offers<'d> {
+    pub(crate) fn new(document: &'d Document) -> Offers<'d> {
+        Offers {
+            document,
+            entries: Vec::new(),
+        }
+    }
+
+    /// A word with a line on it.
+    pub(crate) fn add(&mut self, label: &'d str, kind: CompletionKind, detail: impl Into<String>) {
+        self.entries.push(Completion {
+            label,
+            kind,
+            detail: detail.into(),
+        });
+    }
+
+    /// Reserved words, which are of one kind of completion.
+    pub(crate) fn add_words(&mut self, words: &[Keyword], kind: CompletionKind) {
+        for word in words {
+            self.add(word.spelling(), kind, meaning_of(*word));
+        }
+    }
+
+    /// The words that stand for values in their place.
+    pub(crate) fn add_values(&mut self, role: Role) {
+        for (word, meaning) in terms_of(role) {
+            self.add(word, CompletionKind::Value, *meaning);
+        }
+        if role == Role::Class {
+            for class in CLASSES {
+                self.add(class, CompletionKind::Value, CLASS_MEANING);
+            }
+        }
+    }
+
+    /// The functions that methods may call.
+    pub(crate) fn add_functions(&mut self) {
+        for function in BUILTINS {
+            self.add(
+                function.name(),
+                CompletionKind::Builtin,
+                as_called(function),
+            );
+        }
+    }
+
+    /// The items of a kind.
+    pub(crate) fn add_items(&mut self, kind: Kind) {
+        let document = self.document;
+        for (index, item) in document.items().iter().enumerate() {
+            // Of two items with one name the first is meant.
+            if item.kind == kind && document.first_item(item.name) == Some(index) {
+                let label = document.label_of(item);
+                self.add(document.word(item.name), CompletionKind::Item(kind), label);
+            }
+        }
+    }
+
+    /// The items of some kinds.
+    pub(crate) fn add_items_of(&mut self, kinds: &[Kind]) {
+        for kind in kinds {
+            self.add_items(*kind);
+        }
+    }
+
+    /// The members of a collection, by its place among the items.
+    pub(crate) fn add_members(&mut self, item: usize) {
+        let document = self.document;
+        for declared in document.declarations() {
+            if let Sort::Member { collection, names } = declared.sort
+                && collection == item
+            {
+                let named = names.map_or("", |token| document.word(token));
+                self.add(document.word(declared.token), CompletionKind::Member, named);
+            }
+        }
+    }
+
+    /// The locals that can be used at a token, each where the first of its name is declared.
+    pub(crate) fn add_locals(&mut self, token: usize) {
+        let document = self.document;
+        let mut seen = HashSet::new();
+        for declared in document.declarations() {
+            if let Sort::Local { from, until, .. } = declared.sort
+                && from < token
+                && token <= until
+                && seen.insert(document.word(declared.token))
+            {
+                let name = document.word(declared.token);
+                self.add(name, CompletionKind::Local, "a local");
+            }
+        }
+    }
+}

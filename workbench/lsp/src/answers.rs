@@ -1,0 +1,258 @@
+//! What the server sends, with the names of the Language Server Protocol 3.17, which documents the
+//! members.
+#![expect(missing_docs, reason = "the members are those of the protocol")]
+
+use crate::positions::Range;
+use serde::Serialize;
+use std::collections::BTreeMap;
+
+/// The answer to a request.
+#[derive(Clone, Debug, Serialize)]
+#[serde(untagged)]
+pub enum Answer {
+    Nothing,
+    Greeting(Box<Greeting>),
+    Hover(Hover),
+    Location(Location),
+    Locations(Vec<Location>),
+    Highlights(Vec<Highlight>),
+    Renamed(Renamed),
+    Edit(WorkspaceEdit),
+    Edits(Vec<TextEdit>),
+    Outline(Vec<DocumentSymbol>),
+    Symbols(Vec<SymbolInformation>),
+    Folds(Vec<FoldingRange>),
+    Completions(CompletionList),
+    Signatures(SignatureHelp),
+    Actions(Vec<CodeAction>),
+}
+
+/// What the server can.
+#[derive(Clone, Debug, Serialize)]
+#[serde(rename_all = "camelCase")]
+pub struct Greeting {
+    pub capabilities: Capabilities,
+    pub server_info: ServerInfo,
+}
+
+#[derive(Clone, Debug, Serialize)]
+pub struct ServerInfo {
+    pub name: &'static str,
+}
+
+#[derive(Clone, Debug, Serialize)]
+#[serde(rename_all = "camelCase")]
+pub struct Capabilities {
+    pub position_encoding: &'static str,
+    pub text_document_sync: Synchronization,
+    pub hover_provider: bool,
+    pub definition_provider: bool,
+    pub references_provider: bool,
+    pub document_highlight_provider: bool,
+    pub document_symbol_provider: bool,
+    pub folding_range_provider: bool,
+    pub document_formatting_provider: bool,
+    pub completion_provider: Triggers,
+    pub signature_help_provider: Triggers,
+    pub rename_provider: RenameProvider,
+    #[serde(skip_serializing_if = "Option::is_none")]
+    pub code_action_provider: Option<CodeActionProvider>,
+}
+
+#[derive(Clone, Debug, Serialize)]
+#[serde(rename_all = "camelCase")]
+pub struct Synchronization {
+    pub open_close: bool,
+    /// 2 stands for changes of parts of a text.
+    pub change: u8,
+    pub save: bool,
+}
+
+#[derive(Clone, Debug, Serialize)]
+#[serde(rename_all = "camelCase")]
+pub struct Triggers {
+    pub trigger_characters: &'static [&'static str],
+}
+
+#[derive(Clone, Debug, Serialize)]
+#[serde(untagged)]
+pub enum RenameProvider {
+    Simple(bool),
+    #[serde(rename_all = "camelCase")]
+    Options {
+        prepare_provider: bool,
+    },
+}
+
+#[derive(Clone, Debug, Serialize)]
+#[serde(rename_all = "camelCase")]
+pub struct CodeActionProvider {
+    pub code_action_kinds: &'static [&'static str],
+}
+
+#[derive(Clone, Debug, PartialEq, Eq, Serialize)]
+pub struct Location {
+    pub uri: String,
+    pub range: Range,
+}
+
+#[derive(Clone, Debug, Serialize)]
+pub struct Highlight {
+    pub range: Range,
+}
+
+/// A text with its form, as `markdown`.
+#[derive(Clone, Debug, Serialize)]
+pub struct Markup {
+    pub kind: &'static str,
+    pub value: String,
+}
+
+#[derive(Clone, Debug, Serialize)]
+pub struct Hover {
+    pub contents: Markup,
+    pub range: Range,
+}
+
+/// What is renamed, and its name so far.
+#[derive(Clone, Debug, Serialize)]
+pub struct Renamed {
+    pub range: Range,
+    pub placeholder: String,
+}
+
+#[derive(Clone, Debug, Serialize)]
+#[serde(rename_all = "camelCase")]
+pub struct TextEdit {
+    pub range: Range,
+    pub new_text: String,
+}
+
+/// Edits of texts by their names.
+#[derive(Clone, Debug, Serialize)]
+pub struct WorkspaceEdit {
+    pub changes: BTreeMap<String, Vec<TextEdit>>,
+}
+
+/// What is declared, for a client that shows a tree.
+#[derive(Clone, Debug, Serialize)]
+#[serde(rename_all = "camelCase")]
+pub struct DocumentSymbol {
+    pub name: String,
+    pub detail: &'static str,
+    pub kind: u8,
+    pub range: Range,
+    pub selection_range: Range,
+}
+
+/// What is declared, for one that shows a list.
+#[derive(Clone, Debug, Serialize)]
+pub struct SymbolInformation {
+    pub name: String,
+    pub kind: u8,
+    pub location: Location,
+}
+
+/// Lines that may be hidden below the first one.
+#[derive(Clone, Debug, Serialize)]
+#[serde(rename_all = "camelCase")]
+pub struct FoldingRange {
+    pub start_line: usize,
+    pub end_line: usize,
+    #[serde(skip_serializing_if = "Option::is_none")]
+    pub kind: Option<&'static str>,
+}
+
+#[derive(Clone, Debug, Serialize)]
+#[serde(rename_all = "camelCase")]
+pub struct CompletionList {
+    pub is_incomplete: bool,
+    pub items: Vec<CompletionItem>,
+}
+
+#[derive(Clone, Debug, Serialize)]
+#[serde(rename_all = "camelCase")]
+pub struct CompletionItem {
+    pub label: String,
+    pub kind: u8,
+    #[serde(skip_serializing_if = "Option::is_none")]
+    pub detail: Option<String>,
+    /// By this a client keeps the order.
+    pub sort_text: String,
+    pub text_edit: TextEdit,
+}
+
+#[derive(Clone, Debug, Serialize)]
+#[serde(rename_all = "camelCase")]
+pub struct SignatureHelp {
+    pub signatures: Vec<SignatureInformation>,
+    pub active_signature: usize,
+    pub active_parameter: usize,
+}
+
+#[derive(Clone, Debug, Serialize)]
+pub struct SignatureInformation {
+    pub label: String,
+    pub parameters: Vec<ParameterInformation>,
+}
+
+#[derive(Clone, Debug, Serialize)]
+pub struct ParameterInformation {
+    pub label: ParameterLabel,
+}
+
+/// A parameter as it stands in its function's label: from which UTF-16 unit up to which, or as a text
+/// for a client that takes no numbers.
+#[derive(Clone, Debug, Serialize)]
+#[serde(untagged)]
+pub enum ParameterLabel {
+    Offsets([usize; 2]),
+    Text(String),
+}
+
+/// An edit that mends something.
+#[derive(Clone, Debug, Serialize)]
+#[serde(rename_all = "camelCase")]
+pub struct CodeAction {
+    pub title: String,
+    pub kind: &'static str,
+    pub diagnostics: Vec<Diagnostic>,
+    pub edit: WorkspaceEdit,
+}
+
+/// The number of a refusal, or the name of a lint.
+#[derive(Clone, Copy, Debug, PartialEq, Eq, Serialize)]
+#[serde(untagged)]
+pub enum Code {
+    Number(u16),
+    Name(&'static str),
+}
+
+/// Another place that is spoken of.
+#[derive(Clone, Debug, PartialEq, Eq, Serialize)]
+pub struct Related {
+    pub location: Location,
+    pub message: String,
+}
+
+#[derive(Clone, Debug, PartialEq, Eq, Serialize)]
+#[serde(rename_all = "camelCase")]
+pub struct Diagnostic {
+    pub range: Range,
+    pub severity: u8,
+    #[serde(skip_serializing_if = "Option::is_none")]
+    pub code: Option<Code>,
+    pub source: &'static str,
+    pub message: String,
+    #[serde(skip_serializing_if = "Vec::is_empty")]
+    pub related_information: Vec<Related>,
+}
+
+/// All that is wrong with a version of a text.
+#[derive(Clone, Debug, PartialEq, Eq, Serialize)]
+pub struct Diagnostics {
+    pub uri: String,
+    #[serde(skip_serializing_if = "Option::is_none")]
+    pub version: Option<i64>,
+    pub diagnostics: Vec<Diagnostic>,
+}

@@ -1,0 +1,83 @@
+//! The parameters that an editor sends, as far as they can be read: a member that is missing or of
+//! another form is none.
+
+use crate::positions::{Position, Range};
+use serde::de::DeserializeOwned;
+use serde::{Deserialize, Deserializer};
+use serde_json::Value;
+
+/// The parameters of requests and notifications about a document.
+#[derive(Debug, Default, Deserialize)]
+#[serde(rename_all = "camelCase", default)]
+pub(crate) struct Params {
+    #[serde(deserialize_with = "lenient")]
+    pub(crate) text_document: TextDocument,
+    #[serde(deserialize_with = "lenient")]
+    pub(crate) position: Option<Position>,
+    #[serde(deserialize_with = "lenient")]
+    pub(crate) range: Option<Range>,
+    #[serde(deserialize_with = "lenient")]
+    pub(crate) new_name: Option<String>,
+    #[serde(deserialize_with = "lenient")]
+    pub(crate) content_changes: Vec<ContentChange>,
+    #[serde(deserialize_with = "lenient")]
+    pub(crate) context: Context,
+}
+
+/// A document that is spoken of.
+#[derive(Debug, Default, Deserialize)]
+#[serde(default)]
+pub(crate) struct TextDocument {
+    #[serde(deserialize_with = "lenient")]
+    pub(crate) uri: Option<String>,
+    #[serde(deserialize_with = "lenient")]
+    pub(crate) version: Option<i64>,
+    #[serde(deserialize_with = "lenient")]
+    pub(crate) text: Option<String>,
+}
+
+/// A change of a text: of a part, or of the whole.
+#[derive(Debug, Deserialize)]
+pub(crate) struct ContentChange {
+    #[serde(default)]
+    pub(crate) range: Option<Range>,
+    pub(crate) text: String,
+}
+
+/// What else is said of a request.
+#[derive(Debug, Default, Deserialize)]
+#[serde(rename_all = "camelCase", default)]
+pub(crate) struct Context {
+    #[serde(deserialize_with = "lenient")]
+    pub(crate) include_declaration: bool,
+    /// The kinds of actions that are asked for; all where none is named.
+    pub(crate) only: Option<Value>,
+}
+
+impl Params {
+    pub(crate) fn read(params: Value) -> Params {
+        serde_json::from_value(params).unwrap_or_default()
+    }
+}
+
+impl Context {
+    /// Whether actions of a kind are asked for.
+    pub(crate) fn asks_for(&self, kind: &str) -> bool {
+        let Some(only) = &self.only else {
+            return true;
+        };
+        let asked = only.as_array().map_or(&[][..], Vec::as_slice);
+        asked
+            .iter()
+            .filter_map(Value::as_str)
+            .any(|asked| asked == kind || asked.is_empty())
+    }
+}
+
+/// A value, or none of its type where it is of another form.
+fn lenient<'de, D: Deserializer<'de>, T: DeserializeOwned + Default>(
+    deserializer: D,
+) -> Result<T, D::Error> {
+    let value = Value::deserialize(deserializer)?;
+    Ok(serde_json::from_value(value).unwrap_or_default())
+}

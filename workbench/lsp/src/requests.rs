@@ -1,0 +1,67 @@
+//! The requests about a document.
+
+mod actions;
+mod completing;
+mod outlining;
+mod places;
+mod renaming;
+mod texts;
+
+use crate::answers::Answer;
+use crate::messages::{ErrorCode, ResponseError};
+use crate::params::Params;
+use crate::view::View;
+use edd_ide::Document;
+
+/// What becomes of a request.
+type Outcome = Result<Answer, ResponseError>;
+
+/// A request about a document that is open.
+#[derive(Debug)]
+pub(crate) struct Query<'a> {
+    pub(crate) params: Params,
+    pub(crate) view: View<'a>,
+}
+
+impl<'a> Query<'a> {
+    fn document(&self) -> &'a Document {
+        &self.view.open.document
+    }
+
+    /// The byte at which the cursor is.
+    fn byte(&self) -> Result<usize, ResponseError> {
+        let position = self.params.position;
+        let position = position.ok_or_else(|| bad_params("no position is named"))?;
+        Ok(self.view.byte(position))
+    }
+}
+
+fn bad_params(words: &'static str) -> ResponseError {
+    ResponseError::new(ErrorCode::InvalidParams, words)
+}
+
+/// Answers a request about a document.
+pub(crate) fn answer<'a>(
+    method: &str,
+    query: impl FnOnce() -> Result<Query<'a>, ResponseError>,
+) -> Outcome {
+    let answer: fn(&Query<'_>) -> Outcome = match method {
+        "textDocument/hover" => texts::hover,
+        "textDocument/definition" => places::definition,
+        "textDocument/references" => places::references,
+        "textDocument/documentHighlight" => places::highlights,
+        "textDocument/prepareRename" => renaming::prepare,
+        "textDocument/rename" => renaming::rename,
+        "textDocument/documentSymbol" => outlining::symbols,
+        "textDocument/foldingRange" => outlining::folds,
+        "textDocument/completion" => completing::completions,
+        "textDocument/signatureHelp" => texts::signature,
+        "textDocument/formatting" => texts::format,
+        "textDocument/codeAction" => actions::actions,
+        _ => {
+            let (code, words) = (ErrorCode::MethodNotFound, "no such method");
+            return Err(ResponseError::new(code, words));
+        }
+    };
+    answer(&query()?)
+}

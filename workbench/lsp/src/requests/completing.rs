@@ -1,0 +1,39 @@
+//! What may be written at the cursor.
+
+use super::{Outcome, Query};
+use crate::answers::{Answer, CompletionItem, CompletionList};
+use edd_ide::{CompletionKind, Kind};
+
+/// A kind of completion as the protocol counts them.
+fn kind_number(kind: CompletionKind) -> u8 {
+    match kind {
+        CompletionKind::Item(Kind::Variable) | CompletionKind::Local => 6,
+        CompletionKind::Item(Kind::Command) => 23,
+        CompletionKind::Item(Kind::Menu) => 9,
+        CompletionKind::Item(Kind::Collection) => 22,
+        CompletionKind::Item(Kind::Method) => 2,
+        CompletionKind::Item(Kind::Array) => 18,
+        CompletionKind::Member => 5,
+        CompletionKind::Builtin => 3,
+        CompletionKind::Attribute => 10,
+        CompletionKind::Keyword => 14,
+        CompletionKind::Value => 20,
+    }
+}
+
+/// Answers with all that may be written there, in the order of the queries.
+pub(crate) fn completions(query: &Query<'_>) -> Outcome {
+    let found = query.document().completions(query.byte()?);
+    let entries = found.entries.into_iter().enumerate();
+    let items = entries.map(|(number, entry)| CompletionItem {
+        label: entry.label.to_owned(),
+        kind: kind_number(entry.kind),
+        detail: Some(entry.detail).filter(|detail| !detail.is_empty()),
+        sort_text: format!("{number:06}"),
+        text_edit: query.view.edit(found.replaced, entry.label),
+    });
+    Ok(Answer::Completions(CompletionList {
+        is_incomplete: false,
+        items: items.collect(),
+    }))
+}

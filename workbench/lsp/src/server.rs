@@ -1,0 +1,194 @@
+//! The server as a machine from messages to messages.
+
+use crate::answers::{Answer, Diagnostics};
+use crate::client::Client;
+use crate::documents::{Documents, Open};
+use crate::messages::{ErrorCode, Incoming, Notification, Outgoing, Request, ResponseError};
+use crate::params::Params;
+use crate::requests::{Query, answer};
+use crate::view::View;
+use std::panic::{AssertUnwindSafe, catch_unwind};
+
+/// How far a conversation is.
+#[derive(Clone, Copy, Debug, Default, PartialEq, Eq)]
+enum Stage {
+    /// Before `initialize`.
+    #[default]
+    Fresh,
+    Running,
+    /// After `shutdown`.
+    ShutDown,
+}
+
+/// How a conversation ended.
+#[derive(Clone, Copy, Debug, PartialEq, Eq)]
+pub enum Ending {
+    /// The editor has asked for the shutdown before.
+    Clean,
+    /// It has not.
+    Unclean,
+}
+
+/// What the server knows of an editor and its documents.
+///
+/// ```
+/// use edd_lsp::{Incoming, Server};
+///
+/// let mut server = Server::default();
+/// let asked = br#"{"id": 1, "method": "textDocument/hover"}"#;
+/// let sent = server.handle(Incoming::read(asked));
+/// let [refusal] = sent.as_slice() else { panic!("{sent:?}") };
+/// let bytes = refusal.to_bytes()?;
+/// assert!(String::from_utf8_lossy(&bytes).contains("the server is not initialized"));
+/// # Ok::<(), serde_json::Error>(())
+/// ```
+#[derive(Debug, Default)]
+pub struct Server {
+    documents: Documents,
+    client: Client,
+    stage: Stage,
+    ending: Option<Ending>,
+}
+
+impl Server {
+    /// Takes a message, and returns what is sent for it. What is wrong with a document that it changes
+    /// is told by [`Server::publish`].
+    pub fn handle(&mut self, message: Incoming) -> Vec<Outgoing> {
+        match message {
+            Incoming::Request(request) => vec![self.take_request(request)],
+            Incoming::Notification(notification) => {
+                let told = guarded(|| self.take_notification(notification));
+                told.flatten().into_iter().collect()
+            }
+            Incoming::Cancelled(id) => {
+                let error = ResponseError::new(ErrorCode::RequestCancelled, "cancelled");
+                vec![Outgoing::response(id, Err(error))]
+            }
+            Incoming::Unreadable(id, error) => vec![Outgoing::response(id, Err(error))],
+            Incoming::Response => Vec::new(),
+        }
+    }
+
+    /// Checks a document of which the editor does not know yet what is wrong with it, and returns what
+    /// it is told; none where it knows all.
+    pub fn publish(&mut self) -> Option<Outgoing> {
+        let client = self.client;
+        let (uri, open) = self.documents.iter_mut().find(|(_, open)| !open.is_told)?;
+        open.is_told = true;
+        let view = View { uri, open, client };
+        let diagnostics = guarded(|| view.diagnostics()).unwrap_or_else(|| none_of(uri));
+        Some(Outgoing::diagnostics(diagnostics))
+    }
+
+    /// How the conversation ended, once the editor has told the server to end.
+    pub fn ending(&self) -> Option<Ending> {
+        self.ending
+    }
+
+    fn take_request(&mut self, request: Request) -> Outgoing {
+        let Request { id, method, params } = request;
+        let failed = || ResponseError::new(ErrorCode::InternalError, "the server failed");
+        let outcome = guarded(|| self.respond(&method, params));
+        Outgoing::response(id, outcome.unwrap_or_else(|| Err(failed())))
+    }
+
+    fn respond(
+        &mut self,
+        method: &str,
+        params: Option<serde_json::Value>,
+    ) -> Result<Answer, ResponseError> {
+        let (code, words) = match (self.stage, method) {
+            (Stage::Fresh, "initialize") => {
+                self.client = Client::of(&params.ok_or_else(no_params)?);
+                self.stage = Stage::Running;
+                return Ok(Answer::Greeting(Box::new(self.client.greeting())));
+            }
+            (Stage::Running, "shutdown") => {
+                self.stage = Stage::ShutDown;
+                return Ok(Answer::Nothing);
+            }
+            (Stage::Running, "initialize") => (
+                ErrorCode::InvalidRequest,
+                "the server is initialized already",
+            ),
+            (Stage::Running, _) => return answer(method, || self.query(params)),
+            (Stage::Fresh, _) => (
+                ErrorCode::ServerNotInitialized,
+                "the server is not initialized",
+            ),
+            (Stage::ShutDown, _) => (ErrorCode::InvalidRequest, "the server is shut down"),
+        };
+        Err(ResponseError::new(code, words))
+    }
+
+    /// What is asked about a document.
+    fn query(&self, params: Option<serde_json::Value>) -> Result<Query<'_>, ResponseError> {
+        let params = Params::read(params.ok_or_else(no_params)?);
+        let bad = |words| ResponseError::new(ErrorCode::InvalidParams, words);
+        let Some(uri) = &params.text_document.uri else {
+            return Err(bad("no document is named"));
+        };
+        let Some((uri, open)) = self.documents.get_key_value(uri) else {
+            return Err(bad("the document is not open"));
+        };
+        let client = self.client;
+        Ok(Query {
+            params,
+            view: View { uri, open, client },
+        })
+    }
+
+    /// Takes a notification. One that is unknown, or whose parameters are not those of its method,
+    /// says nothing.
+    fn take_notification(&mut self, notification: Notification) -> Option<Outgoing> {
+        let Notification { method, params } = notification;
+        if method == "exit" {
+            self.ending = Some(match self.stage {
+                Stage::ShutDown => Ending::Clean,
+                Stage::Fresh | Stage::Running => Ending::Unclean,
+            });
+        }
+        if self.stage != Stage::Running {
+            return None;
+        }
+        let params = Params::read(params?);
+        let told = params.text_document;
+        let uri = told.uri?;
+        match method.as_str() {
+            "textDocument/didOpen" => {
+                let open = Open::new(told.text?, told.version);
+                self.documents.insert(uri, open);
+            }
+            "textDocument/didChange" if !params.content_changes.is_empty() => {
+                let open = self.documents.get_mut(&uri)?;
+                let changes = params.content_changes;
+                *open = open.changed(changes, told.version, self.client.encoding);
+            }
+            "textDocument/didClose" => {
+                self.documents.remove(&uri)?;
+                return Some(Outgoing::diagnostics(none_of(&uri)));
+            }
+            _ => {}
+        }
+        None
+    }
+}
+
+fn no_params() -> ResponseError {
+    ResponseError::new(ErrorCode::InvalidParams, "parameters are missing")
+}
+
+/// That nothing is wrong with a document.
+fn none_of(uri: &str) -> Diagnostics {
+    Diagnostics {
+        uri: uri.to_owned(),
+        version: None,
+        diagnostics: Vec::new(),
+    }
+}
+
+/// What a step makes, unless it panics. A step replaces a document as a whole at its end, so that none
+/// is lost.
+fn guarded<T>(step: impl FnOnce() -> T) -> Option<T> {
+    catch_unwind(AssertUnwindSafe(step)).ok()
+}

@@ -1,0 +1,62 @@
+//! A document, and the editor that looks at it.
+
+use crate::answers::{Location, TextEdit, WorkspaceEdit};
+use crate::client::Client;
+use crate::documents::Open;
+use crate::positions::{Position, Range};
+use edd_source::{Fix, Span};
+use std::collections::BTreeMap;
+
+/// A document, and the editor that looks at it.
+#[derive(Clone, Copy, Debug)]
+pub(crate) struct View<'a> {
+    pub(crate) uri: &'a str,
+    pub(crate) open: &'a Open,
+    pub(crate) client: Client,
+}
+
+impl<'a> View<'a> {
+    pub(crate) fn text(self) -> &'a str {
+        self.open.document.text()
+    }
+
+    pub(crate) fn range(self, span: Span) -> Range {
+        let lines = &self.open.lines;
+        lines.range(self.text(), span, self.client.encoding)
+    }
+
+    pub(crate) fn byte(self, at: Position) -> usize {
+        let lines = &self.open.lines;
+        lines.byte(self.text(), at, self.client.encoding)
+    }
+
+    pub(crate) fn location(self, span: Span) -> Location {
+        Location {
+            uri: self.uri.to_owned(),
+            range: self.range(span),
+        }
+    }
+
+    pub(crate) fn edit(self, span: Span, text: impl Into<String>) -> TextEdit {
+        TextEdit {
+            range: self.range(span),
+            new_text: text.into(),
+        }
+    }
+
+    /// Edits of the document.
+    pub(crate) fn workspace_edit(self, edits: Vec<TextEdit>) -> WorkspaceEdit {
+        WorkspaceEdit {
+            changes: BTreeMap::from([(self.uri.to_owned(), edits)]),
+        }
+    }
+
+    /// The edits of a fix.
+    pub(crate) fn fix(self, fix: &Fix) -> WorkspaceEdit {
+        let edits = fix
+            .edits
+            .iter()
+            .map(|edit| self.edit(edit.span, &edit.text));
+        self.workspace_edit(edits.collect())
+    }
+}
