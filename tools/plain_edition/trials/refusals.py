@@ -87,13 +87,14 @@ def of_program(score, program):
 
 
 # A text without quotes and line ends: where `serde_json` reads an escape it takes memory that can't be refused. It is refused, as
-# it is before the edit: of a text that is accepted the lints take memory as other programs in Rust do.
+# it is before the edit and where one mistake is mended: of a text that is accepted the lints take memory as other programs in
+# Rust do.
 EDITED = (
     "MANUFACTURER 1, DEVICE_TYPE 2, DEVICE_REVISION 3, DD_REVISION 4 "
     "VARIABLE flow { LABEL [flow]; TYPE INTEGER (2) { MAX_VALUE 5 * 20; } } "
     "COLLECTION OF VARIABLE all { MEMBERS { first, flow; } } "
     "MENU main { LABEL [main]; ITEMS { flow, all.first } } "
-    "METHOD reset { LABEL [reset]; DEFINITION { int n; n = flow; DELAY(n, [wait]); flwo = 1; } }"
+    "METHOD reset { LABEL [reset]; DEFINITION { int n; n = flow; DELAY(n, [wait]); flwo = 1; other = 2; } }"
 )
 URI = "file:///one.edd"
 
