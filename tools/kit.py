@@ -147,8 +147,26 @@ def refuse_names(files, said):
 
 
 def try_edits(rt, crate, edits, said):
-    """Has the prover try these edits as the gate does, a line for each, and returns how many it refused."""
-    tried = rt.must_fail_all(crate, edits, ["--jobs", "1"])
-    for is_refused, text in tried:
-        said.line(is_refused, text.replace("must-fail ", "", 1))
-    return sum(is_refused for is_refused, _ in tried)
+    """Has the prover try these edits as the gate does, each over what a check of the crate as it stands proved; a line for each. Returns
+    how many it refused."""
+    refused = 0
+    room = rt.seeded(crate, ["--jobs", "1"])
+    for number, edit in enumerate(edits):
+        what, text = try_edit(rt, crate, edit, room, number)
+        refused += what in (rt.REFUSED, rt.AT_LIMIT)
+        said.line(what in (rt.REFUSED, rt.AT_LIMIT), text.replace("must-fail ", "", 1))
+    if room:
+        shutil.rmtree(room, ignore_errors=True)
+    return refused
+
+
+def try_edit(rt, crate, edit, room, number):
+    """What one edit comes to, and what to say. Where nothing is known of it over what was proved, it is tried from nothing."""
+    if room:
+        over = f"{room}/{number}"
+        rt.linked(f"{room}/seed", over)
+        tried = rt.must_fail(crate, edit, ["--jobs", "1"], over)
+        shutil.rmtree(over, ignore_errors=True)
+        if tried[0] in rt.SETTLED:
+            return tried
+    return rt.must_fail(crate, edit, ["--jobs", "1"])

@@ -1,2 +1,1 @@
-pub mod DoneLaws
 pub mod RunLaws

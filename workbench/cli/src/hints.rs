@@ -4,13 +4,14 @@ use crate::checking::{Diagnosis, LintLevels};
 use crate::failure::Failure;
 use core_std::alloc::Global;
 use edd_files::Files;
-use edd_helps::{Wrong, explain_script};
+use edd_helps::{Wrong, explain_script, nearest_method};
 use edd_loader::{LoadFault, load};
 use edd_machine::ValuesFault;
 use edd_port::PlayFault;
 use edd_report::Refusal;
 use edd_run::RunError;
 use edd_script::ScriptFault;
+use std::borrow::Cow;
 
 /// A file that a command read.
 #[derive(Clone, Copy, Debug)]
@@ -49,8 +50,31 @@ pub(crate) fn explain(
             let refusal = Refusal::new(207, "OUT_OF_RANGE", "");
             explain_slip(Wrong::Answer, refusal, inputs, files)
         }
+        RunError::NoMethod(name) => suggest_method(name, inputs.description, files),
         _ => Ok(()),
     }
+}
+
+/// Prints the method of the description that may be meant.
+fn suggest_method(
+    name: &str,
+    description: Input<'_>,
+    files: &mut impl Files,
+) -> Result<(), Failure> {
+    let bytes = image_of(description)?;
+    let image = load(Global, &bytes).map_err(RunError::from)?;
+    if let Some(near) = nearest_method(&image, name) {
+        files.hint(&format!("help: `{near}` may be meant"));
+    }
+    Ok(())
+}
+
+/// The image of a source, or an image as it is.
+fn image_of(description: Input<'_>) -> Result<Cow<'_, [u8]>, RunError> {
+    if edd_run::is_image(description.bytes) {
+        return Ok(Cow::Borrowed(description.bytes));
+    }
+    edd_run::compile(description.bytes).map(Cow::Owned)
 }
 
 fn explain_source(source: Option<Input<'_>>, files: &mut impl Files) -> Result<(), Failure> {
@@ -71,15 +95,8 @@ fn explain_slip(
     let Some(script) = inputs.script else {
         return Ok(());
     };
-    let compiled;
-    let description = inputs.description.bytes;
-    let image = if edd_run::is_image(description) {
-        description
-    } else {
-        compiled = edd_run::compile(description)?;
-        &compiled
-    };
-    let image = load(Global, image).map_err(RunError::from)?;
+    let bytes = image_of(inputs.description)?;
+    let image = load(Global, &bytes).map_err(RunError::from)?;
     if let Some(finding) = explain_script(&image, script.bytes, wrong) {
         Diagnosis::of_finding(script.name, script.bytes, refusal, finding).hint(files);
     }

@@ -1,7 +1,9 @@
 //! The output as commands write to it.
 
+use crate::failure::FILE;
 use core_std::io as core_io;
 use core_std::rt::HostRuntime;
+use edd_program::Ended;
 use std::io::{self, BufWriter, Write};
 
 /// How many bytes of lines are held back. What most commands print is one write then, so that a
@@ -22,19 +24,6 @@ impl Write for StandardOutput {
     }
 }
 
-/// An output to which the core writes.
-pub(crate) struct CoreOutput<'o>(pub(crate) &'o mut dyn Write);
-
-impl core_io::Write for CoreOutput<'_> {
-    fn write(&mut self, bytes: &[u8]) -> core_io::Result<usize> {
-        self.0.write(bytes)
-    }
-
-    fn flush(&mut self) -> core_io::Result<()> {
-        self.0.flush()
-    }
-}
-
 /// An output whose lines are held back. The core writes to it too.
 pub(crate) struct Lines<'o>(BufWriter<&'o mut (dyn Write + Send)>);
 
@@ -48,6 +37,16 @@ impl<'o> Lines<'o> {
         let finished = self.0.flush();
         self.discard();
         finished
+    }
+
+    /// Writes what is held back of a request that ended so, unless a write failed before, and returns
+    /// the exit status.
+    pub(crate) fn end(self, ended: Ended) -> u8 {
+        if !ended.is_written {
+            self.discard();
+            return ended.status;
+        }
+        self.finish().map_or(FILE, |()| ended.status)
     }
 
     /// Drops what is held back. A `BufWriter` that is dropped as it is tries once more to write it.

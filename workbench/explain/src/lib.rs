@@ -25,9 +25,9 @@ pub fn by_number(number: u32) -> Option<&'static Explanation> {
     in_families().find(|explanation| explanation.number == number)
 }
 
-/// The explanation of a name, or none where no refusal has it.
+/// The explanation of a name in any case, or none where no refusal has it.
 pub fn by_name(name: &str) -> Option<&'static Explanation> {
-    in_families().find(|explanation| explanation.name == name)
+    in_families().find(|explanation| explanation.name.eq_ignore_ascii_case(name))
 }
 
 fn in_families() -> impl Iterator<Item = &'static Explanation> {
@@ -53,6 +53,7 @@ mod tests {
             assert_eq!(by_number(explanation.number), Some(explanation));
             assert_eq!(by_name(explanation.name), Some(explanation));
         }
-        assert_eq!((by_number(0), by_name("bad_size")), (None, None));
+        assert_eq!((by_number(0), by_name("BADSIZE")), (None, None));
+        assert_eq!(by_name("bad_Size"), by_number(32));
     }
 }

@@ -10,6 +10,7 @@
 //! ```
 
 mod comments;
+mod difference;
 mod edits;
 mod format;
 mod frames;
@@ -22,6 +23,7 @@ mod tokens;
 mod units;
 mod writer;
 
+pub use difference::unified_diff;
 pub use edd_lexer::fault::LexFault;
 pub use edits::find_edits;
 pub use format::{draft, format};

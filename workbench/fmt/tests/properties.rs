@@ -4,7 +4,7 @@
 
 mod inputs;
 
-use edd_fmt::{draft, find_edits, format};
+use edd_fmt::{draft, find_edits, format, unified_diff};
 use inputs::try_texts;
 
 /// The comments and marks of a text, with line ends alone where the text has CR LF.
@@ -97,4 +97,73 @@ fn many_brackets_take_linear_time() {
         "if (a) ".repeat(100_000)
     );
     assert_eq!(format(text.as_bytes()), Ok(text.into_bytes()));
+}
+
+/// Applies a unified diff of a text, as `patch` does.
+fn apply(diff: &str, text: &str) -> String {
+    let lines: Vec<_> = text.split_inclusive('\n').collect();
+    let (mut patched, mut at) = (String::new(), 0_usize);
+    let mut diff_lines = diff.split_inclusive('\n').skip(2).peekable();
+    while let Some(line) = diff_lines.next() {
+        let (sign, behind) = line.split_at(1);
+        let is_without_end = diff_lines.peek().is_some_and(|next| next.starts_with('\\'));
+        let content = if is_without_end {
+            behind.trim_end_matches('\n')
+        } else {
+            behind
+        };
+        match sign {
+            "@" => {
+                let start = behind
+                    .split(['-', ',', ' '])
+                    .find_map(|word| word.parse::<usize>().ok());
+                let range = behind.split(' ').nth(1).expect("the old range");
+                let start = start.expect("a number");
+                let before = if range.ends_with(",0") {
+                    start
+                } else {
+                    start.saturating_sub(1)
+                };
+                patched.extend(
+                    lines
+                        .get(at..before)
+                        .expect("lines before a hunk")
+                        .iter()
+                        .copied(),
+                );
+                at = before;
+            }
+            " " | "-" => {
+                assert_eq!(lines.get(at), Some(&content));
+                at = at.saturating_add(1);
+                patched.push_str(if sign == " " { content } else { "" });
+            }
+            "+" => patched.push_str(content),
+            _ => {}
+        }
+    }
+    patched.extend(lines.get(at..).expect("lines behind").iter().copied());
+    patched
+}
+
+#[test]
+fn a_unified_diff_gives_the_layout() {
+    try_texts(|text| {
+        let Ok(formatted) = format(text.as_bytes()) else {
+            return;
+        };
+        let formatted = String::from_utf8(formatted).expect("text");
+        assert_eq!(apply(&unified_diff("s", text, &formatted), text), formatted);
+    });
+}
+
+#[test]
+fn many_changes_are_compared_in_linear_time() {
+    let text = "VARIABLE v {\n  TYPE INTEGER;\n}\n".repeat(25_000);
+    let formatted = String::from_utf8(format(text.as_bytes()).expect("a layout")).expect("text");
+    let diff = unified_diff("s", &text, &formatted);
+    assert_eq!(
+        diff.lines().filter(|line| line.starts_with('+')).count(),
+        25_001
+    );
 }

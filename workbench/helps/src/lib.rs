@@ -35,7 +35,7 @@ pub use explaining::{Explained, TextFault, explain, text_fault};
 pub use help::{Finding, Help};
 pub use recovery::{Later, Recovered, recover};
 pub use rules::{Description, Foreign, NameHelp, OtherKinds, OtherType, RuleHelp, explain_breach};
-pub use script::{ScriptHelp, ScriptSlip, Wrong, explain_script};
+pub use script::{ScriptHelp, ScriptSlip, Wrong, explain_script, nearest_method};
 pub use slips::Slip;
 pub use syntax::{Fitting, SyntaxHelp};
 pub use text::{CharacterHelp, CharacterLooks, TextHelp};

@@ -4,7 +4,7 @@ mod lines;
 mod reasons;
 mod words;
 
-pub use reasons::{ScriptHelp, ScriptSlip};
+pub use reasons::{ScriptHelp, ScriptSlip, nearest_method};
 
 use crate::Finding;
 use crate::core::made;

@@ -60,8 +60,8 @@ pub(crate) fn check_method<'d>(
     for attribute in &method.attributes {
         if let Attribute::Definition(at, parts) = attribute {
             let mut walk = Walk::new(Sort::Method, context, findings);
-            // The body begins behind the brace.
-            check_parts(parts, index(*at).saturating_add(1), &mut walk);
+            // A comment at the end of a body says nothing of what goes on.
+            check_parts(parts, index(*at), &mut walk);
             check_locals(parts, &mut walk);
             check_added(parts, findings);
             check_abort_methods(own, parts, context, findings);

@@ -83,6 +83,10 @@ fn check_comparison(e: &Expr<Target>, at: TokenIndex, is_statement: bool, walk: 
         return;
     };
     if is_statement {
+        walk.expect(first);
+    }
+    check_expression(first, false, walk);
+    if is_statement {
         walk.findings.add(at, MethodKind::DroppedComparison);
     }
     let is_misread = check_compared(first, second, at, walk);
@@ -95,6 +99,7 @@ fn check_comparison(e: &Expr<Target>, at: TokenIndex, is_statement: bool, walk: 
     } else {
         check_wrapped(second, walk);
     }
+    check_expression(second, false, walk);
 }
 
 fn check_assignment(to: Target, value: &Expr<Target>, at: TokenIndex, walk: &mut Walk<'_, '_>) {
@@ -106,6 +111,10 @@ fn check_assignment(to: Target, value: &Expr<Target>, at: TokenIndex, walk: &mut
     if let Target::Local(_) = to {
         check_wrapped(value, walk);
     }
+    let before = walk.assigned.replace(to);
+    check_expression(value, false, walk);
+    walk.assigned = before;
+    walk.write(to);
 }
 
 /// Checks an expression. The value of a statement's is not used, in parentheses or not.
@@ -130,14 +139,7 @@ pub(crate) fn check_expression(e: &Expr<Target>, is_statement: bool, walk: &mut 
             check_trap(*operator, second, at, walk);
             check_expression(second, false, walk);
         }
-        Expr::Compare(_, first, second) => {
-            if is_statement {
-                walk.expect(first);
-            }
-            check_expression(first, false, walk);
-            check_comparison(e, at, is_statement, walk);
-            check_expression(second, false, walk);
-        }
+        Expr::Compare(..) => check_comparison(e, at, is_statement, walk),
         Expr::LogicalAnd(first, second) => check_operator(Logical::And, first, second, at, walk),
         Expr::LogicalOr(first, second) => check_operator(Logical::Or, first, second, at, walk),
         Expr::Conditional(test, first, second) => {
@@ -148,10 +150,6 @@ pub(crate) fn check_expression(e: &Expr<Target>, is_statement: bool, walk: &mut 
         }
         Expr::Assign(to, value) => {
             check_assignment(*to, value, at, walk);
-            let before = walk.assigned.replace(*to);
-            check_expression(value, false, walk);
-            walk.assigned = before;
-            walk.write(*to);
             if !is_statement {
                 walk.read(*to);
             }

@@ -21,7 +21,7 @@ pub(crate) fn run(args: &Explain, out: &mut impl Write) -> Result<(), Failure> {
         writeln!(out, "{number} {name}\n\n{explanation}")?;
         return Ok(());
     }
-    if let Some(lint) = Lint::from_name(what) {
+    if let Some(lint) = Lint::from_name(&what.to_lowercase()) {
         return print_lint_whole(lint, out);
     }
     Err(match number {

@@ -8,7 +8,6 @@ use edd_files::{
     Files, INPUT, Layout, STANDARD, Source, layout_of, read, read_sources, save_layout,
 };
 use edd_fmt::LexFault;
-use similar::TextDiff;
 use std::io::Write;
 
 /// Formats the sources, or names those that are not formatted. The standard input alone goes to the
@@ -52,7 +51,9 @@ fn format_files(
         }
         writeln!(out, "differs {}", layout.name)?;
         if args.diff {
-            write_difference(source, layout, out)?;
+            let [old, new] =
+                [&source.text, &layout.bytes].map(|text| String::from_utf8_lossy(text));
+            out.write_all(edd_fmt::unified_diff(layout.name, &old, &new).as_bytes())?;
         }
     }
     if args.check && !changes.is_empty() {
@@ -72,19 +73,4 @@ fn find_layout<'a>(source: &Source<'a>) -> Result<Option<Layout<'a>>, Failure> {
             refusal: fault.to_string(),
         }),
     }
-}
-
-/// Writes the lines that differ as a unified diff.
-fn write_difference(
-    source: &Source<'_>,
-    layout: &Layout<'_>,
-    out: &mut impl Write,
-) -> Result<(), Failure> {
-    let [old, new] = [&source.text, &layout.bytes].map(|text| String::from_utf8_lossy(text));
-    let difference = TextDiff::from_lines(&old, &new);
-    let mut unified = difference.unified_diff();
-    unified
-        .header(source.name, layout.name)
-        .to_writer(out)
-        .map_err(Failure::from)
 }

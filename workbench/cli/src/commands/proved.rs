@@ -4,13 +4,13 @@
 use crate::command_line::{self, Compile, DeviceState, Hints, Play, Show, Try, View};
 use crate::failure::{DONE, FILE, Failure, REFUSED};
 use crate::hints::{self, Input, Inputs};
-use crate::output::CoreOutput;
+use crate::output::Lines;
 use crate::recorder::Recorder;
 use core_std::alloc::Global;
 use core_std::io as core_io;
 use core_std::vec::Vec as CoreVec;
 use edd_files::Files;
-use edd_program::{Request, Run, Showing};
+use edd_program::{Ended, Request, Run, Showing};
 use edd_run::{MethodRun, RunError};
 use std::io::Write;
 
@@ -67,8 +67,9 @@ impl<'a> CoreCommand<'a> {
     /// Runs the command, and returns its exit status.
     pub(crate) fn run(self, files: &mut impl Files, output: &mut (dyn Write + Send)) -> u8 {
         let mut recorder = self.recorder(files);
-        let mut output = CoreOutput(output);
-        let status = edd_program::run(Global, self.request, &mut recorder, &mut output);
+        let mut lines = Lines::new(output);
+        let ended = edd_program::run(Global, self.request, &mut recorder, &mut lines);
+        let status = lines.end(ended);
         self.explain_status(status, &mut recorder);
         status
     }
@@ -78,7 +79,7 @@ impl<'a> CoreCommand<'a> {
         let mut recorder = self.recorder(files);
         let status = super::print(output, &mut recorder, |recorder, out| {
             let mut lines = CoreVec::new(Global);
-            let status = edd_program::run(Global, self.request, recorder, &mut lines);
+            let Ended { status, .. } = edd_program::run(Global, self.request, recorder, &mut lines);
             out.write_all(&lines)?;
             match (status, self.request, recorder.read.as_slice()) {
                 (DONE, Request::Try { source, run }, [text, script]) => {

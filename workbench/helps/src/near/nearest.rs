@@ -142,6 +142,11 @@ impl<'w, 'a> Nearest<'w, 'a> {
         }
     }
 
+    // Whether the last part of a name is cut short.
+    fn is_cut(&self, word: &str) -> bool {
+        self.word.contains('_') && word.starts_with(self.word)
+    }
+
     // Takes a word as the nearest one so far.
     fn take(&mut self, word: &'a str, edits: usize) {
         self.edits = edits;
@@ -157,7 +162,7 @@ impl<'w, 'a> Nearest<'w, 'a> {
         if LONGEST < longer
             || most < longer.saturating_sub(shorter)
             || word == self.word
-            || self.letters.lack(word, self.edits)
+            || (!self.is_cut(word) && self.letters.lack(word, self.edits))
         {
             return;
         }

@@ -9,6 +9,9 @@ use edd_source::Span;
 /// What is put before an item that is read by itself.
 const HEAD: &[u8] = b"MANUFACTURER 1, DEVICE_TYPE 2, DEVICE_REVISION 3, DD_REVISION 4 ";
 
+/// How many faults of its tokens are taken for blanks at once.
+const MOST_FAULTS: usize = 8;
+
 /// A part of a text after an identification, some of which may be taken for blanks.
 pub(super) struct Alone {
     text: Vec<u8>,
@@ -58,14 +61,20 @@ impl Alone {
         }
     }
 
-    /// Its tokens where these bytes are taken for blanks; none where it has a fault of its tokens then.
-    pub(super) fn tokens_without(&self, span: Span) -> Vec<Token> {
+    /// Its tokens where the faults that it has of these are taken for blanks, if they are few.
+    pub(super) fn tokens_without_faults(&self) -> Vec<Token> {
         let mut rest = Alone {
             text: self.text.clone(),
             ..*self
         };
-        rest.blank(span);
-        rest.read().tokens
+        for _ in 0..MOST_FAULTS {
+            let outcome = rest.read();
+            match rest.lexical_place(&outcome) {
+                Some(place) => rest.blank(place),
+                None => return outcome.tokens,
+            }
+        }
+        Vec::new()
     }
 
     /// Takes bytes for blanks.
@@ -109,9 +118,12 @@ impl Alone {
         Some(explained.finding.moved(self.before, self.start))
     }
 
-    /// The byte from which on the text may be read again behind a lexical fault.
+    /// Where a fault of the tokens is, if the text may be read again behind it.
     pub(super) fn lexical_place(&self, outcome: &Outcome) -> Option<Span> {
         let fault = outcome.fault.as_ref()?;
+        if !matches!(fault, TextFault::Lex(_)) {
+            return None;
+        }
         let explained = explain(&self.text, &outcome.tokens, fault);
         explained.resumes_at?;
         explained.finding.span

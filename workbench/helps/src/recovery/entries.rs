@@ -7,6 +7,9 @@ use edd_syntax::numbers::Attr;
 use edd_syntax::symbols::{Keyword, Symbol};
 use std::ops::Range;
 
+/// How many braces are looked at around a token. The grammar takes no more inside one another.
+const MOST_LEVELS: usize = 100;
+
 /// The entry of the innermost braces around a token that have entries which end by `;` or `}`. None
 /// outside of braces.
 pub(super) fn entry_around(
@@ -14,34 +17,16 @@ pub(super) fn entry_around(
     outline: &Outline,
     number: usize,
 ) -> Option<Range<usize>> {
-    let is_closing = is_sign(tokens, number, Symbol::CloseBrace);
-    let open = match number.checked_sub(1) {
-        Some(before) if is_closing => outline.open_behind(tokens, before)?,
-        _ => outline.opened(tokens, number)?,
-    };
-    let close = closing(tokens, outline, open);
-    if !has_entries(tokens, outline, open, close) {
-        return entry_around(tokens, outline, open);
+    let mut number = number;
+    for _ in 0..MOST_LEVELS {
+        let braces = Braces::around(tokens, outline, number)?;
+        if braces.have_entries() {
+            return braces.entry_at(number);
+        }
+        number = braces.open;
     }
-    let braces = Braces {
-        tokens,
-        outline,
-        open,
-        close,
-    };
-    // A sign that is missing at the end of an entry comes out at the beginning of the next one, or at
-    // the brace behind it.
-    let is_next = braces.begins_attribute(number)
-        && !braces.ends_before(number)
-        && !is_sign(tokens, number.saturating_add(1), Symbol::Semicolon);
-    if is_closing || is_next {
-        let start = braces.start_of(number.saturating_sub(1));
-        return (start < number).then_some(start..number);
-    }
-    let start = braces.start_of(number);
-    Some(start..braces.end_of(start, number))
+    None
 }
-
 /// The entry in which the braces around an entry stand.
 pub(super) fn entry_outside(
     tokens: &[Token],
@@ -71,20 +56,50 @@ fn closing(tokens: &[Token], outline: &Outline, open: usize) -> usize {
         .unwrap_or(tokens.len())
 }
 
-// Whether entries in braces end by `;`, or are attributes or statements.
-fn has_entries(tokens: &[Token], outline: &Outline, open: usize, close: usize) -> bool {
-    let mut inside = open.saturating_add(1)..close;
-    let is_item = outline.opened(tokens, open).is_none();
-    let is_body = is_word(tokens, open.saturating_sub(1), Keyword::Definition);
-    is_item
-        || is_body
-        || inside.any(|number| {
-            outline.opened(tokens, number) == Some(open)
-                && is_sign(tokens, number, Symbol::Semicolon)
+impl<'a> Braces<'a> {
+    // The innermost braces around a token, or those that it closes.
+    fn around(tokens: &'a [Token], outline: &'a Outline, number: usize) -> Option<Braces<'a>> {
+        let open = match number.checked_sub(1) {
+            Some(before) if is_sign(tokens, number, Symbol::CloseBrace) => {
+                outline.open_behind(tokens, before)?
+            }
+            _ => outline.opened(tokens, number)?,
+        };
+        Some(Braces {
+            tokens,
+            outline,
+            open,
+            close: closing(tokens, outline, open),
         })
-}
+    }
 
-impl Braces<'_> {
+    // Whether entries here end by `;`, or are attributes or statements.
+    fn have_entries(&self) -> bool {
+        let mut inside = self.open.saturating_add(1)..self.close;
+        let is_item = self.outline.opened(self.tokens, self.open).is_none();
+        let before = self.open.saturating_sub(1);
+        is_item
+            || is_word(self.tokens, before, Keyword::Definition)
+            || inside.any(|number| {
+                self.is_here(number) && is_sign(self.tokens, number, Symbol::Semicolon)
+            })
+    }
+
+    // The entry in which a token stands.
+    fn entry_at(&self, number: usize) -> Option<Range<usize>> {
+        // A sign that is missing at the end of an entry comes out at the beginning of the next one, or
+        // at the brace behind it.
+        let is_next = self.begins_attribute(number)
+            && !self.ends_before(number)
+            && !is_sign(self.tokens, number.saturating_add(1), Symbol::Semicolon);
+        if number == self.close || is_next {
+            let start = self.start_of(number.saturating_sub(1));
+            return (start < number).then_some(start..number);
+        }
+        let start = self.start_of(number);
+        Some(start..self.end_of(start, number))
+    }
+
     fn kind(&self, number: usize) -> Option<TokenKind> {
         self.tokens.get(number).map(|token| token.kind)
     }

@@ -10,6 +10,7 @@ use edd_source::tokens::{is_word, item_kind};
 use edd_source::{Outline, Span};
 use edd_syntax::symbols::{Keyword, Symbol};
 use edd_token_reader::fault::ParseFault;
+use std::borrow::Cow;
 use std::ops::Range;
 
 /// How many faults of an item are told, so that many in a long one take no long time.
@@ -55,7 +56,9 @@ struct Reader<'t> {
 pub fn recover(text: &[u8], first: (&TextFault, &Finding), from: usize, most: usize) -> Recovered {
     let (first, finding) = first;
     let is_left_out = matches!(first, TextFault::Parse(ParseFault::Unsupported { .. }));
-    let sections = sections(text, from, is_left_out);
+    // Where a text has no tokens, the items before its fault are not read so far.
+    let is_lexical = matches!(first, TextFault::Lex(_));
+    let sections = sections(text, if is_lexical { 0 } else { from }, is_left_out);
     let mut reader = Reader {
         text,
         first: finding,
@@ -70,13 +73,17 @@ pub fn recover(text: &[u8], first: (&TextFault, &Finding), from: usize, most: us
     let end = sections
         .first()
         .map_or(text.len(), |section| section.span.start);
-    if let Some((start, line)) = item_before(text, from, end) {
+    if !is_lexical && let Some((start, line)) = item_before(text, from, end) {
         let item = Span { start, end };
         reader.read(Alone::of(text, item, line), Some(from), true);
     }
     for (number, section) in sections.iter().enumerate() {
-        let next = sections.get(number.saturating_add(1));
-        reader.read_section(section, next);
+        if is_lexical && section.span.range().contains(&from) {
+            let alone = Alone::of(text, section.span, section.line);
+            reader.read(alone, Some(from), true);
+        } else {
+            reader.read_section(section, sections.get(number.saturating_add(1)));
+        }
     }
     reader.found
 }
@@ -125,31 +132,26 @@ impl Reader<'_> {
         self.read(alone, None, section.is_open);
     }
 
-    // Reads a part of the text past its faults. `told` is where one is that was told already.
+    // Reads a part of the text past its faults. `told` is where the first one is, if it was told.
     fn read(&mut self, mut alone: Alone, told: Option<usize>, may_be_open: bool) {
-        let mut broken: Option<Span> = None;
-        let mut is_told = told.is_some();
-        for _ in 0..MOST_IN_ITEM {
+        let mut broken = None;
+        for count in 0..MOST_IN_ITEM {
             let outcome = alone.read();
             let Some(place) = place_of(&alone, &outcome) else {
                 return;
             };
-            if is_told && told.is_some() && broken.is_none() {
-                // The same fault as that of the whole text, or the item is read in another way.
-                if alone.outside(place).start != told.unwrap_or_default() {
-                    return self.lose(&alone);
-                }
+            let told = told.filter(|_| count == 0);
+            if told.is_some_and(|told| told != alone.outside(place).start) {
+                // By itself the item is read in another way than in the whole text.
+                return self.lose(&alone);
             }
-            is_told = false;
             let Some(found) = region(&alone, &outcome, place, broken, may_be_open) else {
-                if broken.is_none() && told.is_none() {
+                if count == 0 && told.is_none() {
                     self.tell(&alone, outcome);
                 }
                 return self.lose(&alone);
             };
-            let is_new = broken.is_some_and(|broken| !found.is_wider && broken != found.span)
-                || (broken.is_none() && told.is_none());
-            if is_new {
+            if told.is_none() && !found.is_wider {
                 self.tell(&alone, outcome);
             }
             self.found.broken.push(alone.outside(found.span));
@@ -227,8 +229,8 @@ fn region(
     may_be_open: bool,
 ) -> Option<Region> {
     let tokens = match &outcome.fault {
-        Some(TextFault::Lex(_)) => alone.tokens_without(alone.lexical_place(outcome)?),
-        _ => outcome.tokens.clone(),
+        Some(TextFault::Lex(_)) => Cow::Owned(alone.tokens_without_faults()),
+        _ => Cow::Borrowed(&outcome.tokens),
     };
     if may_be_open && !are_braces_even(&tokens) || tokens.is_empty() {
         return None;

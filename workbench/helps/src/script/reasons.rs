@@ -5,7 +5,7 @@ use crate::sentences::sentences;
 use edd_display::type_word;
 use edd_image::VarKind;
 use edd_loader::Image;
-use edd_syntax::numbers::{ItemNo, VarNo};
+use edd_syntax::numbers::{ItemNo, MethNo, VarNo};
 use edd_syntax::types::VarType;
 use std::fmt;
 
@@ -153,6 +153,16 @@ fn nearest<'b>(image: &Image<'b>, word: &str) -> Option<&'b str> {
         nearest.look(name);
     }
     nearest.found
+}
+
+/// The method of an image whose name is like one that no method has.
+pub fn nearest_method<'b>(image: &Image<'b>, name: &str) -> Option<&'b str> {
+    let mut nearest = Nearest::to(name);
+    let methods = (0..image.counts().methods).map(|number| ItemNo::Method(MethNo(number)));
+    for name in methods.filter_map(|method| image.name(method)) {
+        nearest.look(name);
+    }
+    nearest.alone()
 }
 
 /// What is said of a value that a variable does not hold; nothing where it is in its range.

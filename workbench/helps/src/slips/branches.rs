@@ -84,7 +84,9 @@ pub(crate) fn no_word(around: &Around<'_>) -> Option<Placed> {
     if around.is(Symbol::Colon) {
         return no_case(around);
     }
-    if !around.is(Symbol::OpenBrace) || !around.follows(Symbol::CloseParenthesis) {
+    let begins = around.is(Symbol::OpenBrace)
+        || matches!(around.token.kind, TokenKind::Name | TokenKind::Keyword(_));
+    if !begins || !around.follows(Symbol::CloseParenthesis) {
         return None;
     }
     let open = around.opening(PARENTHESES)?;

@@ -13,6 +13,7 @@ use edd_syntax::symbols::{Keyword, Symbol};
 /// A slip of what stands inside of something else.
 pub(crate) fn nesting_slip(around: &Around<'_>) -> Option<Placed> {
     nested_comment(around.at.text, Some(around.before), around.token)
+        .or_else(|| word_twice(around))
         .or_else(|| item_in_item(around))
         .or_else(|| second_definition(around))
         .or_else(|| array_of_elements(around))
@@ -46,6 +47,21 @@ fn closes_later(text: &[u8], place: usize) -> bool {
     let line = line.unwrap_or_default();
     let closing = line.windows(2).position(|pair| pair == b"*/");
     closing.is_some_and(|closing| piece_at(line, closing).shape != Shape::Comment)
+}
+
+// The same word once more.
+fn word_twice(around: &Around<'_>) -> Option<Placed> {
+    let is_word = match around.token.kind {
+        TokenKind::Name => true,
+        // `long long` is a type of other languages.
+        TokenKind::Keyword(word) => !matches!(word, Keyword::Int | Keyword::Long),
+        _ => false,
+    };
+    let is_same = around.word(around.before) == around.word(around.token);
+    if is_word && is_same && around.is_on_line() {
+        return around.here(Slip::WordTwice);
+    }
+    None
 }
 
 // Whether an item with a name and braces begins at the token.

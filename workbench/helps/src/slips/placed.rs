@@ -31,6 +31,7 @@ impl Placed {
             Slip::QualifiersSideBySide => (place, "", Confidence::Guess),
             Slip::DefaultMeant => (place, "default", Confidence::Guess),
             Slip::CaseMeant => (place, "case", Confidence::Guess),
+            Slip::WordTwice => (place, "", Confidence::Guess),
             Slip::DoLeftOut => (place, "", Confidence::Guess),
             Slip::IfMeant => (place, "if", Confidence::Sure),
             Slip::WhileMeant => (place, "while", Confidence::Sure),

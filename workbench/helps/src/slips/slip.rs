@@ -202,6 +202,8 @@ sentences! {
         ArrayOfElements => "an ARRAY lists its elements: ARRAY OF VARIABLE a { ELEMENTS { 1, p; 2, q; } }",
         DefinitionOnce => "statements stand right in the braces of the first DEFINITION, without a second one",
         CommentsNest => "the comment before this ended at its first */: comments do not stand inside of one another",
+        WordTwice => "this word stands here twice",
+        ParenthesisNotOpen => "no ( is open for this ): one is missing before it, or this one is too many",
         NoRelations => "this profile of EDDL does not have relations: leave the item out",
     }
 }

@@ -4,7 +4,7 @@ use super::around::{Around, is_integer, is_symbol, open_parenthesis};
 use super::words::{is_misspelled_type, is_operator, is_unit};
 use super::{Placed, Slip};
 use crate::near::Nearest;
-use edd_lexer::token::TokenKind;
+use edd_lexer::token::{Token, TokenKind};
 use edd_syntax::operators::{BUILTINS, Builtin};
 use edd_syntax::symbols::{Keyword, Symbol};
 
@@ -21,6 +21,20 @@ fn compares(around: &Around<'_>) -> bool {
             TokenKind::Symbol(Symbol::Comparison(_) | Symbol::LogicalAnd | Symbol::LogicalOr)
         )
     })
+}
+
+// A parenthesis that closes none, in a value with an operator: one may be missing, or it may be too many.
+fn unopened(around: &Around<'_>) -> Option<Placed> {
+    let is_operator = |token: &Token| matches!(token.kind, TokenKind::Symbol(Symbol::Operator(_)));
+    let is_in_value =
+        around.so_far().iter().any(is_operator) || around.at.ahead().is_some_and(is_operator);
+    let is_unopened = around.is(Symbol::CloseParenthesis)
+        && !around.follows(Symbol::CloseParenthesis)
+        && open_parenthesis(around.at).is_none();
+    if is_unopened && is_in_value && has_sign(around, Symbol::Equals) {
+        return around.here(Slip::ParenthesisNotOpen);
+    }
+    None
 }
 
 // A parenthesis or a bracket that is open at a closing brace.
@@ -169,7 +183,8 @@ fn beside_parentheses(around: &Around<'_>) -> Option<Placed> {
 
 /// A slip in a value of a method.
 pub(crate) fn value_slip(around: &Around<'_>) -> Option<Placed> {
-    unclosed(around)
+    unopened(around)
+        .or_else(|| unclosed(around))
         .or_else(|| signs(around))
         .or_else(|| no_value(around))
         .or_else(|| beside_parentheses(around))

@@ -28,6 +28,8 @@ pub(crate) fn slip_of_statement(word: &str) -> Option<Slip> {
         "print" | "printf" => Slip::TextIsShown,
         "unless" => Slip::NoUnless,
         "until" | "UNTIL" => Slip::NoUntil,
+        "and" | "AND" => Slip::JoinedByAnd,
+        "or" | "OR" => Slip::JoinedByOr,
         "foreach" | "loop" => Slip::LoopIsWritten,
         "set" | "let" | "call" => Slip::WordLeftOut,
         "then" => Slip::ThenLeftOut,

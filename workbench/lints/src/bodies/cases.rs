@@ -37,14 +37,6 @@ pub(super) fn check_block_after(
     }
 }
 
-/// The token of a label, if a part is one.
-pub(super) fn label_at(part: &Part<Target>) -> Option<TokenIndex> {
-    match part {
-        Part::CaseLabel { at, .. } | Part::DefaultLabel { at } => Some(index(*at)),
-        Part::Declare(_) | Part::Statement(_) => None,
-    }
-}
-
 /// Checks what a label says of what the `switch` is over.
 pub(super) fn check_label_part(part: &Part<Target>, walk: &mut Walk<'_, '_>) {
     if let Part::CaseLabel { at, label } = part {

@@ -1,6 +1,6 @@
 //! Statements: what is never reached, what does nothing, and cases that go on with the next.
 
-use super::cases::{check_block_after, check_fall, check_label_part, label_at};
+use super::cases::{check_block_after, check_fall, check_label_part};
 use super::flow::{Flow, counts, is_abort, is_empty_block};
 use super::layout::{check_else, check_layout};
 use super::loops::{Head, Loop, check_head, check_loop, has_no_body};
@@ -11,7 +11,7 @@ use crate::expressions::stores::{check_wrapped, without_parentheses};
 use crate::expressions::walk::Walk;
 use crate::expressions::{Test, check_condition, check_expression, check_tested};
 use crate::kind::MethodKind;
-use crate::source::TokenIndex;
+use crate::source::{TokenIndex, index};
 use edd_syntax::expr::Expr;
 use edd_syntax::operators::{Builtin, RequestKind};
 use edd_syntax::reference::Target;
@@ -56,10 +56,10 @@ fn check_next(s: &Stmt<Target>, so_far: Flow, walk: &mut Walk<'_, '_>) -> Flow {
     }
 }
 
-/// Checks what is between braces, of which the first is at a token.
+/// Checks what is between braces, of which the last is at a token.
 pub(super) fn check_parts(
     parts: &[Part<Target>],
-    open: TokenIndex,
+    close: TokenIndex,
     walk: &mut Walk<'_, '_>,
 ) -> Flow {
     check_layout(parts, walk);
@@ -68,39 +68,33 @@ pub(super) fn check_parts(
     let mut has_statement = false;
     let mut is_dead = false;
     let mut head = None;
-    // The token behind what was passed.
-    let mut next = open.saturating_add(1);
     for (number, part) in parts.iter().enumerate() {
+        let next = parts.get(number.saturating_add(1));
         match part {
             Part::Declare(declarators) => {
                 flow.leaves |= check_declarators(declarators, walk);
                 head = None;
-                next = behind_declaration(declarators, walk).max(next);
             }
             Part::Statement(s) => {
-                let place = walk.context.places.statement(s);
                 check_block_after(head, s, walk);
-                head = has_no_body(s).then_some(place.sign);
+                head = has_no_body(s).then_some(walk.context.places.statement(s).sign);
                 is_dead = is_dead || flow.ends.is_some();
                 flow = check_next(s, flow, walk);
-                check_empty_else(s, parts.get(number.saturating_add(1)), walk);
+                check_empty_else(s, next, walk);
                 has_statement = true;
-                next = place.extent.end;
             }
-            Part::CaseLabel { .. } | Part::DefaultLabel { .. } => {
-                let label = label_at(part).unwrap_or(next);
+            Part::CaseLabel { at, .. } | Part::DefaultLabel { at } => {
                 if has_statement && !is_dead {
-                    check_fall(flow, label, parts.get(number.saturating_add(1)), walk);
+                    check_fall(flow, index(*at), next, walk);
                 }
                 check_label_part(part, walk);
                 flow.ends = None;
                 has_statement = false;
                 is_dead = false;
-                next = behind_label(part, label);
             }
         }
     }
-    flow.is_remarked = walk.context.source.has_comment_before(next);
+    flow.is_remarked = walk.context.source.has_comment_before(close);
     flow
 }
 
@@ -116,28 +110,6 @@ fn check_empty_else(s: &Stmt<Target>, next: Option<&Part<Target>>, walk: &mut Wa
         walk.findings
             .add(at.saturating_sub(1), MethodKind::EmptyElse);
     }
-}
-
-// The token behind the semicolon of a declaration.
-fn behind_declaration(declarators: &[Declarator<Target>], walk: &Walk<'_, '_>) -> TokenIndex {
-    let last = declarators.last().map_or(0, |declarator| {
-        let name = walk.context.places.declarator(declarator);
-        match &declarator.value {
-            Some(value) => walk.context.places.expression(value).extent.end,
-            None => name.saturating_add(1),
-        }
-    });
-    last.saturating_add(1)
-}
-
-// The token behind the colon of a label.
-fn behind_label(part: &Part<Target>, label: TokenIndex) -> TokenIndex {
-    let tokens = match part {
-        Part::CaseLabel { label, .. } if *label < 0 => 4,
-        Part::CaseLabel { .. } => 3,
-        _ => 2,
-    };
-    label.saturating_add(tokens)
 }
 
 // Whether nothing is done with what an expression gives. A plain number may be what is left of a
@@ -298,7 +270,7 @@ fn check_for(head: Head<'_>, body: &Stmt<Target>, at: TokenIndex, walk: &mut Wal
 fn check_switch(
     on: &Expr<Target>,
     parts: &[Part<Target>],
-    at: TokenIndex,
+    [at, close]: [TokenIndex; 2],
     walk: &mut Walk<'_, '_>,
 ) -> Flow {
     let asks = asks_in(walk, |walk| check_condition(on, at, Test::Selection, walk));
@@ -306,15 +278,7 @@ fn check_switch(
         walk.findings.add(at, MethodKind::EmptySwitch);
     }
     walk.selected.push(selected_variable(on));
-    // The brace is behind the parenthesis that closes.
-    let open = walk
-        .context
-        .places
-        .expression(on)
-        .extent
-        .end
-        .saturating_add(1);
-    let flow = check_parts(parts, open, walk);
+    let flow = check_parts(parts, close, walk);
     walk.selected.pop();
     let has_default = parts
         .iter()
@@ -327,11 +291,12 @@ fn check_switch(
 }
 
 fn check_statement(s: &Stmt<Target>, walk: &mut Walk<'_, '_>) -> Flow {
-    let at = walk.context.places.statement(s).sign;
+    let place = walk.context.places.statement(s);
+    let (at, close) = (place.sign, place.extent.end.saturating_sub(1));
     match s {
         Stmt::Empty => Flow::default(),
         Stmt::Evaluate(e) => check_evaluated(e, at, walk),
-        Stmt::Block(parts) => check_parts(parts, at, walk),
+        Stmt::Block(parts) => check_parts(parts, close, walk),
         Stmt::If(condition, first) => check_if(condition, first, at, walk),
         Stmt::IfElse(condition, first, otherwise) => {
             check_if_else(condition, [first, otherwise], at, walk)
@@ -355,7 +320,7 @@ fn check_statement(s: &Stmt<Target>, walk: &mut Walk<'_, '_>) -> Flow {
             check_counting(head.map(Option::as_ref), body, at, walk);
             check_for(head, body, at, walk)
         }
-        Stmt::Switch(on, parts) => check_switch(on, parts, at, walk),
+        Stmt::Switch(on, parts) => check_switch(on, parts, [at, close], walk),
         Stmt::Break { .. } => Flow {
             breaks: true,
             ..Flow::leading_on(at)

@@ -69,8 +69,8 @@ pub(super) fn check_stores(parts: &[Part<Target>], walk: &mut Walk<'_, '_>) {
         if let Some(earlier) = pending.store(*to, at) {
             walk.findings.add_beside(earlier, MethodKind::DeadStore, at);
         }
-        // A place that is set to itself has a warning of its own.
-        if has_call(value) || is_itself(*to, value) {
+        // A place that is set to itself has a warning of its own, and 0 is where many begin.
+        if has_call(value) || is_itself(*to, value) || matches!(**value, Expr::Literal(0)) {
             pending.forget(*to);
         }
     }

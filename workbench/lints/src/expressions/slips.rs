@@ -15,6 +15,9 @@ use edd_syntax::operators::{Builtin, Comparison, Operator, RequestKind, UnaryOpe
 use edd_syntax::reference::Target;
 use edd_syntax::types::VarType;
 
+/// The codes that a command lists. Beyond them are those of the host and the line.
+const LISTED_CODES: std::ops::RangeInclusive<i64> = 1..=127;
+
 /// `&&` or `||` with a number that is neither 0 nor 1, as a macro may leave them.
 pub(super) fn check_truth_of_number(
     operands: [&Expr<Target>; 2],
@@ -72,7 +75,7 @@ pub(super) fn check_binary(
         }
         _ => {}
     }
-    if operator == Operator::And {
+    if matches!(operator, Operator::And | Operator::Or | Operator::Xor) {
         check_masked(first, second, at, walk);
         check_masked(second, first, at, walk);
     }
@@ -287,7 +290,7 @@ pub(super) fn check_code(
         return;
     };
     let code = evaluate(second, walk.sort).number();
-    let Some(code) = code.filter(|code| *code != 0 && is_equality) else {
+    let Some(code) = code.filter(|code| LISTED_CODES.contains(code) && is_equality) else {
         return;
     };
     match request {

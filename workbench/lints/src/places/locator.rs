@@ -401,6 +401,18 @@ impl<'s> Locator<'s> {
         }
     }
 
+    fn for_loop(&mut self, head: [&Option<Expr<Target>>; 3], body: &Stmt<Target>) {
+        self.take();
+        for e in head {
+            self.take();
+            if let Some(e) = e {
+                self.expression(e);
+            }
+        }
+        self.take();
+        self.statement(body);
+    }
+
     fn statement(&mut self, s: &Stmt<Target>) {
         let start = self.next;
         match s {
@@ -439,17 +451,7 @@ impl<'s> Locator<'s> {
                 condition,
                 update,
                 body,
-            } => {
-                self.take();
-                for e in [initial, condition, update] {
-                    self.take();
-                    if let Some(e) = e {
-                        self.expression(e);
-                    }
-                }
-                self.take();
-                self.statement(body);
-            }
+            } => self.for_loop([initial, condition, update], body),
             Stmt::Switch(on, parts) => {
                 self.take();
                 self.test(on);

@@ -193,7 +193,7 @@ METHOD m { DEFINITION { int code; code = GET_DEV_VAR_VALUE("Limit?", a); if (cod
         name: "unlisted-response-code",
         level: Level::Warn,
         summary: "a code that the command does not list",
-        details: "a constant other than 0 with which the answer of a command is compared by `==` or `!=`, and that is none of the response codes which the command lists.",
+        details: "a constant from 1 to 127 with which the answer of a command is compared by `==` or `!=`, and that is none of the response codes which the command lists.",
         example: r#"COMMAND c { NUMBER 1; OPERATION READ; TRANSACTION { } RESPONSE_CODES { 0, SUCCESS, "OK"; 16, MODE_ERROR, "Locked" } }
 METHOD m { DEFINITION { if (send_command(1) == 5) abort(); } }"#,
         counterexample: r#"COMMAND c { NUMBER 1; OPERATION READ; TRANSACTION { } RESPONSE_CODES { 0, SUCCESS, "OK"; 16, MODE_ERROR, "Locked" } }
@@ -232,7 +232,7 @@ METHOD m { DEFINITION { a = 100; send_command(1); } }",
 METHOD m { DEFINITION { a = 5; a = 6; send_command(1); } }",
         counterexample: "VARIABLE a { TYPE INTEGER; }
 METHOD m { DEFINITION { a = 5; send_command(1); a = 6; send_command(1); } }",
-        notes: "The value of a declaration is left alone, and so is that of a request.",
+        notes: "The value of a declaration is left alone, and so are 0 and that of a request.",
     },
     Row {
         lint: Lint::EmptyThen,

@@ -120,7 +120,7 @@ pub(super) const ROWS: &[Row] = &[
         name: "untranslated-text",
         level: Level::Warn,
         summary: "a text in one language where most others have more",
-        details: "a LABEL, HELP, message, enumerator, member, element or response code in one language, where three of four such texts have two or more; and any other text that names its one language. Units, numbers and abbreviations, which have no word of four letters in small ones, are left alone.",
+        details: "a LABEL, HELP, message, enumerator, member, element or response code in one language, where three of four such texts have two or more; and any other text that names its one language. Units, numbers and abbreviations, which have no word of four letters in small ones, are left alone, and so are words that several languages write alike, such as `Version`.",
         example: r#"MENU a { LABEL "|en|Level|de|Stand"; HELP "|en|Main menu|de|Hauptmenü"; ITEMS { m, b, c } }
 METHOD m { LABEL "|en|Reset|de|Rücksetzen"; DEFINITION { PUT_MESSAGE("Done now"); } }
 MENU b { LABEL "|en|Inner|de|Innen"; ITEMS { "x" } }
@@ -168,7 +168,7 @@ METHOD m { DEFINITION { PUT_MESSAGE("Level {mm}"); } }"#,
         name: "empty-choice",
         level: Level::Warn,
         summary: "a choice of a SELECT_FROM_LIST without words",
-        details: "two semicolons of a SELECT_FROM_LIST with nothing between, or a semicolon at the beginning. One at the end is left alone.",
+        details: "two semicolons of a SELECT_FROM_LIST with nothing between, or a semicolon at the beginning. One at the end is left alone. A list without any choice has a warning too.",
         example: r#"METHOD m { DEFINITION { if (SELECT_FROM_LIST("Go?", "Yes;;No") == 0) abort(); } }"#,
         counterexample: r#"METHOD m { DEFINITION { if (SELECT_FROM_LIST("Go?", "Yes;No") == 0) abort(); } }"#,
         notes: "",

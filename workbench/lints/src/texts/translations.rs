@@ -15,12 +15,47 @@ const WORD: usize = 4;
 /// How many texts of two languages there have to be.
 const FEWEST: usize = 3;
 
+/// Words that several languages write alike, so that one text does for them.
+const SHARED: [&str; 29] = [
+    "alarm",
+    "code",
+    "data",
+    "detail",
+    "diagnose",
+    "display",
+    "filter",
+    "firmware",
+    "format",
+    "hardware",
+    "information",
+    "linear",
+    "maximum",
+    "minimum",
+    "monitor",
+    "name",
+    "normal",
+    "offline",
+    "offset",
+    "online",
+    "position",
+    "reset",
+    "sensor",
+    "software",
+    "start",
+    "status",
+    "stop",
+    "test",
+    "version",
+];
+
 // Whether a text has a word of some letters, and not only a unit, a number or an abbreviation.
 fn has_word(words: &[u8]) -> bool {
     let mut runs = words.split(|byte| !byte.is_ascii_alphabetic());
     runs.any(|run| {
         let small = run.iter().filter(|byte| byte.is_ascii_lowercase()).count();
-        WORD <= run.len() && run.len() <= small.saturating_add(1)
+        let is_word = WORD <= run.len() && run.len() <= small.saturating_add(1);
+        let mut shared = SHARED.iter();
+        is_word && !shared.any(|shared| shared.as_bytes().eq_ignore_ascii_case(run))
     })
 }
 

@@ -19,6 +19,14 @@ pub(crate) struct Nobody;
 
 impl Observer for Nobody {}
 
+// What a step does with 1.
+fn operator_of(step: IncrementOperator) -> Operator {
+    match step {
+        IncrementOperator::PreIncrement | IncrementOperator::PostIncrement => Operator::Add,
+        IncrementOperator::PreDecrement | IncrementOperator::PostDecrement => Operator::Subtract,
+    }
+}
+
 impl Environment<'_, '_> {
     /// What an expression gives. What it sets is known from then on.
     pub(crate) fn evaluate(&mut self, e: &Expr<Target>, observer: &mut impl Observer) -> Values {
@@ -57,15 +65,7 @@ impl Environment<'_, '_> {
             }
             Expr::LogicalAnd(first, second) => self.logical(first, second, true, observer),
             Expr::LogicalOr(first, second) => self.logical(first, second, false, observer),
-            Expr::Conditional(test, first, second) => {
-                self.evaluate(test, observer);
-                let one = self.evaluate_where(test, true, first, observer);
-                let two = self.evaluate_where(test, false, second, observer);
-                match (one, two) {
-                    (Some(one), Some(two)) => one.join(two),
-                    (one, two) => one.or(two).unwrap_or(Values::any(self.sort)),
-                }
-            }
+            Expr::Conditional(test, first, second) => self.choose(test, [first, second], observer),
             Expr::Assign(to, value) => {
                 let values = self.evaluate(value, observer);
                 self.store(*to, values);
@@ -76,15 +76,7 @@ impl Environment<'_, '_> {
                 self.change(*to, *operator, values)
             }
             Expr::Increment(operator, to) => {
-                let operator = match operator {
-                    IncrementOperator::PreIncrement | IncrementOperator::PostIncrement => {
-                        Operator::Add
-                    }
-                    IncrementOperator::PreDecrement | IncrementOperator::PostDecrement => {
-                        Operator::Subtract
-                    }
-                };
-                self.change(*to, operator, Values::exactly(1));
+                self.change(*to, operator_of(*operator), Values::exactly(1));
                 Values::any(self.sort)
             }
             Expr::Call {
@@ -92,6 +84,22 @@ impl Environment<'_, '_> {
                 arguments,
                 ..
             } => self.call(*function, arguments, observer),
+        }
+    }
+
+    // `test ? first : second`
+    fn choose(
+        &mut self,
+        test: &Expr<Target>,
+        [first, second]: [&Expr<Target>; 2],
+        observer: &mut impl Observer,
+    ) -> Values {
+        self.evaluate(test, observer);
+        let one = self.evaluate_where(test, true, first, observer);
+        let two = self.evaluate_where(test, false, second, observer);
+        match (one, two) {
+            (Some(one), Some(two)) => one.join(two),
+            (one, two) => one.or(two).unwrap_or(Values::any(self.sort)),
         }
     }
 

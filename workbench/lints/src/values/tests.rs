@@ -1,12 +1,11 @@
-//! Each transfer holds what the core's operators give.
+//! Each transfer holds what the core's operators give, for all numbers of small ranges and for those
+//! at the ends of the widths.
 
 use super::Values;
 use crate::range::Range;
 use edd_arithmetic::{apply, holds, operate};
 use edd_instructions::Sort;
 use edd_syntax::operators::{Comparison, Operator, UnaryOperator};
-use proptest::prelude::*;
-use proptest::test_runner::{Config, TestRng, TestRunner};
 
 const OPERATORS: [Operator; 10] = [
     Operator::Add,
@@ -37,83 +36,101 @@ const UNARY: [UnaryOperator; 4] = [
     UnaryOperator::Complement,
 ];
 
-/// A range with a number of it.
-fn ranged() -> impl Strategy<Value = (Range, i64)> {
-    let small = -40..300i64;
-    let number = prop_oneof![
-        small.clone(),
-        i64::from(i32::MIN)..=i64::from(i32::MAX),
-        Just(i64::from(i32::MIN)),
-        Just(i64::from(i32::MAX)),
-    ];
-    (number.clone(), number, small).prop_map(|(one, two, third)| {
-        let mut all = [one, two, third];
-        all.sort_unstable();
-        let [low, middle, high] = all;
-        (Range { low, high }, middle)
-    })
-}
+/// Numbers, in their order: small ones, and those at the ends of 32 bits and of an octet.
+const NUMBERS: [i64; 19] = [
+    -0x8000_0000,
+    -0x7FFF_FFFF,
+    -129,
+    -128,
+    -5,
+    -2,
+    -1,
+    0,
+    1,
+    2,
+    3,
+    4,
+    6,
+    31,
+    32,
+    127,
+    255,
+    0x7FFF_FFFE,
+    0x7FFF_FFFF,
+];
 
-fn runner() -> TestRunner {
-    let config = Config {
-        failure_persistence: None,
-        ..Config::with_cases(4_000)
-    };
-    let rng = TestRng::deterministic_rng(config.rng_algorithm);
-    TestRunner::new_with_rng(config, rng)
+/// Each range between two of the numbers, with each of the numbers in it.
+fn ranged() -> Vec<(Range, i64)> {
+    let mut all = Vec::new();
+    for (first, low) in NUMBERS.into_iter().enumerate() {
+        for (length, high) in NUMBERS.into_iter().skip(first).enumerate() {
+            let inside = NUMBERS
+                .into_iter()
+                .skip(first)
+                .take(length.saturating_add(1));
+            all.extend(inside.map(|number| (Range { low, high }, number)));
+        }
+    }
+    all
 }
 
 #[test]
 fn a_transfer_holds_what_the_operator_gives() {
-    let cases = (ranged(), ranged());
-    let outcome = runner().run(&cases, |((one, a), (two, b))| {
-        let (first, second) = (Values::within(one), Values::within(two));
-        for sort in [Sort::Attribute, Sort::Method] {
-            for operator in OPERATORS {
-                if let Ok(number) = operate(sort, operator, a, b) {
-                    let known = first.binary(operator, second, sort);
-                    prop_assert!(known.holds(number), "{a} {operator:?} {b}: {known:?}");
+    for (one, a) in ranged() {
+        // Every seventh is enough beside each of the first operands.
+        for (two, b) in ranged().into_iter().step_by(7) {
+            let (first, second) = (Values::within(one), Values::within(two));
+            for sort in [Sort::Attribute, Sort::Method] {
+                for operator in OPERATORS {
+                    if let Ok(number) = operate(sort, operator, a, b) {
+                        let known = first.binary(operator, second, sort);
+                        assert!(known.holds(number), "{a} {operator:?} {b}: {known:?}");
+                    }
                 }
             }
+            for comparison in COMPARISONS {
+                let truth = holds(comparison, a, b);
+                let known = first.compare(comparison, second);
+                assert!(
+                    known.is_none_or(|known| known == truth),
+                    "{a} {comparison:?} {b}"
+                );
+                let left = first.compared(comparison, b);
+                let is_left = left.is_some_and(|left| left.holds(a));
+                assert!(!truth || is_left, "{a} {comparison:?} {b}");
+            }
+            let joined = first.join(second);
+            assert!(joined.holds(a) && joined.holds(b));
+        }
+    }
+}
+
+#[test]
+fn a_transfer_of_one_operand_holds_what_the_operator_gives() {
+    for (range, number) in ranged() {
+        for sort in [Sort::Attribute, Sort::Method] {
             for operator in UNARY {
-                let known = first.unary(operator, sort);
-                prop_assert!(
-                    known.holds(apply(sort, operator, a)),
-                    "{operator:?} {a}: {known:?}"
+                let known = Values::within(range).unary(operator, sort);
+                assert!(
+                    known.holds(apply(sort, operator, number)),
+                    "{operator:?} {number}"
                 );
             }
         }
-        for comparison in COMPARISONS {
-            let truth = holds(comparison, a, b);
-            let known = first.compare(comparison, second);
-            prop_assert!(
-                known.is_none_or(|known| known == truth),
-                "{a} {comparison:?} {b}"
-            );
-            let left = first.compared(comparison, b);
-            prop_assert!(
-                !truth || left.is_some_and(|left| left.holds(a)),
-                "{a} {comparison:?} {b}"
-            );
-        }
-        prop_assert!(first.join(second).holds(a) && first.join(second).holds(b));
-        Ok(())
-    });
-    assert!(outcome.is_ok(), "{outcome:?}");
+    }
 }
 
 #[test]
 fn a_mask_leaves_the_numbers_that_have_its_bits_or_lack_them() {
-    let outcome = runner().run(&(ranged(), ranged()), |((range, number), (_, mask))| {
-        let are_set = number & mask != 0;
-        let left = Values::within(range).masked(mask, are_set);
-        prop_assert!(
-            left.is_some_and(|left| left.holds(number)),
-            "{number} & {mask}"
-        );
-        Ok(())
-    });
-    assert!(outcome.is_ok(), "{outcome:?}");
+    for (range, number) in ranged() {
+        for mask in NUMBERS {
+            let left = Values::within(range).masked(mask, number & mask != 0);
+            assert!(
+                left.is_some_and(|left| left.holds(number)),
+                "{number} & {mask}"
+            );
+        }
+    }
 }
 
 #[test]

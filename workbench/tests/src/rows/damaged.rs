@@ -121,10 +121,10 @@ fn is_refusal(text: &str) -> bool {
     number.parse::<u16>().is_ok() || text.lines().any(is_other_refusal)
 }
 
-/// Whether a line is a refusal by a lint that is denied, or one in JSON, SARIF, JUnit or colours, or says that a test
-/// failed, or that layouts or descriptions differ.
+/// Whether a line is a refusal by a lint that is denied, or one in JSON, SARIF, JUnit, excerpts or colours, or says that a
+/// test failed, or that layouts or descriptions differ.
 fn is_other_refusal(line: &str) -> bool {
-    const BEGINNINGS: [&str; 3] = ["differs ", "differences ", "failed "];
+    const BEGINNINGS: [&str; 4] = ["differs ", "differences ", "error[", "failed "];
     const PARTS: [&str; 8] = [
         "\"breaking\":",
         ": denied ",
