@@ -118,11 +118,17 @@ impl Document {
             replaced = cursor.replaced;
             offers.add_behind(cursor);
         }
-        Completions {
-            replaced,
-            entries: offers.entries,
-        }
+        let mut entries = offers.entries;
+        let begun = replaced.text(self.text()).unwrap_or_default();
+        entries.sort_by_key(|entry| !begins_with(entry.label, begun));
+        Completions { replaced, entries }
     }
+}
+
+/// Whether a word begins with the letters that are written, small or large.
+fn begins_with(word: &str, begun: &str) -> bool {
+    let beginning = word.get(..begun.len());
+    beginning.is_some_and(|beginning| beginning.eq_ignore_ascii_case(begun))
 }
 
 /// Where something is to be written at a byte; nothing in a number or a string.
