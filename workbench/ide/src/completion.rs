@@ -2,6 +2,10 @@
 
 use crate::Document;
 use crate::comments::is_unread;
+use crate::cursor::{
+    Cursor, begins_statement, cursor_at, is_behind_if, is_enumerated, kind_before, wants_value,
+    words_around,
+};
 use crate::hints::names_command;
 use crate::languages::code_before;
 use crate::offers::{Completion, CompletionKind, Offers};
@@ -92,15 +96,6 @@ pub struct Completions<'d> {
     pub entries: Vec<Completion<'d>>,
 }
 
-/// Where something is to be written.
-#[derive(Clone, Copy)]
-struct Cursor {
-    /// The word that is being written, or else the next token.
-    token: usize,
-    is_written: bool,
-    replaced: Span,
-}
-
 impl Document {
     /// What may be written at a byte, and the part of a word before it that it replaces. In strings
     /// there are the codes of languages; in comments and numbers, and on a line behind a lexical fault,
@@ -118,119 +113,17 @@ impl Document {
             replaced = cursor.replaced;
             offers.add_behind(cursor);
         }
-        Completions {
-            replaced,
-            entries: offers.entries,
-        }
+        let mut entries = offers.entries;
+        let begun = replaced.text(self.text()).unwrap_or_default();
+        entries.sort_by_key(|entry| !begins_with(entry.label, begun));
+        Completions { replaced, entries }
     }
 }
 
-/// Where something is to be written at a byte; nothing in a number or a string.
-fn cursor_at(document: &Document, byte: usize) -> Option<Cursor> {
-    let next = Cursor {
-        token: document.token_from(byte),
-        is_written: false,
-        replaced: Span::before(byte),
-    };
-    let Some(touched) = document.token_at(byte) else {
-        return Some(next);
-    };
-    let span = document.span(touched)?;
-    if span.start == byte {
-        return Some(next);
-    }
-    match document.kind(touched)? {
-        TokenKind::Name | TokenKind::Keyword(_) => Some(Cursor {
-            token: touched,
-            is_written: true,
-            replaced: Span {
-                start: span.start,
-                end: byte,
-            },
-        }),
-        TokenKind::Integer(_) | TokenKind::Decimal => None,
-        TokenKind::String if byte < span.end => None,
-        TokenKind::String | TokenKind::Symbol(_) => Some(next),
-    }
-}
-
-/// The words that begin something in the braces around a cursor, besides the one that is being
-/// written.
-fn words_around(document: &Document, cursor: Cursor) -> Vec<Keyword> {
-    let here = document.spot(cursor.token);
-    let Some(open) = here.open else {
-        return Vec::new();
-    };
-    let is_inside = |token: &usize| {
-        let spot = document.spot(*token);
-        let is_last = spot.open == Some(open) && document.is_sign(*token, Symbol::CloseBrace);
-        !is_last && spot.open.is_some()
-    };
-    let inside = (open.saturating_add(1)..document.tokens().len()).take_while(is_inside);
-    let others = inside.filter(|token| !(cursor.is_written && *token == cursor.token));
-    let beginning = others.filter(|token| {
-        let spot = document.spot(*token);
-        spot.open == Some(open) && spot.place == here.place
-    });
-    beginning
-        .filter_map(|token| match document.kind(token) {
-            Some(TokenKind::Keyword(word)) => Some(word),
-            _ => None,
-        })
-        .collect()
-}
-
-/// Whether braces are those of an enumerated type: its word comes before them, and maybe its size.
-fn is_enumerated(document: &Document, open: usize) -> bool {
-    let before = open.saturating_sub(1);
-    let word = if document.is_sign(before, Symbol::CloseParenthesis) {
-        document.word(open.saturating_sub(4))
-    } else {
-        document.word(before)
-    };
-    word == "ENUMERATED" || word == "BIT_ENUMERATED"
-}
-
-/// What sort of token is before another one.
-fn kind_before(document: &Document, token: usize) -> Option<TokenKind> {
-    document.kind(token.checked_sub(1)?)
-}
-
-/// Whether a value is still to be written before a token.
-fn wants_value(document: &Document, token: usize) -> bool {
-    !matches!(
-        kind_before(document, token),
-        Some(TokenKind::Name | TokenKind::Integer(_) | TokenKind::Decimal | TokenKind::String)
-    )
-}
-
-/// Whether a statement may begin at a token.
-fn begins_statement(document: &Document, token: usize) -> bool {
-    matches!(
-        kind_before(document, token),
-        Some(
-            TokenKind::Symbol(
-                Symbol::Semicolon
-                    | Symbol::OpenBrace
-                    | Symbol::CloseBrace
-                    | Symbol::CloseParenthesis
-                    | Symbol::Colon
-            ) | TokenKind::Keyword(Keyword::MethodElse | Keyword::Do)
-        )
-    )
-}
-
-/// Whether a token comes right behind the braces of an IF.
-fn is_behind_if(document: &Document, token: usize) -> bool {
-    let opened = || {
-        let close = token.checked_sub(1)?;
-        if !document.is_sign(close, Symbol::CloseBrace) {
-            return None;
-        }
-        let before = document.spot(close).open?.checked_sub(1)?;
-        document.word_before_parentheses(before)
-    };
-    opened() == Some(Keyword::If)
+/// Whether a word begins with the letters that are written, small or large.
+fn begins_with(word: &str, begun: &str) -> bool {
+    let beginning = word.get(..begun.len());
+    beginning.is_some_and(|beginning| beginning.eq_ignore_ascii_case(begun))
 }
 
 /// Whether the value of an attribute may depend on conditions.

@@ -18,6 +18,7 @@ mod comments;
 mod completion;
 mod constant;
 mod core;
+mod cursor;
 mod declarations;
 mod described;
 mod document;

@@ -34,7 +34,7 @@ fn quick_fixes(query: &Query<'_>, asked: Span) -> impl Iterator<Item = CodeActio
 fn fix_all(query: &Query<'_>) -> Option<CodeAction> {
     let fix = query.document().fix_all()?;
     Some(CodeAction {
-        title: "mend all that is surely meant otherwise".to_owned(),
+        title: "apply all sure fixes".to_owned(),
         kind: FIX_ALL,
         diagnostics: Vec::new(),
         edit: query.view.fix(&fix),
