@@ -1,0 +1,125 @@
+//! The lines of a trace. Each begins with `trace`, as no line of a run does.
+
+use crate::event::{Cause, Event, EventKind, Unenterable};
+use edd_display::trap_word;
+use edd_loader::Image;
+use edd_source::{Source, Span};
+use edd_syntax::numbers::{ItemNo, VarNo};
+use std::fmt;
+
+/// Prints what a run did, a line for each event; none of how it ended, which the lines of the run say.
+#[derive(Clone, Copy)]
+pub struct TraceLines<'a> {
+    /// The source of the method.
+    pub source: &'a Source<'a>,
+    /// Its image.
+    pub image: &'a Image<'a>,
+    /// What the run did.
+    pub events: &'a [Event],
+}
+
+impl fmt::Debug for TraceLines<'_> {
+    fn fmt(&self, f: &mut fmt::Formatter<'_>) -> fmt::Result {
+        f.debug_struct("TraceLines")
+            .field("events", &self.events)
+            .finish_non_exhaustive()
+    }
+}
+
+impl fmt::Display for TraceLines<'_> {
+    fn fmt(&self, f: &mut fmt::Formatter<'_>) -> fmt::Result {
+        self.events
+            .iter()
+            .try_for_each(|event| self.write_event(f, event))
+    }
+}
+
+impl TraceLines<'_> {
+    fn write_event(&self, f: &mut fmt::Formatter<'_>, event: &Event) -> fmt::Result {
+        if matches!(
+            event.kind,
+            EventKind::Aborts(_) | EventKind::EntersAbortMethod(_) | EventKind::Ends(_)
+        ) {
+            return Ok(());
+        }
+        self.write_place(f, event.place)?;
+        match event.kind {
+            EventKind::Asks { number, request } => {
+                write!(f, "request {number} {}", request.kind().name())?;
+            }
+            EventKind::Changes {
+                variable,
+                old,
+                new,
+                by,
+            } => {
+                write!(f, "{} from {old} to {new}", self.name(variable))?;
+                if by == Cause::Answer {
+                    f.write_str(", by the answer")?;
+                }
+            }
+            EventKind::Enters {
+                variable,
+                number,
+                why,
+            } => {
+                let name = self.name(variable);
+                write!(f, "warning: {name} is set to {number}, {why}")?;
+            }
+            EventKind::Traps(why) => {
+                write!(f, "trapped {}", trap_word(why))?;
+                self.write_line_of(f, event.place)?;
+            }
+            EventKind::IsCut { steps } => {
+                write!(f, "no more than {steps} instructions are followed")?;
+            }
+            EventKind::LeavesAnswers { count, line } => write_left_answers(f, count, line)?,
+            EventKind::Aborts(_) | EventKind::EntersAbortMethod(_) | EventKind::Ends(_) => {}
+        }
+        f.write_str("\n")
+    }
+
+    fn write_place(&self, f: &mut fmt::Formatter<'_>, place: Option<Span>) -> fmt::Result {
+        match place.map(|place| self.source.spot(place)) {
+            Some(spot) => write!(f, "trace {}:{}:{}: ", spot.file, spot.line, spot.column),
+            None => f.write_str("trace: "),
+        }
+    }
+
+    /// Writes the line of the source that a trap is on.
+    fn write_line_of(&self, f: &mut fmt::Formatter<'_>, place: Option<Span>) -> fmt::Result {
+        match place.map(|place| self.source.spot(place).text.trim()) {
+            Some(line) if !line.is_empty() => write!(f, " in {line}"),
+            _ => Ok(()),
+        }
+    }
+
+    fn name(&self, variable: VarNo) -> &str {
+        self.image
+            .name(ItemNo::Variable(variable))
+            .unwrap_or_default()
+    }
+}
+
+impl fmt::Display for Unenterable {
+    fn fmt(&self, f: &mut fmt::Formatter<'_>) -> fmt::Result {
+        match self {
+            Unenterable::UnderMin(least) => write!(f, "under MIN_VALUE {least}"),
+            Unenterable::OverMax(greatest) => write!(f, "over MAX_VALUE {greatest}"),
+            Unenterable::NoEnumerator => f.write_str("which no enumerator is"),
+        }
+    }
+}
+
+fn write_left_answers(f: &mut fmt::Formatter<'_>, count: usize, line: usize) -> fmt::Result {
+    match count {
+        1 => write!(
+            f,
+            "warning: the answer on line {line} of the script is left over"
+        ),
+        _ => write!(
+            f,
+            "warning: {count} answers are left over, the first on line {line} of the script"
+        ),
+    }
+}
