@@ -49,12 +49,14 @@ pub fn trace(
         events: Vec::new(),
     };
     follower.follow()?;
-    let unmet = follower.answers.len();
+    let count = follower.answers.len();
     let mut events = follower.events;
-    let met = script.answers.len().saturating_sub(unmet);
-    if let Some(line) = edd_script::answer_line(Global, image, run.script, met)? {
-        let kind = EventKind::LeavesAnswers { count: unmet, line };
-        events.push(Event { place: None, kind });
+    if 0 < count {
+        let met = script.answers.len().saturating_sub(count);
+        if let Some(line) = edd_script::answer_line(Global, image, run.script, met)? {
+            let kind = EventKind::LeavesAnswers { count, line };
+            events.push(Event { place: None, kind });
+        }
     }
     Ok(events)
 }

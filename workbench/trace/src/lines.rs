@@ -5,6 +5,7 @@ use edd_display::trap_word;
 use edd_loader::Image;
 use edd_source::{Source, Span};
 use edd_syntax::numbers::{ItemNo, VarNo};
+use std::collections::HashMap;
 use std::fmt;
 
 /// Prints what a run did, a line for each event; none of how it ended, which the lines of the run say.
@@ -28,21 +29,27 @@ impl fmt::Debug for TraceLines<'_> {
 
 impl fmt::Display for TraceLines<'_> {
     fn fmt(&self, f: &mut fmt::Formatter<'_>) -> fmt::Result {
-        self.events
-            .iter()
-            .try_for_each(|event| self.write_event(f, event))
+        // Loops come to the same places again and again.
+        let mut heads = HashMap::new();
+        for event in self.events {
+            let head = heads
+                .entry(event.place)
+                .or_insert_with(|| self.head(event.place));
+            self.write_event(f, head, event)?;
+        }
+        Ok(())
     }
 }
 
 impl TraceLines<'_> {
-    fn write_event(&self, f: &mut fmt::Formatter<'_>, event: &Event) -> fmt::Result {
+    fn write_event(&self, f: &mut fmt::Formatter<'_>, head: &str, event: &Event) -> fmt::Result {
         if matches!(
             event.kind,
             EventKind::Aborts(_) | EventKind::EntersAbortMethod(_) | EventKind::Ends(_)
         ) {
             return Ok(());
         }
-        self.write_place(f, event.place)?;
+        f.write_str(head)?;
         match event.kind {
             EventKind::Asks { number, request } => {
                 write!(f, "request {number} {}", request.kind().name())?;
@@ -79,10 +86,11 @@ impl TraceLines<'_> {
         f.write_str("\n")
     }
 
-    fn write_place(&self, f: &mut fmt::Formatter<'_>, place: Option<Span>) -> fmt::Result {
+    /// What a line begins with, up to what is told.
+    fn head(&self, place: Option<Span>) -> String {
         match place.map(|place| self.source.spot(place)) {
-            Some(spot) => write!(f, "trace {}:{}:{}: ", spot.file, spot.line, spot.column),
-            None => f.write_str("trace: "),
+            Some(spot) => format!("trace {}:{}:{}: ", spot.file, spot.line, spot.column),
+            None => "trace: ".to_owned(),
         }
     }
 
