@@ -10,31 +10,33 @@ use edd_source::Span;
 use edd_syntax::checked::Checked;
 use edd_syntax::item::{Attribute, Item, ItemKind};
 use edd_syntax::numbers::MethNo;
-use edd_syntax::reference::Target;
+use edd_syntax::reference::{Path, Target};
 use edd_syntax::stmt::Part;
+use edd_syntax::unit::Unit;
 use std::fmt;
 
 /// A source, its image, and the tokens and trees that the places of a trace come from.
-pub struct Description {
+pub struct Description<'t> {
+    text: &'t [u8],
     tokens: CoreVec<Token>,
+    unit: Unit,
     checked: Checked,
     image: Vec<u8>,
 }
 
 /// The body of a method, and the word DEFINITION before it.
-#[derive(Clone, Copy)]
-pub(crate) struct Body<'d> {
+pub(crate) struct Body<'d, R> {
     pub(crate) word: TokenIndex,
-    pub(crate) parts: &'d [Part<Target>],
+    pub(crate) parts: &'d [Part<R>],
 }
 
-impl Description {
+impl<'t> Description<'t> {
     /// Compiles a source.
     ///
     /// # Errors
     ///
     /// The source is refused, or memory is.
-    pub fn compile(text: &[u8]) -> Result<Description, RunError> {
+    pub fn compile(text: &'t [u8]) -> Result<Description<'t>, RunError> {
         compile(text).map_err(|fault| to_refusal(&fault, text))
     }
 
@@ -47,42 +49,63 @@ impl Description {
         &self.tokens
     }
 
+    /// What stands at a place of the text.
+    pub(crate) fn read(&self, place: Span) -> &'t str {
+        place.read(self.text)
+    }
+
     /// Where a token is in the text.
     pub(crate) fn span(&self, token: TokenIndex) -> Option<Span> {
         self.tokens.get(token).map(Span::of)
     }
 
-    fn method(&self, number: MethNo) -> Option<&Item<Target>> {
-        let items: &CoreVec<Item<Target>> = &self.checked.items;
-        let mut methods = items.iter().filter(|item| item.sort == ItemKind::Method);
-        methods.nth(usize::from(number.0))
+    pub(crate) fn body(&self, method: MethNo) -> Option<Body<'_, Target>> {
+        find_body(&self.checked.items, method)
     }
 
-    pub(crate) fn body(&self, method: MethNo) -> Option<Body<'_>> {
-        let attributes = self.method(method)?.attributes();
-        attributes.iter().find_map(|attribute| match attribute {
-            Attribute::Definition(at, parts) => Some(Body {
-                word: index_of(*at),
-                parts,
-            }),
-            _ => None,
-        })
+    /// The same body, whose references are names.
+    pub(crate) fn named_body(&self, method: MethNo) -> Option<Body<'_, Path>> {
+        find_body(&self.unit.items, method)
+    }
+
+    /// The name of a method where it is declared.
+    pub(crate) fn method_name(&self, method: MethNo) -> Option<TokenIndex> {
+        let item = find_method(&self.checked.items, method)?;
+        Some(index_of(item.at()))
     }
 }
 
-impl fmt::Debug for Description {
+fn find_method<R>(items: &[Item<R>], number: MethNo) -> Option<&Item<R>> {
+    let mut methods = items.iter().filter(|item| item.sort == ItemKind::Method);
+    methods.nth(usize::from(number.0))
+}
+
+fn find_body<R>(items: &[Item<R>], method: MethNo) -> Option<Body<'_, R>> {
+    let attributes = find_method(items, method)?.attributes();
+    attributes.iter().find_map(|attribute| match attribute {
+        Attribute::Definition(at, parts) => Some(Body {
+            word: index_of(*at),
+            parts,
+        }),
+        _ => None,
+    })
+}
+
+impl fmt::Debug for Description<'_> {
     fn fmt(&self, f: &mut fmt::Formatter<'_>) -> fmt::Result {
         f.debug_struct("Description").finish_non_exhaustive()
     }
 }
 
-fn compile(text: &[u8]) -> Result<Description, Fault> {
+fn compile(text: &[u8]) -> Result<Description<'_>, Fault> {
     let tokens = tokens_of(Global, text)?;
     let unit = unit_from(Global, text, &tokens)?;
     let checked = checked_from(Global, &unit)?;
     let image = image_from(Global, &checked)?.into_real();
     Ok(Description {
+        text,
         tokens,
+        unit,
         checked,
         image,
     })

@@ -45,6 +45,8 @@ pub enum EventKind {
         /// Why it could not be entered.
         why: Unenterable,
     },
+    /// The locals that are seen where it asks or traps, in the order of their declarations.
+    HasLocals(Vec<LocalValue>),
     /// It is aborted.
     Aborts(Cause),
     /// One of its abort methods starts.
@@ -65,6 +67,15 @@ pub enum EventKind {
         /// The line of the script that has the first, counted from 1.
         line: usize,
     },
+}
+
+/// The value of a local.
+#[derive(Clone, Copy, Debug, PartialEq, Eq)]
+pub struct LocalValue {
+    /// Where it is declared: its name in the text of the source.
+    pub name: Span,
+    /// Its value.
+    pub value: i64,
 }
 
 /// What changes a variable or aborts a run.

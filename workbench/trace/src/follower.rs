@@ -1,8 +1,10 @@
 //! A run, followed an instruction at a time.
 
 use crate::Description;
+use crate::cursor::TokenIndex;
 use crate::effect::Effect;
-use crate::event::{Cause, Event, EventKind};
+use crate::event::{Cause, Event, EventKind, LocalValue};
+use crate::locals::{Local, Locals};
 use crate::places::{KnownEffect, MethodPlaces};
 use crate::rules::Entry;
 use core_std::alloc::Global;
@@ -12,9 +14,10 @@ use edd_loader::Image;
 use edd_machine::{Machine, Values, find_body, set_fault};
 use edd_port::{Ending, PlayFault, Turn, execute, go_on, turn_of};
 use edd_run::{MethodRun, RunError, find_method};
-use edd_source::Span;
 use edd_syntax::answer::Answer;
 use edd_syntax::numbers::{MethNo, VarNo};
+use std::collections::{HashMap, HashSet};
+use std::mem;
 use std::ops::ControlFlow;
 use std::slice;
 
@@ -27,7 +30,7 @@ const MOST: u64 = 100_000;
 ///
 /// As of [`edd_run::play`].
 pub fn trace(
-    description: &Description,
+    description: &Description<'_>,
     image: &Image<'_>,
     run: &MethodRun<'_>,
     device: Option<Device<'_, '_>>,
@@ -39,13 +42,14 @@ pub fn trace(
         description,
         image,
         places: MethodPlaces::find(description, image, method),
+        locals: Locals::find(description, method),
         machine: Machine::open(unit),
         values: Values::new(Global, image, &script.values)?,
         device,
         answers: script.answers.iter(),
         left: run.steps.into(),
         requests: 0,
-        place: None,
+        token: None,
         events: Vec::new(),
     };
     follower.follow()?;
@@ -63,10 +67,11 @@ pub fn trace(
 
 /// Where a run is, and what it did so far.
 struct Follower<'f, 'b, 'i, 'd> {
-    description: &'f Description,
+    description: &'f Description<'f>,
     image: &'f Image<'b>,
     /// The places of the method that runs.
     places: MethodPlaces,
+    locals: Locals,
     machine: Machine,
     values: Values,
     device: Option<Device<'i, 'd>>,
@@ -76,28 +81,52 @@ struct Follower<'f, 'b, 'i, 'd> {
     left: u64,
     requests: usize,
     /// Where the last instruction is in the source.
-    place: Option<Span>,
+    token: Option<TokenIndex>,
     events: Vec<Event>,
 }
 
 impl Follower<'_, '_, '_, '_> {
+    /// Tells what the last instruction did.
     fn tell(&mut self, kind: EventKind) {
-        let place = self.place;
+        self.tell_at(self.token, kind);
+    }
+
+    fn tell_at(&mut self, token: Option<TokenIndex>, kind: EventKind) {
+        let place = token.and_then(|token| self.description.span(token));
         self.events.push(Event { place, kind });
     }
 
-    fn tell_of_run(&mut self, kind: EventKind) {
-        self.events.push(Event { place: None, kind });
+    /// Tells the locals that the last instruction sees, if there are some.
+    fn tell_locals(&mut self) {
+        let Some(token) = self.token else { return };
+        let mut names = HashSet::new();
+        let seen = self.locals.seen_at(token);
+        let mut values: Vec<LocalValue> = seen
+            .filter_map(|local| self.value_of_local(local))
+            .filter(|local| names.insert(self.description.read(local.name)))
+            .collect();
+        values.reverse();
+        if !values.is_empty() {
+            self.tell(EventKind::HasLocals(values));
+        }
+    }
+
+    fn value_of_local(&self, local: Local) -> Option<LocalValue> {
+        let slot = usize::from(local.slot);
+        Some(LocalValue {
+            name: self.description.span(local.name)?,
+            value: self.machine.slots.as_slice().get(slot).copied()?,
+        })
     }
 
     fn follow(&mut self) -> Result<(), RunError> {
         for _ in 0..MOST {
             if let ControlFlow::Break(ending) = self.advance()? {
-                self.tell_of_run(EventKind::Ends(ending));
+                self.tell_at(None, EventKind::Ends(ending));
                 return Ok(());
             }
         }
-        self.tell_of_run(EventKind::IsCut { steps: MOST });
+        self.tell_at(None, EventKind::IsCut { steps: MOST });
         Ok(())
     }
 
@@ -125,7 +154,7 @@ impl Follower<'_, '_, '_, '_> {
     fn step(&mut self) {
         self.left = self.left.saturating_sub(1);
         let here = self.places.at(self.machine.place);
-        self.place = here.and_then(|known| self.description.span(known.token));
+        self.token = here.map(|known| known.token);
         match here {
             Some(KnownEffect {
                 effect: Effect::Store(variable),
@@ -146,6 +175,7 @@ impl Follower<'_, '_, '_, '_> {
                 self.execute();
                 if let Status::Trapped(why) = self.machine.status {
                     self.tell(EventKind::Traps(why));
+                    self.tell_locals();
                 }
             }
         }
@@ -164,7 +194,9 @@ impl Follower<'_, '_, '_, '_> {
         if is_taken && matches!(self.machine.status, Status::Running) {
             let method = MethNo(self.machine.unit.item);
             self.places = MethodPlaces::find(self.description, self.image, method);
-            self.tell_of_run(EventKind::EntersAbortMethod(method));
+            self.locals = Locals::find(self.description, method);
+            let name = self.description.method_name(method);
+            self.tell_at(name, EventKind::EntersAbortMethod(method));
         }
     }
 
@@ -184,6 +216,7 @@ impl Follower<'_, '_, '_, '_> {
         self.requests = self.requests.saturating_add(1);
         let number = self.requests;
         self.tell(EventKind::Asks { number, request });
+        self.tell_locals();
         if let Some(answer) = self.ask_device(request)? {
             return Ok(self.take(&answer));
         }
@@ -250,19 +283,25 @@ impl Follower<'_, '_, '_, '_> {
 
     /// Makes the sets of an answer, and returns whether the core allows each of them.
     fn make_sets(&mut self, sets: &[(VarNo, i64)]) -> bool {
-        for &(variable, new) in sets {
-            self.tell_change(variable, (self.value(variable), new), Cause::Answer);
-        }
-        let is_refused =
-            |&(variable, new): &(VarNo, i64)| set_fault(self.image, variable, new).is_some();
+        let is_refused = |set: &(VarNo, i64)| set_fault(self.image, set.0, set.1).is_some();
         if sets.iter().any(is_refused) {
             return false;
         }
-        for &(variable, new) in sets {
-            if let Some(value) = self.values.numbers.get_mut(usize::from(variable.0)) {
-                *value = new;
+        // Where a variable is set more than once, the last one counts.
+        let mut last: HashMap<u16, i64> = sets.iter().map(|set| (set.0.0, set.1)).collect();
+        for &(variable, _) in sets {
+            if let Some(new) = last.remove(&variable.0) {
+                self.set(variable, new);
             }
         }
         true
+    }
+
+    fn set(&mut self, variable: VarNo, new: i64) {
+        let numbers = &mut self.values.numbers;
+        if let Some(value) = numbers.get_mut(usize::from(variable.0)) {
+            let old = mem::replace(value, new);
+            self.tell_change(variable, (old, new), Cause::Answer);
+        }
     }
 }

@@ -33,12 +33,13 @@ mod event;
 mod expressions;
 mod follower;
 mod lines;
+mod locals;
 mod places;
 mod rules;
 mod statements;
 mod walk;
 
 pub use description::Description;
-pub use event::{Cause, Event, EventKind, Unenterable};
+pub use event::{Cause, Event, EventKind, LocalValue, Unenterable};
 pub use follower::trace;
 pub use lines::TraceLines;

@@ -1,10 +1,10 @@
 //! The lines of a trace. Each begins with `trace`, as no line of a run does.
 
-use crate::event::{Cause, Event, EventKind, Unenterable};
+use crate::event::{Cause, Event, EventKind, LocalValue, Unenterable};
 use edd_display::trap_word;
 use edd_loader::Image;
 use edd_source::{Source, Span};
-use edd_syntax::numbers::{ItemNo, VarNo};
+use edd_syntax::numbers::ItemNo;
 use std::collections::HashMap;
 use std::fmt;
 
@@ -43,16 +43,18 @@ impl fmt::Display for TraceLines<'_> {
 
 impl TraceLines<'_> {
     fn write_event(&self, f: &mut fmt::Formatter<'_>, head: &str, event: &Event) -> fmt::Result {
-        if matches!(
-            event.kind,
-            EventKind::Aborts(_) | EventKind::EntersAbortMethod(_) | EventKind::Ends(_)
-        ) {
+        if let EventKind::Ends(_) = event.kind {
             return Ok(());
         }
         f.write_str(head)?;
+        self.write_kind(f, event)?;
+        f.write_str("\n")
+    }
+
+    fn write_kind(&self, f: &mut fmt::Formatter<'_>, event: &Event) -> fmt::Result {
         match event.kind {
             EventKind::Asks { number, request } => {
-                write!(f, "request {number} {}", request.kind().name())?;
+                write!(f, "request {number} {}", request.kind().name())
             }
             EventKind::Changes {
                 variable,
@@ -60,30 +62,46 @@ impl TraceLines<'_> {
                 new,
                 by,
             } => {
-                write!(f, "{} from {old} to {new}", self.name(variable))?;
-                if by == Cause::Answer {
-                    f.write_str(", by the answer")?;
-                }
+                let name = self.name(ItemNo::Variable(variable));
+                write!(f, "{name} from {old} to {new}{by}")
             }
             EventKind::Enters {
                 variable,
                 number,
                 why,
             } => {
-                let name = self.name(variable);
-                write!(f, "warning: {name} is set to {number}, {why}")?;
+                let name = self.name(ItemNo::Variable(variable));
+                write!(f, "warning: {name} is set to {number}, {why}")
+            }
+            EventKind::HasLocals(ref locals) => self.write_locals(f, locals),
+            EventKind::Aborts(by) => write!(f, "aborted{by}"),
+            EventKind::EntersAbortMethod(method) => {
+                write!(
+                    f,
+                    "abort method {} starts",
+                    self.name(ItemNo::Method(method))
+                )
             }
             EventKind::Traps(why) => {
                 write!(f, "trapped {}", trap_word(why))?;
-                self.write_line_of(f, event.place)?;
+                self.write_line_of(f, event.place)
             }
+            EventKind::Ends(_) => Ok(()),
             EventKind::IsCut { steps } => {
-                write!(f, "no more than {steps} instructions are followed")?;
+                write!(f, "no more than {steps} instructions are followed")
             }
-            EventKind::LeavesAnswers { count, line } => write_left_answers(f, count, line)?,
-            EventKind::Aborts(_) | EventKind::EntersAbortMethod(_) | EventKind::Ends(_) => {}
+            EventKind::LeavesAnswers { count, line } => write_left_answers(f, count, line),
         }
-        f.write_str("\n")
+    }
+
+    fn write_locals(&self, f: &mut fmt::Formatter<'_>, locals: &[LocalValue]) -> fmt::Result {
+        let text = self.source.lines.text();
+        let mut before = "locals";
+        for LocalValue { name, value } in locals {
+            write!(f, "{before} {} = {value}", name.read(text))?;
+            before = ",";
+        }
+        Ok(())
     }
 
     /// What a line begins with, up to what is told.
@@ -102,10 +120,17 @@ impl TraceLines<'_> {
         }
     }
 
-    fn name(&self, variable: VarNo) -> &str {
-        self.image
-            .name(ItemNo::Variable(variable))
-            .unwrap_or_default()
+    fn name(&self, item: ItemNo) -> &str {
+        self.image.name(item).unwrap_or_default()
+    }
+}
+
+impl fmt::Display for Cause {
+    fn fmt(&self, f: &mut fmt::Formatter<'_>) -> fmt::Result {
+        match self {
+            Cause::Method => Ok(()),
+            Cause::Answer => f.write_str(", by the answer"),
+        }
     }
 }
 

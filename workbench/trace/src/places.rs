@@ -12,6 +12,7 @@ use edd_instructions::{Instruction, decode};
 use edd_loader::Image;
 use edd_machine::{code_of, find_body};
 use edd_syntax::numbers::MethNo;
+use edd_syntax::reference::Target;
 use std::iter;
 use std::mem;
 
@@ -31,14 +32,14 @@ pub(crate) struct MethodPlaces {
 
 impl MethodPlaces {
     pub(crate) fn find(
-        description: &Description,
+        description: &Description<'_>,
         image: &Image<'_>,
         method: MethNo,
     ) -> MethodPlaces {
         let (Some(body), Some(unit)) = (description.body(method), find_body(image, method)) else {
             return MethodPlaces::default();
         };
-        let marked = effects_in_body(description, body);
+        let marked = effects_in_body(description, &body);
         let placed = effects_in_code(code_of(image.bytes(), unit));
         MethodPlaces {
             known: join(&marked, &placed),
@@ -52,7 +53,7 @@ impl MethodPlaces {
     }
 }
 
-fn effects_in_body(description: &Description, body: Body<'_>) -> Vec<MarkedEffect> {
+fn effects_in_body(description: &Description<'_>, body: &Body<'_, Target>) -> Vec<MarkedEffect> {
     let mut walk = BodyWalk::new(TokenCursor::behind(description.tokens(), body.word));
     walk.parts(body.parts);
     walk.found
