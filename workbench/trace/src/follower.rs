@@ -5,7 +5,7 @@ use crate::cursor::TokenIndex;
 use crate::effect::Effect;
 use crate::event::{Cause, Event, EventKind, LocalValue};
 use crate::locals::{Local, Locals};
-use crate::places::{KnownEffect, MethodPlaces};
+use crate::places::MethodPlaces;
 use crate::rules::Entry;
 use core_std::alloc::Global;
 use edd_device::{Device, DeviceFault};
@@ -155,19 +155,13 @@ impl Follower<'_, '_, '_, '_> {
         self.left = self.left.saturating_sub(1);
         let here = self.places.at(self.machine.place);
         self.token = here.map(|known| known.token);
-        match here {
-            Some(KnownEffect {
-                effect: Effect::Store(variable),
-                ..
-            }) => {
+        match here.map(|known| known.effect) {
+            Some(Effect::Store(variable)) => {
                 let old = self.value(variable);
                 self.execute();
                 self.tell_change(variable, (old, self.value(variable)), Cause::Method);
             }
-            Some(KnownEffect {
-                effect: Effect::Abort,
-                ..
-            }) => {
+            Some(Effect::Abort) => {
                 self.tell(EventKind::Aborts(Cause::Method));
                 self.execute();
             }

@@ -4,7 +4,7 @@
 //! order, which passes the tokens of the source, gives a token for each of them. Where both lists differ
 //! nothing is known.
 
-use crate::cursor::{TokenCursor, TokenIndex};
+use crate::cursor::TokenCursor;
 use crate::description::{Body, Description};
 use crate::effect::Effect;
 use crate::walk::{BodyWalk, MarkedEffect};
@@ -16,18 +16,10 @@ use edd_syntax::reference::Target;
 use std::iter;
 use std::mem;
 
-/// What the instruction at a place does, and the token that it comes from.
-#[derive(Clone, Copy, Debug)]
-pub(crate) struct KnownEffect {
-    place: usize,
-    pub(crate) effect: Effect,
-    pub(crate) token: TokenIndex,
-}
-
-/// What is known of the code of a method, in its order.
+/// What is known of the code of a method, by the places of its instructions.
 #[derive(Debug, Default)]
 pub(crate) struct MethodPlaces {
-    known: Vec<KnownEffect>,
+    by_place: Vec<Option<MarkedEffect>>,
 }
 
 impl MethodPlaces {
@@ -39,17 +31,23 @@ impl MethodPlaces {
         let (Some(body), Some(unit)) = (description.body(method), find_body(image, method)) else {
             return MethodPlaces::default();
         };
+        let code = code_of(image.bytes(), unit);
         let marked = effects_in_body(description, &body);
-        let placed = effects_in_code(code_of(image.bytes(), unit));
-        MethodPlaces {
-            known: join(&marked, &placed),
+        let placed = effects_in_code(code);
+        let mut by_place = vec![None; code.len()];
+        if are_alike(&marked, &placed) {
+            for (marked, (place, _)) in marked.into_iter().zip(placed) {
+                if let Some(known) = by_place.get_mut(place) {
+                    *known = Some(marked);
+                }
+            }
         }
+        MethodPlaces { by_place }
     }
 
     /// What is known of the instruction at a place.
-    pub(crate) fn at(&self, place: usize) -> Option<KnownEffect> {
-        let found = self.known.binary_search_by_key(&place, |known| known.place);
-        self.known.get(found.ok()?).copied()
+    pub(crate) fn at(&self, place: usize) -> Option<MarkedEffect> {
+        self.by_place.get(place).copied().flatten()
     }
 }
 
@@ -74,17 +72,7 @@ fn effects_in_code(code: &[u8]) -> Vec<(usize, Effect)> {
         .collect()
 }
 
-/// Both lists as one; nothing where their effects differ.
-fn join(marked: &[MarkedEffect], placed: &[(usize, Effect)]) -> Vec<KnownEffect> {
+fn are_alike(marked: &[MarkedEffect], placed: &[(usize, Effect)]) -> bool {
     let of_body = marked.iter().map(|marked| marked.effect);
-    if !of_body.eq(placed.iter().map(|(_, effect)| *effect)) {
-        return Vec::new();
-    }
-    let both = marked.iter().zip(placed);
-    let known = both.map(|(marked, &(place, effect))| KnownEffect {
-        place,
-        effect,
-        token: marked.token,
-    });
-    known.collect()
+    of_body.eq(placed.iter().map(|(_, effect)| *effect))
 }

@@ -11,13 +11,12 @@ use std::io::Write;
 
 /// Prints the trace of a run of a method, which was not refused.
 pub(crate) fn print(
-    name: &str,
-    text: &[u8],
+    description: &Description<'_>,
+    source: &Source<'_>,
     run: &MethodRun<'_>,
     device: Option<DeviceSource<'_>>,
     out: &mut impl Write,
 ) -> Result<(), Failure> {
-    let description = Description::compile(text)?;
     let image = load(Global, description.image()).map_err(RunError::from)?;
     let device_bytes = device.map(DeviceSource::compile).transpose()?;
     let device_image = match &device_bytes {
@@ -28,10 +27,9 @@ pub(crate) fn print(
         Some(device_image) => Some(Device::new(Global, &image, device_image)?),
         None => None,
     };
-    let events = edd_trace::trace(&description, &image, run, device)?;
-    let source = Source::new(name, text);
+    let events = edd_trace::trace(description, &image, run, device)?;
     let lines = TraceLines {
-        source: &source,
+        source,
         image: &image,
         events: &events,
     };
