@@ -4,11 +4,11 @@ mod check;
 mod diff;
 mod dump;
 mod explain;
+mod extended_run;
 mod fmt;
 mod lsp;
 mod open;
 mod proved;
-mod simulate;
 mod test;
 mod trace;
 
@@ -17,8 +17,8 @@ use crate::failure::{DONE, FILE, Failure, reason};
 use crate::output::Lines;
 use core_std::string::String as CoreString;
 use edd_files::Files;
+use extended_run::ExtendedRun;
 use proved::CoreCommand;
-use simulate::Simulation;
 use std::io::Write;
 
 /// Runs a command, and returns its exit status. The words are those of the command line.
@@ -50,38 +50,33 @@ pub(crate) fn run(
 }
 
 fn run_play(args: &Play, files: &mut impl Files, output: &mut (impl Write + Send)) -> u8 {
-    let Some(device) = &args.run.device else {
+    if args.run.device.is_none() {
         return CoreCommand::play(args).run(files, output);
-    };
-    let simulation = Simulation {
+    }
+    let extended = ExtendedRun {
         file: &args.image,
         is_source: false,
-        device,
+        device: args.run.device.as_deref(),
         run: &args.run,
         is_traced: false,
         is_quiet: args.hints.quiet,
     };
-    simulation.run(files, output)
+    extended.run(files, output)
 }
 
 fn run_try(args: &Try, files: &mut impl Files, output: &mut (impl Write + Send)) -> u8 {
-    let Some(device) = &args.run.device else {
-        let command = CoreCommand::try_source(args);
-        return if args.trace {
-            command.run_traced(files, output)
-        } else {
-            command.run(files, output)
-        };
-    };
-    let simulation = Simulation {
+    if args.run.device.is_none() && !args.trace {
+        return CoreCommand::try_source(args).run(files, output);
+    }
+    let extended = ExtendedRun {
         file: &args.source,
         is_source: true,
-        device,
+        device: args.run.device.as_deref(),
         run: &args.run,
         is_traced: args.trace,
         is_quiet: args.hints.quiet,
     };
-    simulation.run(files, output)
+    extended.run(files, output)
 }
 
 /// Prints the lines of a command and why it ended early, and returns the exit status. After a write

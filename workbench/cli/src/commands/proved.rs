@@ -8,9 +8,8 @@ use crate::output::Lines;
 use crate::recorder::Recorder;
 use core_std::alloc::Global;
 use core_std::io as core_io;
-use core_std::vec::Vec as CoreVec;
 use edd_files::Files;
-use edd_program::{Ended, Request, Run, Showing};
+use edd_program::{Request, Run, Showing};
 use edd_run::{MethodRun, RunError};
 use std::io::Write;
 
@@ -70,24 +69,6 @@ impl<'a> CoreCommand<'a> {
         let mut lines = Lines::new(output);
         let ended = edd_program::run(Global, self.request, &mut recorder, &mut lines);
         let status = lines.end(ended);
-        self.explain_status(status, &mut recorder);
-        status
-    }
-
-    /// Runs `try`, and prints the trace of the run.
-    pub(crate) fn run_traced(self, files: &mut impl Files, output: &mut (dyn Write + Send)) -> u8 {
-        let mut recorder = self.recorder(files);
-        let status = super::print(output, &mut recorder, |recorder, out| {
-            let mut lines = CoreVec::new(Global);
-            let Ended { status, .. } = edd_program::run(Global, self.request, recorder, &mut lines);
-            out.write_all(&lines)?;
-            match (status, self.request, recorder.read.as_slice()) {
-                (DONE, Request::Try { source, run }, [text, script]) => {
-                    super::trace::print(source, text, &under(&run, script), None, out)
-                }
-                _ => Err(Failure::Printed(status)),
-            }
-        });
         self.explain_status(status, &mut recorder);
         status
     }

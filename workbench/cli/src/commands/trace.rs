@@ -1,34 +1,38 @@
-//! `edd try --trace`: where in the source a method asks, changes variables and traps.
+//! `edd try --trace`: how a run of a method came about.
 
 use crate::failure::Failure;
 use core_std::alloc::Global;
-use core_std::io::Write as CoreWrite;
 use edd_device::Device;
 use edd_loader::load;
-use edd_run::{DeviceSource, MethodRun, RunError, find_method};
-use legacy_tracing::Followed;
+use edd_run::{DeviceSource, MethodRun, RunError};
+use edd_source::Source;
+use edd_trace::{Description, TraceLines};
+use std::io::Write;
 
 /// Prints the trace of a run of a method, which was not refused.
 pub(crate) fn print(
-    name: &str,
-    source: &[u8],
+    description: &Description<'_>,
+    source: &Source<'_>,
     run: &MethodRun<'_>,
     device: Option<DeviceSource<'_>>,
-    out: &mut impl CoreWrite,
+    out: &mut impl Write,
 ) -> Result<(), Failure> {
-    let bytes = edd_run::compile(source)?;
-    let image = load(Global, &bytes).map_err(RunError::from)?;
-    let script = edd_script::parse(Global, &image, run.script).map_err(RunError::from)?;
-    let method = find_method(&image, run.method)?;
-    let steps = run.steps.into();
-    let followed = Followed::new(name, source, &script, run.script, method, steps);
+    let image = load(Global, description.image()).map_err(RunError::from)?;
     let device_bytes = device.map(DeviceSource::compile).transpose()?;
-    let Some(device_bytes) = device_bytes else {
-        legacy_tracing::trace(Global, &image, followed, None, out).map_err(RunError::from)?;
-        return Ok(());
+    let device_image = match &device_bytes {
+        Some(bytes) => Some(load(Global, bytes).map_err(RunError::from)?),
+        None => None,
     };
-    let device_image = load(Global, &device_bytes).map_err(RunError::from)?;
-    let device = Device::new(Global, &image, &device_image)?;
-    legacy_tracing::trace(Global, &image, followed, Some(device), out).map_err(RunError::from)?;
+    let device = match &device_image {
+        Some(device_image) => Some(Device::new(Global, &image, device_image)?),
+        None => None,
+    };
+    let events = edd_trace::trace(description, &image, run, device)?;
+    let lines = TraceLines {
+        source,
+        image: &image,
+        events: &events,
+    };
+    write!(out, "{lines}")?;
     Ok(())
 }

@@ -1,4 +1,4 @@
-//! `play` and `try` with a simulated device, which answers the requests of the method.
+//! `play` and `try` with `--device`, which answers the requests of the method, or with `--trace`.
 
 use crate::command_line;
 use crate::failure::Failure;
@@ -8,21 +8,23 @@ use crate::recorder::Recorder;
 use core_std::alloc::Global;
 use edd_files::{Files, read, read_script};
 use edd_run::{DeviceSource, MethodRun, RunError};
+use edd_source::Source;
+use edd_trace::Description;
 use std::io::Write;
 
 /// A run that is asked for.
 #[derive(Clone, Copy)]
-pub(crate) struct Simulation<'a> {
+pub(crate) struct ExtendedRun<'a> {
     pub(crate) file: &'a str,
     /// Whether the file is a source, and no image.
     pub(crate) is_source: bool,
-    pub(crate) device: &'a str,
+    pub(crate) device: Option<&'a str>,
     pub(crate) run: &'a command_line::Run,
     pub(crate) is_traced: bool,
     pub(crate) is_quiet: bool,
 }
 
-impl Simulation<'_> {
+impl ExtendedRun<'_> {
     /// Runs the method, prints what it did, and returns the exit status.
     pub(crate) fn run(self, files: &mut impl Files, output: &mut (dyn Write + Send)) -> u8 {
         let mut recorder = Recorder::new(files, self.is_quiet);
@@ -46,29 +48,28 @@ impl Simulation<'_> {
         files: &mut Recorder<'_, F>,
         out: &mut Lines<'_>,
     ) -> Result<(), Failure> {
-        let description = read(Global, files, self.file)?.into_real();
-        let device = read(Global, files, self.device)?;
-        let script = read_script(Global, files, self.run.script.as_deref())?;
-        let device = DeviceSource {
-            name: self.device,
-            text: &device,
+        let text = read(Global, files, self.file)?.into_real();
+        let device_text = match self.device {
+            Some(name) => Some(read(Global, files, name)?),
+            None => None,
         };
+        let script = read_script(Global, files, self.run.script.as_deref())?;
+        let device = self.device.zip(device_text.as_deref());
+        let device = device.map(|(name, text)| DeviceSource { name, text });
         let run = MethodRun {
             method: &self.run.method,
             script: &script,
             language: &self.run.language.code,
             steps: self.run.steps,
         };
-        let compiled;
-        let image = if self.is_source {
-            compiled = edd_run::compile(&description)?;
-            &compiled
-        } else {
-            &description
-        };
-        let ended = edd_run::play_with_device(image, device, &run, out);
+        if !self.is_source {
+            return Ok(play(&text, device, &run, out)?);
+        }
+        let description = Description::compile(&text)?;
+        let ended = play(description.image(), device, &run, out);
         if self.is_traced && matches!(ended, Ok(()) | Err(RunError::NoAnswer(_))) {
-            super::trace::print(self.file, &description, &run, Some(device), out)?;
+            let source = Source::new(self.file, &text);
+            super::trace::print(&description, &source, &run, device, out)?;
         }
         Ok(ended?)
     }
@@ -92,7 +93,7 @@ impl Simulation<'_> {
                 name: self.file,
                 bytes,
             },
-            device: input(self.device),
+            device: self.device.and_then(&mut input),
             script: self.run.script.as_deref().and_then(input),
         };
         match refusal {
@@ -102,5 +103,18 @@ impl Simulation<'_> {
             }
             _ => hints::explain(refusal, &inputs, files),
         }
+    }
+}
+
+/// Runs a method of an image, with a device where there is one, and prints what it did.
+fn play(
+    image: &[u8],
+    device: Option<DeviceSource<'_>>,
+    run: &MethodRun<'_>,
+    out: &mut Lines<'_>,
+) -> Result<(), RunError> {
+    match device {
+        Some(device) => edd_run::play_with_device(image, device, run, out),
+        None => edd_run::play(image, run, out),
     }
 }
