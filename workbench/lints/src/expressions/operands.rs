@@ -26,6 +26,11 @@ fn is_bare_comparison(e: &Expr<Target>) -> bool {
     matches!(e, Expr::Compare(..))
 }
 
+/// Whether an operator is one on bits.
+pub(super) fn joins_bits(operator: Operator) -> bool {
+    matches!(operator, Operator::And | Operator::Or | Operator::Xor)
+}
+
 /// Bits of a comparison, as in `a & 2 == 2`, which is `a & (2 == 2)`. Two comparisons, as in
 /// `a == 1 | a == 2`, bind as they look.
 pub(super) fn check_bits(
@@ -35,8 +40,7 @@ pub(super) fn check_bits(
     at: TokenIndex,
     walk: &mut Walk<'_, '_>,
 ) {
-    let is_of_bits = matches!(operator, Operator::And | Operator::Or | Operator::Xor);
-    if is_of_bits && is_bare_comparison(first) != is_bare_comparison(second) {
+    if joins_bits(operator) && is_bare_comparison(first) != is_bare_comparison(second) {
         walk.findings.add(at, ConditionKind::ComparedBits);
     }
 }

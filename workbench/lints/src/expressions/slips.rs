@@ -1,7 +1,7 @@
 //! Operators that are almost certainly not meant: bits where truth is, constants that swallow an
 //! operand, and sums that do not fit.
 
-use super::operands::referred;
+use super::operands::{joins_bits, referred};
 use super::stores::without_parentheses;
 use super::walk::Walk;
 use crate::instrument::variable_of;
@@ -75,7 +75,7 @@ pub(super) fn check_binary(
         }
         _ => {}
     }
-    if matches!(operator, Operator::And | Operator::Or | Operator::Xor) {
+    if joins_bits(operator) {
         check_masked(first, second, at, walk);
         check_masked(second, first, at, walk);
     }
@@ -93,7 +93,6 @@ fn check_negated(
     at: TokenIndex,
     walk: &mut Walk<'_, '_>,
 ) {
-    let is_of_bits = matches!(operator, Operator::And | Operator::Or | Operator::Xor);
     let is_negated = matches!(first, Expr::Unary(UnaryOperator::Not, _));
     let is_truth = matches!(
         without_parentheses(second),
@@ -102,7 +101,7 @@ fn check_negated(
             | Expr::LogicalAnd(..)
             | Expr::LogicalOr(..)
     );
-    if is_of_bits && is_negated && !is_truth {
+    if joins_bits(operator) && is_negated && !is_truth {
         walk.findings.add(at, ConditionKind::NegatedFirst);
     }
 }
