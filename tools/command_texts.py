@@ -70,7 +70,7 @@ def man_page(command, version, date, others):
     if command.commands:
         page.append(".SH COMMANDS\n" + list_of(command.commands))
     if command.arguments:
-        page.append(".SH ARGUMENTS\n" + list_of((it.strip("<>[]"), about) for it, about in command.arguments))
+        page.append(".SH ARGUMENTS\n" + list_of((re.sub(r"[<>\[\]]", "", it), about) for it, about in command.arguments))
     page.append(".SH OPTIONS\n" + list_of((forms_of(it), it.about) for it in command.options))
     page.append(".SH EXIT STATUS\n" + list_of(STATUSES))
     page.append(".SH SEE ALSO\n" + ", ".join(f".BR {escaped(it)} (1)" if not at else f"\n.BR {escaped(it)} (1)"
@@ -133,7 +133,8 @@ def zsh(commands):
 
     def option_of(it):
         value = f":{it.value}:" + (f"({' '.join(it.words)})" if it.words else "_files") if it.value else ""
-        return f"'{it.long}[{plain(it.about)}]{value}'"
+        forms = f"'({it.short} {it.long})'{{{it.short},{it.long}}}'" if it.short else f"'{it.long}"
+        return f"{forms}[{plain(it.about)}]{value}'"
 
     names = "\n".join(f"        '{it.name}:{plain(it.about)}'" for it in commands)
     cases = "\n".join(f"        {it.name}) _arguments {' '.join(option_of(option) for option in it.options)} '*:file:_files' ;;"

@@ -14,7 +14,7 @@ pub use compiling::{Compiled, save_image};
 pub use files::{FileFault, Files, MOST_BYTES, read_all};
 pub use layouts::{Layout, layout_of, save_layout};
 pub use named::{NamedFault, of_file};
-pub use naming::{are_in_order, are_words, is_word, name_record};
+pub use naming::are_in_order;
 pub use reading::{
     INPUT, STANDARD, Source, input_of, read, read_bytes, read_marked, read_script, read_sources,
 };

@@ -2,7 +2,7 @@
 //! under another one.
 
 ghost use Rattle.std.specs.Prelude.{◌≡◌, IfSome, IsTrue, map, string_bytes};
-ghost use Rattle.std.specs.List.{All, Contains};
+ghost use Rattle.std.specs.List.{Contains};
 ghost use Rattle.edd_files.specs.Names.{record_word_of};
 ghost use Rattle.edd_files.specs.Saves.{AreInOrder, NameRecord};
 
@@ -13,7 +13,7 @@ fn is_same(word: &str, name: &str) -> bool
 }
 
 /// Whether this is one of the words.
-pub fn is_word(words: &[String], name: &str) -> bool
+pub(crate) fn is_word(words: &[String], name: &str) -> bool
     ensures { IsTrue result → Contains (map string_bytes words.now) name.now }
 {
     for word in words {
@@ -22,19 +22,6 @@ pub fn is_word(words: &[String], name: &str) -> bool
         }
     }
     false
-}
-
-/// Whether all these are words.
-pub fn are_words(words: &[String], names: &[&str]) -> bool
-    ensures { IsTrue result → All (λ name. Contains (map string_bytes words.now) name.now)
-        names.now }
-{
-    for name in names {
-        if !is_word(words, *name) {
-            return false;
-        }
-    }
-    true
 }
 
 /// Whether a word is the first name, and one after it the second.
@@ -84,7 +71,7 @@ fn has_record_word(words: &[String], name: &str) -> bool
 }
 
 /// Whether the words name the file for a record.
-pub fn name_record(words: &[String], name: &str) -> bool
+pub(crate) fn name_record(words: &[String], name: &str) -> bool
     ensures { IsTrue result → NameRecord (map string_bytes words.now) name.now }
 {
     if has_record_word(words, name) {

@@ -1,10 +1,8 @@
-//! How a maker's test ended: what it printed beside what it expects, and how many passed.
+//! Whether a maker's test passes: what it printed beside what it expects.
 #![tactic(auto)]
 
 mod comparing;
-mod tally;
-mod telling;
+mod refusals;
 
 pub use comparing::{Difference, compare};
-pub use tally::{Ended, Tally};
-pub use telling::{ending_of, refusal_in};
+pub use refusals::refusal_in;

@@ -2,15 +2,33 @@
 
 use crate::Document;
 use crate::comments::is_unread;
+use crate::cursor::{
+    Cursor, begins_statement, cursor_at, is_behind_if, is_enumerated, kind_before, wants_value,
+    words_around,
+};
+use crate::hints::names_command;
+use crate::languages::code_before;
 use crate::offers::{Completion, CompletionKind, Offers};
 use crate::place_terms::role_at;
-use crate::signature::call_before;
+use crate::signature::{Call, call_before};
+use crate::snippets::{attribute_snippet, item_snippet, statement_snippet};
 use crate::spots::{Braces, Place, is_number_word};
 use edd_lexer::token::TokenKind;
 use edd_source::Span;
 use edd_syntax::numbers::{ATTRIBUTES, Attr, Home, Kind};
 use edd_syntax::operators::Parameter;
 use edd_syntax::symbols::{Keyword, Symbol};
+
+/// The words of the header, in their order.
+const HEADER: [Keyword; 4] = [
+    Keyword::Manufacturer,
+    Keyword::DeviceType,
+    Keyword::DeviceRevision,
+    Keyword::DdRevision,
+];
+
+/// How many tokens a header has at most.
+const MOST_HEADER: usize = 16;
 
 /// The words with which items begin.
 const ITEMS: [Keyword; 6] = [
@@ -78,135 +96,34 @@ pub struct Completions<'d> {
     pub entries: Vec<Completion<'d>>,
 }
 
-/// Where something is to be written.
-#[derive(Clone, Copy)]
-struct Cursor {
-    /// The word that is being written, or else the next token.
-    token: usize,
-    is_written: bool,
-    replaced: Span,
-}
-
 impl Document {
-    /// What may be written at a byte, and the part of a word before it that it replaces. In comments,
-    /// numbers and strings, and on a line behind a lexical fault, there is nothing.
+    /// What may be written at a byte, and the part of a word before it that it replaces. In strings
+    /// there are the codes of languages; in comments and numbers, and on a line behind a lexical fault,
+    /// there is nothing.
     pub fn completions(&self, byte: usize) -> Completions<'_> {
         let byte = byte.min(self.text().len());
         let mut offers = Offers::new(self);
         let mut replaced = Span::before(byte);
-        if let Some(cursor) = cursor_at(self, byte)
+        if let Some(begun) = code_before(self, byte) {
+            replaced = begun;
+            offers.add_languages(byte);
+        } else if let Some(cursor) = cursor_at(self, byte)
             && !is_unread(self, byte)
         {
             replaced = cursor.replaced;
-            let token = cursor.token;
-            if kind_before(self, token) != Some(TokenKind::Symbol(Symbol::Dot)) {
-                offers.add_at(cursor);
-            } else if let Some(owner) = token.checked_sub(2)
-                && let Some(collection) = self.collection_at(owner)
-            {
-                offers.add_members(collection);
-            }
+            offers.add_behind(cursor);
         }
-        Completions {
-            replaced,
-            entries: offers.entries,
-        }
+        let mut entries = offers.entries;
+        let begun = replaced.text(self.text()).unwrap_or_default();
+        entries.sort_by_key(|entry| !begins_with(entry.label, begun));
+        Completions { replaced, entries }
     }
 }
 
-/// Where something is to be written at a byte; nothing in a number or a string.
-fn cursor_at(document: &Document, byte: usize) -> Option<Cursor> {
-    let next = Cursor {
-        token: document.token_from(byte),
-        is_written: false,
-        replaced: Span::before(byte),
-    };
-    let Some(touched) = document.token_at(byte) else {
-        return Some(next);
-    };
-    let span = document.span(touched)?;
-    if span.start == byte {
-        return Some(next);
-    }
-    match document.kind(touched)? {
-        TokenKind::Name | TokenKind::Keyword(_) => Some(Cursor {
-            token: touched,
-            is_written: true,
-            replaced: Span {
-                start: span.start,
-                end: byte,
-            },
-        }),
-        TokenKind::Integer(_) | TokenKind::Decimal => None,
-        TokenKind::String if byte < span.end => None,
-        TokenKind::String | TokenKind::Symbol(_) => Some(next),
-    }
-}
-
-/// The words that begin something in the braces around a cursor, besides the one that is being
-/// written.
-fn words_around(document: &Document, cursor: Cursor) -> Vec<Keyword> {
-    let here = document.spot(cursor.token);
-    let Some(open) = here.open else {
-        return Vec::new();
-    };
-    let is_inside = |token: &usize| {
-        let spot = document.spot(*token);
-        let is_last = spot.open == Some(open) && document.is_sign(*token, Symbol::CloseBrace);
-        !is_last && spot.open.is_some()
-    };
-    let inside = (open.saturating_add(1)..document.tokens().len()).take_while(is_inside);
-    let others = inside.filter(|token| !(cursor.is_written && *token == cursor.token));
-    let beginning = others.filter(|token| {
-        let spot = document.spot(*token);
-        spot.open == Some(open) && spot.place == here.place
-    });
-    beginning
-        .filter_map(|token| match document.kind(token) {
-            Some(TokenKind::Keyword(word)) => Some(word),
-            _ => None,
-        })
-        .collect()
-}
-
-/// Whether braces are those of an enumerated type: its word comes before them, and maybe its size.
-fn is_enumerated(document: &Document, open: usize) -> bool {
-    let before = open.saturating_sub(1);
-    let word = if document.is_sign(before, Symbol::CloseParenthesis) {
-        document.word(open.saturating_sub(4))
-    } else {
-        document.word(before)
-    };
-    word == "ENUMERATED" || word == "BIT_ENUMERATED"
-}
-
-/// What sort of token is before another one.
-fn kind_before(document: &Document, token: usize) -> Option<TokenKind> {
-    document.kind(token.checked_sub(1)?)
-}
-
-/// Whether a value is still to be written before a token.
-fn wants_value(document: &Document, token: usize) -> bool {
-    !matches!(
-        kind_before(document, token),
-        Some(TokenKind::Name | TokenKind::Integer(_) | TokenKind::Decimal | TokenKind::String)
-    )
-}
-
-/// Whether a statement may begin at a token.
-fn begins_statement(document: &Document, token: usize) -> bool {
-    matches!(
-        kind_before(document, token),
-        Some(
-            TokenKind::Symbol(
-                Symbol::Semicolon
-                    | Symbol::OpenBrace
-                    | Symbol::CloseBrace
-                    | Symbol::CloseParenthesis
-                    | Symbol::Colon
-            ) | TokenKind::Keyword(Keyword::MethodElse | Keyword::Do)
-        )
-    )
+/// Whether a word begins with the letters that are written, small or large.
+fn begins_with(word: &str, begun: &str) -> bool {
+    let beginning = word.get(..begun.len());
+    beginning.is_some_and(|beginning| beginning.eq_ignore_ascii_case(begun))
 }
 
 /// Whether the value of an attribute may depend on conditions.
@@ -218,16 +135,37 @@ fn may_be_conditional(word: Keyword) -> bool {
 }
 
 impl Offers<'_> {
-    /// What may stand at a cursor that is behind no dot.
+    /// What may stand at a cursor: members behind a dot, elements behind a bracket, else what its
+    /// place says.
+    fn add_behind(&mut self, cursor: Cursor) {
+        let document = self.document;
+        let owner = cursor.token.checked_sub(2);
+        match kind_before(document, cursor.token) {
+            Some(TokenKind::Symbol(Symbol::Dot)) => {
+                if let Some(collection) = owner.and_then(|owner| document.collection_at(owner)) {
+                    self.add_members(collection);
+                }
+            }
+            Some(TokenKind::Symbol(Symbol::OpenBracket)) => {
+                if let Some(array) = owner.and_then(|owner| document.first_item(owner)) {
+                    self.add_elements(array);
+                }
+                self.add_at(cursor);
+            }
+            _ => self.add_at(cursor),
+        }
+    }
+
+    /// What may stand at a cursor by its place.
     fn add_at(&mut self, cursor: Cursor) {
         let token = cursor.token;
         match self.document.spot(token).place {
-            Place::Top => self.add_words(&ITEMS, CompletionKind::Keyword),
+            Place::Top => self.add_top(cursor),
             Place::Head(_) => self.add_head(token),
             Place::Start(braces) => self.add_parts(cursor, braces),
             Place::Value(word) => self.add_value(token, word),
-            Place::Expression => self.add_items_of(&VALUES),
-            Place::Entry(word) => self.add_entry(word),
+            Place::Expression => self.add_expression(token),
+            Place::Entry(word) => self.add_entry(token, word),
             Place::MemberItem(Some(kind)) => self.add_items(kind),
             Place::MemberItem(None) => self.add_items_of(&KINDS_OF_MEMBERS),
             Place::ElementVariable => self.add_items(Kind::Variable),
@@ -259,7 +197,8 @@ impl Offers<'_> {
         // A command may have several transactions.
         let is_missing = |word: &Keyword| *word == Keyword::Transaction || !written.contains(word);
         let missing: Vec<_> = words.into_iter().filter(is_missing).collect();
-        self.add_words(&missing, CompletionKind::Attribute);
+        self.add_else(cursor.token);
+        self.add_beginnings(&missing, CompletionKind::Attribute, attribute_snippet);
     }
 
     /// What may come before the braces of an item.
@@ -281,11 +220,70 @@ impl Offers<'_> {
         }
     }
 
-    /// The value of an attribute.
-    fn add_value(&mut self, token: usize, word: Keyword) {
-        if !wants_value(self.document, token) {
+    /// The header's words that are missing, in their order, and the words of items. Behind a word of
+    /// the header is a number.
+    fn add_top(&mut self, cursor: Cursor) {
+        let document = self.document;
+        let token = cursor.token;
+        if let Some(TokenKind::Keyword(word)) = kind_before(document, token)
+            && HEADER.contains(&word)
+        {
             return;
         }
+        if document
+            .items()
+            .first()
+            .is_none_or(|item| token <= item.first)
+        {
+            let is_written = |word: &Keyword| {
+                let before = (0..token).take(MOST_HEADER);
+                before.into_iter().any(|it| document.is_keyword(it, *word))
+            };
+            let missing: Vec<_> = HEADER.into_iter().filter(|it| !is_written(it)).collect();
+            self.add_words(&missing, CompletionKind::Keyword);
+        }
+        self.add_beginnings(&ITEMS, CompletionKind::Keyword, item_snippet);
+    }
+
+    /// ELSE behind the braces of an IF.
+    fn add_else(&mut self, token: usize) {
+        if is_behind_if(self.document, token) {
+            self.add_words(&[Keyword::Else], CompletionKind::Keyword);
+        }
+    }
+
+    /// The words of the cases of SELECT where one may begin, and whether one may.
+    fn add_cases(&mut self, token: usize) -> bool {
+        let document = self.document;
+        let begins = matches!(
+            kind_before(document, token),
+            Some(TokenKind::Symbol(
+                Symbol::OpenBrace | Symbol::Semicolon | Symbol::CloseBrace
+            ))
+        );
+        if document.selector_of(token).is_none() {
+            return false;
+        }
+        if begins {
+            self.add_words(&[Keyword::Case, Keyword::Default], CompletionKind::Keyword);
+        }
+        begins
+    }
+
+    /// The value of an attribute.
+    fn add_value(&mut self, token: usize, word: Keyword) {
+        if let Some(variable) = self.document.compared_with(token) {
+            self.add_enumerators(variable);
+        }
+        if self
+            .document
+            .is_keyword(token.saturating_sub(1), Keyword::Case)
+            || !wants_value(self.document, token)
+            || self.add_cases(token)
+        {
+            return;
+        }
+        self.add_else(token);
         if is_number_word(word) {
             self.add_items_of(&VALUES);
         } else if let Some(role) = role_at(Place::Value(word)) {
@@ -298,7 +296,14 @@ impl Offers<'_> {
     }
 
     /// An element of a list.
-    fn add_entry(&mut self, word: Keyword) {
+    fn add_entry(&mut self, token: usize, word: Keyword) {
+        let is_first = self
+            .document
+            .is_sign(token.saturating_sub(1), Symbol::OpenBrace);
+        if self.add_cases(token) && is_first {
+            return;
+        }
+        self.add_else(token);
         let kinds: &[Kind] = if word == Keyword::Items {
             &ENTRIES
         } else {
@@ -317,11 +322,50 @@ impl Offers<'_> {
             Some(Parameter::DeviceVariable) => return self.add_items_of(&HOLDERS),
             Some(Parameter::Number) | None => {}
         }
+        if let Some(call) = call {
+            self.add_command_argument(token, call);
+        }
+        if let Some(variable) = self.document.compared_with(token) {
+            self.add_enumerators(variable);
+        }
+        if self
+            .document
+            .is_keyword(token.saturating_sub(1), Keyword::MethodCase)
+        {
+            return;
+        }
         self.add_locals(token);
         self.add_items_of(&VALUES);
         self.add_functions();
         if begins_statement(self.document, token) {
-            self.add_words(&STATEMENTS, CompletionKind::Keyword);
+            self.add_beginnings(&STATEMENTS, CompletionKind::Keyword, statement_snippet);
+        }
+    }
+
+    /// What an expression in an attribute may have.
+    fn add_expression(&mut self, token: usize) {
+        if let Some(variable) = self.document.compared_with(token) {
+            self.add_enumerators(variable);
+        }
+        self.add_items_of(&VALUES);
+    }
+
+    /// The numbers of commands and of their transactions, where an argument begins that is one.
+    fn add_command_argument(&mut self, token: usize, call: Call) {
+        if !names_command(call.function) {
+            return;
+        }
+        let document = self.document;
+        let first = call.open.saturating_add(1);
+        if call.argument == 0 && token == first {
+            self.add_command_numbers();
+        }
+        let is_second =
+            call.argument == 1 && document.is_sign(token.saturating_sub(1), Symbol::Comma);
+        if is_second && let Some(command) = document.command_named(first) {
+            for number in document.transactions(command) {
+                self.add_number(number, document.word(command.name));
+            }
         }
     }
 }

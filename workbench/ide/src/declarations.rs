@@ -1,4 +1,5 @@
 //! What a text declares, but for locals: items, members of collections and elements of arrays.
+
 use crate::spots::Place;
 use crate::walk::{Item, Map};
 use edd_lexer::token::{Token, TokenKind};
@@ -35,7 +36,7 @@ pub(crate) struct Declaration {
     pub(crate) token: usize,
 }
 
-// A member or an element, by its item and by its word or number there.
+/// A member or an element, by its item and by its word or number there.
 #[derive(Clone, Copy, Debug)]
 struct Inner {
     item: usize,
@@ -82,7 +83,7 @@ impl Words<'_> {
             .is_some_and(|token| token.kind == TokenKind::Name)
     }
 
-    // The name behind a token and a comma.
+    /// The name behind a token and a comma.
     fn named_behind(&self, token: usize) -> Option<usize> {
         let name = token.saturating_add(2);
         let is_behind_comma = is_sign(self.tokens, token.saturating_add(1), Symbol::Comma);
@@ -90,7 +91,7 @@ impl Words<'_> {
     }
 }
 
-// The member or the element that a token declares in an item, with its key.
+/// The member or the element that a token declares in an item, with its key.
 fn inner_at(
     words: Words<'_>,
     items: &[Item],
@@ -115,7 +116,7 @@ fn inner_at(
     }
 }
 
-// The item in which a token is, where the one before it was in this item or before the first one.
+/// The item in which a token is, where the one before it was in this item or before the first one.
 fn item_from(items: &[Item], item: usize, token: usize) -> usize {
     let next = item.saturating_add(1);
     match items.get(next) {

@@ -15,6 +15,20 @@ use edd_syntax::words::{Variant, Words};
 
 const ENGLISH: &str = "en";
 
+/// What is told of an item beside its texts and its type, in this order.
+const TOLD: [Keyword; 7] = [
+    Keyword::MinValue,
+    Keyword::MaxValue,
+    Keyword::DefaultValue,
+    Keyword::ConstantUnit,
+    Keyword::Handling,
+    Keyword::Number,
+    Keyword::Operation,
+];
+
+/// The most values of an enumerated variable that are told.
+const MOST_ENUMERATORS: usize = 20;
+
 impl Document {
     /// The token with which an attribute of an item begins, or a part of its TYPE.
     pub(crate) fn attribute(&self, item: &Item, word: Keyword) -> Option<usize> {
@@ -129,32 +143,51 @@ impl Document {
         }
     }
 
-    /// Writes what the text says of an item: its kind, name, label, type with limits, and help.
+    /// Writes what the text says of an item: its kind, name, label, type, limits and values, and help.
     fn describe_item(&self, item: &Item, markdown: &mut Markdown) {
         markdown.begin_paragraph();
         let (kind, name) = (kind_word(item.kind), self.word(item.name));
         markdown.push(&format!("`{kind} {name}`"));
         push_words(self.text_of(item, Keyword::Label), markdown);
-        self.describe_type(item, markdown);
+        self.describe_attributes(item, markdown);
+        self.describe_enumerators(item, markdown);
         push_words(self.text_of(item, Keyword::Help), markdown);
     }
 
-    /// Writes the type of a variable and its limits, as they stand in the source.
-    fn describe_type(&self, item: &Item, markdown: &mut Markdown) {
-        let Some(source) = self.type_source(item) else {
-            return;
-        };
-        markdown.begin_paragraph();
-        markdown.push_code(source.read(self.bytes()));
-        for word in [Keyword::MinValue, Keyword::MaxValue] {
-            if let Some(token) = self.attribute(item, word)
-                && let Some(value) = self.value_behind(token, item.last)
-            {
+    /// Writes the type of a variable and what else is short to say of an item, as it stands in the
+    /// source.
+    fn describe_attributes(&self, item: &Item, markdown: &mut Markdown) {
+        let source = self.type_source(item);
+        let mut parts: Vec<_> = source.map(|source| (None, source)).into_iter().collect();
+        parts.extend(TOLD.into_iter().filter_map(|word| {
+            let token = self.attribute(item, word)?;
+            Some((Some(word), self.value_behind(token, item.last)?))
+        }));
+        for (number, (word, source)) in parts.into_iter().enumerate() {
+            if number == 0 {
+                markdown.begin_paragraph();
+            } else {
                 markdown.push(", ");
+            }
+            if let Some(word) = word {
                 markdown.push_escaped(word.spelling());
                 markdown.push(" ");
-                markdown.push_code(value.read(self.bytes()));
             }
+            markdown.push_code(source.read(self.bytes()));
+        }
+    }
+
+    /// Writes the values of an enumerated variable, each on a line of its own.
+    fn describe_enumerators(&self, item: &Item, markdown: &mut Markdown) {
+        for (number, value) in self.enumerators(item).take(MOST_ENUMERATORS).enumerate() {
+            if number == 0 {
+                markdown.begin_paragraph();
+            } else {
+                markdown.push("  \n");
+            }
+            markdown.push_code(self.word(value.token));
+            markdown.push(" ");
+            markdown.push_escaped(&value.name);
         }
     }
 }

@@ -1,4 +1,5 @@
 //! What the reserved words mean, and where the page on the language tells of them.
+
 use edd_syntax::numbers::{Attr, ValueKind};
 use edd_syntax::symbols::Keyword;
 
@@ -25,7 +26,7 @@ impl Section {
     }
 }
 
-// What a word means of which nothing is said alone: what its attribute gives, if it is one's.
+/// What a word means of which nothing is said alone: what its attribute gives, if it is one's.
 fn meaning_by_table(word: Keyword) -> &'static str {
     let Some(attr) = Attr::from_word(word) else {
         return "A word of other languages, which methods do not have.";

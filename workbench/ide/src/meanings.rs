@@ -1,4 +1,5 @@
 //! What each name of a text means: which declaration, if any.
+
 use crate::declarations::{Declaration, Declarations, Sort, Words};
 use crate::scopes::Scopes;
 use crate::spots::{Place, Spot};
@@ -22,7 +23,7 @@ struct Resolver<'t> {
     meanings: Meanings,
 }
 
-// Whether a token is this sign.
+/// Whether a token is this sign.
 fn is_kind(token: &Token, sign: Symbol) -> bool {
     token.kind == TokenKind::Symbol(sign)
 }
@@ -65,7 +66,7 @@ impl Resolver<'_> {
         }
     }
 
-    // The member that a name behind a `.` means.
+    /// The member that a name behind a `.` means.
     fn member(&self, token: usize) -> Option<usize> {
         let owner = self.meaning(token.checked_sub(2)?)?;
         let declarations = &self.meanings.declarations;
@@ -73,7 +74,7 @@ impl Resolver<'_> {
         declarations.inner(collection, self.words.number(token)?)
     }
 
-    // The element that a number between brackets means.
+    /// The element that a number between brackets means.
     fn element(&self, token: usize) -> Option<usize> {
         let behind = token.saturating_add(1);
         if !self.is_sign(token.checked_sub(1)?, Symbol::OpenBracket)
@@ -89,7 +90,7 @@ impl Resolver<'_> {
         }
     }
 
-    // What a name means that does not stand behind a `.`.
+    /// What a name means that does not stand behind a `.`.
     fn named(&self, token: usize, place: Place) -> Option<usize> {
         let name = self.words.number(token)?;
         let behind = token.saturating_add(1);
@@ -116,7 +117,7 @@ impl Resolver<'_> {
         }
     }
 
-    // Declares a local.
+    /// Declares a local.
     fn declare(&mut self, token: usize, spot: &Spot) {
         let (Some(open), Some(name)) = (spot.open, self.words.number(token)) else {
             return;
@@ -134,7 +135,7 @@ impl Resolver<'_> {
         self.scopes.declare(open, name, local);
     }
 
-    // Ends a declarator, behind which its local may be used.
+    /// Ends a declarator, behind which its local may be used.
     fn end_declarator(&mut self, token: usize) {
         if let Some(local) = self.scopes.end_declarator()
             && let Some(declared) = self.meanings.declarations.all.get_mut(local)
@@ -144,7 +145,7 @@ impl Resolver<'_> {
         }
     }
 
-    // Ends the use of the locals that were declared in the braces of a token, or in any.
+    /// Ends the use of the locals that were declared in the braces of a token, or in any.
     fn close(&mut self, open: Option<usize>, token: usize) {
         self.end_declarator(token);
         for _ in 0..self.scopes.len() {

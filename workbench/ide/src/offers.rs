@@ -5,10 +5,12 @@ use crate::declarations::Sort;
 use crate::functions::as_called;
 use crate::keyword_terms::meaning_of;
 use crate::place_terms::{CLASS_MEANING, Role, terms_of};
+use crate::walk::Item;
 use edd_lints::CLASSES;
 use edd_syntax::numbers::Kind;
 use edd_syntax::operators::BUILTINS;
 use edd_syntax::symbols::Keyword;
+use std::borrow::Cow;
 use std::collections::HashSet;
 
 /// What a completion is.
@@ -39,6 +41,8 @@ pub struct Completion<'d> {
     pub kind: CompletionKind,
     /// One line on it, which may be empty.
     pub detail: String,
+    /// What an editor that takes snippets writes in its place, with places to fill in.
+    pub snippet: Option<Cow<'static, str>>,
 }
 
 /// The words that are offered so far.
@@ -61,7 +65,60 @@ impl<'d> Offers<'d> {
             label,
             kind,
             detail: detail.into(),
+            snippet: None,
         });
+    }
+
+    /// Reserved words, with what each begins.
+    pub(crate) fn add_beginnings(
+        &mut self,
+        words: &[Keyword],
+        kind: CompletionKind,
+        snippet: fn(Keyword) -> Option<&'static str>,
+    ) {
+        let entries = words.iter().map(|word| Completion {
+            label: word.spelling(),
+            kind,
+            detail: meaning_of(*word).to_owned(),
+            snippet: snippet(*word).map(Cow::Borrowed),
+        });
+        self.entries.extend(entries);
+    }
+
+    /// Numbers of the text with what each stands for.
+    pub(crate) fn add_number(&mut self, token: usize, detail: impl Into<String>) {
+        let document = self.document;
+        self.add(document.word(token), CompletionKind::Value, detail);
+    }
+
+    /// The values of an enumerated variable.
+    pub(crate) fn add_enumerators(&mut self, variable: &Item) {
+        for value in self.document.enumerators(variable) {
+            self.add_number(value.token, value.name);
+        }
+    }
+
+    /// The numbers of the commands.
+    pub(crate) fn add_command_numbers(&mut self) {
+        let document = self.document;
+        for item in document.items() {
+            if let Some(token) = document.number_of_command(item) {
+                self.add_number(token, document.word(item.name));
+            }
+        }
+    }
+
+    /// The elements of an array, by its place among the items.
+    pub(crate) fn add_elements(&mut self, item: usize) {
+        let document = self.document;
+        for declared in document.declarations() {
+            if let Sort::Element { array, names } = declared.sort
+                && array == item
+            {
+                let named = names.map_or("", |token| document.word(token));
+                self.add_number(declared.token, named);
+            }
+        }
     }
 
     /// Reserved words, which are of one kind of completion.
@@ -85,13 +142,12 @@ impl<'d> Offers<'d> {
 
     /// The functions that methods may call.
     pub(crate) fn add_functions(&mut self) {
-        for function in BUILTINS {
-            self.add(
-                function.name(),
-                CompletionKind::Builtin,
-                as_called(function),
-            );
-        }
+        self.entries.extend(BUILTINS.map(|function| Completion {
+            label: function.name(),
+            kind: CompletionKind::Builtin,
+            detail: as_called(function),
+            snippet: Some(Cow::Owned(format!("{}($1)", function.name()))),
+        }));
     }
 
     /// The items of a kind.

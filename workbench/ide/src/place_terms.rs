@@ -1,4 +1,5 @@
 //! Words that are names to the lexer, and mean something in their places.
+
 use crate::spots::Place;
 use edd_lints::CLASSES;
 use edd_syntax::symbols::Keyword;

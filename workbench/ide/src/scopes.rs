@@ -1,6 +1,6 @@
 //! The locals of a method while its body is read.
 
-// A local, by the token that opened its braces, its name and its declaration.
+/// A local, by the token that opened its braces, its name and its declaration.
 #[derive(Clone, Copy, Debug)]
 struct Local {
     open: usize,
@@ -8,7 +8,7 @@ struct Local {
     declaration: usize,
 }
 
-// A local that can be used, and what its name meant before.
+/// A local that can be used, and what its name meant before.
 #[derive(Clone, Copy, Debug)]
 struct Hidden {
     local: Local,
@@ -52,7 +52,7 @@ impl Scopes {
         });
     }
 
-    // What a name means from now on.
+    /// What a name means from now on.
     fn set_visible(&mut self, name: usize, declaration: Option<usize>) {
         if let Some(place) = self.visible.get_mut(name) {
             *place = declaration;

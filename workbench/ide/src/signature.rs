@@ -29,6 +29,8 @@ pub(crate) struct Call {
     pub(crate) function: Builtin,
     /// How many commas of its own come before the token.
     pub(crate) argument: usize,
+    /// The token that opens its parentheses.
+    pub(crate) open: usize,
 }
 
 impl Call {
@@ -62,7 +64,11 @@ pub(crate) fn call_before(document: &Document, token: usize) -> Option<Call> {
             }
             Symbol::OpenParenthesis | Symbol::OpenBracket => {
                 if let Some(function) = called(document, number) {
-                    return Some(Call { function, argument });
+                    return Some(Call {
+                        function,
+                        argument,
+                        open: number,
+                    });
                 }
                 argument = 0;
             }

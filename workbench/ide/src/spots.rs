@@ -1,4 +1,5 @@
 //! What may stand at a place, as far as the braces and words before it say.
+
 use edd_syntax::numbers::{Attr, Home, Kind, ValueKind};
 use edd_syntax::symbols::Keyword;
 

@@ -1,4 +1,5 @@
 //! A walk over the tokens of a text, which finds its items and what may stand at each token.
+
 use crate::spots::{Braces, Place, Spot, is_attribute, is_number_word, is_type_part};
 use edd_lexer::token::{Token, TokenKind};
 use edd_source::tokens::{is_sign, is_word, item_kind};
@@ -24,7 +25,7 @@ pub(crate) struct Map {
     pub(crate) items: Vec<Item>,
 }
 
-// Braces that are open.
+/// Braces that are open.
 #[derive(Clone, Copy, Debug)]
 struct Level {
     braces: Braces,
@@ -41,7 +42,7 @@ struct Level {
     declares: bool,
 }
 
-// An item before its braces.
+/// An item before its braces.
 #[derive(Clone, Copy, Debug)]
 struct Head {
     kind: Kind,
@@ -75,7 +76,7 @@ impl Level {
         }
     }
 
-    // What braces hold that open here.
+    /// What braces hold that open here.
     fn inner(&self) -> Braces {
         match (self.braces, self.word) {
             (Braces::Item(_), Some(word)) if !self.is_fresh => braces_of(word),
@@ -87,7 +88,7 @@ impl Level {
         }
     }
 
-    // What parentheses hold that open behind a token.
+    /// What parentheses hold that open behind a token.
     fn in_parentheses(&self, is_behind_condition: bool) -> Place {
         if is_behind_condition {
             return Place::Expression;
@@ -104,7 +105,7 @@ impl Level {
         }
     }
 
-    // Whether a word begins an attribute or a part in these braces.
+    /// Whether a word begins an attribute or a part in these braces.
     fn begins(&self, word: Keyword) -> bool {
         match self.braces {
             Braces::Item(_) => is_attribute(word),
@@ -114,7 +115,7 @@ impl Level {
         }
     }
 
-    // Takes a word.
+    /// Takes a word.
     fn take_word(&mut self, word: Keyword) {
         if self.begins(word) {
             self.word = Some(word);
@@ -147,7 +148,7 @@ impl Level {
         }
     }
 
-    // Takes the braces that closed in it.
+    /// Takes the braces that closed in it.
     fn take_braces(&mut self) {
         self.is_fresh = true;
         self.commas = 0;
@@ -156,7 +157,7 @@ impl Level {
     }
 }
 
-// What braces hold behind the word of an attribute.
+/// What braces hold behind the word of an attribute.
 fn braces_of(word: Keyword) -> Braces {
     match word {
         Keyword::Items => Braces::List(word),
@@ -185,7 +186,7 @@ impl Walk<'_> {
         before.is_some_and(|before| is_word(self.tokens, before, word))
     }
 
-    // Whether the token of a number is the class of a response code.
+    /// Whether the token of a number is the class of a response code.
     fn is_class(&self, number: usize) -> bool {
         let value = number.checked_sub(2).and_then(|value| self.kind(value));
         matches!(value, Some(TokenKind::Integer(_))) && self.is_before(number, Symbol::Comma)
@@ -201,7 +202,7 @@ impl Walk<'_> {
         Place::Body
     }
 
-    // What may stand at a token in braces.
+    /// What may stand at a token in braces.
     fn place_in(&self, level: &Level, number: usize) -> Place {
         if level.parentheses != 0 && level.braces != Braces::Body {
             return level.inside;
@@ -244,8 +245,8 @@ impl Walk<'_> {
         }
     }
 
-    // The kind of the item that a token begins. No item's word is in the braces of another item, so
-    // there the braces before it are unfinished.
+    /// The kind of the item that a token begins. No item's word is in the braces of another item, so
+    /// there the braces before it are unfinished.
     fn begun(&self, number: usize, token: &Token) -> Option<Kind> {
         let kind = item_kind(token)?;
         let is_operation = kind == Kind::Command && self.is_word_before(number, Keyword::Operation);
@@ -264,7 +265,7 @@ impl Walk<'_> {
         });
     }
 
-    // A name before the braces of an item is that of the item.
+    /// A name before the braces of an item is that of the item.
     fn take_name(&mut self, number: usize) {
         if let Some(head) = &mut self.head
             && !head.is_named
@@ -281,7 +282,7 @@ impl Walk<'_> {
         }
     }
 
-    // Takes a word that begins no item.
+    /// Takes a word that begins no item.
     fn take_word(&mut self, number: usize, word: Keyword, token: &Token) {
         if self.is_word_before(number, Keyword::Of) && self.levels.is_empty() {
             self.of = item_kind(token);

@@ -32,6 +32,8 @@ struct Ways<'c, 'd, 'f> {
     findings: &'f mut Findings<'d>,
     /// What the counters of the loops around come to, where they come to each number of a range.
     counters: BTreeMap<Storage, Values>,
+    /// Whether the condition comes after `else`: that it holds there may be written for clarity.
+    is_chained: bool,
 }
 
 fn depends(e: &Expr<Target>, sort: Sort) -> bool {
@@ -53,7 +55,8 @@ impl Observer for Ways<'_, '_, '_> {
                 // What the type of a place says of a constant is reported elsewhere.
                 let is_of_type = is_with_constant(first, second, known.sort)
                     && self.by_types(e, known.sort).number().is_some();
-                if let Some(number) = values.number().filter(|_| !is_of_type) {
+                let counts = |number: &i64| !is_of_type && (*number == 0 || !self.is_chained);
+                if let Some(number) = values.number().filter(counts) {
                     let at = self.context.places.sign(e);
                     self.findings
                         .add(at, ConditionKind::SettledHere(number != 0));
@@ -76,8 +79,9 @@ impl<'c, 'd> Ways<'c, 'd, '_> {
         Environment::new(sort, self.context).evaluate(e, &mut Nobody)
     }
 
-    /// Follows the condition of a loop. Where the loop has a warning, none is told of its condition.
-    fn test_loop(&mut self, at: TokenIndex, e: &Expr<Target>, known: &mut Environment<'c, 'd>) {
+    /// Follows the condition of a loop or of a chain. Where that has a warning, none is told of its
+    /// condition.
+    fn test_at(&mut self, at: TokenIndex, e: &Expr<Target>, known: &mut Environment<'c, 'd>) {
         if self.findings.is_reported(self.context.source.span(at)) {
             known.evaluate(e, &mut Nobody);
         } else {
@@ -120,7 +124,8 @@ impl<'c, 'd> Ways<'c, 'd, '_> {
             return;
         }
         let mut fresh = known.clone();
-        if let Some(truth) = fresh.evaluate(e, &mut Nobody).truth() {
+        let truth = fresh.evaluate(e, &mut Nobody).truth();
+        if let Some(truth) = truth.filter(|truth| !truth || !self.is_chained) {
             let at = self.context.places.sign(e);
             self.findings.add(at, ConditionKind::SettledTest(truth));
         }

@@ -2,7 +2,7 @@
 //! members.
 #![expect(missing_docs, reason = "the members are those of the protocol")]
 
-use crate::positions::Range;
+use crate::positions::{Position, Range};
 use serde::Serialize;
 use std::collections::BTreeMap;
 
@@ -25,6 +25,10 @@ pub enum Answer {
     Completions(CompletionList),
     Signatures(SignatureHelp),
     Actions(Vec<CodeAction>),
+    Tokens(SemanticTokens),
+    Selections(Vec<SelectionRange>),
+    Hints(Vec<InlayHint>),
+    Report(DiagnosticReport),
 }
 
 /// What the server can.
@@ -52,11 +56,18 @@ pub struct Capabilities {
     pub document_symbol_provider: bool,
     pub folding_range_provider: bool,
     pub document_formatting_provider: bool,
+    pub document_range_formatting_provider: bool,
+    pub selection_range_provider: bool,
+    pub inlay_hint_provider: bool,
+    pub workspace_symbol_provider: bool,
+    pub semantic_tokens_provider: SemanticTokensProvider,
     pub completion_provider: Triggers,
     pub signature_help_provider: Triggers,
     pub rename_provider: RenameProvider,
     #[serde(skip_serializing_if = "Option::is_none")]
     pub code_action_provider: Option<CodeActionProvider>,
+    #[serde(skip_serializing_if = "Option::is_none")]
+    pub diagnostic_provider: Option<DiagnosticProvider>,
 }
 
 #[derive(Clone, Debug, Serialize)]
@@ -88,6 +99,56 @@ pub enum RenameProvider {
 #[serde(rename_all = "camelCase")]
 pub struct CodeActionProvider {
     pub code_action_kinds: &'static [&'static str],
+}
+
+#[derive(Clone, Debug, Serialize)]
+pub struct SemanticTokensProvider {
+    pub legend: Legend,
+    pub full: bool,
+}
+
+#[derive(Clone, Debug, Serialize)]
+#[serde(rename_all = "camelCase")]
+pub struct Legend {
+    pub token_types: &'static [&'static str],
+    pub token_modifiers: &'static [&'static str],
+}
+
+#[derive(Clone, Debug, Serialize)]
+#[serde(rename_all = "camelCase")]
+pub struct DiagnosticProvider {
+    pub inter_file_dependencies: bool,
+    pub workspace_diagnostics: bool,
+}
+
+/// Of each word its line and column behind the one before it, its length, type and modifiers.
+#[derive(Clone, Debug, Serialize)]
+pub struct SemanticTokens {
+    pub data: Vec<usize>,
+}
+
+/// A span around a place, and the one around it.
+#[derive(Clone, Debug, Serialize)]
+pub struct SelectionRange {
+    pub range: Range,
+    #[serde(skip_serializing_if = "Option::is_none")]
+    pub parent: Option<Box<SelectionRange>>,
+}
+
+/// What is shown behind a place.
+#[derive(Clone, Debug, Serialize)]
+#[serde(rename_all = "camelCase")]
+pub struct InlayHint {
+    pub position: Position,
+    pub label: String,
+    pub padding_left: bool,
+}
+
+/// What is wrong with a document, for an editor that asks for it.
+#[derive(Clone, Debug, Serialize)]
+pub struct DiagnosticReport {
+    pub kind: &'static str,
+    pub items: Vec<Diagnostic>,
 }
 
 #[derive(Clone, Debug, PartialEq, Eq, Serialize)]
@@ -179,6 +240,9 @@ pub struct CompletionItem {
     pub detail: Option<String>,
     /// By this a client keeps the order.
     pub sort_text: String,
+    /// 2 where the edit is a snippet.
+    #[serde(skip_serializing_if = "Option::is_none")]
+    pub insert_text_format: Option<u8>,
     pub text_edit: TextEdit,
 }
 

@@ -1,14 +1,18 @@
 //! What an editor says of itself.
 
 use crate::answers::{
-    Capabilities, CodeActionProvider, Greeting, RenameProvider, ServerInfo, Synchronization,
-    Triggers,
+    Capabilities, CodeActionProvider, DiagnosticProvider, Greeting, Legend, RenameProvider,
+    SemanticTokensProvider, ServerInfo, Synchronization, Triggers,
 };
 use crate::positions::Encoding;
+use crate::requests::TOKEN_TYPES;
 use serde_json::Value;
 
 /// The kind of the edits that mend something.
 pub(crate) const QUICK_FIX: &str = "quickfix";
+
+/// The kind of the edit that mends all that can be mended surely.
+pub(crate) const FIX_ALL: &str = "source.fixAll";
 
 /// What an editor can. One that has said nothing can nothing.
 #[derive(Clone, Copy, Debug, Default)]
@@ -24,6 +28,10 @@ pub(crate) struct Client {
     pub(crate) has_offsets: bool,
     /// It takes an edit that mends something.
     pub(crate) has_actions: bool,
+    /// It takes snippets as completions.
+    pub(crate) has_snippets: bool,
+    /// It asks for what is wrong, and is told nothing of it unasked.
+    pub(crate) pulls: bool,
 }
 
 impl Client {
@@ -46,6 +54,8 @@ impl Client {
             has_offsets: in_text(
                 "signatureHelp/signatureInformation/parameterInformation/labelOffsetSupport",
             ),
+            has_snippets: in_text("completion/completionItem/snippetSupport"),
+            pulls: at("textDocument/diagnostic").is_some(),
             has_actions: at("textDocument/codeAction/codeActionLiteralSupport").is_some(),
         }
     }
@@ -76,8 +86,19 @@ impl Client {
             document_symbol_provider: true,
             folding_range_provider: true,
             document_formatting_provider: true,
+            document_range_formatting_provider: true,
+            selection_range_provider: true,
+            inlay_hint_provider: true,
+            workspace_symbol_provider: true,
+            semantic_tokens_provider: SemanticTokensProvider {
+                legend: Legend {
+                    token_types: &TOKEN_TYPES,
+                    token_modifiers: &["declaration"],
+                },
+                full: true,
+            },
             completion_provider: Triggers {
-                trigger_characters: &["."],
+                trigger_characters: &[".", "[", "|"],
             },
             signature_help_provider: Triggers {
                 trigger_characters: &["(", ","],
@@ -90,7 +111,11 @@ impl Client {
                 RenameProvider::Simple(true)
             },
             code_action_provider: self.has_actions.then_some(CodeActionProvider {
-                code_action_kinds: &[QUICK_FIX],
+                code_action_kinds: &[QUICK_FIX, FIX_ALL],
+            }),
+            diagnostic_provider: self.pulls.then_some(DiagnosticProvider {
+                inter_file_dependencies: false,
+                workspace_diagnostics: false,
             }),
         }
     }

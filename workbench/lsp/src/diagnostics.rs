@@ -20,14 +20,18 @@ const INFORMATION: u8 = 3;
 impl View<'_> {
     /// All that is wrong with the document.
     pub(crate) fn diagnostics(self) -> Diagnostics {
-        let report = self.open.document.report();
-        let shown = report.shown.iter().map(|found| self.diagnostic(found));
-        let more = (report.more > 0).then(|| self.more(report.more));
         Diagnostics {
             uri: self.uri.to_owned(),
             version: self.open.version,
-            diagnostics: shown.chain(more).collect(),
+            diagnostics: self.all_diagnostics(),
         }
+    }
+
+    pub(crate) fn all_diagnostics(self) -> Vec<Diagnostic> {
+        let report = self.open.document.report();
+        let shown = report.shown.iter().map(|found| self.diagnostic(found));
+        let more = (report.more > 0).then(|| self.more(report.more));
+        shown.chain(more).collect()
     }
 
     /// How many more findings there are than are shown.

@@ -60,3 +60,78 @@ fn edited(text: &str, lines: &Lines, change: ContentChange, encoding: Encoding) 
     let after = text.get(end..).unwrap_or_default();
     [before, &change.text, after].concat()
 }
+
+#[cfg(test)]
+#[allow(clippy::arithmetic_side_effects, reason = "a test fails by a panic")]
+mod tests {
+    use super::*;
+    use crate::positions::{Position, Range};
+    use proptest::collection::vec;
+    use proptest::prelude::*;
+    use proptest::test_runner::{Config, RngAlgorithm, TestRng, TestRunner};
+
+    /// The byte of a position, counted character by character.
+    fn counted(text: &str, at: Position, encoding: Encoding) -> usize {
+        let (mut line, mut column, mut before) = (0, 0, ' ');
+        for (byte, character) in text.char_indices() {
+            if before == '\r' && character != '\n' {
+                (line, column) = (line + 1, 0);
+            }
+            let ends = matches!(character, '\n' | '\r') && !(before == '\r' && character == '\n');
+            let width = match encoding {
+                Encoding::Utf8 => character.len_utf8(),
+                Encoding::Utf16 => character.len_utf16(),
+            };
+            if line == at.line && (ends || at.character < column + width) {
+                return byte;
+            }
+            column += width;
+            if character == '\n' {
+                (line, column) = (line + 1, 0);
+            }
+            before = character;
+        }
+        text.len()
+    }
+
+    fn positions() -> impl Strategy<Value = Position> {
+        (0..6_usize, 0..9_usize).prop_map(|(line, character)| Position { line, character })
+    }
+
+    #[test]
+    fn changes_of_parts_are_made_where_they_are_counted() {
+        let text = "[a\r\n\u{e4}\u{1d11e}]{0,30}";
+        let changes = vec((positions(), positions(), "[b\r\n]{0,3}"), 1..5);
+        let config = Config {
+            failure_persistence: None,
+            ..Config::default()
+        };
+        let random = TestRng::deterministic_rng(RngAlgorithm::ChaCha);
+        let mut runner = TestRunner::new_with_rng(config, random);
+        let ran = runner.run(
+            &(text, changes, any::<bool>()),
+            |(text, changes, is_bytes)| {
+                let encoding = if is_bytes {
+                    Encoding::Utf8
+                } else {
+                    Encoding::Utf16
+                };
+                let mut wanted = text.clone();
+                for (start, end, new) in &changes {
+                    let first = counted(&wanted, *start, encoding);
+                    let last = counted(&wanted, *end, encoding).max(first);
+                    wanted.replace_range(first..last, new);
+                }
+                let changes = changes.into_iter().map(|(start, end, text)| ContentChange {
+                    range: Some(Range { start, end }),
+                    text,
+                });
+                let open = Open::new(text, None).changed(changes.collect(), Some(2), encoding);
+                prop_assert_eq!(open.document.text(), wanted);
+                prop_assert_eq!(open.version, Some(2));
+                Ok(())
+            },
+        );
+        assert_eq!(ran, Ok(()));
+    }
+}

@@ -173,6 +173,7 @@ fn content_length(header: &[u8]) -> Result<u64, HeaderError> {
 }
 
 #[cfg(test)]
+#[allow(clippy::arithmetic_side_effects, reason = "a test fails by a panic")]
 mod tests {
     use super::*;
 

@@ -14,7 +14,7 @@
 //! # Ok::<(), edd_lsp::ServeError>(())
 //! ```
 
-mod answers;
+pub mod answers;
 mod client;
 mod diagnostics;
 mod documents;
@@ -29,7 +29,6 @@ mod server;
 mod session;
 mod view;
 
-pub use answers::*;
 pub use framing::{Framing, HeaderError};
 pub use messages::{
     ErrorCode, Id, Incoming, Notification, Outgoing, Request, ResponseError, Version,

@@ -22,6 +22,11 @@ pub(crate) struct Params {
     pub(crate) content_changes: Vec<ContentChange>,
     #[serde(deserialize_with = "lenient")]
     pub(crate) context: Context,
+    #[serde(deserialize_with = "lenient")]
+    pub(crate) positions: Vec<Position>,
+    /// What the names of items have in them.
+    #[serde(deserialize_with = "lenient")]
+    pub(crate) query: String,
 }
 
 /// A document that is spoken of.
@@ -61,6 +66,11 @@ impl Params {
 }
 
 impl Context {
+    /// Whether actions of a kind are asked for by its name.
+    pub(crate) fn names(&self, kind: &str) -> bool {
+        self.only.is_some() && self.asks_for(kind)
+    }
+
     /// Whether actions of a kind are asked for.
     pub(crate) fn asks_for(&self, kind: &str) -> bool {
         let Some(only) = &self.only else {
@@ -70,8 +80,14 @@ impl Context {
         asked
             .iter()
             .filter_map(Value::as_str)
-            .any(|asked| asked == kind || asked.is_empty())
+            .any(|asked| is_of_kind(kind, asked))
     }
+}
+
+/// Whether a kind of actions is another one, or below it, as `source.fixAll` is below `source`.
+fn is_of_kind(kind: &str, asked: &str) -> bool {
+    let rest = kind.strip_prefix(asked);
+    asked.is_empty() || rest.is_some_and(|rest| rest.is_empty() || rest.starts_with('.'))
 }
 
 /// A value, or none of its type where it is of another form.

@@ -58,6 +58,11 @@ fn units_in(bytes: &[u8]) -> usize {
 
 fn line_starts(text: &str) -> Vec<usize> {
     let mut starts = vec![0];
+    if !text.contains('\r') {
+        let ends = text.match_indices('\n');
+        starts.extend(ends.map(|(end, _)| end.saturating_add(1)));
+        return starts;
+    }
     let mut before = 0;
     for (index, byte) in text.bytes().enumerate() {
         if before == b'\r' && byte != b'\n' {

@@ -5,13 +5,18 @@ mod completing;
 mod outlining;
 mod places;
 mod renaming;
+mod selecting;
 mod texts;
+mod tokens;
 
 use crate::answers::Answer;
 use crate::messages::{ErrorCode, ResponseError};
 use crate::params::Params;
 use crate::view::View;
 use edd_ide::Document;
+use edd_source::Span;
+pub(crate) use outlining::workspace_symbols;
+pub(crate) use tokens::TOKEN_TYPES;
 
 /// What becomes of a request.
 type Outcome = Result<Answer, ResponseError>;
@@ -36,6 +41,15 @@ impl<'a> Query<'a> {
     }
 }
 
+impl Query<'_> {
+    /// The bytes that are asked about.
+    fn span(&self) -> Result<Span, ResponseError> {
+        let range = self.params.range;
+        let range = range.ok_or_else(|| bad_params("no range is named"))?;
+        Ok(self.view.span(range))
+    }
+}
+
 fn bad_params(words: &'static str) -> ResponseError {
     ResponseError::new(ErrorCode::InvalidParams, words)
 }
@@ -57,6 +71,11 @@ pub(crate) fn answer<'a>(
         "textDocument/completion" => completing::completions,
         "textDocument/signatureHelp" => texts::signature,
         "textDocument/formatting" => texts::format,
+        "textDocument/rangeFormatting" => texts::format_range,
+        "textDocument/semanticTokens/full" => tokens::tokens,
+        "textDocument/selectionRange" => selecting::selections,
+        "textDocument/inlayHint" => selecting::hints,
+        "textDocument/diagnostic" => actions::diagnostics,
         "textDocument/codeAction" => actions::actions,
         _ => {
             let (code, words) = (ErrorCode::MethodNotFound, "no such method");

@@ -5,8 +5,9 @@ use crate::client::Client;
 use crate::documents::{Documents, Open};
 use crate::messages::{ErrorCode, Incoming, Notification, Outgoing, Request, ResponseError};
 use crate::params::Params;
-use crate::requests::{Query, answer};
+use crate::requests::{Query, answer, workspace_symbols};
 use crate::view::View;
+use serde_json::Value;
 use std::panic::{AssertUnwindSafe, catch_unwind};
 
 /// How far a conversation is.
@@ -73,6 +74,9 @@ impl Server {
     /// it is told; none where it knows all.
     pub fn publish(&mut self) -> Option<Outgoing> {
         let client = self.client;
+        if client.pulls {
+            return None;
+        }
         let (uri, open) = self.documents.iter_mut().find(|(_, open)| !open.is_told)?;
         open.is_told = true;
         let view = View { uri, open, client };
@@ -92,11 +96,7 @@ impl Server {
         Outgoing::response(id, outcome.unwrap_or_else(|| Err(failed())))
     }
 
-    fn respond(
-        &mut self,
-        method: &str,
-        params: Option<serde_json::Value>,
-    ) -> Result<Answer, ResponseError> {
+    fn respond(&mut self, method: &str, params: Option<Value>) -> Result<Answer, ResponseError> {
         let (code, words) = match (self.stage, method) {
             (Stage::Fresh, "initialize") => {
                 self.client = Client::of(&params.ok_or_else(no_params)?);
@@ -111,6 +111,7 @@ impl Server {
                 ErrorCode::InvalidRequest,
                 "the server is initialized already",
             ),
+            (Stage::Running, "workspace/symbol") => return Ok(self.workspace_symbols(params)),
             (Stage::Running, _) => return answer(method, || self.query(params)),
             (Stage::Fresh, _) => (
                 ErrorCode::ServerNotInitialized,
@@ -121,8 +122,18 @@ impl Server {
         Err(ResponseError::new(code, words))
     }
 
+    fn workspace_symbols(&self, params: Option<Value>) -> Answer {
+        let params = Params::read(params.unwrap_or_default());
+        let client = self.client;
+        let views = self
+            .documents
+            .iter()
+            .map(|(uri, open)| View { uri, open, client });
+        workspace_symbols(views, &params.query)
+    }
+
     /// What is asked about a document.
-    fn query(&self, params: Option<serde_json::Value>) -> Result<Query<'_>, ResponseError> {
+    fn query(&self, params: Option<Value>) -> Result<Query<'_>, ResponseError> {
         let params = Params::read(params.ok_or_else(no_params)?);
         let bad = |words| ResponseError::new(ErrorCode::InvalidParams, words);
         let Some(uri) = &params.text_document.uri else {
@@ -191,4 +202,15 @@ fn none_of(uri: &str) -> Diagnostics {
 /// is lost.
 fn guarded<T>(step: impl FnOnce() -> T) -> Option<T> {
     catch_unwind(AssertUnwindSafe(step)).ok()
+}
+
+#[cfg(test)]
+mod tests {
+    use super::*;
+
+    #[test]
+    fn a_step_that_panics_makes_nothing() {
+        assert_eq!(guarded(|| 1), Some(1));
+        assert_eq!(guarded(|| -> u8 { panic!("as a test asks") }), None);
+    }
 }

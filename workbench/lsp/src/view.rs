@@ -25,9 +25,22 @@ impl<'a> View<'a> {
         lines.range(self.text(), span, self.client.encoding)
     }
 
+    /// The bytes of a range.
+    pub(crate) fn span(self, range: Range) -> Span {
+        Span {
+            start: self.byte(range.start),
+            end: self.byte(range.end),
+        }
+    }
+
     pub(crate) fn byte(self, at: Position) -> usize {
         let lines = &self.open.lines;
         lines.byte(self.text(), at, self.client.encoding)
+    }
+
+    pub(crate) fn position(self, byte: usize) -> Position {
+        let lines = &self.open.lines;
+        lines.position(self.text(), byte, self.client.encoding)
     }
 
     pub(crate) fn location(self, span: Span) -> Location {

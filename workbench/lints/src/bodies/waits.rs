@@ -110,6 +110,9 @@ pub(super) fn check_counting(
     if let Stmt::Block(parts) = body {
         check_counted_twice(parts, counted, walk);
     }
+    if step == 0 {
+        return walk.findings.add(at, MethodKind::CountsByZero);
+    }
     let limit = super::loops::limit_of(condition);
     let (Some((started, start)), Some((compared, Comparison::NotEqual, limit))) =
         (super::loops::start_of(initial), limit)
@@ -124,7 +127,7 @@ pub(super) fn check_counting(
     };
     let distance = limit.saturating_sub(start);
     let is_met = distance.checked_rem(step) == Some(0) && distance.signum() == step.signum();
-    if distance != 0 && step != 0 && !is_met && !doings.ends {
+    if distance != 0 && !is_met && !doings.ends {
         walk.findings.add(at, MethodKind::SkippedLimit(limit));
     }
 }

@@ -31,7 +31,8 @@ fn has_gap(words: &[u8]) -> bool {
     let mut choices = words.split(|byte| *byte == b';').map(<[u8]>::trim_ascii);
     // A list may end with a semicolon.
     let last = choices.next_back();
-    last.is_some() && choices.any(<[u8]>::is_empty)
+    let is_alone = words.trim_ascii().is_empty();
+    is_alone || (last.is_some() && choices.any(<[u8]>::is_empty))
 }
 
 /// Checks the choices of a SELECT_FROM_LIST.

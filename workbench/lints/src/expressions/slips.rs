@@ -75,7 +75,7 @@ pub(super) fn check_binary(
         }
         _ => {}
     }
-    if operator == Operator::And {
+    if matches!(operator, Operator::And | Operator::Or | Operator::Xor) {
         check_masked(first, second, at, walk);
         check_masked(second, first, at, walk);
     }

@@ -98,6 +98,8 @@ kinds! {
             "this else belongs to the inner if, and not to the one that it stands below"
         UnmovedCounter UnmovedCounter
             "nothing in this loop changes what its condition reads, so only the host ends it"
+        CountsByZero UnmovedCounter
+            "this loop counts by 0"
         UnrefreshedWait(variable: String) UnrefreshedWait
             "nothing in this loop reads {variable} from the device: a command does"
         CountedTwice CountedTwice

@@ -55,16 +55,17 @@ impl<'c, 'd> Ways<'c, 'd, '_> {
                 first,
                 otherwise,
             } => {
-                self.test(condition, &mut known.clone());
+                let at = self.context.places.conditional(conditional).word;
+                self.test_at(at, condition, &mut known.clone());
+                self.is_chained = false;
                 if let Some(inner) = known.clone().refined(condition, true) {
                     self.conditionals(first, &inner, true);
                 }
-                // A condition after ELSE is compared with those of its chain elsewhere.
-                if let [Cond::If { .. }] = &**otherwise {
-                    self.conditionals(otherwise, known, true);
-                } else if let Some(inner) = known.clone().refined(condition, false) {
+                self.is_chained = matches!(&**otherwise, [Cond::If { .. }]);
+                if let Some(inner) = known.clone().refined(condition, false) {
                     self.conditionals(otherwise, &inner, true);
                 }
+                self.is_chained = false;
             }
             Cond::Select { on, arms } => {
                 self.follow(on, &mut known.clone());
@@ -145,6 +146,7 @@ pub(crate) fn check_attributes<'d>(
         context,
         findings,
         counters: BTreeMap::new(),
+        is_chained: false,
     };
     for attribute in &item.attributes {
         conditionals_of(attribute, &mut ways);

@@ -5,6 +5,7 @@ use super::{Ways, depends};
 use crate::bodies::flow::is_abort;
 use crate::context::Context;
 use crate::kind::ConditionKind;
+use crate::source::TokenIndex;
 use crate::values::environment::Environment;
 use crate::visit::{Visitor, visit_parts, visit_statement};
 use crate::warning::Findings;
@@ -70,17 +71,18 @@ impl<'c, 'd> Ways<'c, 'd, '_> {
             }
             Stmt::Block(parts) => self.parts(parts, known),
             Stmt::If(condition, first) => {
-                self.test(condition, &mut known);
+                self.test_at(at, condition, &mut known);
+                self.is_chained = false;
                 let taken = known.clone().refined(condition, true);
                 let taken = taken.and_then(|inner| self.statement(first, inner));
                 joined(taken, Some(known))
             }
             Stmt::IfElse(condition, first, otherwise) => {
-                self.branches(condition, [first, otherwise], known)
+                self.branches(at, condition, [first, otherwise], known)
             }
             Stmt::While(condition, body) => {
                 self.forget_in(s, &mut known);
-                self.test_loop(at, condition, &mut known);
+                self.test_at(at, condition, &mut known);
                 if let Some(inner) = known.clone().refined(condition, true) {
                     self.statement(body, inner);
                 }
@@ -89,7 +91,7 @@ impl<'c, 'd> Ways<'c, 'd, '_> {
             Stmt::Do(body, condition) => {
                 self.forget_in(s, &mut known);
                 if let Some(mut behind) = self.statement(body, known.clone()) {
-                    self.test_loop(at, condition, &mut behind);
+                    self.test_at(at, condition, &mut behind);
                 }
                 Some(known)
             }
@@ -118,21 +120,21 @@ impl<'c, 'd> Ways<'c, 'd, '_> {
 
     fn branches(
         &mut self,
+        at: TokenIndex,
         condition: &Expr<Target>,
         branches: [&Stmt<Target>; 2],
         known: Environment<'c, 'd>,
     ) -> Way<'c, 'd> {
         let mut known = known;
-        self.test(condition, &mut known);
+        self.test_at(at, condition, &mut known);
+        self.is_chained = false;
         let [first, otherwise] = branches;
         let taken = known.clone().refined(condition, true);
         let taken = taken.and_then(|inner| self.statement(first, inner));
-        // A condition after `else` is compared with those of its chain elsewhere.
-        let other = match otherwise {
-            Stmt::If(..) | Stmt::IfElse(..) => Some(known),
-            _ => known.refined(condition, false),
-        };
+        self.is_chained = matches!(otherwise, Stmt::If(..) | Stmt::IfElse(..));
+        let other = known.refined(condition, false);
         let other = other.and_then(|inner| self.statement(otherwise, inner));
+        self.is_chained = false;
         joined(taken, other)
     }
 
@@ -150,7 +152,7 @@ impl<'c, 'd> Ways<'c, 'd, '_> {
         let mut inner = Some(known.clone());
         if let Some(condition) = looped.condition {
             let at = self.context.places.statement(s).sign;
-            self.test_loop(at, condition, &mut known);
+            self.test_at(at, condition, &mut known);
             inner = known.clone().refined(condition, true);
         }
         let Some(mut inner) = inner else {
@@ -217,6 +219,7 @@ pub(crate) fn check_body<'d>(
         context,
         findings,
         counters: BTreeMap::new(),
+        is_chained: false,
     };
     ways.parts(parts, Environment::new(Sort::Method, context));
 }

@@ -226,7 +226,7 @@ METHOD m { DEFINITION { a = a + 1; } }",
         name: "unnamed-bits",
         level: Level::Warn,
         summary: "a number of bits that no enumerator of its variable names",
-        details: "a constant with bits that no enumerator names, of a BIT_ENUMERATED variable with enumerators: what it is compared with by `==` or `!=`, set to by `=` or `|=`, or selected by; and a mask none of whose bits has a name.",
+        details: "a constant with bits that no enumerator names, of a BIT_ENUMERATED variable with enumerators: what it is compared with by `==` or `!=`, set to by `=` or `|=`, or selected by; and a mask of `&`, `|` or `^` none of whose bits has a name.",
         example: r#"VARIABLE b { TYPE BIT_ENUMERATED { { 1, "hot" } { 4, "worn" } } }
 METHOD m { DEFINITION { if (b & 2) send_command(1); } }"#,
         counterexample: r#"VARIABLE b { TYPE BIT_ENUMERATED { { 1, "hot" } { 4, "worn" } } }

@@ -1,28 +1,50 @@
-//! Edits that mend what is wrong.
+//! What is wrong, and edits that mend it.
 
-use super::{Outcome, Query, bad_params};
-use crate::answers::{Answer, CodeAction};
-use crate::client::QUICK_FIX;
+use super::{Outcome, Query};
+use crate::answers::{Answer, CodeAction, DiagnosticReport};
+use crate::client::{FIX_ALL, QUICK_FIX};
 use edd_source::Span;
 
-/// Answers with the edits after which the text compiles further.
+/// Answers with the edits that mend what is wrong there, and the one that mends all.
 pub(crate) fn actions(query: &Query<'_>) -> Outcome {
-    let view = query.view;
-    let range = query.params.range;
-    let range = range.ok_or_else(|| bad_params("no range is named"))?;
-    let asked = Span {
-        start: view.byte(range.start),
-        end: view.byte(range.end),
-    };
-    if !query.params.context.asks_for(QUICK_FIX) {
-        return Ok(Answer::Actions(Vec::new()));
+    let asked = query.span()?;
+    let context = &query.params.context;
+    let mut actions = Vec::new();
+    if context.asks_for(QUICK_FIX) {
+        actions.extend(quick_fixes(query, asked));
     }
+    // It has work that most requests for actions have no use for.
+    if context.names(FIX_ALL) {
+        actions.extend(fix_all(query));
+    }
+    Ok(Answer::Actions(actions))
+}
+
+fn quick_fixes(query: &Query<'_>, asked: Span) -> impl Iterator<Item = CodeAction> {
+    let view = query.view;
     let fixes = query.document().quick_fixes(asked).into_iter();
-    let actions = fixes.map(|found| CodeAction {
+    fixes.map(move |found| CodeAction {
         title: found.title,
         kind: QUICK_FIX,
         diagnostics: vec![view.diagnostic(found.diagnostic)],
-        edit: view.fix(found.fix),
-    });
-    Ok(Answer::Actions(actions.collect()))
+        edit: view.fix(&found.fix),
+    })
+}
+
+fn fix_all(query: &Query<'_>) -> Option<CodeAction> {
+    let fix = query.document().fix_all()?;
+    Some(CodeAction {
+        title: "apply all sure fixes".to_owned(),
+        kind: FIX_ALL,
+        diagnostics: Vec::new(),
+        edit: query.view.fix(&fix),
+    })
+}
+
+/// Answers with all that is wrong with the document.
+pub(crate) fn diagnostics(query: &Query<'_>) -> Outcome {
+    Ok(Answer::Report(DiagnosticReport {
+        kind: "full",
+        items: query.view.all_diagnostics(),
+    }))
 }

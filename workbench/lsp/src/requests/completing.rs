@@ -4,6 +4,9 @@ use super::{Outcome, Query};
 use crate::answers::{Answer, CompletionItem, CompletionList};
 use edd_ide::{CompletionKind, Kind};
 
+/// An edit that is a snippet, as the protocol counts the forms of texts.
+const SNIPPET: u8 = 2;
+
 /// A kind of completion as the protocol counts them.
 fn kind_number(kind: CompletionKind) -> u8 {
     match kind {
@@ -25,12 +28,19 @@ fn kind_number(kind: CompletionKind) -> u8 {
 pub(crate) fn completions(query: &Query<'_>) -> Outcome {
     let found = query.document().completions(query.byte()?);
     let entries = found.entries.into_iter().enumerate();
-    let items = entries.map(|(number, entry)| CompletionItem {
-        label: entry.label.to_owned(),
-        kind: kind_number(entry.kind),
-        detail: Some(entry.detail).filter(|detail| !detail.is_empty()),
-        sort_text: format!("{number:06}"),
-        text_edit: query.view.edit(found.replaced, entry.label),
+    let has_snippets = query.view.client.has_snippets;
+    let items = entries.map(|(number, entry)| {
+        let snippet = entry.snippet.filter(|_| has_snippets);
+        CompletionItem {
+            label: entry.label.to_owned(),
+            kind: kind_number(entry.kind),
+            detail: Some(entry.detail).filter(|detail| !detail.is_empty()),
+            sort_text: format!("{number:06}"),
+            insert_text_format: snippet.is_some().then_some(SNIPPET),
+            text_edit: query
+                .view
+                .edit(found.replaced, snippet.as_deref().unwrap_or(entry.label)),
+        }
     });
     Ok(Answer::Completions(CompletionList {
         is_incomplete: false,

@@ -2,6 +2,7 @@
 
 use super::{Outcome, Query};
 use crate::answers::{Answer, DocumentSymbol, FoldingRange, SymbolInformation};
+use crate::view::View;
 use edd_ide::{Fold, Kind};
 use edd_source::tokens::kind_word;
 
@@ -36,6 +37,23 @@ pub(crate) fn symbols(query: &Query<'_>) -> Outcome {
         location: query.view.location(symbol.span),
     });
     Ok(Answer::Symbols(list.collect()))
+}
+
+/// Answers with the items of all documents whose names have a text in them, small and large letters
+/// alike.
+pub(crate) fn workspace_symbols<'a>(views: impl Iterator<Item = View<'a>>, wanted: &str) -> Answer {
+    let wanted = wanted.to_ascii_lowercase();
+    let symbols = views.flat_map(|view| {
+        let symbols = view.open.document.symbols().into_iter();
+        symbols.map(move |symbol| (view, symbol))
+    });
+    let fitting = symbols.filter(|(_, it)| it.name.to_ascii_lowercase().contains(&wanted));
+    let list = fitting.map(|(view, symbol)| SymbolInformation {
+        name: symbol.name.to_owned(),
+        kind: symbol_kind(symbol.kind),
+        location: view.location(symbol.span),
+    });
+    Answer::Symbols(list.collect())
 }
 
 /// The lines below the first one; of braces without the line of the closing one.

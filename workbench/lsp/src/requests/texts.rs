@@ -5,7 +5,7 @@ use crate::answers::{
     Answer, Hover, Markup, ParameterInformation, ParameterLabel, SignatureHelp,
     SignatureInformation,
 };
-use edd_source::Span;
+use edd_source::{Edit, Span};
 
 /// Answers with what is told of the word at the cursor, or `null`.
 pub(crate) fn hover(query: &Query<'_>) -> Outcome {
@@ -57,9 +57,23 @@ pub(crate) fn signature(query: &Query<'_>) -> Outcome {
     }))
 }
 
-/// Answers with an edit of the whole text; with none where it is laid out already, or is refused.
+/// Answers with the edits of the blanks that give the text its layout; with none where it is laid out
+/// already, or has no tokens.
 pub(crate) fn format(query: &Query<'_>) -> Outcome {
-    let edits = query.document().format_edits().into_iter();
-    let edits = edits.map(|edit| query.view.edit(edit.span, edit.text));
-    Ok(Answer::Edits(edits.collect()))
+    Ok(edits(query, query.document().format_edits()))
+}
+
+/// Answers with those of the edits that lie in a range.
+pub(crate) fn format_range(query: &Query<'_>) -> Outcome {
+    let asked = query.span()?;
+    Ok(edits(query, query.document().format_edits_in(asked)))
+}
+
+fn edits(query: &Query<'_>, edits: Vec<Edit>) -> Answer {
+    let edits = edits.into_iter();
+    Answer::Edits(
+        edits
+            .map(|edit| query.view.edit(edit.span, edit.text))
+            .collect(),
+    )
 }

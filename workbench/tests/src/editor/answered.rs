@@ -1,6 +1,6 @@
 //! Writes the answers to an editor's queries as text. A place is a line and a column, both counted from 1.
 
-use edd_ide::{Completion, CompletionKind, Document, RenameError, Span};
+use edd_ide::{Completion, CompletionKind, Document, Fix, RenameError, Span, TokenClass};
 use edd_source::tokens::kind_word;
 
 /// What an editor asks.
@@ -21,6 +21,20 @@ pub enum Query<'t> {
     /// The same with kinds and details.
     Details,
     Signature,
+    /// What each word is.
+    Tokens,
+    /// What is selected around the byte.
+    Selections,
+    /// What is shown behind numbers.
+    Hints,
+    /// The edits that give the text its layout.
+    Edits,
+    /// The text after each edit that mends what is wrong at the byte.
+    Fixes,
+    /// The text after the edit that mends all.
+    FixAll,
+    /// What an editor with snippets writes for the first completion.
+    Snippet,
 }
 
 impl<'t> Query<'t> {
@@ -39,6 +53,13 @@ impl<'t> Query<'t> {
             "labels" => Query::Labels,
             "details" => Query::Details,
             "signature" => Query::Signature,
+            "tokens" => Query::Tokens,
+            "selections" => Query::Selections,
+            "hints" => Query::Hints,
+            "edits" => Query::Edits,
+            "fixes" => Query::Fixes,
+            "fix_all" => Query::FixAll,
+            "snippet" => Query::Snippet,
             _ => return None,
         })
     }
@@ -67,6 +88,13 @@ impl At<'_> {
             Query::Labels => self.completions(|entry| entry.label.to_owned()),
             Query::Details => self.completions(detailed),
             Query::Signature => self.signature(),
+            Query::Tokens => self.tokens(),
+            Query::Selections => self.selections(),
+            Query::Hints => self.hints(),
+            Query::Edits => self.edits(),
+            Query::Fixes => self.fixes(),
+            Query::FixAll => self.fix_all(),
+            Query::Snippet => self.snippet(),
         }
     }
 
@@ -143,6 +171,68 @@ impl At<'_> {
         answer
     }
 
+    /// Writes each word with what it is; a `+` stands before one that declares.
+    fn tokens(self) -> String {
+        let tokens = self.document.semantic_tokens().into_iter();
+        let words = tokens.map(|token| {
+            let sign = if token.is_declaration { "+" } else { "" };
+            format!(
+                "{sign}{} {}",
+                class_name(token.class),
+                self.read(token.span)
+            )
+        });
+        words.collect::<Vec<_>>().join("; ")
+    }
+
+    fn selections(self) -> String {
+        let spans = self.document.selections(self.byte);
+        let places: Vec<_> = spans.into_iter().map(|span| self.span(span)).collect();
+        places.join(" ")
+    }
+
+    fn hints(self) -> String {
+        let whole = Span {
+            start: 0,
+            end: self.document.text().len(),
+        };
+        let hints = self.document.inlay_hints(whole).into_iter();
+        let hints = hints.map(|hint| format!("{} {}", self.place(hint.place), hint.label));
+        hints.collect::<Vec<_>>().join("; ")
+    }
+
+    fn edits(self) -> String {
+        let edits = self.document.format_edits().into_iter();
+        let edits = edits.map(|edit| format!("{} {:?}", self.span(edit.span), edit.text));
+        edits.collect::<Vec<_>>().join("; ")
+    }
+
+    fn after(self, fix: &Fix) -> String {
+        let text = fix.apply(self.document.text().as_bytes());
+        String::from_utf8_lossy(&text.unwrap_or_default()).into_owned()
+    }
+
+    fn fixes(self) -> String {
+        let fixes = self
+            .document
+            .quick_fixes(Span::before(self.byte))
+            .into_iter();
+        let fixes = fixes.map(|found| format!("{}:\n{}", found.title, self.after(&found.fix)));
+        fixes.collect::<Vec<_>>().join("\n")
+    }
+
+    fn fix_all(self) -> String {
+        let fix = self.document.fix_all();
+        fix.map_or_else(|| "none".to_owned(), |fix| self.after(&fix))
+    }
+
+    fn snippet(self) -> String {
+        let found = self.document.completions(self.byte);
+        let first = found.entries.into_iter().next();
+        let snippet = first.and_then(|entry| entry.snippet);
+        snippet.map_or_else(|| "none".to_owned(), |snippet| snippet.into_owned())
+    }
+
     fn signature(self) -> String {
         let Some(called) = self.document.signature(self.byte) else {
             return "none".to_owned();
@@ -166,6 +256,21 @@ fn kind_name(kind: CompletionKind) -> &'static str {
         CompletionKind::Attribute => "attribute",
         CompletionKind::Keyword => "keyword",
         CompletionKind::Value => "value",
+    }
+}
+
+fn class_name(class: TokenClass) -> &'static str {
+    match class {
+        TokenClass::Comment => "comment",
+        TokenClass::Keyword => "keyword",
+        TokenClass::Number => "number",
+        TokenClass::String => "string",
+        TokenClass::Item(kind) => kind_word(kind),
+        TokenClass::Member => "member",
+        TokenClass::Local => "local",
+        TokenClass::Function => "function",
+        TokenClass::Type => "type",
+        TokenClass::Value => "value",
     }
 }
 

@@ -1,6 +1,7 @@
 //! A conversation with the language server: what is sent, and what the server has to answer.
 //!
 //! - `> MESSAGE` sends a message.
+//! - `& MESSAGE` sends it together with the next one.
 //! - `- BYTES` sends bytes as they are, with the escapes of `unescaped`.
 //! - `< MESSAGE` is the next message that the server sends.
 //! - `= goes on`, `= clean` or `= unclean` is whether the conversation is over, and how.
@@ -28,6 +29,8 @@ const PLAIN: &str = r#"{"capabilities":{}}"#;
 struct Conversation {
     session: Session,
     framing: Framing,
+    /// What is sent together with the next message.
+    held: Vec<u8>,
     /// The messages of the server that no line has named so far.
     untold: VecDeque<String>,
     /// What is wrong so far.
@@ -52,6 +55,7 @@ impl Conversation {
         let mut conversation = Conversation {
             session: Session::default(),
             framing: Framing::default(),
+            held: Vec::new(),
             untold: VecDeque::new(),
             wrong: Vec::new(),
         };
@@ -68,10 +72,16 @@ impl Conversation {
         Ok(conversation)
     }
 
-    fn send(&mut self, message: &str) {
+    fn hold(&mut self, message: &str) {
         let length = message.len();
         let framed = format!("Content-Length: {length}\r\n\r\n{message}");
-        self.send_bytes(framed.as_bytes());
+        self.held.extend(framed.into_bytes());
+    }
+
+    fn send(&mut self, message: &str) {
+        self.hold(message);
+        let bytes = std::mem::take(&mut self.held);
+        self.send_bytes(&bytes);
     }
 
     /// Sends bytes. Messages that no line has named by then are wrong.
@@ -121,6 +131,7 @@ impl Conversation {
         let (sign, rest) = line.split_once(' ').unwrap_or((line, ""));
         match sign {
             ">" => self.send(rest),
+            "&" => self.hold(rest),
             "<" => self.compare(rest),
             "-" => {
                 let bytes = unescaped(rest).ok_or(NoAnswer::Row("an escape without its end"))?;

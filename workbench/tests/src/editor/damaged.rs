@@ -11,7 +11,7 @@ MENU m { ITEMS { c.x (HIDDEN), a } } // end
 METHOD n { DEFINITION { int k = 1; { int l; l = r[1] + c.x; } DELAY(k, \"a\"); } }
 @\"";
 
-const QUERIES: [Query<'static>; 11] = [
+const QUERIES: [Query<'static>; 17] = [
     Query::Hover,
     Query::Declaration,
     Query::References,
@@ -23,6 +23,12 @@ const QUERIES: [Query<'static>; 11] = [
     Query::Labels,
     Query::Details,
     Query::Signature,
+    Query::Tokens,
+    Query::Selections,
+    Query::Hints,
+    Query::Edits,
+    Query::Snippet,
+    Query::FixAll,
 ];
 
 /// An answer with a place outside of the text.
@@ -56,6 +62,9 @@ fn places(At { document, byte }: At<'_>) -> Vec<Span> {
     places.extend(folds.flat_map(|fold| [fold.start, fold.end]));
     places.extend(document.hover(byte).map(|told| told.span));
     places.extend(document.declaration(byte));
+    places.extend(document.selections(byte));
+    places.extend(document.semantic_tokens().into_iter().map(|it| it.span));
+    places.extend(document.format_edits().into_iter().map(|it| it.span));
     places
 }
 
