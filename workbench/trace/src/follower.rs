@@ -24,16 +24,17 @@ use std::slice;
 /// The most instructions and answers that are followed.
 const MOST: u64 = 100_000;
 
-/// Does a run once more, and returns what it does. The image is that of the description.
+/// Does a run once more, and returns what it does. The image is that of the description; with the image
+/// of a simulated device, that answers too.
 ///
 /// # Errors
 ///
 /// As of [`edd_run::play`].
-pub fn trace(
+pub fn trace<'b>(
     description: &Description<'_>,
-    image: &Image<'_>,
+    image: &Image<'b>,
     run: &MethodRun<'_>,
-    device: Option<Device<'_, '_>>,
+    device: Option<&Image<'b>>,
 ) -> Result<Vec<Event>, RunError> {
     let script = edd_script::parse(Global, image, run.script)?;
     let method = find_method(image, run.method)?;
@@ -45,7 +46,9 @@ pub fn trace(
         locals: Locals::find(description, method),
         machine: Machine::open(unit),
         values: Values::new(Global, image, &script.values)?,
-        device,
+        device: device
+            .map(|device| Device::new(Global, image, device))
+            .transpose()?,
         answers: script.answers.iter(),
         left: run.steps.into(),
         requests: 0,
@@ -66,7 +69,7 @@ pub fn trace(
 }
 
 /// Where a run is, and what it did so far.
-struct Follower<'f, 'b, 'i, 'd> {
+struct Follower<'f, 'b> {
     description: &'f Description<'f>,
     image: &'f Image<'b>,
     /// The places of the method that runs.
@@ -74,7 +77,7 @@ struct Follower<'f, 'b, 'i, 'd> {
     locals: Locals,
     machine: Machine,
     values: Values,
-    device: Option<Device<'i, 'd>>,
+    device: Option<Device<'f, 'b>>,
     /// The answers of the script that are left.
     answers: slice::Iter<'f, Answer>,
     /// How many instructions may still be executed.
@@ -85,7 +88,7 @@ struct Follower<'f, 'b, 'i, 'd> {
     events: Vec<Event>,
 }
 
-impl Follower<'_, '_, '_, '_> {
+impl Follower<'_, '_> {
     /// Tells what the last instruction did.
     fn tell(&mut self, kind: EventKind) {
         self.tell_at(self.token, kind);

@@ -63,7 +63,7 @@ impl TraceLines<'_> {
                 by,
             } => {
                 let name = self.name(ItemNo::Variable(variable));
-                write!(f, "{name} from {old} to {new}{by}")
+                write!(f, "{name} from {old} to {new}{}", cause(by))
             }
             EventKind::Enters {
                 variable,
@@ -74,7 +74,7 @@ impl TraceLines<'_> {
                 write!(f, "warning: {name} is set to {number}, {why}")
             }
             EventKind::HasLocals(ref locals) => self.write_locals(f, locals),
-            EventKind::Aborts(by) => write!(f, "aborted{by}"),
+            EventKind::Aborts(by) => write!(f, "aborted{}", cause(by)),
             EventKind::EntersAbortMethod(method) => {
                 write!(
                     f,
@@ -125,15 +125,6 @@ impl TraceLines<'_> {
     }
 }
 
-impl fmt::Display for Cause {
-    fn fmt(&self, f: &mut fmt::Formatter<'_>) -> fmt::Result {
-        match self {
-            Cause::Method => Ok(()),
-            Cause::Answer => f.write_str(", by the answer"),
-        }
-    }
-}
-
 impl fmt::Display for Unenterable {
     fn fmt(&self, f: &mut fmt::Formatter<'_>) -> fmt::Result {
         match self {
@@ -141,6 +132,14 @@ impl fmt::Display for Unenterable {
             Unenterable::OverMax(greatest) => write!(f, "over MAX_VALUE {greatest}"),
             Unenterable::NoEnumerator => f.write_str("which no enumerator is"),
         }
+    }
+}
+
+/// What follows what the answer to a request does.
+fn cause(by: Cause) -> &'static str {
+    match by {
+        Cause::Method => "",
+        Cause::Answer => ", by the answer",
     }
 }
 

@@ -2,7 +2,6 @@
 
 use crate::failure::Failure;
 use core_std::alloc::Global;
-use edd_device::Device;
 use edd_loader::load;
 use edd_run::{DeviceSource, MethodRun, RunError};
 use edd_source::Source;
@@ -23,11 +22,7 @@ pub(crate) fn print(
         Some(bytes) => Some(load(Global, bytes).map_err(RunError::from)?),
         None => None,
     };
-    let device = match &device_image {
-        Some(device_image) => Some(Device::new(Global, &image, device_image)?),
-        None => None,
-    };
-    let events = edd_trace::trace(description, &image, run, device)?;
+    let events = edd_trace::trace(description, &image, run, device_image.as_ref())?;
     let lines = TraceLines {
         source,
         image: &image,
