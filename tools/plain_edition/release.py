@@ -8,8 +8,8 @@ from . import core, packages, repository
 
 PAGE = """# edd, a release
 
-A compiler, image loader and method interpreter for EDDL device descriptions, as ordinary Rust: `core` is the core with the contracts
-left out under which it is proved, and the other packages stand over it. From a repository with these files
+A compiler, image loader and method interpreter for EDDL device descriptions, as ordinary Rust: `workbench/core` is the core with the
+contracts left out under which it is proved, and the other packages stand over it. From a repository with these files
 
     cargo add --git REPOSITORY edd
     cargo install --git REPOSITORY edd-cli
@@ -57,14 +57,14 @@ def root(out, place):
 
 
 def page(out, made):
-    places = [*repository.packages(), *(f"core/{it.name}" for it in made.crates)]
+    places = [f"workbench/{it}" for it in (*repository.packages(), *(f"core/{it.name}" for it in made.crates))]
     return PAGE + "".join(f"| `{place}` | {summary(root(out, place))} |\n" for place in places)
 
 
-def copy(paths, out, skipped=""):
-    """Copies files of the checkout, without what their paths begin with."""
+def copy(paths, out):
+    """Copies files of the checkout."""
     for path in paths:
-        place = os.path.join(out, path.removeprefix(skipped))
+        place = os.path.join(out, path)
         os.makedirs(os.path.dirname(place), exist_ok=True)
         shutil.copy(os.path.join(repository.TOP, path), place)
 
@@ -88,16 +88,13 @@ def write_files(out):
     if os.path.exists(out):
         raise core.Stopped(f"{out} is there already")
     made = core.Core()
-    made.write(os.path.join(out, "core"))
-    lay_out(made, os.path.join(out, "core"))
-    copy(committed("workbench"), out, "workbench/")
-    copy(committed("docs", "examples"), out)
-    example = "examples/rust/Cargo.toml"
-    with open(os.path.join(repository.TOP, example), encoding="utf-8") as file:
-        put(out, example, file.read().replace("/workbench/", "/"))
+    workspace = os.path.join(out, "workbench")
+    made.write(os.path.join(workspace, "core"))
+    lay_out(made, os.path.join(workspace, "core"))
+    copy(committed("workbench", "docs", "examples"), out)
     put(out, "README.md", page(out, made))
     put(out, "GENERATED_FROM", git("rev-parse", "HEAD") + "\n")
-    lock(out)
+    lock(workspace)
 
 
 def commit(out):
