@@ -10,37 +10,97 @@ use std::ops::Range;
 /// How many braces are looked at around a token. The grammar takes no more inside one another.
 const MOST_LEVELS: usize = 100;
 
-/// The entry of the innermost braces around a token that have entries which end by `;` or `}`. None
-/// outside of braces.
-pub(super) fn entry_around(
-    tokens: &[Token],
-    outline: &Outline,
-    number: usize,
-) -> Option<Range<usize>> {
-    let mut number = number;
-    for _ in 0..MOST_LEVELS {
-        let braces = Braces::around(tokens, outline, number)?;
-        if braces.have_entries() {
-            return braces.entry_at(number);
-        }
-        number = braces.open;
-    }
-    None
+/// The entries of a list of tokens.
+pub(super) struct Entries<'a> {
+    tokens: &'a [Token],
+    outline: &'a Outline,
+    /// By the number of a token whether it stands in parentheses, as far as its line goes.
+    heads: Vec<bool>,
 }
-/// The entry in which the braces around an entry stand.
-pub(super) fn entry_outside(
-    tokens: &[Token],
-    outline: &Outline,
-    entry: &Range<usize>,
-) -> Option<Range<usize>> {
-    let open = outline.opened(tokens, entry.start)?;
-    entry_around(tokens, outline, open)
+
+impl<'a> Entries<'a> {
+    pub(super) fn of(tokens: &'a [Token], outline: &'a Outline) -> Entries<'a> {
+        Entries {
+            tokens,
+            outline,
+            heads: heads_of(tokens),
+        }
+    }
+
+    /// The entry of the innermost braces around a token that have entries which end by `;` or `}`. None
+    /// outside of braces.
+    pub(super) fn around(&self, number: usize) -> Option<Range<usize>> {
+        let mut number = number;
+        for _ in 0..MOST_LEVELS {
+            let braces = Braces::around(self, number)?;
+            if braces.have_entries() {
+                return braces.entry_at(number);
+            }
+            number = braces.open;
+        }
+        None
+    }
+
+    /// The entry in which the braces around an entry stand.
+    pub(super) fn outside(&self, entry: &Range<usize>) -> Option<Range<usize>> {
+        let open = self.outline.opened(self.tokens, entry.start)?;
+        self.around(open)
+    }
+}
+
+// Of each token whether it stands in parentheses, as in those of a `for`, as far as its line goes.
+fn heads_of(tokens: &[Token]) -> Vec<bool> {
+    let mut heads = Vec::with_capacity(tokens.len());
+    let mut head = Head::default();
+    let mut line = 0;
+    for token in tokens {
+        heads.push(head.is_open());
+        if token.line != line {
+            head = Head::default();
+            line = token.line;
+        }
+        head.take(token.kind);
+    }
+    heads
+}
+
+/// What of a line stands before a token, behind the last brace.
+#[derive(Default)]
+struct Head {
+    /// How many parentheses are open behind the last `for`.
+    open: usize,
+    /// Whether there is a `for` whose parentheses are not closed.
+    is_for: bool,
+}
+
+impl Head {
+    fn is_open(&self) -> bool {
+        0 < self.open || self.is_for
+    }
+
+    fn take(&mut self, kind: TokenKind) {
+        match kind {
+            TokenKind::Keyword(Keyword::For) => {
+                *self = Head {
+                    open: 0,
+                    is_for: true,
+                };
+            }
+            TokenKind::Symbol(Symbol::OpenParenthesis) => self.open = self.open.saturating_add(1),
+            TokenKind::Symbol(Symbol::CloseParenthesis) => match self.open.checked_sub(1) {
+                Some(left) => self.open = left,
+                None => self.is_for = false,
+            },
+            TokenKind::Symbol(Symbol::OpenBrace | Symbol::CloseBrace) => *self = Head::default(),
+            _ => {}
+        }
+    }
 }
 
 /// Braces whose entries end by `;` or `}`.
 struct Braces<'a> {
+    entries: &'a Entries<'a>,
     tokens: &'a [Token],
-    outline: &'a Outline,
     open: usize,
     close: usize,
 }
@@ -58,7 +118,8 @@ fn closing(tokens: &[Token], outline: &Outline, open: usize) -> usize {
 
 impl<'a> Braces<'a> {
     // The innermost braces around a token, or those that it closes.
-    fn around(tokens: &'a [Token], outline: &'a Outline, number: usize) -> Option<Braces<'a>> {
+    fn around(entries: &'a Entries<'a>, number: usize) -> Option<Braces<'a>> {
+        let (tokens, outline) = (entries.tokens, entries.outline);
         let open = match number.checked_sub(1) {
             Some(before) if is_sign(tokens, number, Symbol::CloseBrace) => {
                 outline.open_behind(tokens, before)?
@@ -66,8 +127,8 @@ impl<'a> Braces<'a> {
             _ => outline.opened(tokens, number)?,
         };
         Some(Braces {
+            entries,
             tokens,
-            outline,
             open,
             close: closing(tokens, outline, open),
         })
@@ -76,7 +137,7 @@ impl<'a> Braces<'a> {
     // Whether entries here end by `;`, or are attributes or statements.
     fn have_entries(&self) -> bool {
         let mut inside = self.open.saturating_add(1)..self.close;
-        let is_item = self.outline.opened(self.tokens, self.open).is_none();
+        let is_item = self.opened(self.open).is_none();
         let before = self.open.saturating_sub(1);
         is_item
             || is_word(self.tokens, before, Keyword::Definition)
@@ -105,7 +166,11 @@ impl<'a> Braces<'a> {
     }
 
     fn is_here(&self, number: usize) -> bool {
-        self.outline.opened(self.tokens, number) == Some(self.open)
+        self.opened(number) == Some(self.open)
+    }
+
+    fn opened(&self, number: usize) -> Option<usize> {
+        self.entries.outline.opened(self.tokens, number)
     }
 
     // Whether an entry may end before a token.
@@ -195,28 +260,7 @@ impl<'a> Braces<'a> {
         line(number) != line(number.saturating_sub(1))
     }
 
-    // Whether a token stands in parentheses, as in those of a `for`, as far as its line goes.
     fn is_in_head(&self, number: usize) -> bool {
-        let mut closed: usize = 0;
-        for place in (self.open..number).rev() {
-            match self.kind(place) {
-                Some(TokenKind::Keyword(Keyword::For)) => return closed == 0,
-                Some(TokenKind::Symbol(Symbol::OpenParenthesis)) => {
-                    let Some(left) = closed.checked_sub(1) else {
-                        return true;
-                    };
-                    closed = left;
-                }
-                Some(TokenKind::Symbol(Symbol::CloseParenthesis)) => {
-                    closed = closed.saturating_add(1);
-                }
-                Some(TokenKind::Symbol(Symbol::OpenBrace | Symbol::CloseBrace)) => return false,
-                _ => {}
-            }
-            if self.begins_line(place) {
-                return false;
-            }
-        }
-        false
+        self.entries.heads.get(number).copied().unwrap_or_default()
     }
 }

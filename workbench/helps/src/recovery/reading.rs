@@ -1,7 +1,7 @@
 //! Items that are read past their faults.
 
 use super::alone::{Alone, Outcome};
-use super::entries::{entry_around, entry_outside};
+use super::entries::Entries;
 use super::sections::{Section, sections};
 use crate::core::lex;
 use crate::{Advice, Finding, Slip, TextFault};
@@ -237,12 +237,13 @@ fn region(
     }
     let outline = Outline::of(&tokens);
     let number = tokens.partition_point(|token| Span::of(token).start < place.start);
-    let mut entry = entry_around(&tokens, &outline, number)?;
+    let entries = Entries::of(&tokens, &outline);
+    let mut entry = entries.around(number)?;
     let follows = broken.filter(|broken| is_behind(&tokens, number, *broken));
     let mut count = 0;
     // What comes right behind blanks follows from them: then what is around both is broken.
     while follows.is_some_and(|broken| !holds(&tokens, &entry, broken)) {
-        entry = entry_outside(&tokens, &outline, &entry)?;
+        entry = entries.outside(&entry)?;
         count = usize::saturating_add(count, 1);
         if MOST_WIDER < count {
             return None;
