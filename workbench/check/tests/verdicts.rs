@@ -129,6 +129,23 @@ fn the_first_refusal_is_the_compilers() {
         .expect("all texts are said so");
 }
 
+/// A piece again and again between a beginning and an end. A walk that goes back over all of them at each
+/// one would take minutes.
+fn expect_long(before: &str, piece: &str, behind: &str) {
+    let pieces = 900_000_usize.checked_div(piece.len()).unwrap_or_default();
+    expect_verdict(&[HEAD, before, &piece.repeat(pieces), behind].concat());
+}
+
+#[test]
+fn long_texts_are_read_past_their_faults() {
+    expect_long("METHOD m { DEFINITION { IF ( ", ";", " } }");
+    expect_long("METHOD m { DEFINITION { ", "for ( ; ", " } }");
+    expect_long("METHOD m { DEFINITION { x = ", "(", "; } }");
+    expect_long("METHOD m { DEFINITION { ", "{ ", " IF ( ; } }");
+    expect_long("MENU m { ITEMS { ", "a, , ", " } }");
+    expect_long("", "VARIABLE v { LABEL \"a\";\n", "");
+}
+
 /// A source with independent mistakes, and how many diagnostics it has.
 fn expect_count(items: &str, count: usize) {
     let text = format!("{HEAD}{items}");
