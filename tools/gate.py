@@ -15,7 +15,7 @@ EDIT = re.compile(r"^rt: must-fail \S+: (refused)?")
 # What the table of docs/GATE.md has of each crate.
 COLUMNS = "First check", "Edits", "Program"
 # Minutes on four idle processors, reckoned from the processor time of the steps.
-CARGO_MINUTES = 4
+CARGO_MINUTES = 5
 
 
 def say(text):
