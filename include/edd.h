@@ -320,8 +320,8 @@ typedef struct edd_ending {
  * EDD_OK: `ending` says how it ended; the first requests are in `requests`, as many as there is room for; and
  * `after`, which has room for just as many numbers as there are variables, has the values as the method left
  * them. EDD_NO_SETTINGS: the answers say more settings than `setting_count`. EDD_NO_ITEM: no such method, or it has
- * no body. EDD_WRONG_VALUES, EDD_BAD_VARIABLE, EDD_OUT_OF_RANGE, EDD_NO_ROOM (of `after`), EDD_MEMORY. Takes memory for the values, the answers and the requests, and gives it
- * back.
+ * no body. EDD_WRONG_VALUES, EDD_BAD_VARIABLE, EDD_OUT_OF_RANGE, EDD_NO_ROOM (of `after`), EDD_MEMORY. Takes memory
+ * for the values, the answers and the requests, and gives it back.
  */
 uint32_t edd_play(const uint8_t *bytes, size_t length, const edd_image *image, uint16_t method,
                   const int64_t *values, size_t count,
@@ -398,9 +398,9 @@ uint32_t edd_advance(const uint8_t *bytes, size_t length, const edd_image *image
  * the same requests and leaves the same values. A method that asks nothing can't be aborted: a program that gives it
  * up leaves the session, and none of its abort methods run.
  *
- * EDD_OK. In this order else: EDD_NO_SETTINGS where the answer says more settings than `setting_count`;
- * EDD_NO_SESSION; EDD_NOT_ASKING; for the first setting that can't be made
- * EDD_BAD_VARIABLE or EDD_OUT_OF_RANGE, and none is made.
+ * EDD_OK. Else EDD_NO_SETTINGS where the answer says more settings than `setting_count`, or the first of these that
+ * holds: EDD_NO_SESSION; EDD_NOT_ASKING; for the first setting that can't be made EDD_BAD_VARIABLE or
+ * EDD_OUT_OF_RANGE, and none is made.
  */
 uint32_t edd_reply(const uint8_t *bytes, size_t length, const edd_image *image, edd_session *session,
                    int64_t *values, size_t count, const edd_answer *answer,
