@@ -40,6 +40,8 @@ pub enum Says<'a> {
     Whole(&'a str),
     /// `~ TEXT`, which is a later line that is printed.
     Part(&'a str),
+    /// `! TEXT`, which is no line that is printed.
+    Absent(&'a str),
 }
 
 /// A line with its end, and what it says.
@@ -116,6 +118,7 @@ fn says_of(text: &str) -> Result<Says<'_>, TestFault> {
     match word {
         "=" => Ok(Says::Whole(rest)),
         "~" => Ok(Says::Part(rest)),
+        "!" => Ok(Says::Absent(rest)),
         ">" => Ok(Says::Typed(rest)),
         "set" | "answer" | "abort" => Ok(Says::Script(line)),
         _ => setting(word, rest),

@@ -1,7 +1,7 @@
 //! A test with what was seen in place of what was expected.
 
-ghost use Rattle.std.specs.Prelude.{◌≡◌, ◌++◌, ◌∷◌, [], IfOk};
-ghost use Rattle.edd_cases.specs.Renewed.{staying_of, kept_of};
+ghost use Rattle.std.specs.Prelude.{◌≡◌, ◌++◌, ◌∷◌, [], IfOk, OnOk};
+ghost use Rattle.edd_cases.specs.Renewed.{HaveSeen, kept_of, shown_of, staying_of, texts};
 
 use crate::cases::Case;
 use crate::lines::{Line, Says};
@@ -28,7 +28,7 @@ fn count_said(lines: &[Line<'_>]) -> usize {
 
 // Adds the next lines that were seen up to this turn, at most so many, and gives the number of all
 // that were added.
-#[tactic(auto, using(crate::proofs::Pieces::seen_keeps))]
+#[tactic(auto, using(crate::proofs::Pieces::seen_keeps, crate::proofs::Pieces::one_more_seen))]
 fn add_turn<'c, 'p>(
     pieces: &mut Vec<Piece<'c, 'p>>,
     seen: &[Seen<'p>],
@@ -37,23 +37,42 @@ fn add_turn<'c, 'p>(
     most: usize,
 ) -> Result<usize, AllocError>
     ensures kept { IfOk result (λ n. kept_of pieces.new.items ≡ kept_of pieces.old.items) }
+    ensures shown { IfOk result (λ n. HaveSeen pieces.old.items seen.now added
+        → HaveSeen pieces.new.items seen.now n) }
 {
-    let mut count = added;
-    for next in seen.iter().skip(added).take(most) {
-        if turn < next.turn {
-            return Ok(count);
+    let end = seen.len().min(added.saturating_add(most));
+    for place in added..end {
+        if turn < seen[place].turn {
+            return Ok(place);
         }
-        pieces.push(Piece::Seen(next.text))?;
-        count = count.saturating_add(1);
+        pieces.push(Piece::Seen(seen[place].text))?;
     }
-    Ok(count)
+    Ok(end.max(added))
+}
+
+// Adds all that is left of what was seen.
+#[tactic(auto, using(crate::proofs::Pieces::seen_keeps, crate::proofs::Pieces::one_more_seen, crate::proofs::Pieces::all_seen))]
+fn add_rest<'c, 'p>(
+    pieces: &mut Vec<Piece<'c, 'p>>,
+    seen: &[Seen<'p>],
+    added: usize,
+) -> Result<(), AllocError>
+    ensures kept { OnOk result (kept_of pieces.new.items ≡ kept_of pieces.old.items) }
+    ensures shown { OnOk result (HaveSeen pieces.old.items seen.now added
+        → shown_of pieces.new.items ≡ texts seen.now) }
+{
+    for place in added..seen.len() {
+        pieces.push(Piece::Seen(seen[place].text))?;
+    }
+    Ok(())
 }
 
 // Adds a line that stays, or nothing for one that was expected.
-#[tactic(auto, using(crate::proofs::Pieces::kept_more))]
+#[tactic(auto, using(crate::proofs::Pieces::kept_more, crate::proofs::Pieces::kept_shows_none))]
 fn add_kept<'c, 'p>(pieces: &mut Vec<Piece<'c, 'p>>, line: Line<'c>) -> Result<(), AllocError>
     ensures kept { IfOk result (λ u. kept_of pieces.new.items
         ≡ kept_of pieces.old.items ++ staying_of (line.entry ∷ [])) }
+    ensures shown { OnOk result (shown_of pieces.new.items ≡ shown_of pieces.old.items) }
 {
     match line.says {
         Says::Whole(_) => Ok(()),
@@ -75,6 +94,8 @@ fn add_line<'c, 'p>(
 ) -> Result<usize, AllocError>
     ensures kept { IfOk result (λ n. kept_of pieces.new.items
         ≡ kept_of pieces.old.items ++ staying_of (line.entry ∷ [])) }
+    ensures shown { IfOk result (λ n. HaveSeen pieces.old.items seen.now added
+        → HaveSeen pieces.new.items seen.now n) }
 {
     let count = match line.says {
         Says::Whole(_) => add_turn(pieces, seen, added, turn, 1)?,
@@ -94,6 +115,8 @@ fn add_said<'c, 'p>(
 ) -> Result<(), AllocError>
     ensures kept { IfOk result (λ u. kept_of pieces.new.items
         ≡ kept_of pieces.old.items ++ staying_of lines.now) }
+    ensures shown { OnOk result (shown_of pieces.old.items ≡ []
+        → shown_of pieces.new.items ≡ texts seen.now) }
 {
     let mut added: usize = 0;
     let mut turn: usize = 0;
@@ -103,7 +126,7 @@ fn add_said<'c, 'p>(
             turn = turn.saturating_add(1);
         }
     }
-    add_turn(pieces, seen, added, usize::MAX, usize::MAX)?;
+    add_rest(pieces, seen, added)?;
     Ok(())
 }
 
@@ -112,6 +135,7 @@ fn add_said<'c, 'p>(
 fn add_behind<'c, 'p>(pieces: &mut Vec<Piece<'c, 'p>>, lines: &[Line<'c>]) -> Result<(), AllocError>
     ensures kept { IfOk result (λ u. kept_of pieces.new.items
         ≡ kept_of pieces.old.items ++ staying_of lines.now) }
+    ensures shown { OnOk result (shown_of pieces.new.items ≡ shown_of pieces.old.items) }
 {
     for line in lines {
         add_kept(pieces, *line)?;
@@ -130,6 +154,7 @@ pub fn renewed<'c, 'p>(
 ) -> Result<Vec<Piece<'c, 'p>>, AllocError>
     ensures kept { IfOk result (λ pieces. kept_of pieces.items
         ≡ staying_of case.now.lines.items) }
+    ensures shown { IfOk result (λ pieces. shown_of pieces.items ≡ texts seen.now) }
 {
     let count = count_said(&case.lines).min(case.lines.len());
     let (said, behind) = case.lines.split_at(count);

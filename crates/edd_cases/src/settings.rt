@@ -33,7 +33,7 @@ pub enum Kind<'a> {
 pub enum Form {
     /// All lines that are printed.
     Whole,
-    /// Some of them, in this order.
+    /// Some of them, in this order, and lines that are none of them.
     Parts,
 }
 
@@ -97,7 +97,7 @@ impl<'a> Settings<'a> {
             Says::Open => once(&mut self.kind, Kind::Open),
             Says::Steps(count) => once(&mut self.steps, count),
             Says::Whole(_) => self.expect(Form::Whole),
-            Says::Part(_) => self.expect(Form::Parts),
+            Says::Part(_) | Says::Absent(_) => self.expect(Form::Parts),
             Says::Nothing | Says::Test(_) | Says::Script(_) | Says::Typed(_) => Ok(()),
         }
     }

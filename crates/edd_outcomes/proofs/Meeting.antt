@@ -1,4 +1,4 @@
--- A test passes where its first line is met and the others pass behind it.
+-- A test is met where its first line is met and the others are met behind it.
 use Rattle.std.proofs.Common.{◌≡◌, ℕ, true, false, ◌&&◌, if◌then◌else◌, List, [], ◌∷◌, Some, None, refl}
 use Rattle.std.specs.Str.{bytes_eq}
 use Rattle.std.specs.List.{cons_option}
@@ -7,7 +7,7 @@ use Rattle.edd_cases.specs.declared.lines.Says.{Says}
 use Rattle.edd_cases.specs.declared.lines.Says.TheVariants as says
 use Rattle.edd_cases.specs.declared.settings.Form.{Form}
 use Rattle.edd_cases.specs.declared.settings.Form.TheVariants as form
-use Rattle.edd_outcomes.specs.Expected.{whole, part, wholes, parts, same, holds, passes, behind_next, past}
+use Rattle.edd_outcomes.specs.Expected.{whole, part, wholes, parts, same, holds, meets, behind_next, past}
 
 same_first : (text line : List ℕ) (expected printed : List (List ℕ))
     → same (text ∷ expected) (line ∷ printed) ≡ elim (behind_next text (line ∷ printed)) [
@@ -39,9 +39,9 @@ part_met (says.Part text) expected printed = refl
 part_met _ expected printed = refl
 
 pub first_line_met : (f : Form) (line : Line) (lines : List Line) (printed : List (List ℕ))
-    → passes f (line ∷ lines) printed ≡ elim (past f line.says printed) [
+    → meets f (line ∷ lines) printed ≡ elim (past f line.says printed) [
       | None ↦ false
-      | Some rest ↦ passes f lines rest
+      | Some rest ↦ meets f lines rest
     ]
 first_line_met form.Whole line lines printed = whole_met line.says (wholes lines) printed
 first_line_met form.Parts line lines printed = part_met line.says (parts lines) printed

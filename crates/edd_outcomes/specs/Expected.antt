@@ -1,16 +1,14 @@
 -- What the lines of a test expect of the lines that are printed.
-use Rattle.std.specs.Prelude.{ℕ, Bool, true, false, ◌&&◌, if◌then◌else◌, List, [], ◌∷◌, map, Option, Some, None, filter_map}
+use Rattle.std.specs.Prelude.{◌≡◌, ℕ, Bool, true, false, ◌&&◌, ◌||◌, not, if◌then◌else◌, List, [], ◌∷◌, map, Option, Some, None, filter_map, is_some}
+use Rattle.std.specs.Borrow.{Bor}
+use Rattle.std.specs.HashMap.{HashMap, get_by}
 use Rattle.std.specs.Str.{bytes_eq}
 use Rattle.edd_cases.specs.declared.lines.Line.{Line}
 use Rattle.edd_cases.specs.declared.lines.Says.{Says}
 use Rattle.edd_cases.specs.declared.lines.Says.TheVariants as says
-use Rattle.edd_cases.specs.declared.printed.Seen.{Seen}
 use Rattle.edd_cases.specs.declared.settings.Form.{Form}
 use Rattle.edd_cases.specs.declared.settings.Form.TheVariants as form
-
--- the texts of the lines that were printed
-abbrev pub texts : List Seen → List (List ℕ)
-texts = map (λ s. s.text.now)
+pub use Rattle.edd_cases.specs.Renewed.{texts}
 
 -- ---- the lines that a test expects
 
@@ -31,6 +29,15 @@ part _ = None
 -- those with `~`
 abbrev pub parts : List Line → List (List ℕ)
 parts = filter_map (λ line. part line.says)
+
+-- the text of a line with `!`
+abbrev pub absent : Says → Option (List ℕ)
+absent (says.Absent text) = Some text.now
+absent _ = None
+
+-- those with `!`
+abbrev pub absents : List Line → List (List ℕ)
+absents = filter_map (λ line. absent line.says)
 
 -- ---- when what was printed is what a test expects
 
@@ -57,10 +64,24 @@ holds (text ∷ expected) printed = elim (behind text printed) [
   | Some rest ↦ holds expected rest
 ]
 
--- with `=` what was printed is what the test expects, with `~` it holds that in order
+-- a line that was printed is this text
+abbrev pub is_printed : (printed : List (List ℕ)) → (text : List ℕ) → Bool
+is_printed [] text = false
+is_printed (line ∷ rest) text = bytes_eq line text || is_printed rest text
+
+-- none of these was printed
+abbrev pub lacks : (forbidden : List (List ℕ)) → (printed : List (List ℕ)) → Bool
+lacks [] printed = true
+lacks (text ∷ forbidden) printed = not (is_printed printed text) && lacks forbidden printed
+
+-- what a test expects is printed: with `=` nothing else is, with `~` in this order
+abbrev pub meets : Form → List Line → (printed : List (List ℕ)) → Bool
+meets form.Whole lines printed = same (wholes lines) printed
+meets form.Parts lines printed = holds (parts lines) printed
+
+-- what a test expects is printed, and no line with `!` is
 abbrev pub passes : Form → List Line → (printed : List (List ℕ)) → Bool
-passes form.Whole lines printed = same (wholes lines) printed
-passes form.Parts lines printed = holds (parts lines) printed
+passes form lines printed = meets form lines printed && lacks (absents lines) printed
 
 -- ---- a test line by line: what is left of the printed lines behind what a line expects of them
 
@@ -83,3 +104,15 @@ past_part _ left = Some left
 abbrev pub past : Form → Says → List (List ℕ) → Option (List (List ℕ))
 past form.Whole = past_whole
 past form.Parts = past_part
+
+-- ---- the lines that must not be printed, one by one
+
+-- a line with `!` was not printed; another one forbids nothing
+abbrev pub lacks_one : Says → (printed : List (List ℕ)) → Bool
+lacks_one (says.Absent text) printed = not (is_printed printed text.now)
+lacks_one _ printed = true
+
+-- the map has the texts of these lines, and no others
+abbrev pub HasTexts : {S : Type 0} → HashMap (Bor (List ℕ)) ℕ S → (printed : List (List ℕ)) → Type 0
+HasTexts map printed = (text : List ℕ)
+    → is_some (get_by (λ k. bytes_eq text k.now) map) ≡ is_printed printed text

@@ -1,10 +1,12 @@
 //! What was printed, beside what is expected.
 
-ghost use Rattle.std.specs.Prelude.{◌≡◌, [], drop, option_map, is_none};
+ghost use Rattle.std.specs.Prelude.{◌≡◌, ◌&&◌, [], IfOk, drop, option_map, is_none};
 ghost use Rattle.edd_outcomes.specs.Expected as expected;
-ghost use Rattle.edd_outcomes.specs.Expected.{texts, passes};
+ghost use Rattle.edd_outcomes.specs.Expected.{meets, passes, texts};
 
+use crate::forbidden::find_forbidden;
 use edd_cases::{Case, Form, Line, Says, Seen};
+use std::alloc::{AllocError, Global};
 
 /// The first line that differs, by the number of the line of the file that expects it.
 #[derive(Clone, Copy)]
@@ -29,6 +31,11 @@ pub enum Difference<'c, 'p> {
     More {
         line: usize,
         seen: &'p str,
+    },
+    /// This must not be printed, and was.
+    Printed {
+        line: usize,
+        text: &'c str,
     },
 }
 
@@ -109,11 +116,11 @@ fn more<'c, 'p>(case: &Case<'c>, seen: &[Seen<'p>], at: usize) -> Option<Differe
     }
 }
 
-/// Whether a run of the test has printed what it expects: nothing where it has, else the first line
-/// that differs.
+// The first line of the test that was not printed where it should be, or what was printed behind all
+// of them.
 #[tactic(auto, using(crate::proofs::Meeting::first_line_met))]
-pub fn compare<'c, 'p>(case: &Case<'c>, seen: &[Seen<'p>]) -> Option<Difference<'c, 'p>>
-    ensures { is_none result ≡ passes case.now.form case.now.lines.items (texts seen.now) }
+fn find_unmet<'c, 'p>(case: &Case<'c>, seen: &[Seen<'p>]) -> Option<Difference<'c, 'p>>
+    ensures { is_none result ≡ meets case.now.form case.now.lines.items (texts seen.now) }
 {
     let mut at: usize = 0;
     let mut number = case.number;
@@ -128,4 +135,45 @@ pub fn compare<'c, 'p>(case: &Case<'c>, seen: &[Seen<'p>]) -> Option<Difference<
         Form::Whole => more(case, seen, at),
         Form::Parts => None,
     }
+}
+
+// The line of the test that has the difference.
+fn line_of(difference: Difference<'_, '_>) -> usize {
+    match difference {
+        Difference::Other { line, .. }
+        | Difference::End { line, .. }
+        | Difference::Nowhere { line, .. }
+        | Difference::More { line, .. }
+        | Difference::Printed { line, .. } => line,
+    }
+}
+
+// The one of the upper line.
+fn first_of<'c, 'p>(
+    one: Option<Difference<'c, 'p>>,
+    other: Option<Difference<'c, 'p>>,
+) -> Option<Difference<'c, 'p>>
+    ensures { is_none result ≡ (is_none one.entry && is_none other.entry) }
+{
+    match (one, other) {
+        (Some(one), Some(other)) if line_of(other) < line_of(one) => Some(other),
+        (None, other) => other,
+        (one, _) => one,
+    }
+}
+
+/// Whether a run of the test has printed what it expects, and no line that it must not print: nothing
+/// where that is so, else the first line that differs. It takes memory for the lines, and gives it
+/// back.
+pub fn compare<'c, 'p>(
+    alloc: Global,
+    case: &Case<'c>,
+    seen: &[Seen<'p>],
+) -> Result<Option<Difference<'c, 'p>>, AllocError>
+    ensures sound { IfOk result (λ found. is_none found
+        ≡ passes case.now.form case.now.lines.items (texts seen.now)) }
+{
+    let unmet = find_unmet(case, seen);
+    let forbidden = find_forbidden(alloc, case.number, &case.lines, seen)?;
+    Ok(first_of(unmet, forbidden))
 }

@@ -2,6 +2,7 @@
 #![tactic(auto)]
 
 mod comparing;
+mod forbidden;
 mod refusals;
 
 pub use comparing::{Difference, compare};

@@ -133,7 +133,7 @@ impl<F: Files, R: Report> Run<'_, F, R> {
     ) -> Result<(), TestError> {
         let printed = run_case(file, case, self.files)?;
         let seen = printed.lines(Global)?;
-        let difference = compare(case, &seen);
+        let difference = compare(Global, case, &seen)?;
         let is_updated = difference.is_some() && self.request.is_update && case.form == Form::Whole;
         push_case(Global, updated, case, &seen, is_updated)?;
         let verdict = match difference {

@@ -30,6 +30,8 @@ pub enum Expected {
     Line(String),
     /// Nothing behind what was printed.
     NoMoreLines,
+    /// That this line is not printed.
+    NoSuchLine(String),
 }
 
 /// What a test printed there.
@@ -74,16 +76,22 @@ impl Mismatch {
                 expected: Expected::NoMoreLines,
                 seen: Seen::Line(owned(seen)),
             },
+            Difference::Printed { line, text } => Mismatch {
+                line,
+                expected: Expected::NoSuchLine(owned(text)),
+                seen: Seen::Line(owned(text)),
+            },
         }
     }
 }
 
 impl fmt::Display for Expected {
     fn fmt(&self, formatter: &mut fmt::Formatter<'_>) -> fmt::Result {
-        formatter.write_str(match self {
-            Expected::Line(line) => line,
-            Expected::NoMoreLines => "no more lines",
-        })
+        match self {
+            Expected::Line(line) => formatter.write_str(line),
+            Expected::NoMoreLines => formatter.write_str("no more lines"),
+            Expected::NoSuchLine(line) => write!(formatter, "no line {line}"),
+        }
     }
 }
 

@@ -12,8 +12,8 @@ pub(crate) const TABLE: &[Explanation] = &[
         291,
         "UNKNOWN_LINE",
         "The line begins with no word of a file of tests. The words are test, source, image, device,
-language, method, show, open, steps, set, answer and abort, and the signs = ~ > and #. Words
-are separated by spaces; a TAB is none. Behind = ~ and > there is a space, or nothing.",
+language, method, show, open, steps, set, answer and abort, and the signs = ~ ! > and #. Words
+are separated by spaces; a TAB is none. Behind = ~ ! and > there is a space, or nothing.",
     )
     .wrong("expect end ended
 =end ended")
@@ -57,8 +57,8 @@ method show_opening"),
     Explanation::new(
         295,
         "BOTH_FORMS",
-        "A test has lines with = and lines with ~. Those with = are all lines that are printed, those
-with ~ are some of them, so a test has one kind.",
+        "A test has lines with = and lines with ~ or !. Those with = are all lines that are printed,
+those with ~ are some of them, and those with ! are none of them, so a test has = alone, or ~ and !.",
     )
     .wrong("~ end ended
 = value open_end 3900")

@@ -1,7 +1,8 @@
 use Rattle.std.proofs.Common.{◌≡◌, ◌++◌, drop}
-use Rattle.edd_cases.specs.Renewed.{kept_of, staying_of}
+use Rattle.edd_cases.specs.Renewed.{kept_of, shown_of, staying_of}
 use Rattle.edd_cases.proofs.renewing.add_behind.Given as goal
 
 abbrev pub invariant-loop-line : goal.invariant-loop-line
-invariant-loop-line l = kept_of l.pieces.items ++ staying_of (drop l.line-index l.lines)
-    ≡ kept_of l.fn.pieces.items ++ staying_of l.lines
+invariant-loop-line l = (kept_of l.pieces.items ++ staying_of (drop l.line-index l.lines)
+    ≡ kept_of l.fn.pieces.items ++ staying_of l.lines)
+    × (shown_of l.pieces.items ≡ shown_of l.fn.pieces.items)
