@@ -398,8 +398,8 @@ uint32_t edd_advance(const uint8_t *bytes, size_t length, const edd_image *image
  * the same requests and leaves the same values. A method that asks nothing can't be aborted: a program that gives it
  * up leaves the session, and none of its abort methods run.
  *
- * EDD_OK. Else EDD_NO_SETTINGS where the answer says more settings than `setting_count`, or the first of these that
- * holds: EDD_NO_SESSION; EDD_NOT_ASKING; for the first setting that can't be made EDD_BAD_VARIABLE or
+ * EDD_OK, or the first of these that holds: EDD_NO_SETTINGS where the answer says more settings than
+ * `setting_count`; EDD_NO_SESSION; EDD_NOT_ASKING; for the first setting that can't be made EDD_BAD_VARIABLE or
  * EDD_OUT_OF_RANGE, and none is made.
  */
 uint32_t edd_reply(const uint8_t *bytes, size_t length, const edd_image *image, edd_session *session,

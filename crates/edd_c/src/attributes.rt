@@ -41,6 +41,7 @@ pub extern "C" fn edd_attribute(
         ≡ None)) ⊎ ((ref : AttrRef) × (fault : AttributeFault)
         × (ref_of kind number attribute sub ≡ Some ref) × (result ≡ attribute_status fault)
         × IsAttributeFault bytes.now ref values.now (length records.old) fault) }
+    ensures accepted { result ≢ 260 → AreOf image.now bytes.now }
     ensures other { result ≡ 260 → ¬ AreOf image.now bytes.now }
     ensures kept { result ≢ 0 → records.new ≡ records.old }
     ensures given_kept { result ≢ 0 → result ≢ 261 → given.new ≡ given.old }

@@ -33,6 +33,7 @@ pub extern "C" fn edd_find(
     ensures none { result ≡ 203 → (found : ItemNo)
         → name_numbered (contents_in bytes.now) found ≢ Some name.now }
     ensures refused { result ≢ 0 → (result ≡ 203) ⊎ (result ≡ 260) }
+    ensures accepted { result ≢ 260 → AreOf image.now bytes.now }
     ensures other { result ≡ 260 → ¬ AreOf image.now bytes.now }
     ensures kept { result ≢ 0 → item.new ≡ item.old }
 {
@@ -65,6 +66,7 @@ pub extern "C" fn edd_name<'b>(
         → option_and_then (name_numbered (contents_in bytes.now)) (item_from_numbers kind number)
         ≡ None }
     ensures refused { result ≢ 0 → (result ≡ 203) ⊎ (result ≡ 260) }
+    ensures accepted { result ≢ 260 → AreOf image.now bytes.now }
     ensures other { result ≡ 260 → ¬ AreOf image.now bytes.now }
     ensures kept { result ≢ 0 → name.new ≡ name.old }
 {
@@ -97,6 +99,7 @@ pub extern "C" fn edd_text<'b>(
     ensures none { result ≡ 203
         → string_numbered (contents_in bytes.now) (record { 0 = string }) ≡ None }
     ensures refused { result ≢ 0 → (result ≡ 203) ⊎ (result ≡ 260) }
+    ensures accepted { result ≢ 260 → AreOf image.now bytes.now }
     ensures other { result ≡ 260 → ¬ AreOf image.now bytes.now }
     ensures kept { result ≢ 0 → text.new ≡ text.old }
 {
@@ -127,6 +130,7 @@ pub extern "C" fn edd_variable(
     ensures none { result ≡ 203
         → slice_get (environment_of (contents_in bytes.now)).types variable ≡ None }
     ensures refused { result ≢ 0 → (result ≡ 203) ⊎ (result ≡ 260) }
+    ensures accepted { result ≢ 260 → AreOf image.now bytes.now }
     ensures other { result ≡ 260 → ¬ AreOf image.now bytes.now }
     ensures kept { result ≢ 0 → type_found.new ≡ type_found.old }
 {
@@ -159,6 +163,7 @@ pub extern "C" fn edd_element(
         → element_variable (contents_in bytes.now).elements (record { 0 = array }) number
         ≡ None }
     ensures refused { result ≢ 0 → (result ≡ 203) ⊎ (result ≡ 260) }
+    ensures accepted { result ≢ 260 → AreOf image.now bytes.now }
     ensures other { result ≡ 260 → ¬ AreOf image.now bytes.now }
     ensures kept { result ≢ 0 → variable.new ≡ variable.old }
 {

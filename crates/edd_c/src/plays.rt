@@ -34,6 +34,7 @@ pub extern "C" fn edd_play(
     ensures refused { result ≢ 0 → result ≢ 260 → (why : PlayRefusal)
         × (result ≡ refusal_status why) × IsPlayRefusal bytes.now (record { 0 = method }) values.now
         steps answers.now settings.now (length after.old) why }
+    ensures accepted { result ≢ 260 → AreOf image.now bytes.now }
     ensures other { result ≡ 260 → ¬ AreOf image.now bytes.now }
     ensures ending_kept { result ≢ 0 → ending.new ≡ ending.old }
     ensures requests_kept { result ≢ 0 → requests.new ≡ requests.old }

@@ -33,6 +33,7 @@ pub extern "C" fn edd_start(
     ensures refused { result ≢ 0 → result ≢ 260 → (fault : StartFault)
         × (result ≡ start_status fault)
         × IsStartFault bytes.now (record { 0 = method }) values.now fault }
+    ensures accepted { result ≢ 260 → AreOf image.now bytes.now }
     ensures other { result ≡ 260 → ¬ AreOf image.now bytes.now }
     ensures kept { result ≢ 0 → session.new ≡ session.old }
 {
@@ -60,6 +61,7 @@ pub extern "C" fn edd_advance(
         session.new values.new turn.new }
     ensures none { result ≡ 262 → ¬ IsSession bytes.now session.old values.old }
     ensures refused { result ≢ 0 → (result ≡ 260) ⊎ (result ≡ 262) }
+    ensures accepted { result ≢ 260 → AreOf image.now bytes.now }
     ensures other { result ≡ 260 → ¬ AreOf image.now bytes.now }
     ensures session_kept { result ≢ 0 → session.new ≡ session.old }
     ensures values_kept { result ≢ 0 → values.new ≡ values.old }
@@ -94,6 +96,7 @@ pub extern "C" fn edd_reply(
     ensures refused { result ≢ 0 → result ≢ 260 → (why : SessionRefusal)
         × (result ≡ session_status why) × IsSessionRefusal bytes.now session.old values.old
         answer.now settings.now why }
+    ensures accepted { result ≢ 260 → AreOf image.now bytes.now }
     ensures other { result ≡ 260 → ¬ AreOf image.now bytes.now }
     ensures session_kept { result ≢ 0 → session.new ≡ session.old }
     ensures values_kept { result ≢ 0 → values.new ≡ values.old }

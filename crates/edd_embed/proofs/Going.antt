@@ -53,6 +53,7 @@ module _ (b : List ℕ) (m n : Machine) (values after : List ℤ) (a : Answer)
     stood = stood;
     run = run_of_machine b m values valid is;
     taken_up = accepted;
+    fits = fits;
     stands = stands ∙ ap (λ (s : State). Some s) answered_state;
     taken = counted;
     is = session_of_machine b n after new valid answered_is stands;

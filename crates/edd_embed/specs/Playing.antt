@@ -3,6 +3,7 @@ use Rattle.std.specs.Prelude.{◌≡◌, ◌≢◌, ◌==◌, ◌&&◌, Bool, tr
 use Rattle.edd_syntax.specs.declared.answer.Trap.{Trap}
 use Rattle.edd_syntax.specs.declared.answer.Trap.TheVariants as trap
 use Rattle.edd_syntax.specs.Answers.{Answer, Go, Abort, Change}
+use Rattle.edd_syntax.specs.DeviceValues.{AreDeviceValues}
 use Rattle.edd_instructions.specs.declared.requests.Request.{Request}
 use Rattle.edd_instructions.specs.declared.requests.RequestArgument.{RequestArgument}
 use Rattle.edd_instructions.specs.declared.requests.RequestArgument.TheVariants as argument
@@ -11,6 +12,7 @@ use Rattle.edd_instructions.specs.declared.requests.Wanted.TheVariants as wanted
 use Rattle.edd_instructions.specs.Requests.{arguments_asked, kind_asked, numbers_in, wanted_by}
 use Rattle.edd_syntax.specs.Builtins.{request_number}
 use Rattle.edd_syntax.specs.declared.numbers.MethNo.{MethNo}
+use Rattle.edd_machine.specs.Types.{types_in}
 use Rattle.edd_port.specs.declared.fault.PlayFault.TheVariants as play_fault
 use Rattle.edd_port.specs.Plays.{IsPlayFault, ending_shown, played}
 use Rattle.edd_port.specs.declared.playing.Ending.{Ending}
@@ -109,10 +111,11 @@ trap_of _ = 0
 
 -- ---- plays
 
--- What the caller has after a play: the ending and how many requests there were, of these as many
+-- What the caller has after a play from values of a device: the ending and how many requests there were, of these as many
 -- as there was room for, and the values as the method left them.
 pub record Shows (b : List ℕ) (method : MethNo) (values : List ℤ) (steps : ℕ) (given : List Answer)
     (shown : PlainEnding) (room list : List PlainRequest) (after : List ℤ) : Type 0 where
+  pub accepted : AreDeviceValues (types_in b) values
   pub ending : Ending
   pub made : List Request
   pub ends : option_map (λ o. o.ending) (played b method values steps given)
@@ -126,15 +129,17 @@ pub record Shows (b : List ℕ) (method : MethNo) (values : List ℤ) (steps : �
   }
   pub listed : list ≡ written_over (take (length room) (map plain_request made)) room
 
--- what a refusal says: an answer has fewer settings than it says, there is not the room for as many
--- values as the method left, or it is the fault of the play; nothing is said of memory
+-- What a refusal says: an answer has fewer settings than it says; or each has as many, and there is not
+-- the room for as many values as the method left, or it is the fault of the play. Nothing is said of
+-- memory.
 abbrev pub IsPlayRefusal : List ℕ → MethNo → List ℤ → (steps : ℕ) → List Given → List Setting
     → (room : ℕ) → PlayRefusal → Type 0
 IsPlayRefusal b method values steps givens settings room Settings =
     have_settings givens settings ≡ false
-IsPlayRefusal b method values steps givens settings room Room = (after : List ℤ)
-    × (option_map (λ o. o.state.values)
+IsPlayRefusal b method values steps givens settings room Room =
+    (have_settings givens settings ≡ true) × (after : List ℤ) × (option_map (λ o. o.state.values)
     (played b method values steps (answers_of givens settings)) ≡ Some after) × (length after ≢ room)
-IsPlayRefusal b method values steps givens settings room (Play play_fault.Memory) = ⊤
+IsPlayRefusal b method values steps givens settings room (Play play_fault.Memory) =
+    have_settings givens settings ≡ true
 IsPlayRefusal b method values steps givens settings room (Play fault) =
-    IsPlayFault b method values steps (answers_of givens settings) fault
+    (have_settings givens settings ≡ true) × IsPlayFault b method values steps (answers_of givens settings) fault

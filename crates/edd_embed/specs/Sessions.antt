@@ -5,6 +5,7 @@ use Rattle.edd_syntax.specs.declared.answer.Trap.{Trap}
 use Rattle.edd_syntax.specs.declared.answer.Trap.TheVariants as trap
 use Rattle.edd_syntax.specs.Answers.{Answer}
 use Rattle.edd_syntax.specs.declared.numbers.MethNo.{MethNo}
+use Rattle.edd_syntax.specs.DeviceValues.{AreDeviceValues}
 use Rattle.edd_image.specs.Contents.{AttributeFields, contents_in}
 use Rattle.edd_image.specs.Front.{◌>>=◌}
 use Rattle.edd_instructions.specs.declared.requests.Request.{Request}
@@ -27,7 +28,7 @@ use Rattle.edd_machine.specs.Types.{types_in}
 use Rattle.edd_port.specs.declared.turn.Turn.{Turn}
 use Rattle.edd_port.specs.declared.turn.Turn.TheVariants as turn
 use Rattle.edd_port.specs.Faults.{answer_fault_of}
-use Rattle.edd_port.specs.Refusals.{refusal}
+use Rattle.edd_port.specs.Refusals.{CodeFits, refusal}
 use Rattle.edd_port.specs.Runs.{Run, IsRun, OpensIn, advanced, counted}
 use Rattle.edd_port.specs.Turns.{turn_of}
 use Rattle.edd_embed.specs.declared.answers.Given.{Given}
@@ -184,12 +185,13 @@ plain_turn t = record {
 
 -- ---- calls
 
--- A method was started under these values: the session stands for its opening state.
+-- A method was started under these values of a device: the session stands for its opening state.
 pub record Starts (b : List ℕ) (method : MethNo) (values : List ℤ) (p : PlainSession)
     : Type 0 where
   pub state : State
   pub stands : state_in b p values ≡ Some state
   pub opens : OpensIn b method values state
+  pub accepted : AreDeviceValues (types_in b) values
   pub taken : p.taken ≡ 0
   pub is : IsSession b p values
 
@@ -212,6 +214,7 @@ pub record Answers (b : List ℕ) (old : PlainSession) (values : List ℤ) (answ
   pub stood : state_in b old values ≡ Some before
   pub run : IsRun b before
   pub taken_up : refusal (types_in b) before.status answer ≡ None
+  pub fits : CodeFits answer
   pub stands : state_in b new after ≡ Some (answered_in (contents_in b) before answer).state
   pub taken : new.taken ≡ old.taken
   pub is : IsSession b new after
@@ -220,12 +223,15 @@ pub record Answers (b : List ℕ) (old : PlainSession) (values : List ℤ) (answ
 abbrev pub answer_given : Given → List Setting → Answer
 answer_given g settings = answer_with g (take g.settings settings)
 
--- What a refusal of an answer says: there are fewer settings than it says, the numbers are no session
--- of the image under these values, or the state that they stand for does not take the answer.
+-- What a refusal of an answer says: there are fewer settings than it says; or there are enough, and the
+-- numbers are no session of the image under these values, or the state that they stand for does not
+-- take the answer.
 abbrev pub IsSessionRefusal : List ℕ → PlainSession → (values : List ℤ) → Given → List Setting
     → SessionRefusal → Type 0
 IsSessionRefusal b p values given settings Settings = length settings < given.settings
-IsSessionRefusal b p values given settings NoSession = ¬ IsSession b p values
-IsSessionRefusal b p values given settings (Refused fault) = (s : State)
+IsSessionRefusal b p values given settings NoSession =
+    (given.settings ≤ length settings) × ¬ IsSession b p values
+IsSessionRefusal b p values given settings (Refused fault) =
+    (given.settings ≤ length settings) × (s : State)
     × (state_in b p values ≡ Some s) × IsRun b s
     × (refusal (types_in b) s.status (answer_given given settings) ≡ Some (answer_fault_of fault))

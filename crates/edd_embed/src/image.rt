@@ -81,6 +81,7 @@ impl ImageNumbers {
     pub fn image<'b>(&self, bytes: &'b [u8]) -> Option<Image<'b>>
         requires { AreOf self.now bytes.now → IsValid bytes.now }
         ensures sound { IfSome result (λ image. image ≡ bytes.now) }
+        ensures accepted { IfSome result (λ image. AreOf self.now bytes.now) }
         ensures refused { IfNone result (¬ AreOf self.now bytes.now) }
     {
         if self.are_of(bytes) {

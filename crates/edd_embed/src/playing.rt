@@ -90,6 +90,7 @@ fn play_answered(
     requests: &mut [PlainRequest],
     after: &mut [i64],
 ) -> Result<PlainEnding, PlayRefusal>
+    requires { have_settings givens.now settings.now ≡ true }
     ensures sound { IfOk result (λ shown. Shows image.now method values.now steps
         (answers_of givens.now settings.now) shown requests.old requests.new after.new) }
     ensures refused { IfErr result (IsPlayRefusal image.now method values.now steps givens.now
@@ -125,8 +126,9 @@ fn play_answered(
 /// values as the method left them. It takes memory for the values, the answers and the requests,
 /// and gives it back.
 ///
-/// The refusal says that there are fewer settings than the answers say, is the fault of `play`, or
-/// says that there is room for another number of values; then nothing is written.
+/// The refusal says that there are fewer settings than the answers say, whatever else is wrong; else it
+/// is the fault of `play`, or says that there is room for another number of values. Then nothing is
+/// written.
 pub fn play_into(
     alloc: Global,
     image: &Image<'_>,

@@ -178,6 +178,7 @@ fn answer_fully(
     given: Given,
     settings: &[Setting],
 ) -> Result<(), SessionRefusal>
+    requires { given.settings ≤ length settings.now }
     ensures sound { OnOk result (Answers image.now session.old values.old
         (answer_given given settings.now) session.new values.new) }
     ensures refused { IfErr result (IsSessionRefusal image.now session.old values.old given
@@ -205,8 +206,9 @@ fn answer_fully(
 /// order, and the code is the request's value. An abort goes on with the abort methods, or ends the
 /// method. Nothing is executed.
 ///
-/// The refusal says that there are fewer settings than the answer says, that the numbers are no
-/// session of the image under these values, or why the answer is not taken; then nothing is written.
+/// The refusal says that there are fewer settings than the answer says, whatever else is wrong; else
+/// that the numbers are no session of the image under these values, or why the answer is not taken.
+/// Then nothing is written.
 /// It takes no memory.
 pub fn answer_session(
     image: &Image<'_>,

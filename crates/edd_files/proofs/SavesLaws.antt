@@ -5,6 +5,7 @@ use Rattle.std.specs.Option.{option_map}
 use Rattle.std.specs.List.{All, Contains}
 use Rattle.std.proofs.lemmas.List.{get_or-map, length-map}
 use Rattle.std.proofs.lemmas.List.Elements.{All-push, Contains-get_or}
+use Rattle.edd_layout.specs.Comments.{KeepsComments}
 use Rattle.edd_layout.specs.Same.{HaveSameBytes, SameTokens}
 use Rattle.edd_files.specs.Names.{input_name}
 use Rattle.edd_files.specs.Saves.{Account, Gave, IsLayoutSaving, Saving, SavesOne, saving_in_place, with_saving}
@@ -42,6 +43,7 @@ saves_this_such P Q (Some a) after more (inr (s, is, such)) = inr (s, is, more s
 -- a layout of what the file of a name gave
 pub layout_saved : (account : Option Account) (names : List (List ℕ)) (name text bytes : List ℕ)
     → Contains names name → Gave account (input_name name) text → SameTokens text bytes
-    → HaveSameBytes text bytes → IsLayoutSaving account names (saving_in_place name bytes)
-layout_saved account names name text bytes named gave same kept =
-    (name, named, refl, text, gave, same, kept)
+    → HaveSameBytes text bytes → KeepsComments text bytes
+    → IsLayoutSaving account names (saving_in_place name bytes)
+layout_saved account names name text bytes named gave same kept comments =
+    (name, named, refl, text, gave, same, kept, comments)

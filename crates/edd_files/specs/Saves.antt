@@ -3,6 +3,7 @@ use Rattle.std.specs.Prelude.{◌≡◌, ◌⊎◌, ℕ, List, [], ◌∷◌, �
 use Rattle.std.specs.List.{Contains}
 use Rattle.edd_compiler.specs.Faults.{Explains}
 use Rattle.edd_compiler.specs.Images.{IsImageOf}
+use Rattle.edd_layout.specs.Comments.{KeepsComments}
 use Rattle.edd_layout.specs.Same.{HaveSameBytes, SameTokens}
 use Rattle.edd_files.specs.declared.compiling.Compiled.{Compiled}
 use Rattle.edd_files.specs.declared.compiling.Compiled.TheVariants.{Saved, Refused}
@@ -74,7 +75,7 @@ IsTold before after source image (Refused text fault) =
 abbrev pub IsLayoutSaving : Option Account → (names : List (List ℕ)) → Saving → Type 0
 IsLayoutSaving account names s = (name : List ℕ) × Contains names name
     × (s.name ≡ input_name name) × (text : List ℕ) × Gave account (input_name name) text
-    × SameTokens text s.bytes × HaveSameBytes text s.bytes
+    × SameTokens text s.bytes × HaveSameBytes text s.bytes × KeepsComments text s.bytes
 
 -- ---- what the words of a command line let the program save
 

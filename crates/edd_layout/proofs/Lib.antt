@@ -1,1 +1,2 @@
+pub mod CommentEnds
 pub mod SameKinds

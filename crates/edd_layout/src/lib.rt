@@ -4,6 +4,8 @@
 //! bytes.
 #![tactic(auto)]
 
+mod comments;
+mod gaps;
 mod kept;
 mod layout;
 mod same;

@@ -1,7 +1,11 @@
+pub mod Embedded
 pub mod EveryRun
+pub mod FewSteps
+pub mod Forward
 pub mod Loaded
 pub mod NeverStuck
 pub mod OneRun
+pub mod SameSources
 pub mod ShownRuns
 pub mod UnitReads
 pub mod UnitRuns

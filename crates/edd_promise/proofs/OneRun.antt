@@ -1,6 +1,6 @@
 -- What comes of calls on a session is one run.
 use Rattle.std.proofs.Common.{◌≡◌, refl, sym, ap, subst, ◌∙◌, ℕ, ◌+◌, List, [], ◌∷◌, ◌++◌, None, append-nil, arith}
-use Rattle.edd_syntax.specs.Answers.{Answer, answer_fault}
+use Rattle.edd_syntax.specs.Answers.{Abort, Answer, Change, Go, answer_fault}
 use Rattle.edd_instructions.specs.declared.requests.Request.{Request}
 use Rattle.edd_image.specs.Contents.{Contents, contents_in}
 use Rattle.edd_instructions.specs.Reading.{environment_of}
@@ -9,12 +9,19 @@ use Rattle.edd_instructions.specs.Execution.{Outcome, preceded}
 use Rattle.edd_instructions.specs.AbortMethods.{answered_in, execute_in}
 use Rattle.edd_port.specs.Books.{Pair}
 use Rattle.edd_port.specs.Drives.{Takes}
+use Rattle.edd_port.specs.Refusals.{sets_of}
 use Rattle.edd_port.specs.Runs.{Run, environment, followed}
 use Rattle.edd_port.specs.Turns.{turn_of, ending_of}
 use Rattle.edd_port.proofs.Cuts.{met}
 use Rattle.edd_port.proofs.Outcomes.{halted, without_steps}
 use Rattle.edd_promise.specs.Sessions.{Past, nothing_done, with_run, with_answer, answers_of, Comes, Started, Advanced, Answered, Driven, at_once, IsOneRun}
 use Rattle.edd_promise.proofs.Used.{continues, exactly, leaves_none}
+
+-- an answer changes what it sets
+changed_by : (c : Contents) (s : State) (answer : Answer)
+    → (answered_in c s answer).changes ≡ sets_of answer
+changed_by c s (Go code sets) = refl
+changed_by c s Abort = refl
 
 module _ (first : Run) where
   abbrev c : Contents
@@ -23,12 +30,14 @@ module _ (first : Run) where
   -- it is one run, where this is what that results in
   one_run : (past : Past) (now : Run) (o : Outcome) → now.image ≡ first.image
       → at_once first past.steps past.answers ≡ o → now.state ≡ o.state
-      → o.requests ≡ past.requests → o.answers ≡ [] → o.steps ≡ past.steps
-      → o.ending ≡ ending_of (turn_of now.state.status) → IsOneRun first past now
-  one_run past now o image is state requests used count ending = record {
+      → o.requests ≡ past.requests → o.changes ≡ past.changes → o.answers ≡ []
+      → o.steps ≡ past.steps → o.ending ≡ ending_of (turn_of now.state.status)
+      → IsOneRun first past now
+  one_run past now o image is state requests changes used count ending = record {
     image = image;
     state = state ∙ sym (ap (λ (x : Outcome). x.state) is);
     requests = ap (λ (x : Outcome). x.requests) is ∙ requests;
+    changes = ap (λ (x : Outcome). x.changes) is ∙ changes;
     used = ap (λ (x : Outcome). x.answers) is ∙ used;
     count = ap (λ (x : Outcome). x.steps) is ∙ count;
     ending = ap (λ (x : Outcome). x.ending) is ∙ ending;
@@ -36,7 +45,7 @@ module _ (first : Run) where
 
   started : IsOneRun first nothing_done first
   started = one_run nothing_done first (halted first.state (ending_of (turn_of first.state.status)))
-      refl (without_steps c first.state) refl refl refl refl refl
+      refl (without_steps c first.state) refl refl refl refl refl refl
 
   -- from where the session is the run goes on under any answers
   goes_on : (past : Past) (now : Run) → IsOneRun first past now → (k : ℕ) (more : List Answer)
@@ -70,6 +79,8 @@ module _ (first : Run) where
       state
       (ap (λ (rs : List Request). o.requests ++ rs) (append-nil p.requests)
       ∙ ap (λ (rs : List Request). rs ++ p.requests) is.requests)
+      (ap (λ (xs : List Change). o.changes ++ xs) (append-nil p.changes)
+      ∙ ap (λ (xs : List Change). xs ++ p.changes) is.changes)
       refl (omega (arith, is.count))
       (ap (λ (s : State). ending_of (turn_of s.status)) (sym state))
 
@@ -97,6 +108,9 @@ module _ (first : Run) where
       one_run (with_answer past pair.answer) next (followed o (preceded [] changes end))
       (ap (λ (r : Run). r.image) takes.is ∙ is.image) there state
       (append-nil o.requests ∙ is.requests)
+      (ap (λ (xs : List Change). o.changes ++ xs)
+      (append-nil changes ∙ changed_by c now.state pair.answer)
+      ∙ ap (λ (xs : List Change). xs ++ sets_of pair.answer) is.changes)
       refl (omega (arith, is.count))
       (ap (λ (s : State). ending_of (turn_of s.status)) (sym state))
 

@@ -6,7 +6,7 @@ use Rattle.std.proofs.lemmas.Bool.{cases_lt}
 use Rattle.edd_syntax.specs.declared.numbers.MethNo.{MethNo}
 use Rattle.edd_syntax.specs.declared.reference.Target.{Target}
 use Rattle.edd_syntax.specs.Item.{Description}
-use Rattle.edd_syntax.specs.Answers.{Answer, Go, Abort, SetFault, BadVariable, OutOfRange, IsValidAnswer, answer_fault}
+use Rattle.edd_syntax.specs.Answers.{Answer, Change, Go, Abort, SetFault, BadVariable, OutOfRange, IsValidAnswer, answer_fault}
 use Rattle.edd_syntax.specs.DeviceValues.{VariableType, AreDeviceValues}
 use Rattle.edd_syntax.specs.Execution as source
 use Rattle.edd_syntax.specs.Execution.{Transcript, run}
@@ -34,7 +34,7 @@ use Rattle.edd_port.specs.Refusals.{CodeFits}
 use Rattle.edd_port.specs.Runs.{Run}
 use Rattle.edd_port.specs.Turns as turns
 use Rattle.edd_port.specs.Turns.{turn_of}
-use Rattle.edd_promise.specs.Plays.{Shown, PlayShows, SameShown, SameSession, BeginsWith, IsRefusedPlay}
+use Rattle.edd_promise.specs.Plays.{Changes, Shown, PlayShows, SameShown, SameSession, BeginsWith, IsRefusedPlay}
 use Rattle.edd_promise.specs.Sessions.{Past, nothing_done, with_run, answers_of, requests_of, Comes, Started, Advanced, Answered, Driven, IsSession, IsDriven, at_once, IsOneRun}
 use Rattle.edd_promise.proofs.OneRun.{comes_of_one}
 use Rattle.edd_promise.proofs.UnitReads.{device_of_image}
@@ -150,6 +150,14 @@ module _ (unit : Description Target) (b : List ℕ) (valid : IsValid b)
             (none_played steps (λ o. o.requests) shown.requests is p.requests)
         by_body (Some row) is = (row, is)
 
+    -- the run that is played makes the changes of the run of the unit
+    changes_are : (steps : ℕ) (row : AttributeFields) (xs : List Change)
+        → body_of c m ≡ Some row → (machine_of row steps device answers).changes ≡ xs
+        → Changes b m device steps answers xs
+    changes_are steps row xs found is =
+        ap (λ (o : Option AttributeFields). option_map (λ x. x.changes) (by_row steps o)) found
+        ∙ ap (λ (ys : List Change). Some ys) is
+
     same_shown : (steps : ℕ) (row : AttributeFields) (shown : Shown) (t : Transcript)
         → IsPlayed row steps shown
         → SameOutcome (string_numbered c) t (machine_of row steps device answers)
@@ -165,25 +173,32 @@ module _ (unit : Description Target) (b : List ℕ) (valid : IsValid b)
       pub shown_over : (steps : ℕ) (shown : Shown) → Shows steps shown
           → shown.ending ≢ ending.Spent
           → (turns : ℕ) × SameShown (string_numbered c) (transcript turns) shown
+          × Changes b m device steps answers (transcript turns).changes
       shown_over steps shown p ended =
           let at = has_row steps shown p in
           let is = is_played steps at.0 shown at.1 p in
           let same = over unit b valid agrees m at.0 at.1 device answers p.accepted all steps
           (λ e. ended (is_spent shown.ending (sym is.ending ∙ e))) in
-          (same.0, same_shown steps at.0 shown (transcript same.0) is same.1)
+          (
+            same.0,
+            same_shown steps at.0 shown (transcript same.0) is same.1,
+            changes_are steps at.0 (transcript same.0).changes at.1 same.1.changes,
+          )
 
       pub shown_begins : (steps : ℕ) (shown : Shown) → Shows steps shown
           → shown.ending ≡ ending.Spent
-          → BeginsWith (string_numbered c) unit m device answers shown.requests
+          → (changed : List Change) × Changes b m device steps answers changed
+          × BeginsWith (string_numbered c) unit m device answers shown.requests changed
       shown_begins steps shown p spent =
           let at = has_row steps shown p in
           let is = is_played steps at.0 shown at.1 p in
           let begun = begins unit b valid agrees m at.0 at.1 device answers p.accepted all steps
-          (is.ending ∙ ap ending_shown spent) in (
-            begun.0,
-            begun.1,
-            subst (λ (rs : List Request). SameRequests (string_numbered c)
-                (transcript begun.0).requests (rs ++ begun.1)) is.requests begun.2,
+          (is.ending ∙ ap ending_shown spent) in
+          let changed : List Change = (machine_of at.0 steps device answers).changes in (
+            changed,
+            changes_are steps at.0 changed at.1 refl,
+            subst (λ (rs : List Request). BeginsWith (string_numbered c) unit m device answers rs
+                changed) is.requests begun,
           )
 
       module _ (are : AreDeviceValues (types_in b) device) where
@@ -292,9 +307,12 @@ module _ (unit : Description Target) (b : List ℕ) (valid : IsValid b)
     requests_here : o.requests ≡ past.requests
     requests_here = sym (ap (λ (x : Outcome). x.requests) same) ∙ is_one.requests
 
+    changes_here : o.changes ≡ past.changes
+    changes_here = sym (ap (λ (x : Outcome). x.changes) same) ∙ is_one.changes
+
     pub session_over : turn_of now.state.status ≢ turn.Spent
         → (turns : ℕ) × SameSession (string_numbered c) (run turns unit m device past.answers)
-        past.requests now
+        past.requests past.changes now
     session_over ended =
         let goes_not_on : o.ending ≢ image.OutOfSteps =
         λ e. ended (turn_spent (turn_of now.state.status) (sym ending_here ∙ e)) in
@@ -305,6 +323,7 @@ module _ (unit : Description Target) (b : List ℕ) (valid : IsValid b)
             requests = subst (λ (rs : List Request). SameRequests (string_numbered c)
                 (run there.0 unit m device past.answers).requests rs) requests_here
                 there.1.requests;
+            changes = sym changes_here ∙ there.1.changes;
             values = ap (λ (s : State). s.values) (is_one.state
                 ∙ ap (λ (x : Outcome). x.state) same) ∙ there.1.values;
             ending = sym ending_here ∙ there.1.ending;
@@ -312,16 +331,14 @@ module _ (unit : Description Target) (b : List ℕ) (valid : IsValid b)
         )
 
     pub session_begins : turn_of now.state.status ≡ turn.Spent
-        → BeginsWith (string_numbered c) unit m device past.answers past.requests
+        → BeginsWith (string_numbered c) unit m device past.answers past.requests past.changes
     session_begins spent =
         let begun = begins unit b valid agrees m row is.opens.1 device past.answers is.accepted
-        all_valid past.steps (ending_here ∙ ap turns.ending_of spent) in (
-          begun.0,
-          begun.1,
-          subst (λ (rs : List Request). SameRequests (string_numbered c)
-              (run begun.0 unit m device past.answers).requests (rs ++ begun.1)) requests_here
-              begun.2,
-        )
+        all_valid past.steps (ending_here ∙ ap turns.ending_of spent) in
+        subst (λ (xs : List Change). BeginsWith (string_numbered c) unit m device past.answers
+        past.requests xs) changes_here
+        (subst (λ (rs : List Request). BeginsWith (string_numbered c) unit m device past.answers rs
+        o.changes) requests_here begun)
 
   -- ---- a session that goes on
 
@@ -402,17 +419,19 @@ module _ (unit : Description Target) (b : List ℕ) (valid : IsValid b)
     pub drive_over : turn_of now.state.status ≢ turn.Spent
         → (turns : ℕ) × SameSession (string_numbered c)
         (run turns unit m device (answers_of pairs))
-        (requests_of pairs ++ standing now.state.status) now
+        (requests_of pairs ++ standing now.state.status) (driven is.first steps pairs).changes now
     drive_over ended =
         let there = session_over m device past now session ended in (
           there.0,
           subst (λ (rs : List Request). SameSession (string_numbered c)
-              (run there.0 unit m device (answers_of pairs)) rs now) requests_are there.1,
+              (run there.0 unit m device (answers_of pairs)) rs
+              (driven is.first steps pairs).changes now) requests_are there.1,
         )
 
     pub drive_begins : turn_of now.state.status ≡ turn.Spent
         → BeginsWith (string_numbered c) unit m device (answers_of pairs)
-        (requests_of pairs ++ standing now.state.status)
+        (requests_of pairs ++ standing now.state.status) (driven is.first steps pairs).changes
     drive_begins spent =
         subst (λ (rs : List Request). BeginsWith (string_numbered c) unit m device
-        (answers_of pairs) rs) requests_are (session_begins m device past now session spent)
+        (answers_of pairs) rs (driven is.first steps pairs).changes) requests_are
+        (session_begins m device past now session spent)

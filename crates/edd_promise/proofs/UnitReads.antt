@@ -22,7 +22,7 @@ use Rattle.edd_machine.specs.declared.fault.ReadFault.{ReadFault}
 use Rattle.edd_machine.specs.declared.fault.ReadFault.TheVariants as read_fault
 use Rattle.edd_machine.specs.Faults.{IsReadFault}
 use Rattle.edd_machine.specs.Types.{types_in}
-use Rattle.edd_promise.specs.Reads.{IsRefusedRead}
+use Rattle.edd_promise.specs.Reads.{IsRefusedRead, is_key}
 
 -- ---- readings of an image alone
 
@@ -158,14 +158,12 @@ module _ (unit : Description Target) (b : List ℕ) (agrees : AgreesOnData unit 
 
 -- ---- texts
 
-text_given : (w : Words) (code : List ℕ) → (given w code).1 ≡ text_for w code
+text_given : (w : Words) (code : List ℕ) → given w code ≡ (is_key w, text_for w code)
 text_given (Variants first rest) code = refl
 text_given (Key name) code = refl
 
 pub text_read : (o : Option Words) (w : Words) (code : List ℕ) → o ≡ Some w
-    → option_map (λ shown. shown.1) (option_map (λ words. given words code) o)
-    ≡ Some (text_for w code)
+    → option_map (λ words. given words code) o ≡ Some (is_key w, text_for w code)
 text_read o w code is =
-    ap (λ (x : Option Words). option_map (λ (shown : Bool × List ℕ). shown.1)
-    (option_map (λ words. given words code) x)) is
-    ∙ ap (λ (t : List ℕ). Some t) (text_given w code)
+    ap (λ (x : Option Words). option_map (λ words. given words code) x) is
+    ∙ ap (λ (t : Bool × List ℕ). Some t) (text_given w code)

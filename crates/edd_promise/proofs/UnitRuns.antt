@@ -37,6 +37,7 @@ use Rattle.edd_instructions.proofs.StaysOver.{stays_over_following}
 use Rattle.edd_loader.proofs.LookupLaws.{all_at}
 use Rattle.edd_loader.proofs.RowRules.{row_rules}
 use Rattle.edd_machine.specs.Types.{types_in}
+use Rattle.edd_promise.specs.Plays.{BeginsWith}
 use Rattle.edd_machine.proofs.AttributeReadings.{stands}
 
 -- the method of a row that is a body exists
@@ -149,14 +150,13 @@ module _ (unit : Description Target) (b : List ℕ) (valid : IsValid b)
     stays k j le is = stays_over_following (next (start_in c)) (environment_of c) k j le
         (opening_of c row values) answers is
 
-    -- a run that is out of steps has made the first requests of the method
-    abbrev Begins : List Request → Type 0
-    Begins requests = (turns : ℕ) × (more : List Request) × SameRequests (string_numbered c)
-        (source_of m turns values answers).requests (requests ++ more)
+    -- a run that is out of steps has made the first requests and changes of the method
+    abbrev Begins : Outcome → Type 0
+    Begins o = BeginsWith (string_numbered c) unit m values answers o.requests o.changes
 
     begins_by : (k j n : ℕ) → k ≤ j
         → (machine_of row k values answers).ending ≡ image.OutOfSteps → Same n j
-        → Begins (machine_of row k values answers).requests
+        → Begins (machine_of row k values answers)
     begins_by k j n le out same =
         let s : State = opening_of c row values in
         let whole : k + (j - k) ≡ j = omega arith in
@@ -167,20 +167,22 @@ module _ (unit : Description Target) (b : List ℕ) (valid : IsValid b)
         (machine_of row k values answers) =
         ap (λ (i : ℕ). execute_in c i s answers) (sym whole)
         ∙ cut (next (start_in c)) (next_asks_nothing (start_in c)) (environment_of c) k (j - k) s
-        answers out in (
-          n,
-          rest.requests,
-          subst (λ (o : Outcome). SameRequests (string_numbered c)
-              (source_of m n values answers).requests o.requests) here same.requests,
-        )
+        answers out in record {
+          turns = n;
+          more = rest.requests;
+          later = rest.changes;
+          requests = subst (λ (o : Outcome). SameRequests (string_numbered c)
+              (source_of m n values answers).requests o.requests) here same.requests;
+          changes = sym same.changes ∙ ap (λ (o : Outcome). o.changes) here;
+        }
 
     pub begins : (k : ℕ) → (machine_of row k values answers).ending ≡ image.OutOfSteps
-        → Begins (machine_of row k values answers).requests
+        → Begins (machine_of row k values answers)
     begins k out = by_turns (out_or_over (source_of m k values answers).ending)
       where
         by_order : (j : ℕ) → Same k j
             → (source_of m k values answers).ending ≢ source.OutOfTurns
-            → (k ≤ j) ⊎ (j ≤ k) → Begins (machine_of row k values answers).requests
+            → (k ≤ j) ⊎ (j ≤ k) → Begins (machine_of row k values answers)
         by_order j same ended (inl le) = begins_by k j k le out same
         by_order j same ended (inr le) =
             let never : (machine_of row j values answers).ending ≢ image.OutOfSteps =
@@ -189,7 +191,7 @@ module _ (unit : Description Target) (b : List ℕ) (valid : IsValid b)
 
         by_turns : ((source_of m k values answers).ending ≡ source.OutOfTurns)
             ⊎ ((source_of m k values answers).ending ≢ source.OutOfTurns)
-            → Begins (machine_of row k values answers).requests
+            → Begins (machine_of row k values answers)
         by_turns (inl going) = let on = plays_on k going in begins_by k on.0 k on.1 out on.2
         by_turns (inr ended) = let on = plays k ended in
             by_order on.0 on.1 ended (either_order k on.0)

@@ -1,3 +1,4 @@
+pub mod Embedded
 pub mod Plays
 pub mod Reads
 pub mod Sessions

@@ -6,7 +6,7 @@ use Rattle.edd_syntax.specs.declared.numbers.StrNo.{StrNo}
 use Rattle.edd_syntax.specs.declared.reference.Target.{Target}
 use Rattle.edd_syntax.specs.Words.{Words}
 use Rattle.edd_syntax.specs.Item.{Description}
-use Rattle.edd_syntax.specs.Answers.{Answer}
+use Rattle.edd_syntax.specs.Answers.{Answer, Change}
 use Rattle.edd_syntax.specs.DeviceValues.{AreDeviceValues}
 use Rattle.edd_syntax.specs.Device.{environment, item_at}
 use Rattle.edd_syntax.specs.Execution.{Transcript, run}
@@ -40,6 +40,12 @@ pub record PlayShows (b : List ℕ) (method : MethNo) (device : List ℤ) (steps
   pub ending : option_map (λ o. o.ending) (played b method device steps answers)
       ≡ Some (ending_shown shown.ending)
 
+-- the run that is played makes these changes, of which a transcript shows the values that they leave
+abbrev pub Changes : List ℕ → MethNo → (device : List ℤ) → (steps : ℕ) → List Answer → List Change
+    → Type 0
+Changes b method device steps answers changed =
+    option_map (λ o. o.changes) (played b method device steps answers) ≡ Some changed
+
 -- ---- what the unit's method does
 
 -- the numbers of strings stand for these strings
@@ -51,18 +57,25 @@ module _ (string_numbered : StrNo → Option Words) where
     pub values : shown.values ≡ t.values
     pub ending : ending_shown shown.ending ≡ ending_of t.ending
 
-  -- A session that made these requests and is here shows the same as the run of the unit.
-  pub record SameSession (t : Transcript) (made : List Request) (now : Run) : Type 0 where
+  -- A session that made these requests and these changes and is here shows the same as the run of the
+  -- unit.
+  pub record SameSession (t : Transcript) (made : List Request) (changed : List Change) (now : Run)
+      : Type 0 where
     pub requests : SameRequests string_numbered t.requests made
+    pub changes : changed ≡ t.changes
     pub values : now.state.values ≡ t.values
     pub ending : turns.ending_of (turn_of now.state.status) ≡ ending_of t.ending
 
-  -- the method's run begins with these requests: within some turns it makes them, and perhaps more
-  abbrev pub BeginsWith : Description Target → MethNo → (device : List ℤ) → List Answer
-      → List Request → Type 0
-  BeginsWith unit method device answers requests = (turns : ℕ) × (more : List Request)
-      × SameRequests string_numbered (run turns unit method device answers).requests
-      (requests ++ more)
+  -- the method's run begins with these requests and these changes: within some turns it makes them, and
+  -- perhaps more
+  pub record BeginsWith (unit : Description Target) (method : MethNo) (device : List ℤ)
+      (answers : List Answer) (made : List Request) (changed : List Change) : Type 0 where
+    pub turns : ℕ
+    pub more : List Request
+    pub later : List Change
+    pub requests : SameRequests string_numbered (run turns unit method device answers).requests
+        (made ++ more)
+    pub changes : (run turns unit method device answers).changes ≡ changed ++ later
 
 -- what a fault of `play` says of the unit's method, where all answers are valid
 abbrev pub IsRefusedPlay : Description Target → MethNo → (device : List ℤ) → PlayFault → Type 0

@@ -1,7 +1,7 @@
 -- What calls on a session make of it, and the one execution that does the same.
 use Rattle.std.specs.Prelude.{◌≡◌, ℕ, ◌+◌, ℤ, List, [], ◌∷◌, ◌++◌, map}
 use Rattle.edd_syntax.specs.declared.numbers.MethNo.{MethNo}
-use Rattle.edd_syntax.specs.Answers.{Answer}
+use Rattle.edd_syntax.specs.Answers.{Answer, Change}
 use Rattle.edd_syntax.specs.DeviceValues.{AreDeviceValues}
 use Rattle.edd_image.specs.Contents.{contents_in}
 use Rattle.edd_instructions.specs.declared.requests.Request.{Request}
@@ -10,19 +10,21 @@ use Rattle.edd_instructions.specs.Execution.{Outcome}
 use Rattle.edd_machine.specs.Types.{types_in}
 use Rattle.edd_port.specs.Books.{Pair}
 use Rattle.edd_port.specs.Drives.{AreMet, AreValid, Takes, driven}
+use Rattle.edd_port.specs.Refusals.{sets_of}
 use Rattle.edd_port.specs.Runs.{OpensIn, Run, advanced}
 use Rattle.edd_port.specs.Turns.{turn_of, ending_of}
 
 -- what was done so far: how many instructions were executed, which answers were taken, and which
--- requests were made
+-- requests and changes of variables were made
 pub record Past : Type 0 where
   pub steps : ℕ
   pub answers : List Answer
   pub requests : List Request
+  pub changes : List Change
 
 -- at a session's start
 abbrev pub nothing_done : Past
-nothing_done = record { steps = 0; answers = []; requests = [] }
+nothing_done = record { steps = 0; answers = []; requests = []; changes = [] }
 
 -- an execution under these answers is done as well
 abbrev pub with_run : Past → List Answer → Outcome → Past
@@ -30,11 +32,15 @@ with_run past answers o = record {
   steps = past.steps + o.steps;
   answers = past.answers ++ answers;
   requests = past.requests ++ o.requests;
+  changes = past.changes ++ o.changes;
 }
 
--- the pending request is answered as well
+-- the pending request is answered as well, which changes what the answer sets
 abbrev pub with_answer : Past → Answer → Past
-with_answer past answer = record past { answers = past.answers ++ answer ∷ [] }
+with_answer past answer = record past {
+  answers = past.answers ++ answer ∷ [];
+  changes = past.changes ++ sets_of answer;
+}
 
 -- the answers of these pairs
 abbrev pub answers_of : List Pair → List Answer
@@ -99,11 +105,12 @@ abbrev pub at_once : Run → (steps : ℕ) → List Answer → Outcome
 at_once first steps answers = execute_in (contents_in first.image) steps first.state answers
 
 -- The session is where one execution, of as many instructions and under the same answers, gets: it
--- makes the same requests, uses all answers, and ends as the session's turn shows.
+-- makes the same requests and changes, uses all answers, and ends as the session's turn shows.
 pub record IsOneRun (first : Run) (past : Past) (now : Run) : Type 0 where
   pub image : now.image ≡ first.image
   pub state : now.state ≡ (at_once first past.steps past.answers).state
   pub requests : (at_once first past.steps past.answers).requests ≡ past.requests
+  pub changes : (at_once first past.steps past.answers).changes ≡ past.changes
   pub used : (at_once first past.steps past.answers).answers ≡ []
   pub count : (at_once first past.steps past.answers).steps ≡ past.steps
   pub ending : (at_once first past.steps past.answers).ending

@@ -1,12 +1,12 @@
 //! Sessions, however they are cut, answered and driven.
 
-ghost use Rattle.std.specs.Prelude.{◌≡◌, ◌≢◌, ℕ, List, ◌++◌};
+ghost use Rattle.std.specs.Prelude.{◌≡◌, ◌≢◌, ℕ, ◌≤◌, List, ◌++◌};
 ghost use Rattle.edd_syntax.specs.Answers.{Answer};
 ghost use Rattle.edd_image.specs.Contents.{Contents};
 ghost use Rattle.edd_instructions.specs.AbortMethods.{execute_in};
 ghost use Rattle.edd_instructions.specs.Execution.{Waiting};
 ghost use Rattle.edd_instructions.specs.Steps.{State};
-ghost use Rattle.edd_port.specs.Runs.{Run};
+ghost use Rattle.edd_port.specs.Runs.{Run, advanced};
 ghost use Rattle.edd_promise.specs.Sessions.{Past, Comes, IsOneRun};
 
 /// Calls on a session, in any order and within any budgets, get it to where one execution gets that
@@ -22,4 +22,9 @@ pub fn answers_left_over_change_nothing()
         o.ending ≢ Waiting
         → execute_in c steps s (answers ++ others)
         ≡ record o { answers = o.answers ++ others } }
+{}
+
+/// A session that is advanced executes at most as many instructions as its budget.
+pub fn budgets_are_kept()
+    ensures { (r : Run) (budget : ℕ) → (advanced r budget).steps ≤ budget }
 {}

@@ -31,6 +31,7 @@ returns-clause-sound c =
       state = s;
       stands = stands;
       opens = opens_in b c.args.method u values s valid c.in-Some.ensures.value refl;
+      accepted = c.are_values.ensures.0 c.if-not-are_values.false;
       taken = c.at_start.ensures.taken;
       is = record {
         state = s;
