@@ -1,5 +1,5 @@
 -- What is read of an attribute is read within as many steps as its unit has bytes.
-use Rattle.std.proofs.Common.{◌≡◌, ℕ, zero, suc, ◌+◌, ◌<◌, ◌≤◌, Bool, true, false, ℤ, List, length, Option, Some, None, Result, refl, sym, ap, subst, ◌∙◌, arith}
+use Rattle.std.proofs.Common.{◌≡◌, ℕ, zero, suc, ◌+◌, ◌≤◌, Bool, true, false, ℤ, List, length, Option, Some, None, Result, refl, sym, ap, subst, ◌∙◌, arith}
 use Rattle.std.specs.Prelude.{option_map}
 use Rattle.edd_syntax.specs.declared.answer.Trap.{Trap}
 use Rattle.edd_syntax.specs.declared.numbers.AttrRef.{AttrRef}
@@ -19,7 +19,7 @@ use Rattle.edd_instructions.proofs.NextStates.{next_in_unit}
 use Rattle.edd_machine.specs.declared.code_unit.CodeUnit.{CodeUnit}
 use Rattle.edd_machine.specs.Running.{IsStateIn, code_at, running_unit, unit_at}
 use Rattle.edd_machine.specs.Types.{types_in}
-use Rattle.edd_machine.proofs.AttributeReadings.{IsFound, attribute_found, is_found, unit_found}
+use Rattle.edd_machine.proofs.AttributeReadings.{attribute_found, is_found, unit_found}
 use Rattle.edd_machine.proofs.ImageUnits.{unit_code}
 use Rattle.edd_machine.proofs.Stepping.{instruction_there, opened, state_again, step_is, valid_there}
 use Rattle.edd_promise.specs.Reads.{row_length, unit_length}
@@ -36,7 +36,7 @@ no_step _ o not = refl
 
 at_rest : (k : ℕ) (env : Environment) (s : State) → (s.status ≡ Running → ⊥)
     → given_within k env s ≡ at_end s.status
-unfolding given_within, step
+unfolding given_within step
 at_rest zero env s not = refl
 at_rest (suc k) env s not =
     ap (λ (o : Option Effect). given_by o s.status (λ e. given_within k env e.state))
@@ -77,6 +77,16 @@ module _ (b : List ℕ) (u : CodeUnit) (valid : IsValid b) (attribute : u.sort �
       by_instruction None there = absurd (instruction_there b u s valid is running there)
       by_instruction (Some found) there = (found, there)
 
+  -- a state that goes on gives what is given of it, and one that is at its end gives the same at once
+  by_status : (n m : ℕ) (after : State) (x : Given) → given_within n env after ≡ Some x
+      → (after.status ≡ Running → given_within m env after ≡ Some x)
+      → (st : Status) → after.status ≡ st → given_within m env after ≡ Some x
+  by_status n m after x given near Running on = near on
+  by_status n m after x given near st on =
+      let not : after.status ≡ Running → ⊥ =
+      λ h. let clash : st ≡ Running = sym on ∙ h in cc in
+      at_rest m env after not ∙ sym (at_rest n env after not) ∙ given
+
   few : (n m : ℕ) (s : State) (r : Given) → IsStateIn b u s → s.status ≡ Running
       → length s.unit.code ≤ s.place + m → given_within n env s ≡ Some r
       → given_within m env s ≡ Some r
@@ -97,23 +107,13 @@ module _ (b : List ℕ) (u : CodeUnit) (valid : IsValid b) (attribute : u.sort �
       ap (λ (x : RunningUnit). length x.code) next.2.1 in
       one_more m env s next.0 next.1
       ∙ mapped (with_record next.0.emitted) (given_within n env after) (given_within m env after) r
-      (λ x given. by_status x given again (λ on. omega (
+      (λ x given. by_status n m after x given (λ on. few n m after x again on (omega (
         arith,
         left,
         long,
         goes_forward b u s valid is running (is_attribute s is) found.0 next.0 found.1 acted on,
-      )) after.status refl)
+      )) given) after.status refl)
       (sym (one_more n env s next.0 next.1) ∙ e)
-    where
-      by_status : {after : State} (x : Given) → given_within n env after ≡ Some x
-          → IsStateIn b u after
-          → (after.status ≡ Running → length after.unit.code ≤ after.place + m)
-          → (st : Status) → after.status ≡ st → given_within m env after ≡ Some x
-      by_status {after} x given again near Running on = few n m after x again on (near on) given
-      by_status {after} x given again near st on =
-          let not : after.status ≡ Running → ⊥ =
-          λ h. let clash : st ≡ Running = sym on ∙ h in cc in
-          at_rest m env after not ∙ sym (at_rest n env after not) ∙ given
 
 -- ---- the reading
 
@@ -143,7 +143,7 @@ module _ (b : List ℕ) (ref : AttrRef) (values : List ℤ) (valid : IsValid b)
       (subst (λ (t : State). given_within n (environment_of c) t ≡ Some r) (sym same) given))
 
   -- what is read, by whether there is nothing to read and by the row
-  reads : ℕ → Bool → Option AttributeFields → Option Reading
+  abbrev reads : ℕ → Bool → Option AttributeFields → Option Reading
   reads k true o = Some NoItem
   reads k false None = Some (Records (default_records ref.attr))
   reads k false (Some row) =

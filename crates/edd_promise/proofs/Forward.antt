@@ -74,4 +74,3 @@ module _ (b : List ℕ) (u : CodeUnit) (s : State) (valid : IsValid b) (is : IsS
         | inr jumped ↦ jump_to s.place (jump found.0) way.0 (f.forward attribute) jumped
       ] in
       omega (arith, place, ahead)
-

@@ -1,4 +1,3 @@
-pub mod Embedded
 pub mod EveryRun
 pub mod FewSteps
 pub mod Forward
@@ -7,6 +6,7 @@ pub mod NeverStuck
 pub mod OneRun
 pub mod SameSources
 pub mod ShownRuns
+pub mod Standing
 pub mod UnitReads
 pub mod UnitRuns
 pub mod Used

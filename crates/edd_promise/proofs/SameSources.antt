@@ -19,10 +19,10 @@ module _ (text other : List ℕ) (lexemes others : List Lexeme) (of_text : AreTo
     (of_other : AreTokens other others) (same : tokens_of lexemes ≡ tokens_of others) where
   same_unit : (unit : Description Path) → IsUnitOf text unit → IsUnitOf other unit
   same_unit unit is =
-      let one : is.0 ≡ lexemes = one_list text is.0 lexemes is.1.0 of_text in (
+      let one : is.0 ≡ lexemes = one_list text is.0 lexemes is.1 of_text in (
         others,
         of_other,
-        subst (λ (ts : List Token). Spells ts unit) (ap tokens_of one ∙ same) is.1.1,
+        subst (λ (ts : List Token). Spells ts unit) (ap tokens_of one ∙ same) is.2,
       )
 
   same_image : (b : List ℕ) → IsImageOf text b → IsImageOf other b
@@ -35,7 +35,7 @@ module _ (text other : List ℕ) (lexemes others : List Lexeme) (of_text : AreTo
   }
 
   same_refusal : (why : Refusal) → IsRefused text why → IsRefused other why
-  same_refusal why is = (is.0, same_unit is.0 is.1.0, is.1.1)
+  same_refusal why is = (is.0, same_unit is.0 is.1, is.2)
 
 -- both ways
 

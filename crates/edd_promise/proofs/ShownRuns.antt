@@ -178,8 +178,7 @@ module _ (unit : Description Target) (b : List ℕ) (valid : IsValid b)
           let at = has_row steps shown p in
           let is = is_played steps at.0 shown at.1 p in
           let same = over unit b valid agrees m at.0 at.1 device answers p.accepted all steps
-          (λ e. ended (is_spent shown.ending (sym is.ending ∙ e))) in
-          (
+          (λ e. ended (is_spent shown.ending (sym is.ending ∙ e))) in (
             same.0,
             same_shown steps at.0 shown (transcript same.0) is same.1,
             changes_are steps at.0 (transcript same.0).changes at.1 same.1.changes,

@@ -18,7 +18,5 @@ pub use reading::{
     attributes_are_read_in_few_steps, compiled_attributes_read, compiled_texts_read,
 };
 pub use running::valid_images_are_never_stuck;
-pub use sessions::{
-    answers_left_over_change_nothing, budgets_are_kept, sessions_are_one_run,
-};
+pub use sessions::{answers_left_over_change_nothing, budgets_are_kept, sessions_are_one_run};
 pub use sources::{layouts_keep_the_images, tokens_say_the_images};

@@ -1,4 +1,4 @@
-use Rattle.edd_promise.proofs.Embedded.{sessions_stand}
+use Rattle.edd_promise.proofs.Standing.{sessions_stand}
 use Rattle.edd_promise.proofs.embedded.embedded_sessions_stand.Goals as goal
 
 pub returns : goal.returns

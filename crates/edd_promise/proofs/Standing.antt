@@ -1,5 +1,5 @@
 -- The numbers of a session of a program in C stand for a session.
-use Rattle.std.proofs.Common.{◌≡◌, refl, sym, ap, subst, ◌∙◌, ℕ, ℤ, List, [], Option, Some, None}
+use Rattle.std.proofs.Common.{◌≡◌, refl, sym, subst, ◌∙◌, ℕ, ℤ, List, Option, Some, None}
 use Rattle.std.specs.Prelude.{option_map}
 use Rattle.edd_syntax.specs.declared.numbers.MethNo.{MethNo}
 use Rattle.edd_syntax.specs.Answers.{Answer, SetFault, answer_fault}
@@ -11,9 +11,7 @@ use Rattle.edd_instructions.specs.declared.requests.Request.{Request}
 use Rattle.edd_instructions.specs.AbortMethods.{answered_in}
 use Rattle.edd_instructions.specs.Steps.{State}
 use Rattle.edd_machine.specs.Types.{types_in}
-use Rattle.edd_port.specs.Books.{Pair}
-use Rattle.edd_port.specs.Drives.{Takes}
-use Rattle.edd_port.specs.Refusals.{BadSet, CodeFits, Refusal, refusal}
+use Rattle.edd_port.specs.Refusals.{BadSet, refusal}
 use Rattle.edd_port.specs.Runs.{OpensIn, Run, advanced}
 use Rattle.edd_embed.specs.declared.sessions.PlainSession.{PlainSession}
 use Rattle.edd_embed.specs.Sessions.{run_of, state_in}
@@ -57,7 +55,7 @@ module _ (b : List ℕ) (method : MethNo) (device : List ℤ) where
   one_state : (o : Option State) (s t : State) → o ≡ Some s → o ≡ Some t → s ≡ t
   one_state o s t is also = let same : Some s ≡ Some t = sym is ∙ also in cc
 
-  pub come : (past : Past) (p : PlainSession) (values : List ℤ)
+  come : (past : Past) (p : PlainSession) (values : List ℤ)
       → ComesPlain b method device past p values → Stands past p values
   come past p values (Started _ starts) = record {
     first = starts.state;
