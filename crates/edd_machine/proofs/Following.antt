@@ -97,7 +97,7 @@ module _ (b : List ℕ) (u : CodeUnit) (s : State) (valid : IsValid b) (is : IsS
     (attribute : (placed_unit (contents_in b) is.unit.row).context.sort
     ≡ Attribute) where
   -- where the run goes on, it goes forward
-  goes_forward : (found : Instruction × ℕ) (e : Effect) → instruction_at s.unit.code s.place
+  pub goes_forward : (found : Instruction × ℕ) (e : Effect) → instruction_at s.unit.code s.place
       ≡ Some found → act (environment_of (contents_in b)) found.0 found.1 s ≡ Some e
       → e.state.status ≡ Running → s.place < e.state.place
   goes_forward found e there acted on =

@@ -20,10 +20,10 @@ use Rattle.edd_machine.specs.declared.code_unit.CodeUnit.{CodeUnit}
 use Rattle.edd_machine.specs.Running.{IsStateIn, code_at, running_unit, unit_at}
 use Rattle.edd_machine.specs.Types.{types_in}
 use Rattle.edd_machine.proofs.AttributeReadings.{attribute_found, is_found, unit_found}
+use Rattle.edd_machine.proofs.Following.{goes_forward}
 use Rattle.edd_machine.proofs.ImageUnits.{unit_code}
 use Rattle.edd_machine.proofs.Stepping.{instruction_there, opened, state_again, step_is, valid_there}
 use Rattle.edd_promise.specs.Reads.{row_length, unit_length}
-use Rattle.edd_promise.proofs.Forward.{goes_forward}
 
 abbrev Given : Type 0
 Given = Result (List Record) Trap

@@ -1,6 +1,5 @@
 pub mod EveryRun
 pub mod FewSteps
-pub mod Forward
 pub mod Loaded
 pub mod NeverStuck
 pub mod OneRun
