@@ -5,7 +5,7 @@ use edd_display::trap_word;
 use edd_loader::Image;
 use edd_source::{Source, Span};
 use edd_syntax::numbers::ItemNo;
-use std::collections::HashMap;
+use std::collections::BTreeMap;
 use std::fmt;
 
 /// Prints what a run did, a line for each event; none of how it ended, which the lines of the run say.
@@ -30,7 +30,7 @@ impl fmt::Debug for TraceLines<'_> {
 impl fmt::Display for TraceLines<'_> {
     fn fmt(&self, f: &mut fmt::Formatter<'_>) -> fmt::Result {
         // Loops come to the same places again and again.
-        let mut heads = HashMap::new();
+        let mut heads = BTreeMap::new();
         for event in self.events {
             let head = heads
                 .entry(event.place)

@@ -28,6 +28,7 @@ pub(crate) fn print(
         image: &image,
         events: &events,
     };
-    write!(out, "{lines}")?;
+    // In one piece: an output takes many small ones slowly.
+    out.write_all(lines.to_string().as_bytes())?;
     Ok(())
 }
