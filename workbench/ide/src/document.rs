@@ -66,6 +66,11 @@ impl Document {
             .get_or_init(|| check(self.text.as_bytes(), &Levels::default()))
     }
 
+    /// Finds out what the tokens are and what the names mean, so that no later question waits for it.
+    pub fn prepare(&self) {
+        self.syntax();
+    }
+
     pub(crate) fn bytes(&self) -> &[u8] {
         self.text.as_bytes()
     }

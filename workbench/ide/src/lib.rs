@@ -14,6 +14,7 @@
 //! assert_eq!(found.entries[0].label, "LABEL");
 //! ```
 
+mod calls;
 mod comments;
 mod completion;
 mod constant;
@@ -46,6 +47,7 @@ mod syntax;
 mod values;
 mod walk;
 
+pub use calls::Call;
 pub use completion::Completions;
 pub use document::Document;
 pub use edd_source::{Edit, Fix, Span};

@@ -1,8 +1,8 @@
 //! What an editor says of itself.
 
 use crate::answers::{
-    Capabilities, CodeActionProvider, DiagnosticProvider, Greeting, Legend, RenameProvider,
-    SemanticTokensProvider, ServerInfo, Synchronization, Triggers,
+    Capabilities, CodeActionProvider, CodeLensProvider, DiagnosticProvider, Greeting, Legend,
+    RenameProvider, SemanticTokensProvider, ServerInfo, Synchronization, Triggers,
 };
 use crate::positions::Encoding;
 use crate::requests::TOKEN_TYPES;
@@ -32,6 +32,8 @@ pub(crate) struct Client {
     pub(crate) has_snippets: bool,
     /// It asks for what is wrong, and is told nothing of it unasked.
     pub(crate) pulls: bool,
+    /// It shows what can be clicked above lines.
+    pub(crate) has_lenses: bool,
 }
 
 impl Client {
@@ -56,6 +58,7 @@ impl Client {
             ),
             has_snippets: in_text("completion/completionItem/snippetSupport"),
             pulls: at("textDocument/diagnostic").is_some(),
+            has_lenses: at("textDocument/codeLens").is_some(),
             has_actions: at("textDocument/codeAction/codeActionLiteralSupport").is_some(),
         }
     }
@@ -90,6 +93,7 @@ impl Client {
             selection_range_provider: true,
             inlay_hint_provider: true,
             workspace_symbol_provider: true,
+            call_hierarchy_provider: true,
             semantic_tokens_provider: SemanticTokensProvider {
                 legend: Legend {
                     token_types: &TOKEN_TYPES,
@@ -116,6 +120,9 @@ impl Client {
             diagnostic_provider: self.pulls.then_some(DiagnosticProvider {
                 inter_file_dependencies: false,
                 workspace_diagnostics: false,
+            }),
+            code_lens_provider: self.has_lenses.then_some(CodeLensProvider {
+                resolve_provider: false,
             }),
         }
     }

@@ -1,7 +1,9 @@
 //! The requests about a document.
 
 mod actions;
+mod calling;
 mod completing;
+mod lenses;
 mod outlining;
 mod places;
 mod renaming;
@@ -35,7 +37,7 @@ impl<'a> Query<'a> {
 
     /// The byte at which the cursor is.
     fn byte(&self) -> Result<usize, ResponseError> {
-        let position = self.params.position;
+        let position = self.params.place();
         let position = position.ok_or_else(|| bad_params("no position is named"))?;
         Ok(self.view.byte(position))
     }
@@ -77,6 +79,10 @@ pub(crate) fn answer<'a>(
         "textDocument/inlayHint" => selecting::hints,
         "textDocument/diagnostic" => actions::diagnostics,
         "textDocument/codeAction" => actions::actions,
+        "textDocument/codeLens" => lenses::lenses,
+        "textDocument/prepareCallHierarchy" => calling::prepare,
+        "callHierarchy/incomingCalls" => calling::incoming,
+        "callHierarchy/outgoingCalls" => calling::outgoing,
         _ => {
             let (code, words) = (ErrorCode::MethodNotFound, "no such method");
             return Err(ResponseError::new(code, words));

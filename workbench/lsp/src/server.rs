@@ -70,18 +70,20 @@ impl Server {
         }
     }
 
-    /// Checks a document of which the editor does not know yet what is wrong with it, and returns what
-    /// it is told; none where it knows all.
-    pub fn publish(&mut self) -> Option<Outgoing> {
+    /// Reads and checks a document of which the editor does not know yet what is wrong with it, and
+    /// returns what it is told; none where it knows all. An editor that asks for that is told nothing,
+    /// but no later request waits until the document is read.
+    pub fn publish(&mut self) -> Option<Vec<Outgoing>> {
         let client = self.client;
-        if client.pulls {
-            return None;
-        }
         let (uri, open) = self.documents.iter_mut().find(|(_, open)| !open.is_told)?;
         open.is_told = true;
         let view = View { uri, open, client };
+        guarded(|| open.document.prepare());
+        if client.pulls {
+            return Some(Vec::new());
+        }
         let diagnostics = guarded(|| view.diagnostics()).unwrap_or_else(|| none_of(uri));
-        Some(Outgoing::diagnostics(diagnostics))
+        Some(vec![Outgoing::diagnostics(diagnostics)])
     }
 
     /// How the conversation ended, once the editor has told the server to end.
@@ -136,7 +138,7 @@ impl Server {
     fn query(&self, params: Option<Value>) -> Result<Query<'_>, ResponseError> {
         let params = Params::read(params.ok_or_else(no_params)?);
         let bad = |words| ResponseError::new(ErrorCode::InvalidParams, words);
-        let Some(uri) = &params.text_document.uri else {
+        let Some(uri) = params.uri() else {
             return Err(bad("no document is named"));
         };
         let Some((uri, open)) = self.documents.get_key_value(uri) else {

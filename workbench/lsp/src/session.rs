@@ -28,7 +28,7 @@ impl Session {
         }
         match self.inbox.pop() {
             Some(message) => Some(self.server.handle(message)),
-            None => self.server.publish().map(|told| vec![told]),
+            None => self.server.publish(),
         }
     }
 

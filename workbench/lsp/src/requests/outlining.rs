@@ -7,7 +7,7 @@ use edd_ide::{Fold, Kind};
 use edd_source::tokens::kind_word;
 
 /// A kind of item as the protocol counts kinds of symbols.
-fn symbol_kind(kind: Kind) -> u8 {
+pub(super) fn symbol_kind(kind: Kind) -> u8 {
     match kind {
         Kind::Variable => 13,
         Kind::Command => 24,
