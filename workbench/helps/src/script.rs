@@ -1,9 +1,11 @@
 //! Which word of a script is wrong, and why.
 
 mod lines;
+mod names;
 mod reasons;
 mod words;
 
+pub use names::{script_name_before, script_names};
 pub use reasons::{ScriptHelp, ScriptSlip, nearest_method};
 
 use crate::Finding;

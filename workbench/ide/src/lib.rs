@@ -5,6 +5,8 @@
 //! A [`Document`] is a version of a text. It answers about places, which count bytes, and knows of no
 //! protocol:
 //!
+//! A [`Project`] has the files that belong together: descriptions, devices, tests and scripts.
+//!
 //! ```
 //! use edd_ide::Document;
 //!
@@ -14,6 +16,7 @@
 //! assert_eq!(found.entries[0].label, "LABEL");
 //! ```
 
+mod begun;
 mod calls;
 mod comments;
 mod completion;
@@ -23,6 +26,7 @@ mod cursor;
 mod declarations;
 mod described;
 mod document;
+mod findings;
 mod fixes;
 mod formatting;
 mod functions;
@@ -36,14 +40,18 @@ mod markdown;
 mod meanings;
 mod naming;
 mod offers;
+mod paths;
 mod place_terms;
+mod project;
 mod scopes;
 mod selection;
 mod semantic;
+mod sheet;
 mod signature;
 mod snippets;
 mod spots;
 mod syntax;
+mod ties;
 mod values;
 mod walk;
 
@@ -58,5 +66,6 @@ pub use hover::Hover;
 pub use listing::{Fold, Symbol};
 pub use naming::RenameError;
 pub use offers::{Completion, CompletionKind};
+pub use project::{Place, Project, ProjectRenameError};
 pub use semantic::{SemanticToken, TokenClass};
 pub use signature::Signature;

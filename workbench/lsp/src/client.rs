@@ -118,7 +118,7 @@ impl Client {
                 code_action_kinds: &[QUICK_FIX, FIX_ALL],
             }),
             diagnostic_provider: self.pulls.then_some(DiagnosticProvider {
-                inter_file_dependencies: false,
+                inter_file_dependencies: true,
                 workspace_diagnostics: false,
             }),
             code_lens_provider: self.has_lenses.then_some(CodeLensProvider {

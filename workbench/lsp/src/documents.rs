@@ -2,8 +2,8 @@
 
 use crate::params::ContentChange;
 use crate::positions::{Encoding, Lines};
+use crate::uri::path_of;
 use edd_ide::Document;
-
 use std::collections::BTreeMap;
 
 /// A document that is open.
@@ -14,18 +14,24 @@ pub(crate) struct Open {
     pub(crate) lines: Lines,
     /// Whether the editor knows what is wrong with this version.
     pub(crate) is_told: bool,
+    pub(crate) path: String,
 }
 
 /// All that are open, by the names that the editor gives them.
 pub(crate) type Documents = BTreeMap<String, Open>;
 
 impl Open {
-    pub(crate) fn new(text: String, version: Option<i64>) -> Open {
+    pub(crate) fn new(uri: &str, text: String, version: Option<i64>) -> Open {
+        Open::of_path(path_of(uri), text, version)
+    }
+
+    fn of_path(path: String, text: String, version: Option<i64>) -> Open {
         Open {
             version,
             lines: Lines::of(&text),
-            document: Document::new(text),
+            document: Document::named(&path, text),
             is_told: false,
+            path,
         }
     }
 
@@ -45,7 +51,7 @@ impl Open {
         let text = changes.fold(text, |text, change| {
             edited(&text, &Lines::of(&text), change, encoding)
         });
-        Open::new(text, version)
+        Open::of_path(self.path.clone(), text, version)
     }
 }
 
@@ -126,7 +132,8 @@ mod tests {
                     range: Some(Range { start, end }),
                     text,
                 });
-                let open = Open::new(text, None).changed(changes.collect(), Some(2), encoding);
+                let open =
+                    Open::new("f:d", text, None).changed(changes.collect(), Some(2), encoding);
                 prop_assert_eq!(open.document.text(), wanted);
                 prop_assert_eq!(open.version, Some(2));
                 Ok(())

@@ -15,7 +15,7 @@ use crate::answers::Answer;
 use crate::messages::{ErrorCode, ResponseError};
 use crate::params::Params;
 use crate::view::View;
-use edd_ide::Document;
+use edd_ide::{Document, Project};
 use edd_source::Span;
 pub(crate) use outlining::workspace_symbols;
 pub(crate) use tokens::TOKEN_TYPES;
@@ -33,6 +33,15 @@ pub(crate) struct Query<'a> {
 impl<'a> Query<'a> {
     fn document(&self) -> &'a Document {
         &self.view.open.document
+    }
+
+    /// The files that belong together.
+    fn project(&self) -> Project<'a> {
+        self.view.others.project()
+    }
+
+    fn path(&self) -> &'a str {
+        &self.view.open.path
     }
 
     /// The byte at which the cursor is.

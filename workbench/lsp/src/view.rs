@@ -3,7 +3,9 @@
 use crate::answers::{Location, TextEdit, WorkspaceEdit};
 use crate::client::Client;
 use crate::documents::Open;
+use crate::others::Others;
 use crate::positions::{Position, Range};
+use edd_ide::Place;
 use edd_source::{Fix, Span};
 use std::collections::BTreeMap;
 
@@ -13,6 +15,7 @@ pub(crate) struct View<'a> {
     pub(crate) uri: &'a str,
     pub(crate) open: &'a Open,
     pub(crate) client: Client,
+    pub(crate) others: Others<'a>,
 }
 
 impl<'a> View<'a> {
@@ -55,6 +58,27 @@ impl<'a> View<'a> {
             range: self.range(span),
             new_text: text.into(),
         }
+    }
+
+    /// A place in this file or another one.
+    pub(crate) fn location_of(self, place: Place<'_>) -> Option<Location> {
+        Some(self.others.view(place.path)?.location(place.span))
+    }
+
+    /// Edits that put a text in these places of this file and of other ones.
+    pub(crate) fn replacements(self, places: &[Place<'_>], text: &str) -> WorkspaceEdit {
+        let mut changes: BTreeMap<String, Vec<TextEdit>> = BTreeMap::new();
+        for of_file in places.chunk_by(|first, second| first.path == second.path) {
+            let path = of_file.first().map_or("", |place| place.path);
+            if let Some(view) = self.others.view(path) {
+                let edits = of_file.iter().map(|place| view.edit(place.span, text));
+                changes
+                    .entry(view.uri.to_owned())
+                    .or_default()
+                    .extend(edits);
+            }
+        }
+        WorkspaceEdit { changes }
     }
 
     /// Edits of the document.

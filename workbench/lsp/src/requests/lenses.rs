@@ -11,6 +11,9 @@ const RUN_METHOD: &str = "edd.runMethod";
 /// Opens the instrument that a description is.
 const OPEN_INSTRUMENT: &str = "edd.openInstrument";
 
+/// Runs a test of a file of tests.
+const RUN_TEST: &str = "edd.runTest";
+
 fn lens(
     query: &Query<'_>,
     span: Span,
@@ -31,9 +34,18 @@ fn lens(
     }
 }
 
-/// Answers with a lens that opens the instrument, and one for each method that runs it.
+/// Answers with a lens for each test; of a description with one that opens the instrument, and one for
+/// each method that runs it. A device runs with its instrument alone.
 pub(crate) fn lenses(query: &Query<'_>) -> Outcome {
-    let symbols = query.document().symbols().into_iter();
+    let document = query.document();
+    let tests = document.tests().map(|name| {
+        let word = name.text(document.text());
+        lens(query, name, "Test", RUN_TEST, word)
+    });
+    if !document.is_description() || query.project().is_device(query.path()) {
+        return Ok(Answer::Lenses(tests.collect()));
+    }
+    let symbols = document.symbols().into_iter();
     let is_method = |symbol: &Symbol<'_>| symbol.kind == Kind::Method;
     let methods = symbols.filter(is_method).map(|method| {
         lens(

@@ -9,7 +9,13 @@ use edd_source::{Edit, Span};
 
 /// Answers with what is told of the word at the cursor, or `null`.
 pub(crate) fn hover(query: &Query<'_>) -> Outcome {
-    let Some(told) = query.document().hover(query.byte()?) else {
+    let byte = query.byte()?;
+    let told = if query.document().is_description() {
+        query.document().hover(byte)
+    } else {
+        query.project().hover(query.path(), byte)
+    };
+    let Some(told) = told else {
         return Ok(Answer::Nothing);
     };
     Ok(Answer::Hover(Hover {
