@@ -44,19 +44,28 @@ pub fn explain_script(image: &Image<'_>, script: &[u8], wrong: Wrong) -> Option<
 
 // What is wrong with a line of the script, if it is in this way.
 fn explain_line(image: &Image<'_>, bytes: &[u8], wrong: Wrong) -> Option<Finding> {
+    let (found, finding) = explain_script_line(image, bytes)?;
+    (found == wrong).then_some(finding)
+}
+
+/// How a line of a script is wrong, and its first word that is, with what helps.
+pub fn explain_script_line(image: &Image<'_>, bytes: &[u8]) -> Option<(Wrong, Finding)> {
     let line = text_of(bytes).unwrap_or_default();
-    match (made(parse_line(Global, image, bytes)), wrong) {
-        (None, Wrong::Line) => {
+    match made(parse_line(Global, image, bytes)) {
+        None => {
             let (word, why) = wrong_in_line(image, line);
-            Some(finding(word.span(), help_of(image, word.text, why)))
+            let finding = finding(word.span(), help_of(image, word.text, why));
+            Some((Wrong::Line, finding))
         }
-        (Some(Line::Set(variable, value)), Wrong::Range) => {
-            out_of_range(image, line, &[(variable, value)])
+        Some(Line::Set(variable, value)) => {
+            let found = out_of_range(image, line, &[(variable, value)])?;
+            Some((Wrong::Range, found))
         }
-        (Some(Line::Answer(Answer::Go { sets, .. })), Wrong::Answer) => {
-            out_of_range(image, line, &sets)
+        Some(Line::Answer(Answer::Go { sets, .. })) => {
+            let found = out_of_range(image, line, &sets)?;
+            Some((Wrong::Answer, found))
         }
-        _ => None,
+        Some(Line::Answer(Answer::Abort) | Line::Blank) => None,
     }
 }
 

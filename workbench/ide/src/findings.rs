@@ -1,23 +1,29 @@
 //! What is wrong with a file of tests or a script.
 
 use crate::project::Project;
-use crate::sheet::{ScriptLine, Sheet};
+use crate::sheet::Sheet;
 use core_std::alloc::Global;
-use edd_helps::{Finding, NameHelp, Wrong, explain_script, nearest_method};
+use edd_helps::{Finding, NameHelp, Wrong, explain_script_line, nearest_method};
 use edd_loader::{Image, load};
 use edd_report::{Diagnostic, Refusal};
 use edd_source::Span;
-use edd_testing::{NameSort, TestFault, TestPlaces};
+use edd_testing::{NameSort, TestFault};
+use std::collections::BTreeMap;
 
 /// The most findings that are shown of a file.
 const MOST_FINDINGS: usize = 100;
 
-/// What a line of a script is refused with, in the order in which a run looks for it.
-const WRONGS: [(Wrong, u16, &str); 3] = [
-    (Wrong::Line, 300, "SCRIPT"),
-    (Wrong::Range, 202, "RANGE"),
-    (Wrong::Answer, 207, "OUT_OF_RANGE"),
-];
+/// How many names are compared at most while a file is looked at: what is behind that is not looked at.
+const MOST_COMPARED: usize = 10_000_000;
+
+/// What of a file names items of one description.
+#[derive(Debug, Default)]
+struct Parts {
+    /// The lines of scripts.
+    lines: Vec<Span>,
+    /// The names of methods that run.
+    methods: Vec<Span>,
+}
 
 /// What a file of tests is refused with.
 fn refusal_of(fault: TestFault) -> Option<Refusal> {
@@ -65,78 +71,76 @@ impl<'p> Project<'p> {
             Some(Diagnostic::refused(refusal_of(*fault)?, finding))
         });
         let mut found: Vec<_> = faults.collect();
-        for lines in sheet
-            .lines
-            .chunk_by(|first, second| first.test == second.test)
-        {
-            self.check_lines(path, document.text(), lines, sheet, &mut found);
-        }
-        for (number, test) in sheet.tests.iter().enumerate() {
-            found.extend(self.check_method(path, document.text(), number, test));
+        for (description, parts) in self.parts_of(path, sheet) {
+            found.extend(self.check_parts(description, document.text(), &parts));
         }
         found.sort_by_key(|it| it.span.map(|span| span.start));
         found.truncate(MOST_FINDINGS);
         found
     }
 
-    /// Looks at the lines of a script, which are of one test or of none.
-    fn check_lines(
-        &self,
-        path: &str,
-        text: &str,
-        lines: &[ScriptLine],
-        sheet: &Sheet,
-        found: &mut Vec<Diagnostic>,
-    ) {
-        let test = lines.first().and_then(|line| line.test);
-        let is_refused = test.and_then(|test| sheet.tests.get(test));
-        if is_refused.is_some_and(|test| test.is_refused) {
-            return;
+    /// What is to be looked at, by the descriptions. A test that expects that its run is refused is
+    /// left out.
+    fn parts_of(&self, path: &str, sheet: &Sheet) -> BTreeMap<&'p str, Parts> {
+        let tests = 0..sheet.tests.len();
+        let of_tests: Vec<_> = tests
+            .map(|test| self.described_by(path, Some(test)))
+            .collect();
+        let own = self.described_by(path, None);
+        let mut parts: BTreeMap<&str, Parts> = BTreeMap::new();
+        let looked_at = |test: usize| sheet.tests.get(test).filter(|test| !test.is_refused);
+        for line in &sheet.lines {
+            let description = match line.test {
+                Some(test) => looked_at(test).and(of_tests.get(test).copied().flatten()),
+                None => own,
+            };
+            if let Some(description) = description {
+                parts.entry(description).or_default().lines.push(line.span);
+            }
         }
-        self.with_image(path, test, |image| {
-            let wrong = lines
-                .iter()
-                .filter_map(|line| wrong_in(image, text, line.span));
-            found.extend(wrong.take(MOST_FINDINGS));
-        });
+        for (test, description) in of_tests.iter().enumerate() {
+            let names = looked_at(test).map_or(&[][..], |test| &test.names);
+            let method = names.iter().find(|name| name.sort == NameSort::Method);
+            if let (Some(description), Some(method)) = (description, method) {
+                let parts = parts.entry(description).or_default();
+                parts.methods.push(method.span);
+            }
+        }
+        parts
     }
 
-    /// Looks at the method that a test runs.
-    fn check_method(
-        &self,
-        path: &str,
-        text: &str,
-        number: usize,
-        test: &TestPlaces,
-    ) -> Option<Diagnostic> {
-        let is_method = |name: &&edd_testing::TestName| name.sort == NameSort::Method;
-        let span = test.names.iter().find(is_method)?.span;
-        let name = span.text(text).filter(|_| !test.is_refused)?;
-        self.with_image(path, Some(number), |image| {
-            if edd_run::find_method(image, name).is_ok() {
-                return None;
-            }
-            let mut finding = Finding::at(Some(span));
-            if let Some(near) = nearest_method(image, name) {
-                let near = near.to_owned();
-                finding.say(NameHelp::Meant { near });
-            }
-            let refusal = Refusal::new(301, "NO_METHOD", name);
-            Some(Diagnostic::refused(refusal, finding))
-        })?
+    /// Looks at what names items of one description, where it is accepted.
+    fn check_parts(&self, description: &str, text: &str, parts: &Parts) -> Vec<Diagnostic> {
+        let document = self.document(description);
+        let image = document.and_then(|document| load(Global, document.image()?).ok());
+        let (Some(document), Some(image)) = (document, image) else {
+            return Vec::new();
+        };
+        // Each name is compared with those of all items.
+        let count = document.items().len();
+        let most = MOST_COMPARED.checked_div(count).unwrap_or(MOST_COMPARED);
+        let lines = parts.lines.iter().take(most);
+        let methods = parts.methods.iter().take(most);
+        let in_lines = lines.filter_map(|line| wrong_in(&image, text, *line));
+        let in_methods = methods.filter_map(|name| unknown_method(&image, text, *name));
+        let in_lines = in_lines.take(MOST_FINDINGS);
+        in_lines.chain(in_methods.take(MOST_FINDINGS)).collect()
     }
+}
 
-    /// Does something with the image of the description of a test or a script, if it is accepted.
-    fn with_image<T>(
-        &self,
-        path: &str,
-        test: Option<usize>,
-        step: impl FnOnce(&Image<'_>) -> T,
-    ) -> Option<T> {
-        let description = self.document(self.described_by(path, test)?)?;
-        let image = load(Global, description.image()?).ok()?;
-        Some(step(&image))
+/// A method that a description does not have.
+fn unknown_method(image: &Image<'_>, text: &str, span: Span) -> Option<Diagnostic> {
+    let name = span.text(text)?;
+    if edd_run::find_method(image, name).is_ok() {
+        return None;
     }
+    let mut finding = Finding::at(Some(span));
+    if let Some(near) = nearest_method(image, name) {
+        let near = near.to_owned();
+        finding.say(NameHelp::Meant { near });
+    }
+    let refusal = Refusal::new(301, "NO_METHOD", name);
+    Some(Diagnostic::refused(refusal, finding))
 }
 
 /// A span of a line without what ends it.
@@ -151,11 +155,14 @@ fn without_end(span: Span, text: &str) -> Span {
 
 /// What is wrong with a line of a script.
 fn wrong_in(image: &Image<'_>, text: &str, line: Span) -> Option<Diagnostic> {
-    let bytes = line.text(text)?.as_bytes();
-    WRONGS.into_iter().find_map(|(wrong, number, name)| {
-        let finding = explain_script(image, bytes, wrong)?.moved(0, line.start);
-        Some(Diagnostic::refused(Refusal::new(number, name, ""), finding))
-    })
+    let (wrong, finding) = explain_script_line(image, line.text(text)?.as_bytes())?;
+    let refusal = match wrong {
+        Wrong::Line => Refusal::new(300, "SCRIPT", ""),
+        Wrong::Range => Refusal::new(202, "RANGE", ""),
+        Wrong::Answer => Refusal::new(207, "OUT_OF_RANGE", ""),
+    };
+    let finding = finding.moved(0, line.start);
+    Some(Diagnostic::refused(refusal, finding))
 }
 
 #[cfg(test)]

@@ -43,7 +43,7 @@ pub(crate) fn names_printed(run: Kind<'_>, line: &str) -> Vec<(Span, Option<Item
         (Kind::Method(_), ["ask", "GET_DEV_VAR_VALUE", ..]) => asked(line).into_iter().collect(),
         (Kind::Show, [first, ..]) => match kind_of(first) {
             Some(kind) => named(Some(kind)).into_iter().collect(),
-            None => listed(first, &words),
+            None => listed(first, line),
         },
         _ => Vec::new(),
     }
@@ -65,19 +65,115 @@ fn asked(line: &str) -> Option<(Span, Option<ItemKind>)> {
     is_word.then_some((Span { start, end }, Some(ItemKind::Variable)))
 }
 
-/// The items of a list.
-fn listed(first: &str, words: &[Word<'_>]) -> Vec<(Span, Option<ItemKind>)> {
-    let behind = words.iter().skip(1);
-    if first == "ITEMS" || first.starts_with("REQUEST[") || first.starts_with("REPLY[") {
-        return behind.map(|word| (word.span(), None)).collect();
-    }
-    if first != "MEMBERS" && first != "ELEMENTS" {
+/// The items of a list, as docs/COMMAND_LINE.md shows it: `"text" NAME(QUALIFIER) NAME<MASK>` and
+/// `{KEY NAME}`.
+fn listed(first: &str, line: &str) -> Vec<(Span, Option<ItemKind>)> {
+    let is_inner = matches!(first, "MEMBERS" | "ELEMENTS");
+    let is_list = first == "ITEMS" || first.starts_with("REQUEST[") || first.starts_with("REPLY[");
+    if !is_inner && !is_list {
         return Vec::new();
     }
-    // `{key name}`
-    let names = behind.filter_map(|word| {
-        let text = word.text.strip_suffix('}')?;
-        Some(Word { text, ..*word }.span())
-    });
+    let names = names_in(line).into_iter().skip(1);
+    let is_last = |span: &Span| {
+        line.get(span.end..)
+            .is_some_and(|rest| rest.starts_with('}'))
+    };
+    let names = names.filter(|span| is_list || is_last(span));
     names.map(|span| (span, None)).collect()
+}
+
+/// In what a character of a list is.
+#[derive(Clone, Copy, PartialEq)]
+enum Inside {
+    Nothing,
+    /// A text, of which the next character has a `\` before it or not.
+    Text {
+        is_escaped: bool,
+    },
+    /// The qualifiers or the mask of a name.
+    Brackets,
+}
+
+impl Inside {
+    fn behind(self, character: char) -> Inside {
+        match (self, character) {
+            (Inside::Nothing, '"') => Inside::Text { is_escaped: false },
+            (Inside::Nothing, '(' | '<') => Inside::Brackets,
+            (Inside::Text { is_escaped: false }, '"') | (Inside::Brackets, ')' | '>') => {
+                Inside::Nothing
+            }
+            (Inside::Text { is_escaped }, sign) => Inside::Text {
+                is_escaped: sign == '\\' && !is_escaped,
+            },
+            (inside, _) => inside,
+        }
+    }
+}
+
+/// The names outside of texts and brackets.
+fn names_in(line: &str) -> Vec<Span> {
+    let mut names: Vec<Span> = Vec::new();
+    let mut inside = Inside::Nothing;
+    let mut is_in_word = false;
+    for (start, character) in line.char_indices() {
+        let is_of_word = character.is_ascii_alphanumeric() || character == '_';
+        if inside == Inside::Nothing && is_of_word {
+            let end = start.saturating_add(1);
+            match names.last_mut().filter(|_| is_in_word) {
+                Some(name) => name.end = end,
+                None => names.push(Span { start, end }),
+            }
+        }
+        is_in_word = inside == Inside::Nothing && is_of_word;
+        inside = inside.behind(character);
+    }
+    let begins_well = |span: &Span| {
+        let rest = line.get(span.start..);
+        rest.is_some_and(|rest| !rest.starts_with(|first: char| first.is_ascii_digit()))
+    };
+    names.retain(begins_well);
+    names
+}
+
+#[cfg(test)]
+mod tests {
+    use super::*;
+
+    fn names(run: Kind<'_>, line: &str) -> Vec<String> {
+        let names = names_printed(run, line).into_iter();
+        names
+            .map(|(span, _)| span.text(line).unwrap().to_owned())
+            .collect()
+    }
+
+    #[test]
+    fn lines_that_show_items_name_them() {
+        for (line, wanted) in [
+            ("variable p INTEGER 2", &["p"][..]),
+            ("method calibrate", &["calibrate"]),
+            ("array r", &["r"]),
+            (r#"ITEMS a(READ_ONLY HIDDEN) "b \" c" d"#, &["a", "d"]),
+            ("REQUEST[0] 1 a<15> b(INFO INDEX) c", &["a", "b", "c"]),
+            ("REPLY[12] a", &["a"]),
+            ("MEMBERS {x a} {y b}", &["a", "b"]),
+            ("ELEMENTS {1 a} {25 b_2}", &["a", "b_2"]),
+            (r#"LABEL "value p""#, &[]),
+            ("MAX_VALUE 5", &[]),
+            ("", &[]),
+        ] {
+            assert_eq!(names(Kind::Show, line), wanted, "{line}");
+        }
+    }
+
+    #[test]
+    fn lines_of_a_run_name_variables() {
+        let run = Kind::Method("m");
+        assert_eq!(names(run, "value p 5"), ["p"]);
+        assert_eq!(names(run, r#"ask GET_DEV_VAR_VALUE "a" b" c"#), ["c"]);
+        assert!(names(run, r#"ask GET_DEV_VAR_VALUE "a""#).is_empty());
+        assert!(names(run, r#"ask PUT_MESSAGE "value p""#).is_empty());
+        assert!(names(run, "end ended").is_empty());
+        assert_eq!(names(Kind::Open, "set p 5"), ["p"]);
+        assert!(names(Kind::Open, "value p").is_empty());
+    }
 }
