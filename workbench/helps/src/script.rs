@@ -13,7 +13,7 @@ use crate::core::made;
 use core_std::alloc::Global;
 use edd_loader::Image;
 use edd_script::{Line, parse_line, text_of};
-use edd_source::Span;
+use edd_source::{Confidence, Fix, Span};
 use edd_syntax::answer::Answer;
 use lines::wrong_in_line;
 use reasons::{help_of, range_help};
@@ -54,7 +54,10 @@ pub fn explain_script_line(image: &Image<'_>, bytes: &[u8]) -> Option<(Wrong, Fi
     match made(parse_line(Global, image, bytes)) {
         None => {
             let (word, why) = wrong_in_line(image, line);
-            let finding = finding(word.span(), help_of(image, word.text, why));
+            let help = help_of(image, word.text, why);
+            let fix = near_fix(word.span(), &help);
+            let mut finding = Finding::at(Some(word.span()));
+            finding.propose(help, fix);
             Some((Wrong::Line, finding))
         }
         Some(Line::Set(variable, value)) => {
@@ -66,6 +69,16 @@ pub fn explain_script_line(image: &Image<'_>, bytes: &[u8]) -> Option<(Wrong, Fi
             Some((Wrong::Answer, found))
         }
         Some(Line::Answer(Answer::Abort) | Line::Blank) => None,
+    }
+}
+
+// The change that a help says, where it is one.
+fn near_fix(span: Span, help: &ScriptHelp) -> Option<Fix> {
+    match help {
+        ScriptHelp::NoVariable {
+            near: Some(near), ..
+        } => Some(Fix::replace(span, near.as_str(), Confidence::Guess)),
+        _ => None,
     }
 }
 

@@ -30,8 +30,8 @@ use std::cell::OnceCell;
 /// ```
 #[derive(Debug)]
 pub struct Document {
+    path: String,
     text: String,
-    kind: FileKind,
     syntax: OnceCell<Syntax>,
     report: OnceCell<Report>,
     sheet: OnceCell<Option<Sheet>>,
@@ -48,19 +48,15 @@ const NOWHERE: Spot = Spot {
 impl Document {
     /// A version of a text.
     pub fn new(text: impl Into<String>) -> Document {
-        Document::of_kind(FileKind::Description, text.into())
+        Document::named("", text)
     }
 
     /// A version of the text of a file. One whose name ends with `.test` or `.script` is no description
     /// and has no tokens: a [`Project`](crate::Project) says what its names mean.
     pub fn named(path: &str, text: impl Into<String>) -> Document {
-        Document::of_kind(FileKind::of(path), text.into())
-    }
-
-    fn of_kind(kind: FileKind, text: String) -> Document {
         Document {
-            text,
-            kind,
+            path: path.to_owned(),
+            text: text.into(),
             syntax: OnceCell::new(),
             report: OnceCell::new(),
             sheet: OnceCell::new(),
@@ -70,7 +66,7 @@ impl Document {
 
     /// Whether it is a description, and no file of tests and no script.
     pub fn is_description(&self) -> bool {
-        self.kind == FileKind::Description
+        FileKind::of(&self.path) == FileKind::Description
     }
 
     /// The text.
@@ -107,7 +103,7 @@ impl Document {
 
     /// What a file of tests or a script names; none of a description.
     pub(crate) fn sheet(&self) -> Option<&Sheet> {
-        let sheet = self.sheet.get_or_init(|| Sheet::of(self.kind, &self.text));
+        let sheet = self.sheet.get_or_init(|| Sheet::of(&self.path, &self.text));
         sheet.as_ref()
     }
 

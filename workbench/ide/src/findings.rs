@@ -6,7 +6,7 @@ use core_std::alloc::Global;
 use edd_helps::{Finding, NameHelp, Wrong, explain_script_line, nearest_method};
 use edd_loader::{Image, load};
 use edd_report::{Diagnostic, Refusal};
-use edd_source::Span;
+use edd_source::{Confidence, Fix, Span};
 use edd_testing::{NameSort, TestFault};
 use std::collections::BTreeMap;
 
@@ -136,8 +136,9 @@ fn unknown_method(image: &Image<'_>, text: &str, span: Span) -> Option<Diagnosti
     }
     let mut finding = Finding::at(Some(span));
     if let Some(near) = nearest_method(image, name) {
+        let fix = Fix::replace(span, near, Confidence::Guess);
         let near = near.to_owned();
-        finding.say(NameHelp::Meant { near });
+        finding.propose(NameHelp::Meant { near }, Some(fix));
     }
     let refusal = Refusal::new(301, "NO_METHOD", name);
     Some(Diagnostic::refused(refusal, finding))

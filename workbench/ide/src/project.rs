@@ -1,6 +1,6 @@
 //! Files that belong together: descriptions, their devices, files of tests and scripts.
 
-use crate::paths::{descriptions_of, instrument_of, path_beside};
+use crate::paths::{instrument_of, path_beside};
 use crate::sheet::{Mention, MentionSort, Sheet};
 use crate::{Document, Hover, RenameError};
 use edd_source::Span;
@@ -74,14 +74,11 @@ impl<'p> Project<'p> {
             if let Some(instrument) = instrument_of(path).and_then(|it| self.known(&it)) {
                 ties.insert((instrument, *path));
             }
-            let tests = document.sheet().map_or(&[][..], |sheet| &sheet.tests);
-            for test in tests {
-                let named = |name: &Option<String>| {
-                    let path = path_beside(path, name.as_deref()?);
-                    self.known(&path)
-                };
-                ties.extend(named(&test.source).zip(named(&test.device)));
-            }
+            let tests = document.sheet().map_or(&[][..], |sheet| &sheet.paths);
+            ties.extend(tests.iter().filter_map(|test| {
+                let source = self.known(test.source.as_deref()?)?;
+                Some((source, self.known(test.device.as_deref()?)?))
+            }));
         }
         ties
     }
@@ -104,12 +101,12 @@ impl<'p> Project<'p> {
 
     /// The description of which a file of tests, in one of its tests, or a script is.
     pub(crate) fn described_by(&self, path: &str, test: Option<usize>) -> Option<&'p str> {
+        let sheet = self.document(path)?.sheet()?;
         let Some(test) = test else {
-            let likely = descriptions_of(path);
-            return likely.iter().find_map(|path| self.known(path));
+            let likely = sheet.descriptions.iter();
+            return likely.into_iter().find_map(|path| self.known(path));
         };
-        let source = self.document(path)?.sheet()?.tests.get(test)?;
-        self.known(&path_beside(path, source.source.as_deref()?))
+        self.known(sheet.paths.get(test)?.source.as_deref()?)
     }
 
     /// Whether a description is that of a device.

@@ -1,6 +1,6 @@
 //! What a file of tests or a script names.
 
-use crate::paths::FileKind;
+use crate::paths::{FileKind, descriptions_of, path_beside};
 use edd_helps::script_names;
 use edd_source::Span;
 use edd_syntax::numbers::Kind;
@@ -30,10 +30,21 @@ pub(crate) struct ScriptLine {
     pub(crate) test: Option<usize>,
 }
 
+/// The files that a test names.
+#[derive(Debug)]
+pub(crate) struct TestPaths {
+    pub(crate) source: Option<String>,
+    pub(crate) device: Option<String>,
+}
+
 /// A file of tests or a script.
 #[derive(Debug, Default)]
 pub(crate) struct Sheet {
     pub(crate) tests: Vec<TestPlaces>,
+    /// Of each test the paths of its source and its device.
+    pub(crate) paths: Vec<TestPaths>,
+    /// The paths of the descriptions for which a script may be, the likeliest first.
+    pub(crate) descriptions: Vec<String>,
     pub(crate) faults: Vec<(Span, TestFault)>,
     pub(crate) lines: Vec<ScriptLine>,
     /// In the order of the text.
@@ -53,16 +64,21 @@ impl MentionSort {
 }
 
 impl Sheet {
-    /// What a file of this kind names; none of a description.
-    pub(crate) fn of(kind: FileKind, text: &str) -> Option<Sheet> {
-        match kind {
+    /// What a file of this path names; none of a description.
+    pub(crate) fn of(path: &str, text: &str) -> Option<Sheet> {
+        match FileKind::of(path) {
             FileKind::Description => None,
-            FileKind::Tests => Some(Sheet::of_tests(TestFile::read(text))),
-            FileKind::Script => Some(Sheet::of_script(text)),
+            FileKind::Tests => Some(Sheet::of_tests(path, TestFile::read(text))),
+            FileKind::Script => Some(Sheet::of_script(path, text)),
         }
     }
 
-    fn of_tests(file: TestFile) -> Sheet {
+    fn of_tests(path: &str, file: TestFile) -> Sheet {
+        let named = |name: &Option<String>| Some(path_beside(path, name.as_deref()?));
+        let paths = file.tests.iter().map(|test| TestPaths {
+            source: named(&test.source),
+            device: named(&test.device),
+        });
         let files = file.files.iter().map(|span| Mention {
             span: *span,
             sort: MentionSort::File,
@@ -71,6 +87,7 @@ impl Sheet {
         let mut sheet = Sheet {
             mentions: files.collect(),
             faults: file.faults,
+            paths: paths.collect(),
             ..Sheet::default()
         };
         for (number, test) in file.tests.iter().enumerate() {
@@ -92,8 +109,11 @@ impl Sheet {
         sheet
     }
 
-    fn of_script(text: &str) -> Sheet {
-        let mut sheet = Sheet::default();
+    fn of_script(path: &str, text: &str) -> Sheet {
+        let mut sheet = Sheet {
+            descriptions: descriptions_of(path),
+            ..Sheet::default()
+        };
         let mut start: usize = 0;
         for line in text.split_inclusive('\n') {
             let span = Span {

@@ -60,25 +60,35 @@ impl<'a> View<'a> {
         }
     }
 
-    /// A place in this file or another one.
-    pub(crate) fn location_of(self, place: Place<'_>) -> Option<Location> {
-        Some(self.others.view(place.path)?.location(place.span))
+    /// Places with their files.
+    fn by_files<'p>(
+        self,
+        places: &'p [Place<'p>],
+    ) -> impl Iterator<Item = (View<'a>, &'p [Place<'p>])> {
+        let files = places.chunk_by(|first, second| first.path == second.path);
+        files.filter_map(move |places| Some((self.others.view(places.first()?.path)?, places)))
+    }
+
+    /// Places in this file and in other ones.
+    pub(crate) fn locations(self, places: &[Place<'_>]) -> Vec<Location> {
+        let files = self.by_files(places);
+        let locations = files.flat_map(|(view, places)| {
+            let places = places.iter();
+            places.map(move |place| view.location(place.span))
+        });
+        locations.collect()
     }
 
     /// Edits that put a text in these places of this file and of other ones.
     pub(crate) fn replacements(self, places: &[Place<'_>], text: &str) -> WorkspaceEdit {
-        let mut changes: BTreeMap<String, Vec<TextEdit>> = BTreeMap::new();
-        for of_file in places.chunk_by(|first, second| first.path == second.path) {
-            let path = of_file.first().map_or("", |place| place.path);
-            if let Some(view) = self.others.view(path) {
-                let edits = of_file.iter().map(|place| view.edit(place.span, text));
-                changes
-                    .entry(view.uri.to_owned())
-                    .or_default()
-                    .extend(edits);
-            }
+        let files = self.by_files(places);
+        let changes = files.map(|(view, places)| {
+            let edits = places.iter().map(|place| view.edit(place.span, text));
+            (view.uri.to_owned(), edits.collect())
+        });
+        WorkspaceEdit {
+            changes: changes.collect(),
         }
-        WorkspaceEdit { changes }
     }
 
     /// Edits of the document.

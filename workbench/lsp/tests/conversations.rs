@@ -15,7 +15,7 @@ use proptest::sample::select;
 use proptest::test_runner::{Config, RngAlgorithm, TestRng, TestRunner};
 use serde_json::{Value, json};
 
-const METHODS: [&str; 20] = [
+const METHODS: [&str; 22] = [
     "didOpen",
     "didChange",
     "didChange",
@@ -36,15 +36,25 @@ const METHODS: [&str; 20] = [
     "semanticTokens/full",
     "selectionRange",
     "inlayHint",
+    "codeLens",
+    "prepareCallHierarchy",
 ];
 
-const TEXTS: [&str; 6] = [
+const URIS: [&str; 4] = [
+    "file:///a/b.edd",
+    "file:///a/b.device.edd",
+    "file:///a/b.test",
+    "file:///a/b.script",
+];
+
+const TEXTS: [&str; 7] = [
     "MANUFACTURER 1, DEVICE_TYPE 2, DEVICE_REVISION 3, DD_REVISION 4\nVARIABLE p { TYPE INTEGER; }",
     "METHOD m {\r\n DEFINITION { int k; k = 1; } } // \u{1d11e}\u{e4}\r VARIABLE k { LABEL \"|en|\"; }",
     "\"",
     "",
     "}\n{",
     "VARIABLE ",
+    "source b.edd\r\ndevice b.device.edd\ntest \u{e4}\nmethod p\n set p 1\nanswer 0 p=2 k=\n= value p 1\n",
 ];
 
 /// A message, some of whose members may be of another form.
@@ -55,13 +65,13 @@ fn message() -> impl Strategy<Value = Value> {
         place.clone(),
         place,
         select(&TEXTS[..]),
-        0..40_usize,
+        (0..40_usize, select(&URIS[..])),
     );
-    parts.prop_map(|(method, start, end, text, damage)| {
+    parts.prop_map(|(method, start, end, text, (damage, uri))| {
         let at = |(line, character): (u64, u64)| json!({"line": line, "character": character});
         let range = json!({"start": at(start), "end": at(end)});
         let mut params = json!({
-            "textDocument": {"uri": "f:a", "version": 1, "text": text},
+            "textDocument": {"uri": uri, "version": 1, "text": text},
             "position": at(start), "range": range, "positions": [at(start), at(end)],
             "contentChanges": [{"range": range, "text": text}], "newName": "n",
             "context": {"includeDeclaration": true, "only": ["source.fixAll", "quickfix"]},

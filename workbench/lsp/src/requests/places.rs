@@ -7,8 +7,8 @@ use crate::answers::{Answer, Highlight};
 pub(crate) fn definition(query: &Query<'_>) -> Outcome {
     let byte = query.byte()?;
     let place = query.project().declaration(query.path(), byte);
-    let location = place.and_then(|place| query.view.location_of(place));
-    Ok(location.map_or(Answer::Nothing, Answer::Location))
+    let found = query.view.locations(place.as_slice()).into_iter().next();
+    Ok(found.map_or(Answer::Nothing, Answer::Location))
 }
 
 /// Answers with all places where it is named.
@@ -16,9 +16,7 @@ pub(crate) fn references(query: &Query<'_>) -> Outcome {
     let declared = query.params.context.include_declaration;
     let byte = query.byte()?;
     let places = query.project().references(query.path(), byte, declared);
-    let locations = places.into_iter();
-    let locations = locations.filter_map(|place| query.view.location_of(place));
-    Ok(Answer::Locations(locations.collect()))
+    Ok(Answer::Locations(query.view.locations(&places)))
 }
 
 /// Answers with the same places, the declaration too, to be shown in the text.
