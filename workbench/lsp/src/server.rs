@@ -190,6 +190,14 @@ impl Server {
         }
     }
 
+    /// Reads the files beside all documents once more.
+    fn refresh_all(&mut self) {
+        let open: Vec<String> = self.documents.keys().cloned().collect();
+        for uri in open {
+            self.refresh(&uri);
+        }
+    }
+
     /// Has the tests and scripts checked anew that name items of a description.
     fn recheck_dependents(&mut self, uri: &str) {
         let dependents = guarded(|| {
@@ -234,8 +242,7 @@ impl Server {
         }
         let params = Params::read(params?);
         if method == "workspace/didChangeWatchedFiles" {
-            let open: Vec<String> = self.documents.keys().cloned().collect();
-            open.iter().for_each(|uri| self.refresh(uri));
+            self.refresh_all();
             return None;
         }
         let told = params.text_document;
