@@ -37,7 +37,7 @@ pub use recovery::{Later, Recovered, recover};
 pub use rules::{Description, Foreign, NameHelp, OtherKinds, OtherType, RuleHelp, explain_breach};
 pub use script::{
     ScriptHelp, ScriptSlip, Wrong, explain_script, explain_script_line, nearest_method,
-    script_name_before, script_names,
+    nearest_variable, script_name_before, script_names,
 };
 pub use slips::Slip;
 pub use syntax::{Fitting, SyntaxHelp};

@@ -3,11 +3,12 @@
 use crate::project::Project;
 use crate::sheet::Sheet;
 use core_std::alloc::Global;
-use edd_helps::{Finding, NameHelp, Wrong, explain_script_line, nearest_method};
+use edd_helps::{Finding, NameHelp, Wrong, explain_script_line, nearest_method, nearest_variable};
 use edd_loader::{Image, load};
 use edd_report::{Diagnostic, Refusal};
 use edd_source::{Confidence, Fix, Span};
-use edd_testing::{NameSort, TestFault};
+use edd_syntax::numbers::{ItemNo, Kind};
+use edd_testing::{NameSort, TestFault, TestName};
 use std::collections::BTreeMap;
 
 /// The most findings that are shown of a file.
@@ -21,8 +22,8 @@ const MOST_COMPARED: usize = 10_000_000;
 struct Parts {
     /// The lines of scripts.
     lines: Vec<Span>,
-    /// The names of methods that run.
-    methods: Vec<Span>,
+    /// The names of methods that run, and of items in lines that are expected.
+    names: Vec<TestName>,
 }
 
 /// What a file of tests is refused with.
@@ -44,8 +45,8 @@ fn refusal_of(fault: TestFault) -> Option<Refusal> {
 }
 
 impl<'p> Project<'p> {
-    /// What is wrong with a file of tests or a script: lines that are refused, and methods and variables
-    /// that its description does not have. Where the description is not there or is refused itself
+    /// What is wrong with a file of tests or a script: lines that are refused, and names of items
+    /// that its description does not have, also in lines that are expected. Where the description is not there or is refused itself
     /// nothing is said of names, and nothing of a test that expects that its run is refused.
     ///
     /// ```
@@ -100,10 +101,11 @@ impl<'p> Project<'p> {
         }
         for (test, description) in of_tests.iter().enumerate() {
             let names = looked_at(test).map_or(&[][..], |test| &test.names);
-            let method = names.iter().find(|name| name.sort == NameSort::Method);
-            if let (Some(description), Some(method)) = (description, method) {
+            if let Some(description) = description {
                 let parts = parts.entry(description).or_default();
-                parts.methods.push(method.span);
+                parts
+                    .names
+                    .extend(names.iter().filter(|name| is_sure(name.sort)));
             }
         }
         parts
@@ -120,27 +122,53 @@ impl<'p> Project<'p> {
         let count = document.items().len();
         let most = MOST_COMPARED.checked_div(count).unwrap_or(MOST_COMPARED);
         let lines = parts.lines.iter().take(most);
-        let methods = parts.methods.iter().take(most);
+        let names = parts.names.iter().take(most);
         let in_lines = lines.filter_map(|line| wrong_in(&image, text, *line));
-        let in_methods = methods.filter_map(|name| unknown_method(&image, text, *name));
+        let in_names = names.filter_map(|name| unknown_name(&image, text, *name));
         let in_lines = in_lines.take(MOST_FINDINGS);
-        in_lines.chain(in_methods.take(MOST_FINDINGS)).collect()
+        in_lines.chain(in_names.take(MOST_FINDINGS)).collect()
     }
 }
 
-/// A method that a description does not have.
-fn unknown_method(image: &Image<'_>, text: &str, span: Span) -> Option<Diagnostic> {
-    let name = span.text(text)?;
-    if edd_run::find_method(image, name).is_ok() {
+/// Whether a name has to be one of the description, so that the test fails where it is none. Lines of
+/// scripts are looked at whole, and not name by name.
+fn is_sure(sort: NameSort) -> bool {
+    matches!(sort, NameSort::Method | NameSort::Printed(Some(_)))
+}
+
+fn kind_of(item: ItemNo) -> Kind {
+    match item {
+        ItemNo::Variable(_) => Kind::Variable,
+        ItemNo::Command(_) => Kind::Command,
+        ItemNo::Menu(_) => Kind::Menu,
+        ItemNo::Collection(_) => Kind::Collection,
+        ItemNo::Method(_) => Kind::Method,
+        ItemNo::Array(_) => Kind::Array,
+    }
+}
+
+/// A name in a test that a description does not have.
+fn unknown_name(image: &Image<'_>, text: &str, named: TestName) -> Option<Diagnostic> {
+    let name = named.span.text(text)?;
+    let (kind, refusal) = match named.sort {
+        NameSort::Method => (Kind::Method, Refusal::new(301, "NO_METHOD", name)),
+        NameSort::Printed(Some(kind)) => (kind, Refusal::new(21, "UNKNOWN_NAME", name)),
+        NameSort::Variable | NameSort::Printed(None) => return None,
+    };
+    if image.find(name).map(kind_of) == Some(kind) {
         return None;
     }
-    let mut finding = Finding::at(Some(span));
-    if let Some(near) = nearest_method(image, name) {
-        let fix = Fix::replace(span, near, Confidence::Guess);
+    let near = match kind {
+        Kind::Method => nearest_method(image, name),
+        Kind::Variable => nearest_variable(image, name),
+        _ => None,
+    };
+    let mut finding = Finding::at(Some(named.span));
+    if let Some(near) = near {
+        let fix = Fix::replace(named.span, near, Confidence::Guess);
         let near = near.to_owned();
         finding.propose(NameHelp::Meant { near }, Some(fix));
     }
-    let refusal = Refusal::new(301, "NO_METHOD", name);
     Some(Diagnostic::refused(refusal, finding))
 }
 

@@ -213,7 +213,7 @@ fn findings(files: &Files, path: &str) -> Vec<String> {
 
 #[test]
 fn names_that_the_description_does_not_have_are_found() {
-    let tests = "source ../tank.edd\ntest one\nmethod chek\nset levl 1\nanswer 0 level=1 alarm=999\ntest two\nshow\nset alarm -1\nsteps 3\n";
+    let tests = "source ../tank.edd\ntest one\nmethod chek\nset levl 1\nanswer 0 level=1 alarm=999\n= value alrm 1\n= value check 1\n= ask PUT_MESSAGE \"value none\"\ntest two\nshow\nset alarm -1\nsteps 3\n~ menu tip\n~ method check\n~ ITEMS none\n";
     let files = Files::with(&[
         ("/t/tests/tank.test", tests),
         (
@@ -225,8 +225,11 @@ fn names_that_the_description_does_not_have_are_found() {
         "301 NO_METHOD chek chek: check may be meant",
         "300 SCRIPT levl: no variable has the name `levl`; `level` may be meant",
         "207 OUT_OF_RANGE alarm=999: alarm is UNSIGNED_INTEGER (1), which holds 0 to 255",
+        "21 UNKNOWN_NAME alrm alrm: alarm may be meant",
+        "21 UNKNOWN_NAME check check: ",
         "202 RANGE -1: alarm is UNSIGNED_INTEGER (1), which holds 0 to 255",
         "296 MISPLACED steps 3: ",
+        "21 UNKNOWN_NAME tip tip: ",
     ];
     assert_eq!(findings(&files, "/t/tests/tank.test"), wanted);
     let wanted = [

@@ -65,8 +65,8 @@ fn asked(line: &str) -> Option<(Span, Option<ItemKind>)> {
     is_word.then_some((Span { start, end }, Some(ItemKind::Variable)))
 }
 
-/// The items of a list, as docs/COMMAND_LINE.md shows it: `"text" NAME(QUALIFIER) NAME<MASK>` and
-/// `{KEY NAME}`.
+/// The items of a list, as docs/COMMAND_LINE.md shows it: `"text" [key] NAME(QUALIFIER) NAME<MASK>`
+/// and `{KEY NAME}`.
 fn listed(first: &str, line: &str) -> Vec<(Span, Option<ItemKind>)> {
     let is_inner = matches!(first, "MEMBERS" | "ELEMENTS");
     let is_list = first == "ITEMS" || first.starts_with("REQUEST[") || first.starts_with("REPLY[");
@@ -90,7 +90,7 @@ enum Inside {
     Text {
         is_escaped: bool,
     },
-    /// The qualifiers or the mask of a name.
+    /// A key, or the qualifiers or the mask of a name.
     Brackets,
 }
 
@@ -98,8 +98,8 @@ impl Inside {
     fn behind(self, character: char) -> Inside {
         match (self, character) {
             (Inside::Nothing, '"') => Inside::Text { is_escaped: false },
-            (Inside::Nothing, '(' | '<') => Inside::Brackets,
-            (Inside::Text { is_escaped: false }, '"') | (Inside::Brackets, ')' | '>') => {
+            (Inside::Nothing, '(' | '<' | '[') => Inside::Brackets,
+            (Inside::Text { is_escaped: false }, '"') | (Inside::Brackets, ')' | '>' | ']') => {
                 Inside::Nothing
             }
             (Inside::Text { is_escaped }, sign) => Inside::Text {
@@ -152,7 +152,7 @@ mod tests {
             ("variable p INTEGER 2", &["p"][..]),
             ("method calibrate", &["calibrate"]),
             ("array r", &["r"]),
-            (r#"ITEMS a(READ_ONLY HIDDEN) "b \" c" d"#, &["a", "d"]),
+            (r#"ITEMS a(READ_ONLY HIDDEN) "b \" c" [k] d"#, &["a", "d"]),
             ("REQUEST[0] 1 a<15> b(INFO INDEX) c", &["a", "b", "c"]),
             ("REPLY[12] a", &["a"]),
             ("MEMBERS {x a} {y b}", &["a", "b"]),
