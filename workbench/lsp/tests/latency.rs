@@ -14,6 +14,8 @@ use std::time::{Duration, Instant};
 
 const HEAD: &str = "MANUFACTURER 1, DEVICE_TYPE 2, DEVICE_REVISION 3, DD_REVISION 4\n";
 
+const DESCRIPTION: &str = "file:///t/b.edd";
+
 /// How many bytes the text has at least: in debug builds fewer, as these are some ten times slower.
 const LENGTH: usize = if cfg!(debug_assertions) {
     200_000
@@ -50,7 +52,7 @@ fn drain(session: &mut Session) -> Duration {
 /// How long the answer to a hover takes.
 fn hover(session: &mut Session, line: usize) -> Duration {
     let place =
-        json!({"textDocument": {"uri": "f:d"}, "position": {"line": line, "character": 10}});
+        json!({"textDocument": {"uri": DESCRIPTION}, "position": {"line": line, "character": 10}});
     send(
         session,
         &json!({"id": 1, "method": "textDocument/hover", "params": place}),
@@ -69,8 +71,17 @@ fn hover(session: &mut Session, line: usize) -> Duration {
     took
 }
 
-/// Of five changes with a hover behind each the least times: of reading and checking, and of the hover.
-fn least_times(capabilities: &Value) -> (Duration, Duration) {
+fn open(session: &mut Session, uri: &str, text: &str) {
+    let document = json!({"uri": uri, "version": 1, "text": text});
+    send(
+        session,
+        &json!({"method": "textDocument/didOpen", "params": {"textDocument": document}}),
+    );
+    drain(session);
+}
+
+/// A conversation with the description open.
+fn opened(capabilities: &Value) -> (Session, usize) {
     let mut session = Session::default();
     let params = json!({"capabilities": capabilities});
     send(
@@ -78,18 +89,18 @@ fn least_times(capabilities: &Value) -> (Duration, Duration) {
         &json!({"id": 0, "method": "initialize", "params": params}),
     );
     let (text, last) = description();
-    let document = json!({"uri": "f:d", "version": 1, "text": text});
-    send(
-        &mut session,
-        &json!({"method": "textDocument/didOpen", "params": {"textDocument": document}}),
-    );
-    drain(&mut session);
+    open(&mut session, DESCRIPTION, &text);
+    (session, last)
+}
+
+/// Of five changes with a hover behind each the least times: of reading and checking, and of the hover.
+fn least_times((mut session, last): (Session, usize)) -> (Duration, Duration) {
     let mut least = (Duration::MAX, Duration::MAX);
     for version in 2..7 {
         let start = json!({"line": last / 2, "character": 23});
         let change = json!({"range": {"start": start, "end": start}, "text": "x"});
         let params = json!({
-            "textDocument": {"uri": "f:d", "version": version}, "contentChanges": [change],
+            "textDocument": {"uri": DESCRIPTION, "version": version}, "contentChanges": [change],
         });
         send(
             &mut session,
@@ -106,8 +117,32 @@ fn least_times(capabilities: &Value) -> (Duration, Duration) {
 #[test]
 fn the_first_hover_behind_a_change_takes_no_time() {
     for capabilities in [json!({}), json!({"textDocument": {"diagnostic": {}}})] {
-        let (read, hovered) = least_times(&capabilities);
+        let (read, hovered) = least_times(opened(&capabilities));
         println!("{LENGTH} bytes: read in {read:?}, a hover in {hovered:?}");
         assert!(hovered < read / 10, "{hovered:?} of {read:?}");
     }
+}
+
+/// A change of a description has its tests checked anew. That compiles it once, however many tests
+/// there are.
+#[test]
+fn tests_are_checked_in_the_time_of_their_description() {
+    let alone = least_times(opened(&json!({}))).0;
+    let (mut session, last) = opened(&json!({}));
+    let mut tests = "source b.edd\n".to_owned();
+    for number in 0..1000 {
+        let variable = number % last;
+        write!(
+            tests,
+            "test {number}\nshow\nset v{variable} 1\n~ variable v{variable} INTEGER 2\n"
+        )
+        .expect("a text");
+    }
+    open(&mut session, "file:///t/b.test", &tests);
+    let script = tests.lines().filter(|line| line.starts_with("set"));
+    let script: Vec<_> = script.collect();
+    open(&mut session, "file:///t/b.script", &script.join("\n"));
+    let all = least_times((session, last)).0;
+    println!("{LENGTH} bytes: {alone:?} alone, {all:?} with tests");
+    assert!(all < alone * 6, "{all:?} where it is {alone:?} alone");
 }
