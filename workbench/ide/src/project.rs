@@ -94,7 +94,7 @@ impl<'p> Project<'p> {
     }
 
     /// The files of tests and the scripts.
-    fn sheets(&self) -> impl Iterator<Item = (&'p str, &'p Document, &'p Sheet)> {
+    pub(crate) fn sheets(&self) -> impl Iterator<Item = (&'p str, &'p Document, &'p Sheet)> {
         let files = self.files.iter();
         files.filter_map(|(path, document)| Some((*path, *document, document.sheet()?)))
     }
@@ -139,7 +139,7 @@ impl<'p> Project<'p> {
     }
 
     /// The item that is named at a byte of any file.
-    fn item_at(&self, path: &str, byte: usize) -> Option<Found<'p>> {
+    pub(crate) fn item_at(&self, path: &str, byte: usize) -> Option<Found<'p>> {
         if let Some(mention) = self.mention_at(path, byte) {
             return self.item_named(path, mention);
         }
@@ -148,19 +148,37 @@ impl<'p> Project<'p> {
         Some(Found { path, item })
     }
 
-    /// Where what is named at a byte is declared. The name of a file leads to its beginning.
+    /// Where what is named at a byte is declared. The name of a file leads to its beginning, and that of
+    /// a device's method to the command for which it is.
     pub fn declaration(&self, path: &str, byte: usize) -> Option<Place<'p>> {
         let (own, document) = self.files.get_key_value(path)?;
-        let Some(mention) = self.mention_at(path, byte) else {
-            let span = document.declaration(byte)?;
-            return Some(Place { path: own, span });
-        };
-        if mention.sort == MentionSort::File {
-            let path = path_beside(path, mention.span.text(document.text())?);
-            let span = Span::before(0);
-            return self.known(&path).map(|path| Place { path, span });
+        if let Some(mention) = self.mention_at(path, byte) {
+            return self.declaration_of(path, document, mention);
         }
-        let Found { path, item } = self.item_named(path, mention)?;
+        if let Some(command) = self.command_at(path, byte) {
+            return self.place_of(command);
+        }
+        let span = document.declaration(byte)?;
+        Some(Place { path: own, span })
+    }
+
+    fn declaration_of(
+        &self,
+        path: &str,
+        document: &Document,
+        mention: Mention,
+    ) -> Option<Place<'p>> {
+        if mention.sort != MentionSort::File {
+            return self.place_of(self.item_named(path, mention)?);
+        }
+        let path = path_beside(path, mention.span.text(document.text())?);
+        let span = Span::before(0);
+        self.known(&path).map(|path| Place { path, span })
+    }
+
+    /// The place of the name of an item.
+    pub(crate) fn place_of(&self, found: Found<'p>) -> Option<Place<'p>> {
+        let Found { path, item } = found;
         let span = self.document(path)?.name_of(item)?;
         Some(Place { path, span })
     }
@@ -206,7 +224,7 @@ impl<'p> Project<'p> {
     }
 
     /// Whether a name in a file of tests or a script is that of one of the items.
-    fn is_one_of(
+    pub(crate) fn is_one_of(
         &self,
         items: &BTreeSet<Found<'p>>,
         path: &str,
@@ -270,12 +288,23 @@ impl<'p> Project<'p> {
         }
     }
 
-    /// What is told of a name in a file of tests or a script.
+    /// What is told of a byte of any file: also of names in tests and scripts, and of a device's method
+    /// the command for which it is.
     pub fn hover(&self, path: &str, byte: usize) -> Option<Hover> {
-        let mention = self.mention_at(path, byte)?;
-        let Found { path, item } = self.item_named(path, mention)?;
-        let markdown = self.document(path)?.told_of(item)?;
-        let span = mention.span;
-        Some(Hover { span, markdown })
+        if let Some(mention) = self.mention_at(path, byte) {
+            let markdown = self.told_of(self.item_named(path, mention)?)?;
+            let span = mention.span;
+            return Some(Hover { span, markdown });
+        }
+        let mut hover = self.document(path)?.hover(byte)?;
+        if let Some(command) = self.command_at(path, byte).and_then(|it| self.told_of(it)) {
+            hover.markdown.push_str("\n\n");
+            hover.markdown.push_str(&command);
+        }
+        Some(hover)
+    }
+
+    fn told_of(&self, found: Found<'p>) -> Option<String> {
+        self.document(found.path)?.told_of(found.item)
     }
 }

@@ -58,7 +58,7 @@ impl<'p> Project<'p> {
         others.collect()
     }
 
-    fn kind_and_name(&self, found: Found<'p>) -> Option<(Kind, &'p str)> {
+    pub(crate) fn kind_and_name(&self, found: Found<'p>) -> Option<(Kind, &'p str)> {
         let document = self.document(found.path)?;
         let kind = document.items().get(found.item)?.kind;
         Some((kind, document.item_name(found.item)))
@@ -107,6 +107,14 @@ impl<'p> Project<'p> {
             .collect()
     }
 
+    /// The command for which the method is that is named at a byte of a device.
+    pub(crate) fn command_at(&self, path: &str, byte: usize) -> Option<Found<'p>> {
+        let found = self.item_at(path, byte)?;
+        let (kind, _) = self.kind_and_name(found)?;
+        let is_method = kind == Kind::Method;
+        self.of_command(found).into_iter().find(|_| is_method)
+    }
+
     /// The number of a command, as it is written.
     fn number_of(&self, found: Found<'p>) -> Option<&'p str> {
         let document = self.document(found.path)?;
@@ -134,7 +142,6 @@ impl<'p> Project<'p> {
         let others = variables.flat_map(|found| self.other_sides(found.path));
         let mut taken = others.filter_map(|path| self.variable(path, name));
         let Found { path, item } = taken.next()?;
-        let span = self.document(path)?.name_of(item)?;
-        Some(Place { path, span })
+        self.place_of(Found { path, item })
     }
 }

@@ -164,6 +164,15 @@ fn methods_and_commands_are_named_in_tests_and_devices() {
     let byte = files.byte("/t/tank.edd", "read_level");
     let renamed = project.rename("/t/tank.edd", byte, "read_it").unwrap();
     assert_eq!(files.all(&renamed), ["tank.edd:4 read_level"]);
+    let byte = files.byte("/t/tank.device.edd", "command_7_0");
+    let place = project.declaration("/t/tank.device.edd", byte).unwrap();
+    assert_eq!(files.shown(place), "tank.edd:4 read_level");
+    let told = project.hover("/t/tank.device.edd", byte).unwrap().markdown;
+    let wanted = "`METHOD command_7_0`\n\n`COMMAND read_level`\n\nNUMBER `7`, OPERATION `READ`";
+    assert_eq!(told, wanted);
+    let other = files.byte("/t/tank.device.edd", "command_70_0");
+    let place = project.declaration("/t/tank.device.edd", other).unwrap();
+    assert_eq!(files.shown(place), "tank.device.edd:5 command_70_0");
     let byte = files.byte("/t/tests/tank.test", "../tank.edd");
     let place = project.declaration("/t/tests/tank.test", byte).unwrap();
     assert_eq!((place.path, place.span.start), ("/t/tank.edd", 0));
@@ -194,6 +203,25 @@ fn a_name_that_is_taken_on_the_other_side_is_refused() {
     assert_eq!(error.path, "/t/tank.edd");
     let error = project.rename("/t/vat.script", 5, "x").unwrap_err();
     assert_eq!(error.error, RenameError::NothingHere);
+}
+
+#[test]
+fn tests_that_run_a_method_are_found() {
+    let files = Files::with(&[]);
+    let byte = files.byte("/t/tank.edd", "check");
+    let runs = files.project().runs("/t/tank.edd", byte);
+    let [run] = runs.as_slice() else {
+        panic!("{runs:?}");
+    };
+    assert_eq!(files.shown(run.test), "tests/tank.test:4 it is checked");
+    assert_eq!(files.shown(run.method), "tests/tank.test:5 check");
+    let (path, symbol) = files
+        .project()
+        .callable("/t/tests/tank.test", run.method.span.start)
+        .unwrap();
+    assert_eq!((path, symbol.name), ("/t/tank.edd", "check"));
+    let level = files.byte("/t/tank.edd", "level");
+    assert!(files.project().runs("/t/tank.edd", level).is_empty());
 }
 
 /// What is wrong with a file, as its numbers and the texts at fault.
@@ -299,7 +327,9 @@ fn what_a_description_says_is_told_in_tests_and_scripts() {
         told.markdown
     );
     assert!(files.project().hover("/t/tank.full.script", 0).is_none());
-    assert!(files.project().hover("/t/tank.edd", 80).is_none());
+    let byte = files.byte("/t/tank.edd", "level");
+    let told = files.project().hover("/t/tank.edd", byte).unwrap();
+    assert!(told.markdown.starts_with("`VARIABLE level`"));
 }
 
 /// Lines of tests and scripts, in whatever order, with a character put in somewhere.

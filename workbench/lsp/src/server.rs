@@ -8,6 +8,7 @@ use crate::messages::{ErrorCode, Incoming, Notification, Outgoing, Request, Resp
 use crate::others::{Beside, Others};
 use crate::params::Params;
 use crate::requests::{Query, answer, workspace_symbols};
+use crate::uri::path_of;
 use crate::view::View;
 use serde_json::Value;
 use std::panic::{AssertUnwindSafe, catch_unwind};
@@ -173,7 +174,10 @@ impl Server {
         let Some(uri) = params.uri() else {
             return Err(bad("no document is named"));
         };
-        let Some(view) = self.view(uri) else {
+        // An item that was found may be in a file that is not open.
+        let is_found = params.item.uri.as_deref() == Some(uri);
+        let beside = || self.others().view(&path_of(uri)).filter(|_| is_found);
+        let Some(view) = self.view(uri).or_else(beside) else {
             return Err(bad("the document is not open"));
         };
         Ok(Query { params, view })

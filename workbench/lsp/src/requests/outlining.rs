@@ -19,7 +19,7 @@ pub(super) fn symbol_kind(kind: Kind) -> u8 {
 }
 
 /// The kind of a test as the protocol counts kinds of symbols: a function.
-const TEST_KIND: u8 = 12;
+pub(super) const TEST_KIND: u8 = 12;
 
 /// The tests of the document, for a client that shows a tree or a list.
 fn tests(query: &Query<'_>) -> Answer {

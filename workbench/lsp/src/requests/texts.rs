@@ -10,12 +10,7 @@ use edd_source::{Edit, Span};
 /// Answers with what is told of the word at the cursor, or `null`.
 pub(crate) fn hover(query: &Query<'_>) -> Outcome {
     let byte = query.byte()?;
-    let told = if query.document().is_description() {
-        query.document().hover(byte)
-    } else {
-        query.project().hover(query.path(), byte)
-    };
-    let Some(told) = told else {
+    let Some(told) = query.project().hover(query.path(), byte) else {
         return Ok(Answer::Nothing);
     };
     Ok(Answer::Hover(Hover {
