@@ -6,12 +6,14 @@ use crate::files::{Files, NoFiles};
 use crate::uri::{encoded, folder_of, is_file, path_of};
 use crate::view::View;
 use edd_ide::Project;
+use std::collections::BTreeMap;
 
-/// The files that were read beside those that are open, by the names that an editor would give them.
+/// The files that were read beside those that are open, by the names that an editor would give their
+/// folders and them.
 #[derive(Debug)]
 pub(crate) struct Beside {
     files: Box<dyn Files>,
-    stored: Documents,
+    folders: BTreeMap<String, Documents>,
 }
 
 impl Default for Beside {
@@ -24,7 +26,7 @@ impl Beside {
     pub(crate) fn new(files: Box<dyn Files>) -> Beside {
         Beside {
             files,
-            stored: Documents::new(),
+            folders: BTreeMap::new(),
         }
     }
 
@@ -34,27 +36,28 @@ impl Beside {
             return false;
         }
         let folder = folder_of(uri);
-        let all = std::mem::take(&mut self.stored).into_iter();
-        let (mut old, other): (Documents, Documents) =
-            all.partition(|(name, _)| name.starts_with(folder));
-        self.stored = other;
-        let mut is_other = false;
-        let count = old.len();
-        let mut read: usize = 0;
-        for file in self.files.read_beside(&path_of(uri)) {
+        let read = self.files.read_beside(&path_of(uri));
+        let before = self.folders.entry(folder.to_owned()).or_default();
+        let mut old = std::mem::take(before);
+        let mut is_other = old.len() != read.len();
+        for file in read {
             let name = [folder, &encoded(&file.path)].concat();
             let kept = old.remove(&name);
             let kept = kept.filter(|open| open.document.text() == file.text);
             is_other |= kept.is_none();
             let open = kept.unwrap_or_else(|| Open::new(&name, file.text, None));
-            self.stored.insert(name, open);
-            read = read.saturating_add(1);
+            before.insert(name, open);
         }
-        is_other || read != count
+        is_other
     }
 
-    pub(crate) fn clear(&mut self) {
-        self.stored.clear();
+    /// Forgets the files beside a document.
+    pub(crate) fn forget(&mut self, uri: &str) {
+        self.folders.remove(folder_of(uri));
+    }
+
+    fn all(&self) -> impl Iterator<Item = (&String, &Open)> {
+        self.folders.values().flatten()
     }
 }
 
@@ -69,7 +72,7 @@ pub(crate) struct Others<'a> {
 impl<'a> Others<'a> {
     /// The files by their names, those that are open first.
     fn all(self) -> impl Iterator<Item = (&'a String, &'a Open)> {
-        self.documents.iter().chain(&self.beside.stored)
+        self.documents.iter().chain(self.beside.all())
     }
 
     pub(crate) fn project(self) -> Project<'a> {
@@ -86,5 +89,40 @@ impl<'a> Others<'a> {
             others: self,
             client: self.client,
         })
+    }
+}
+
+#[cfg(test)]
+mod tests {
+    use super::*;
+    use crate::files::Stored;
+
+    /// In each folder one file, which has the path of the folder as its text.
+    #[derive(Debug)]
+    struct OneEach;
+
+    impl Files for OneEach {
+        fn read_beside(&self, path: &str) -> Vec<Stored> {
+            vec![Stored {
+                path: "one.test".to_owned(),
+                text: folder_of(path).to_owned(),
+            }]
+        }
+    }
+
+    fn texts(beside: &Beside) -> Vec<&str> {
+        beside.all().map(|(_, open)| open.document.text()).collect()
+    }
+
+    #[test]
+    fn a_folder_around_another_one_takes_nothing_from_it() {
+        let mut beside = Beside::new(Box::new(OneEach));
+        assert!(beside.refresh("file:///a/b/c/d.edd"));
+        assert!(beside.refresh("file:///a/d.edd"));
+        assert!(!beside.refresh("file:///a/e.edd"));
+        assert!(!beside.refresh("untitled:e.edd"));
+        assert_eq!(texts(&beside), ["/a/", "/a/b/c/"]);
+        beside.forget("file:///a/d.edd");
+        assert_eq!(texts(&beside), ["/a/b/c/"]);
     }
 }

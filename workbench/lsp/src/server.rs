@@ -8,7 +8,7 @@ use crate::messages::{ErrorCode, Incoming, Notification, Outgoing, Request, Resp
 use crate::others::{Beside, Others};
 use crate::params::Params;
 use crate::requests::{Query, answer, workspace_symbols};
-use crate::uri::path_of;
+use crate::uri::{folder_of, path_of};
 use crate::view::View;
 use serde_json::Value;
 use std::panic::{AssertUnwindSafe, catch_unwind};
@@ -223,10 +223,11 @@ impl Server {
         self.documents.get(uri)?;
         self.recheck_dependents(uri);
         self.documents.remove(uri);
-        if self.documents.is_empty() {
-            self.beside.clear();
-        } else {
+        let mut others = self.documents.keys();
+        if others.any(|other| folder_of(other) == folder_of(uri)) {
             self.refresh(uri);
+        } else {
+            self.beside.forget(uri);
         }
         Some(())
     }
