@@ -43,6 +43,7 @@ mod signature;
 mod snippets;
 mod spots;
 mod syntax;
+mod typing;
 mod values;
 mod walk;
 
@@ -58,3 +59,4 @@ pub use naming::RenameError;
 pub use offers::{Completion, CompletionKind};
 pub use semantic::{SemanticToken, TokenClass};
 pub use signature::Signature;
+pub use typing::Typed;

@@ -1,5 +1,6 @@
 //! The documents that an editor has open, and how its changes change them.
 
+use crate::colours::SentTokens;
 use crate::params::ContentChange;
 use crate::positions::{Encoding, Lines};
 use edd_ide::Document;
@@ -14,6 +15,8 @@ pub(crate) struct Open {
     pub(crate) lines: Lines,
     /// Whether the editor knows what is wrong with this version.
     pub(crate) is_told: bool,
+    /// The words that the editor was told of last, of this version or of an earlier one.
+    pub(crate) sent_tokens: SentTokens,
 }
 
 /// All that are open, by the names that the editor gives them.
@@ -26,6 +29,7 @@ impl Open {
             lines: Lines::of(&text),
             document: Document::new(text),
             is_told: false,
+            sent_tokens: SentTokens::default(),
         }
     }
 
@@ -45,7 +49,10 @@ impl Open {
         let text = changes.fold(text, |text, change| {
             edited(&text, &Lines::of(&text), change, encoding)
         });
-        Open::new(text, version)
+        Open {
+            sent_tokens: self.sent_tokens.take(),
+            ..Open::new(text, version)
+        }
     }
 }
 

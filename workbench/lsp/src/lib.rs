@@ -16,6 +16,7 @@
 
 pub mod answers;
 mod client;
+mod colours;
 mod diagnostics;
 mod documents;
 mod framing;

@@ -24,6 +24,12 @@ pub(crate) struct Params {
     pub(crate) context: Context,
     #[serde(deserialize_with = "lenient")]
     pub(crate) positions: Vec<Position>,
+    /// What was typed.
+    #[serde(deserialize_with = "lenient")]
+    pub(crate) ch: String,
+    /// By what the tokens are known that were answered before.
+    #[serde(deserialize_with = "lenient")]
+    pub(crate) previous_result_id: String,
     /// What the names of items have in them.
     #[serde(deserialize_with = "lenient")]
     pub(crate) query: String,
