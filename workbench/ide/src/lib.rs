@@ -14,6 +14,7 @@
 //! assert_eq!(found.entries[0].label, "LABEL");
 //! ```
 
+mod class_terms;
 mod comments;
 mod completion;
 mod constant;

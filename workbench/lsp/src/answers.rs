@@ -272,6 +272,8 @@ pub struct CompletionItem {
     pub kind: u8,
     #[serde(skip_serializing_if = "Option::is_none")]
     pub detail: Option<String>,
+    #[serde(skip_serializing_if = "Option::is_none")]
+    pub documentation: Option<String>,
     /// By this a client keeps the order.
     pub sort_text: String,
     /// 2 where the edit is a snippet.

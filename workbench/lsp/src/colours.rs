@@ -88,15 +88,16 @@ mod tests {
     #[test]
     fn what_has_changed_is_one_edit() {
         // The words before and behind the change are kept, each once.
-        let cases: [(&[usize], &[usize], usize, usize, &[usize]); 6] = [
-            (&[1, 2, 3], &[1, 4, 3], 5, 5, &[4]),
-            (&[1, 3], &[1, 2, 3], 5, 0, &[2]),
-            (&[1, 2, 3], &[1, 3], 5, 5, &[]),
-            (&[], &[1], 0, 0, &[1]),
-            (&[1, 1], &[1], 5, 5, &[]),
-            (&[1], &[1, 1], 5, 0, &[1]),
+        let cases: [[&[usize]; 3]; 6] = [
+            [&[1, 2, 3], &[1, 4, 3], &[4]],
+            [&[1, 3], &[1, 2, 3], &[2]],
+            [&[1, 2, 3], &[1, 3], &[]],
+            [&[], &[1], &[1]],
+            [&[1, 1], &[1], &[]],
+            [&[1], &[1, 1], &[1]],
         ];
-        for (old, new, start, delete_count, data) in cases {
+        let places = [(5, 5), (5, 0), (5, 5), (0, 0), (5, 5), (5, 0)];
+        for ([old, new, data], (start, delete_count)) in cases.into_iter().zip(places) {
             let edit = change_of(&words(old), &words(new)).expect("a change");
             let data = words(data);
             let wanted = SemanticTokensEdit {
