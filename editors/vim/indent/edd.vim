@@ -212,12 +212,35 @@ endfunction
 
 " The line with which the item begins that is before a line.
 function! s:ItemBefore(line) abort
-  for line in range(a:line - 1, 1, -1)
-    if getline(line) =~# s:item && synIDattr(synID(line, match(getline(line), '\S') + 1, 0), "name") !=# "eddComment"
+  call cursor(a:line, 1)
+  while 1
+    let line = search(s:item, "bW")
+    if line == 0
+      return 1
+    endif
+    if synIDattr(synID(line, match(getline(line), '\S') + 1, 0), "name") !=# "eddComment"
       return line
     endif
+  endwhile
+endfunction
+
+" What is known before a line. It is kept for the lines below it, whose indentation is mostly asked next.
+function! s:StateBefore(line) abort
+  let first = s:ItemBefore(a:line)
+  let kept = get(b:, "edd_indent", {})
+  let known = empty(kept) ? 0 : len(kept.lines)
+  let goes_on = known > 0 && kept.first == first && first + known <= a:line
+  if !goes_on || getline(first, first + known - 1) !=# kept.lines
+    let kept = {"first": first, "lines": [], "state": s:Begin()}
+    let b:edd_indent = kept
+    let known = 0
+  endif
+  let lines = first + known < a:line ? getline(first + known, a:line - 1) : []
+  for line in lines
+    call s:TakeLine(kept.state, line)
   endfor
-  return 1
+  call extend(kept.lines, lines)
+  return kept.state
 endfunction
 
 " The first token of a line or, where it has a comment alone, of the next one that has one.
@@ -239,13 +262,7 @@ function! s:FirstToken(line) abort
 endfunction
 
 function! GetEddIndent() abort
-  let state = s:Begin()
-  let first = s:ItemBefore(v:lnum)
-  if first < v:lnum
-    for line in getline(first, v:lnum - 1)
-      call s:TakeLine(state, line)
-    endfor
-  endif
+  let state = s:StateBefore(v:lnum)
   let line = getline(v:lnum)
   if state.inside !=# ""
     return -1
