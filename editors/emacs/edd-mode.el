@@ -9,6 +9,7 @@
 ;;; Code:
 
 (require 'edd-indent)
+(require 'subr-x)
 (require 'term)
 
 (defvar edd-mode-font-lock-keywords
@@ -52,15 +53,21 @@
     (pop-to-buffer (apply #'make-term name edd-mode-program nil words))
     (term-char-mode)))
 
+(defun edd-mode-device-words ()
+  "The words that name the simulated device, whose description lies beside this one."
+  (let ((device (concat (string-remove-suffix ".device" (file-name-sans-extension buffer-file-name)) ".device.edd")))
+    (when (and (not (equal device buffer-file-name)) (file-exists-p device))
+      (list "--device" device))))
+
 (defun edd-mode-open-instrument ()
   "Open the instrument that the description is, as a communicator does."
   (interactive)
-  (edd-mode-run "open" buffer-file-name))
+  (apply #'edd-mode-run "open" buffer-file-name (edd-mode-device-words)))
 
 (defun edd-mode-run-method (method)
   "Run a METHOD of the description."
   (interactive (list (read-string "Method: " (thing-at-point 'symbol t))))
-  (edd-mode-run "try" buffer-file-name method))
+  (apply #'edd-mode-run "try" buffer-file-name method (edd-mode-device-words)))
 
 (defvar edd-mode-map
   (let ((map (make-sparse-keymap)))

@@ -44,8 +44,12 @@ if has("nvim") && executable(s:program)
 lua << EOF_OF_LUA
   local program = vim.g.edd_program or "edd"
 
-  -- What may be clicked above a line runs the program in a terminal.
+  -- What may be clicked above a line runs the program in a terminal, with the simulated device that lies beside a description.
   local function run(words)
+    local device = words[2]:gsub("%.device%.edd$", ".edd"):gsub("%.edd$", ".device.edd")
+    if words[1] ~= "test" and device ~= words[2] and vim.fn.filereadable(device) == 1 then
+      vim.list_extend(words, { "--device", device })
+    end
     vim.cmd("botright new")
     vim.fn.termopen(vim.list_extend({ program }, words))
   end
