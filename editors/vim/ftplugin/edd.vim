@@ -12,7 +12,7 @@ command! -buffer EddFormat call s:Format()
 " `gg=G` lays the whole text out; other lines are indented by the file in indent/.
 nnoremap <buffer> <silent> <expr> =G line(".") == 1 && executable(<SID>Program()) ? ":\<C-u>EddFormat\<CR>" : "=G"
 let b:undo_ftplugin = "setlocal commentstring< comments< expandtab< shiftwidth< softtabstop< foldmethod< foldlevel<"
-      \ . " | silent! nunmap <buffer> =G | silent! delcommand EddFormat"
+      \ . " | silent! execute 'nunmap <buffer> =G' | silent! delcommand EddFormat"
 
 if !exists("*s:Format")
   function! s:Program() abort
