@@ -18,6 +18,7 @@
 
 mod begun;
 mod calls;
+mod class_terms;
 mod comments;
 mod completion;
 mod constant;
@@ -53,6 +54,7 @@ mod snippets;
 mod spots;
 mod syntax;
 mod ties;
+mod typing;
 mod values;
 mod walk;
 
@@ -71,3 +73,4 @@ pub use project::{Place, Project, ProjectRenameError};
 pub use runs::TestRun;
 pub use semantic::{SemanticToken, TokenClass};
 pub use signature::Signature;
+pub use typing::Typed;

@@ -26,6 +26,7 @@ pub enum Answer {
     Signatures(SignatureHelp),
     Actions(Vec<CodeAction>),
     Tokens(SemanticTokens),
+    ChangedTokens(SemanticTokensDelta),
     Selections(Vec<SelectionRange>),
     Hints(Vec<InlayHint>),
     Report(DiagnosticReport),
@@ -61,6 +62,7 @@ pub struct Capabilities {
     pub folding_range_provider: bool,
     pub document_formatting_provider: bool,
     pub document_range_formatting_provider: bool,
+    pub document_on_type_formatting_provider: OnTypeFormattingProvider,
     pub selection_range_provider: bool,
     pub inlay_hint_provider: bool,
     pub workspace_symbol_provider: bool,
@@ -109,9 +111,21 @@ pub struct CodeActionProvider {
 }
 
 #[derive(Clone, Debug, Serialize)]
+#[serde(rename_all = "camelCase")]
+pub struct OnTypeFormattingProvider {
+    pub first_trigger_character: &'static str,
+    pub more_trigger_character: &'static [&'static str],
+}
+
+#[derive(Clone, Debug, Serialize)]
 pub struct SemanticTokensProvider {
     pub legend: Legend,
-    pub full: bool,
+    pub full: FullTokens,
+}
+
+#[derive(Clone, Debug, Serialize)]
+pub struct FullTokens {
+    pub delta: bool,
 }
 
 #[derive(Clone, Debug, Serialize)]
@@ -136,7 +150,27 @@ pub struct CodeLensProvider {
 
 /// Of each word its line and column behind the one before it, its length, type and modifiers.
 #[derive(Clone, Debug, Serialize)]
+#[serde(rename_all = "camelCase")]
 pub struct SemanticTokens {
+    /// By this an editor asks for what has changed since.
+    pub result_id: String,
+    pub data: Vec<usize>,
+}
+
+/// What has changed since an answer with words.
+#[derive(Clone, Debug, Serialize)]
+#[serde(rename_all = "camelCase")]
+pub struct SemanticTokensDelta {
+    pub result_id: String,
+    pub edits: Vec<SemanticTokensEdit>,
+}
+
+/// Numbers that take the place of some of those before.
+#[derive(Clone, Debug, PartialEq, Eq, Serialize)]
+#[serde(rename_all = "camelCase")]
+pub struct SemanticTokensEdit {
+    pub start: usize,
+    pub delete_count: usize,
     pub data: Vec<usize>,
 }
 
@@ -294,6 +328,8 @@ pub struct CompletionItem {
     pub kind: u8,
     #[serde(skip_serializing_if = "Option::is_none")]
     pub detail: Option<String>,
+    #[serde(skip_serializing_if = "Option::is_none")]
+    pub documentation: Option<String>,
     /// By this a client keeps the order.
     pub sort_text: String,
     /// 2 where the edit is a snippet.

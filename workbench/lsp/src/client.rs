@@ -1,8 +1,9 @@
 //! What an editor says of itself.
 
 use crate::answers::{
-    Capabilities, CodeActionProvider, CodeLensProvider, DiagnosticProvider, Greeting, Legend,
-    RenameProvider, SemanticTokensProvider, ServerInfo, Synchronization, Triggers,
+    Capabilities, CodeActionProvider, CodeLensProvider, DiagnosticProvider, FullTokens, Greeting,
+    Legend, OnTypeFormattingProvider, RenameProvider, SemanticTokensProvider, ServerInfo,
+    Synchronization, Triggers,
 };
 use crate::positions::Encoding;
 use crate::requests::TOKEN_TYPES;
@@ -90,6 +91,10 @@ impl Client {
             folding_range_provider: true,
             document_formatting_provider: true,
             document_range_formatting_provider: true,
+            document_on_type_formatting_provider: OnTypeFormattingProvider {
+                first_trigger_character: "}",
+                more_trigger_character: &[";", "\n"],
+            },
             selection_range_provider: true,
             inlay_hint_provider: true,
             workspace_symbol_provider: true,
@@ -99,7 +104,7 @@ impl Client {
                     token_types: &TOKEN_TYPES,
                     token_modifiers: &["declaration"],
                 },
-                full: true,
+                full: FullTokens { delta: true },
             },
             completion_provider: Triggers {
                 trigger_characters: &[".", "[", "|"],

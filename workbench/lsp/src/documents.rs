@@ -1,5 +1,6 @@
 //! The documents that an editor has open, and how its changes change them.
 
+use crate::colours::SentTokens;
 use crate::params::ContentChange;
 use crate::positions::{Encoding, Lines};
 use crate::uri::path_of;
@@ -15,6 +16,8 @@ pub(crate) struct Open {
     /// Whether the editor knows what is wrong with this version.
     pub(crate) is_told: bool,
     pub(crate) path: String,
+    /// The words that the editor was told of last, of this version or of an earlier one.
+    pub(crate) sent_tokens: SentTokens,
 }
 
 /// All that are open, by the names that the editor gives them.
@@ -32,6 +35,7 @@ impl Open {
             document: Document::named(&path, text),
             is_told: false,
             path,
+            sent_tokens: SentTokens::default(),
         }
     }
 
@@ -51,7 +55,10 @@ impl Open {
         let text = changes.fold(text, |text, change| {
             edited(&text, &Lines::of(&text), change, encoding)
         });
-        Open::of_path(self.path.clone(), text, version)
+        Open {
+            sent_tokens: self.sent_tokens.take(),
+            ..Open::of_path(self.path.clone(), text, version)
+        }
     }
 }
 

@@ -17,6 +17,7 @@
 
 pub mod answers;
 mod client;
+mod colours;
 mod diagnostics;
 mod documents;
 mod files;

@@ -27,6 +27,12 @@ pub(crate) struct Params {
     /// The item whose calls are asked for.
     #[serde(deserialize_with = "lenient")]
     pub(crate) item: Named,
+    /// What was typed.
+    #[serde(deserialize_with = "lenient")]
+    pub(crate) ch: String,
+    /// By what the tokens are known that were answered before.
+    #[serde(deserialize_with = "lenient")]
+    pub(crate) previous_result_id: String,
     /// What the names of items have in them.
     #[serde(deserialize_with = "lenient")]
     pub(crate) query: String,

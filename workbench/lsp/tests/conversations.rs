@@ -15,7 +15,7 @@ use proptest::sample::select;
 use proptest::test_runner::{Config, RngAlgorithm, TestRng, TestRunner};
 use serde_json::{Value, json};
 
-const METHODS: [&str; 22] = [
+const METHODS: [&str; 24] = [
     "didOpen",
     "didChange",
     "didChange",
@@ -33,7 +33,9 @@ const METHODS: [&str; 22] = [
     "signatureHelp",
     "formatting",
     "codeAction",
+    "onTypeFormatting",
     "semanticTokens/full",
+    "semanticTokens/full/delta",
     "selectionRange",
     "inlayHint",
     "codeLens",
@@ -70,10 +72,12 @@ fn message() -> impl Strategy<Value = Value> {
     parts.prop_map(|(method, start, end, text, (damage, uri))| {
         let at = |(line, character): (u64, u64)| json!({"line": line, "character": character});
         let range = json!({"start": at(start), "end": at(end)});
+        let typed = ["}", ";", "\n"][damage % 3];
         let mut params = json!({
             "textDocument": {"uri": uri, "version": 1, "text": text},
             "position": at(start), "range": range, "positions": [at(start), at(end)],
             "contentChanges": [{"range": range, "text": text}], "newName": "n",
+            "ch": typed, "previousResultId": "1",
             "context": {"includeDeclaration": true, "only": ["source.fixAll", "quickfix"]},
         });
         let members = [

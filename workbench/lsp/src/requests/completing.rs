@@ -40,6 +40,7 @@ pub(crate) fn completions(query: &Query<'_>) -> Outcome {
             label: entry.label.to_owned(),
             kind: kind_number(entry.kind),
             detail: Some(entry.detail).filter(|detail| !detail.is_empty()),
+            documentation: Some(entry.documentation.into_owned()).filter(|it| !it.is_empty()),
             sort_text: format!("{number:06}"),
             insert_text_format: snippet.is_some().then_some(SNIPPET),
             text_edit: query
