@@ -15,7 +15,7 @@ use proptest::sample::select;
 use proptest::test_runner::{Config, RngAlgorithm, TestRng, TestRunner};
 use serde_json::{Value, json};
 
-const METHODS: [&str; 22] = [
+const METHODS: [&str; 24] = [
     "didOpen",
     "didChange",
     "didChange",
@@ -38,6 +38,8 @@ const METHODS: [&str; 22] = [
     "inlayHint",
     "codeLens",
     "prepareCallHierarchy",
+    "callHierarchy/incomingCalls",
+    "callHierarchy/outgoingCalls",
 ];
 
 const URIS: [&str; 4] = [
@@ -75,6 +77,7 @@ fn message() -> impl Strategy<Value = Value> {
             "position": at(start), "range": range, "positions": [at(start), at(end)],
             "contentChanges": [{"range": range, "text": text}], "newName": "n",
             "context": {"includeDeclaration": true, "only": ["source.fixAll", "quickfix"]},
+            "item": {"uri": uri, "selectionRange": range},
         });
         let members = [
             "textDocument",
@@ -94,7 +97,12 @@ fn message() -> impl Strategy<Value = Value> {
         if let (Some(member), Some(value)) = (members.get(damage), strange.get(damage)) {
             params[*member] = value.clone();
         }
-        json!({"method": format!("textDocument/{method}"), "params": params})
+        let method = if method.contains("Hierarchy/") {
+            method.to_owned()
+        } else {
+            format!("textDocument/{method}")
+        };
+        json!({"method": method, "params": params})
     })
 }
 
