@@ -16,7 +16,6 @@
 //! assert_eq!(found.entries[0].label, "LABEL");
 //! ```
 
-mod begun;
 mod calls;
 mod class_terms;
 mod comments;
@@ -49,6 +48,7 @@ mod scopes;
 mod selection;
 mod semantic;
 mod sheet;
+mod sheet_completion;
 mod signature;
 mod snippets;
 mod spots;

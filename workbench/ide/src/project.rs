@@ -74,10 +74,10 @@ impl<'p> Project<'p> {
             if let Some(instrument) = instrument_of(path).and_then(|it| self.known(&it)) {
                 ties.insert((instrument, *path));
             }
-            let tests = document.sheet().map_or(&[][..], |sheet| &sheet.paths);
-            ties.extend(tests.iter().filter_map(|test| {
-                let source = self.known(test.source.as_deref()?)?;
-                Some((source, self.known(test.device.as_deref()?)?))
+            let pairs = document.sheet().into_iter().flat_map(|sheet| &sheet.pairs);
+            ties.extend(pairs.filter_map(|(source, device)| {
+                let source = self.known(source)?;
+                Some((source, self.known(device)?))
             }));
         }
         ties
@@ -116,10 +116,8 @@ impl<'p> Project<'p> {
 
     /// The files of tests and the scripts that name items of a description.
     pub fn dependents(&self, path: &str) -> Vec<&'p str> {
-        let is_of = |sheet_path: &str, test| self.described_by(sheet_path, test) == Some(path);
         let sheets = self.sheets().filter(|(sheet_path, _, sheet)| {
-            let mut tests = 0..sheet.tests.len();
-            tests.any(|test| is_of(sheet_path, Some(test))) || is_of(sheet_path, None)
+            sheet.sources.contains(path) || self.described_by(sheet_path, None) == Some(path)
         });
         sheets.map(|(path, _, _)| path).collect()
     }

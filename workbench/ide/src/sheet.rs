@@ -5,6 +5,7 @@ use edd_helps::script_names;
 use edd_source::Span;
 use edd_syntax::numbers::Kind;
 use edd_testing::{NameSort, TestFault, TestFile, TestPlaces};
+use std::collections::BTreeSet;
 
 /// What stands at a place of a file of tests or a script.
 #[derive(Clone, Copy, Debug)]
@@ -43,6 +44,9 @@ pub(crate) struct Sheet {
     pub(crate) tests: Vec<TestPlaces>,
     /// Of each test the paths of its source and its device.
     pub(crate) paths: Vec<TestPaths>,
+    /// All sources, and all sources with devices, each once.
+    pub(crate) sources: BTreeSet<String>,
+    pub(crate) pairs: BTreeSet<(String, String)>,
     /// The paths of the descriptions for which a script may be, the likeliest first.
     pub(crate) descriptions: Vec<String>,
     pub(crate) faults: Vec<(Span, TestFault)>,
@@ -79,6 +83,11 @@ impl Sheet {
             source: named(&test.source),
             device: named(&test.device),
         });
+        let paths: Vec<_> = paths.collect();
+        let sources = paths.iter().filter_map(|test| test.source.clone());
+        let pairs = paths
+            .iter()
+            .filter_map(|test| test.source.clone().zip(test.device.clone()));
         let files = file.files.iter().map(|span| Mention {
             span: *span,
             sort: MentionSort::File,
@@ -87,7 +96,9 @@ impl Sheet {
         let mut sheet = Sheet {
             mentions: files.collect(),
             faults: file.faults,
-            paths: paths.collect(),
+            sources: sources.collect(),
+            pairs: pairs.collect(),
+            paths,
             ..Sheet::default()
         };
         for (number, test) in file.tests.iter().enumerate() {

@@ -12,7 +12,7 @@ const MOST_FILES: usize = 64;
 /// The most bytes of a file that is read.
 const MOST_BYTES: u64 = 1_048_576;
 
-/// The most folders that are looked into, how far down they are, and how many entries of one are looked
+/// The most folders that are looked into, how far down they are, and how many entries of all are looked
 /// at.
 const MOST_FOLDERS: usize = 64;
 const MOST_DEPTH: usize = 2;
@@ -48,14 +48,16 @@ impl Files for NoFiles {
 
 /// The files of the system: at most 64 regular ones, of at most 1 MiB each, in the folder of a file and
 /// at most two folders down. Those that have the beginning of its name come first. Links are not
-/// followed, and folders whose names begin with a dot are left out.
+/// followed, and folders whose names begin with a dot are left out. Beside a file of the root folder
+/// nothing is read, since the whole system is below it.
 #[derive(Clone, Copy, Debug, Default)]
 pub struct Disk;
 
 impl Files for Disk {
     fn read_beside(&self, path: &str) -> Vec<Stored> {
         let path = Path::new(path);
-        let Some(folder) = path.parent() else {
+        let folder = path.parent().filter(|folder| folder.parent().is_some());
+        let Some(folder) = folder else {
             return Vec::new();
         };
         let stem = stem_of(path);
@@ -81,12 +83,13 @@ fn stem_of(path: &Path) -> Option<&str> {
 fn find_files(folder: &Path) -> Vec<PathBuf> {
     let mut files = Vec::new();
     let mut folders = VecDeque::from([(folder.to_owned(), 0)]);
+    let mut left = MOST_ENTRIES;
     for _ in 0..MOST_FOLDERS {
         let Some((folder, depth)) = folders.pop_front() else {
             break;
         };
         let mut inner = Vec::new();
-        for (path, is_folder) in entries_of(&folder) {
+        for (path, is_folder) in entries_of(&folder, &mut left) {
             if is_folder {
                 inner.push(path);
             } else {
@@ -102,12 +105,16 @@ fn find_files(folder: &Path) -> Vec<PathBuf> {
     files
 }
 
-/// The files of a folder that may be read, and its folders, with whether each is a folder.
-fn entries_of(folder: &Path) -> Vec<(PathBuf, bool)> {
+/// The files of a folder that may be read, and its folders, with whether each is a folder. Only so many
+/// entries are left to be looked at.
+fn entries_of(folder: &Path, left: &mut usize) -> Vec<(PathBuf, bool)> {
     let Ok(entries) = fs::read_dir(folder) else {
         return Vec::new();
     };
-    let entries = entries.take(MOST_ENTRIES).flatten().filter_map(|entry| {
+    let most = *left;
+    let entries = entries.take(most).filter_map(|entry| {
+        *left = left.saturating_sub(1);
+        let entry = entry.ok()?;
         // That of a link is neither.
         let kind = entry.file_type().ok()?;
         let name = entry.file_name();

@@ -40,6 +40,8 @@ const METHODS: [&str; 24] = [
     "inlayHint",
     "codeLens",
     "prepareCallHierarchy",
+    "callHierarchy/incomingCalls",
+    "callHierarchy/outgoingCalls",
 ];
 
 const URIS: [&str; 4] = [
@@ -79,6 +81,7 @@ fn message() -> impl Strategy<Value = Value> {
             "contentChanges": [{"range": range, "text": text}], "newName": "n",
             "ch": typed, "previousResultId": "1",
             "context": {"includeDeclaration": true, "only": ["source.fixAll", "quickfix"]},
+            "item": {"uri": uri, "selectionRange": range},
         });
         let members = [
             "textDocument",
@@ -98,7 +101,12 @@ fn message() -> impl Strategy<Value = Value> {
         if let (Some(member), Some(value)) = (members.get(damage), strange.get(damage)) {
             params[*member] = value.clone();
         }
-        json!({"method": format!("textDocument/{method}"), "params": params})
+        let method = if method.contains("Hierarchy/") {
+            method.to_owned()
+        } else {
+            format!("textDocument/{method}")
+        };
+        json!({"method": method, "params": params})
     })
 }
 

@@ -78,6 +78,20 @@ fn descriptions_tests_and_scripts_below_a_folder_are_read() {
     );
     assert!(read_beside(&folder.join("none/a.edd")).is_empty());
     assert!(Disk.read_beside("").is_empty());
+    // The whole system is below the root folder.
+    assert!(Disk.read_beside("/a.edd").is_empty());
+}
+
+#[test]
+fn no_more_than_4096_entries_are_looked_at() {
+    let temp = TempFolder::new().unwrap();
+    for number in 0..4096 {
+        fs::write(temp.path().join(format!("{number}.txt")), "").unwrap();
+    }
+    fs::create_dir(temp.path().join("x")).unwrap();
+    fs::write(temp.path().join("x/a.test"), "").unwrap();
+    // The folder `x` is found among the first entries or it is not, but nothing of it is looked at.
+    assert!(read_beside(&temp.path().join("a.edd")).is_empty());
 }
 
 #[test]
