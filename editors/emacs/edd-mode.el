@@ -90,10 +90,26 @@
 ;;;###autoload
 (add-to-list 'auto-mode-alist '("\\.edd\\'" . edd-mode))
 
+(define-derived-mode edd-test-mode prog-mode "EDDL-Test"
+  "Major mode for the tests and scripts of device descriptions."
+  (setq-local comment-start "# ")
+  (setq-local comment-end ""))
+
+(defun edd-mode-is-test-or-script ()
+  "Whether the file has tests of a description or is a script of one; others have files of these names as well."
+  (pcase (and buffer-file-name (file-name-extension buffer-file-name))
+    ("test" (save-excursion (goto-char (point-min)) (re-search-forward "^[ ]*\\(?:source\\|image\\) " nil t)))
+    ("script" (let ((name (file-name-sans-extension buffer-file-name)))
+                (or (file-exists-p (concat name ".edd"))
+                    (file-exists-p (concat (file-name-sans-extension name) ".edd")))))))
+
+;;;###autoload
+(add-to-list 'magic-mode-alist '(edd-mode-is-test-or-script . edd-test-mode))
+
 (defvar eglot-server-programs)
 (with-eval-after-load 'eglot
   (add-to-list 'eglot-server-programs
-               (cons 'edd-mode (lambda (&rest _) (list edd-mode-program "lsp")))))
+               (cons '(edd-mode edd-test-mode) (lambda (&rest _) (list edd-mode-program "lsp")))))
 
 (provide 'edd-mode)
 ;;; edd-mode.el ends here

@@ -78,8 +78,11 @@ exports.activate = async context => {
     for (const [name, command] of Object.entries(commands)) {
         context.subscriptions.push(vscode.commands.registerCommand(name, command));
     }
-    const documentSelector = [{ language: "edd" }, { scheme: "file", pattern: "**/*.test" }];
-    client = new LanguageClient("edd", "EDDL", { command: program(), args: ["lsp"] }, { documentSelector });
+    // Tests and scripts belong to the descriptions that they name or lie beside.
+    const documentSelector = [{ language: "edd" }, { scheme: "file", pattern: "**/*.{test,script}" }];
+    const fileEvents = vscode.workspace.createFileSystemWatcher("**/*.{edd,test,script}");
+    context.subscriptions.push(fileEvents);
+    client = new LanguageClient("edd", "EDDL", { command: program(), args: ["lsp"] }, { documentSelector, synchronize: { fileEvents } });
     await client.start();
 };
 

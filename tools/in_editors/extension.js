@@ -62,6 +62,10 @@ const vscode = {
     },
     workspace: {
         textDocuments: [],
+        createFileSystemWatcher: pattern => {
+            answers.watched = pattern;
+            return { dispose() {} };
+        },
         getConfiguration: () => ({ get: name => name === "program" ? asked.program : undefined }),
     },
 };
