@@ -15,7 +15,7 @@ use proptest::sample::select;
 use proptest::test_runner::{Config, RngAlgorithm, TestRng, TestRunner};
 use serde_json::{Value, json};
 
-const METHODS: [&str; 24] = [
+const METHODS: [&str; 26] = [
     "didOpen",
     "didChange",
     "didChange",
