@@ -15,7 +15,7 @@ use proptest::sample::select;
 use proptest::test_runner::{Config, RngAlgorithm, TestRng, TestRunner};
 use serde_json::{Value, json};
 
-const METHODS: [&str; 26] = [
+const METHODS: &[&str] = &[
     "didOpen",
     "didChange",
     "didChange",
@@ -65,7 +65,7 @@ const TEXTS: [&str; 7] = [
 fn message() -> impl Strategy<Value = Value> {
     let place = (0..4_u64, 0..40_u64);
     let parts = (
-        select(&METHODS[..]),
+        select(METHODS),
         place.clone(),
         place,
         select(&TEXTS[..]),
