@@ -8,6 +8,10 @@
 
 ;;; Code:
 
+(require 'edd-indent)
+(require 'subr-x)
+(require 'term)
+
 (defvar edd-mode-font-lock-keywords
   `(("^[ \t]*#.*$" . 'font-lock-preprocessor-face)
     (,(regexp-opt '("MANUFACTURER" "DEVICE_TYPE" "DEVICE_REVISION" "DD_REVISION" "VARIABLE" "COMMAND" "MENU" "COLLECTION" "METHOD" "ARRAY" "OF") 'symbols) . 'font-lock-type-face)
@@ -30,15 +34,47 @@
     (modify-syntax-entry ?\\ "\\" table)
     table))
 
-(defun edd-mode-indent-line ()
-  "Indent the line by the braces and brackets around it."
+(defvar edd-mode-program "edd" "The program that checks, lays out and runs descriptions.")
+
+(defun edd-mode-format-buffer ()
+  "Lay the text out as `edd fmt' does; a text that it refuses stays as it is."
   (interactive)
-  (let* ((state (save-excursion (syntax-ppss (line-beginning-position))))
-         (closes (save-excursion (back-to-indentation) (looking-at "[])}]")))
-         (depth (- (car state) (if closes 1 0))))
-    (unless (or (nth 3 state) (nth 4 state))
-      (save-excursion (indent-line-to (* 4 (max 0 depth))))
-      (when (< (current-column) (current-indentation)) (back-to-indentation)))))
+  (let ((text (current-buffer)) (made (generate-new-buffer " *edd fmt*")))
+    (unwind-protect
+        (if (zerop (let ((coding-system-for-read 'utf-8) (coding-system-for-write 'utf-8))
+                     (call-process-region (point-min) (point-max) edd-mode-program nil (list made nil) nil "fmt" "-")))
+            (with-current-buffer text (replace-buffer-contents made))
+          (message "edd fmt refuses the text; edd check says why"))
+      (kill-buffer made))))
+
+(defun edd-mode-run (&rest words)
+  "Run the program with WORDS in a terminal of Emacs."
+  (let ((name (concat "edd " (car words))))
+    (pop-to-buffer (apply #'make-term name edd-mode-program nil words))
+    (term-char-mode)))
+
+(defun edd-mode-device-words ()
+  "The words that name the simulated device, whose description lies beside this one."
+  (let ((device (concat (string-remove-suffix ".device" (file-name-sans-extension buffer-file-name)) ".device.edd")))
+    (when (and (not (equal device buffer-file-name)) (file-exists-p device))
+      (list "--device" device))))
+
+(defun edd-mode-open-instrument ()
+  "Open the instrument that the description is, as a communicator does."
+  (interactive)
+  (apply #'edd-mode-run "open" buffer-file-name (edd-mode-device-words)))
+
+(defun edd-mode-run-method (method)
+  "Run a METHOD of the description."
+  (interactive (list (read-string "Method: " (thing-at-point 'symbol t))))
+  (apply #'edd-mode-run "try" buffer-file-name method (edd-mode-device-words)))
+
+(defvar edd-mode-map
+  (let ((map (make-sparse-keymap)))
+    (define-key map (kbd "C-c C-f") #'edd-mode-format-buffer)
+    (define-key map (kbd "C-c C-o") #'edd-mode-open-instrument)
+    (define-key map (kbd "C-c C-c") #'edd-mode-run-method)
+    map))
 
 ;;;###autoload
 (define-derived-mode edd-mode prog-mode "EDDL"
@@ -48,14 +84,32 @@
   (setq-local comment-end "")
   (setq-local comment-start-skip "\\(?://+\\|/\\*+\\)[ \t]*")
   (setq-local indent-tabs-mode nil)
-  (setq-local indent-line-function #'edd-mode-indent-line))
+  (setq-local indent-line-function #'edd-indent-line)
+  (setq-local indent-region-function #'edd-indent-region))
 
 ;;;###autoload
 (add-to-list 'auto-mode-alist '("\\.edd\\'" . edd-mode))
 
+(define-derived-mode edd-test-mode prog-mode "EDDL-Test"
+  "Major mode for the tests and scripts of device descriptions."
+  (setq-local comment-start "# ")
+  (setq-local comment-end ""))
+
+(defun edd-mode-is-test-or-script ()
+  "Whether the file has tests of a description or is a script of one; others have files of these names as well."
+  (pcase (and buffer-file-name (file-name-extension buffer-file-name))
+    ("test" (save-excursion (goto-char (point-min)) (re-search-forward "^[ ]*\\(?:source\\|image\\) " nil t)))
+    ("script" (let ((name (file-name-sans-extension buffer-file-name)))
+                (or (file-exists-p (concat name ".edd"))
+                    (file-exists-p (concat (file-name-sans-extension name) ".edd")))))))
+
+;;;###autoload
+(add-to-list 'magic-mode-alist '(edd-mode-is-test-or-script . edd-test-mode))
+
 (defvar eglot-server-programs)
 (with-eval-after-load 'eglot
-  (add-to-list 'eglot-server-programs '(edd-mode . ("edd" "lsp"))))
+  (add-to-list 'eglot-server-programs
+               (cons '(edd-mode edd-test-mode) (lambda (&rest _) (list edd-mode-program "lsp")))))
 
 (provide 'edd-mode)
 ;;; edd-mode.el ends here

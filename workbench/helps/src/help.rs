@@ -64,7 +64,7 @@ impl Finding {
     }
 
     /// Has all places be so many bytes further on, from some on.
-    pub(crate) fn moved(mut self, before: usize, start: usize) -> Finding {
+    pub fn moved(mut self, before: usize, start: usize) -> Finding {
         let moved = |span: Span| Span {
             start: span.start.saturating_sub(before).saturating_add(start),
             end: span.end.saturating_sub(before).saturating_add(start),

@@ -35,7 +35,10 @@ pub use explaining::{Explained, TextFault, explain, text_fault};
 pub use help::{Finding, Help};
 pub use recovery::{Later, Recovered, recover};
 pub use rules::{Description, Foreign, NameHelp, OtherKinds, OtherType, RuleHelp, explain_breach};
-pub use script::{ScriptHelp, ScriptSlip, Wrong, explain_script, nearest_method};
+pub use script::{
+    ScriptHelp, ScriptSlip, Wrong, explain_script, explain_script_line, nearest_method,
+    nearest_variable, script_name_before, script_names,
+};
 pub use slips::Slip;
 pub use syntax::{Fitting, SyntaxHelp};
 pub use text::{CharacterHelp, CharacterLooks, TextHelp};

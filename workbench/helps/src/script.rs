@@ -1,17 +1,19 @@
 //! Which word of a script is wrong, and why.
 
 mod lines;
+mod names;
 mod reasons;
 mod words;
 
-pub use reasons::{ScriptHelp, ScriptSlip, nearest_method};
+pub use names::{script_name_before, script_names};
+pub use reasons::{ScriptHelp, ScriptSlip, nearest_method, nearest_variable};
 
 use crate::Finding;
 use crate::core::made;
 use core_std::alloc::Global;
 use edd_loader::Image;
 use edd_script::{Line, parse_line, text_of};
-use edd_source::Span;
+use edd_source::{Confidence, Fix, Span};
 use edd_syntax::answer::Answer;
 use lines::wrong_in_line;
 use reasons::{help_of, range_help};
@@ -42,18 +44,40 @@ pub fn explain_script(image: &Image<'_>, script: &[u8], wrong: Wrong) -> Option<
 
 // What is wrong with a line of the script, if it is in this way.
 fn explain_line(image: &Image<'_>, bytes: &[u8], wrong: Wrong) -> Option<Finding> {
+    let (found, finding) = explain_script_line(image, bytes)?;
+    (found == wrong).then_some(finding)
+}
+
+/// How a line of a script is wrong, and its first word that is, with what helps.
+pub fn explain_script_line(image: &Image<'_>, bytes: &[u8]) -> Option<(Wrong, Finding)> {
     let line = text_of(bytes).unwrap_or_default();
-    match (made(parse_line(Global, image, bytes)), wrong) {
-        (None, Wrong::Line) => {
+    match made(parse_line(Global, image, bytes)) {
+        None => {
             let (word, why) = wrong_in_line(image, line);
-            Some(finding(word.span(), help_of(image, word.text, why)))
+            let help = help_of(image, word.text, why);
+            let fix = near_fix(word.span(), &help);
+            let mut finding = Finding::at(Some(word.span()));
+            finding.propose(help, fix);
+            Some((Wrong::Line, finding))
         }
-        (Some(Line::Set(variable, value)), Wrong::Range) => {
-            out_of_range(image, line, &[(variable, value)])
+        Some(Line::Set(variable, value)) => {
+            let found = out_of_range(image, line, &[(variable, value)])?;
+            Some((Wrong::Range, found))
         }
-        (Some(Line::Answer(Answer::Go { sets, .. })), Wrong::Answer) => {
-            out_of_range(image, line, &sets)
+        Some(Line::Answer(Answer::Go { sets, .. })) => {
+            let found = out_of_range(image, line, &sets)?;
+            Some((Wrong::Answer, found))
         }
+        Some(Line::Answer(Answer::Abort) | Line::Blank) => None,
+    }
+}
+
+// The change that a help says, where it is one.
+fn near_fix(span: Span, help: &ScriptHelp) -> Option<Fix> {
+    match help {
+        ScriptHelp::NoVariable {
+            near: Some(near), ..
+        } => Some(Fix::replace(span, near.as_str(), Confidence::Guess)),
         _ => None,
     }
 }

@@ -115,9 +115,14 @@ impl Document {
         }
         let mut entries = offers.entries;
         let begun = replaced.text(self.text()).unwrap_or_default();
-        entries.sort_by_key(|entry| !begins_with(entry.label, begun));
+        sort_likeliest(&mut entries, begun);
         Completions { replaced, entries }
     }
+}
+
+/// Puts those first that go on with what is written.
+pub(crate) fn sort_likeliest(entries: &mut [Completion<'_>], begun: &str) {
+    entries.sort_by_key(|entry| !begins_with(entry.label, begun));
 }
 
 /// Whether a word begins with the letters that are written, small or large.

@@ -110,6 +110,13 @@ impl Document {
         Some(self.span(word)?.up_to(self.span(last)?))
     }
 
+    /// What the text says of an item, by its place among the items.
+    pub(crate) fn told_of(&self, item: usize) -> Option<String> {
+        let mut markdown = Markdown::default();
+        self.describe_item(self.items().get(item)?, &mut markdown);
+        markdown.finish()
+    }
+
     /// Writes what the text says of a declaration.
     pub(crate) fn describe(&self, declaration: usize, markdown: &mut Markdown) {
         let Some(declared) = self.declared(declaration) else {

@@ -1,6 +1,8 @@
 //! A version of a text, with what is known of it.
 
 use crate::declarations::{Declaration, Sort};
+use crate::paths::FileKind;
+use crate::sheet::Sheet;
 use crate::spots::{Place, Spot};
 use crate::syntax::Syntax;
 use crate::walk::Item;
@@ -28,9 +30,12 @@ use std::cell::OnceCell;
 /// ```
 #[derive(Debug)]
 pub struct Document {
+    path: String,
     text: String,
     syntax: OnceCell<Syntax>,
     report: OnceCell<Report>,
+    sheet: OnceCell<Option<Sheet>>,
+    image: OnceCell<Option<Vec<u8>>>,
 }
 
 /// What is past the end of the text.
@@ -43,11 +48,25 @@ const NOWHERE: Spot = Spot {
 impl Document {
     /// A version of a text.
     pub fn new(text: impl Into<String>) -> Document {
+        Document::named("", text)
+    }
+
+    /// A version of the text of a file. One whose name ends with `.test` or `.script` is no description
+    /// and has no tokens: a [`Project`](crate::Project) says what its names mean.
+    pub fn named(path: &str, text: impl Into<String>) -> Document {
         Document {
+            path: path.to_owned(),
             text: text.into(),
             syntax: OnceCell::new(),
             report: OnceCell::new(),
+            sheet: OnceCell::new(),
+            image: OnceCell::new(),
         }
+    }
+
+    /// Whether it is a description, and no file of tests and no script.
+    pub fn is_description(&self) -> bool {
+        FileKind::of(&self.path) == FileKind::Description
     }
 
     /// The text.
@@ -60,10 +79,52 @@ impl Document {
         self.text
     }
 
-    /// What is wrong with the text: what `check` says of it.
+    /// What is wrong with the text: what `check` says of a description. Of a file of tests or a script
+    /// a [`Project`](crate::Project) says that.
     pub fn report(&self) -> &Report {
-        self.report
-            .get_or_init(|| check(self.text.as_bytes(), &Levels::default()))
+        let check = || check(self.text.as_bytes(), &Levels::default());
+        self.report.get_or_init(|| {
+            if self.is_description() {
+                check()
+            } else {
+                Report::default()
+            }
+        })
+    }
+
+    /// The image of a description that is accepted.
+    pub(crate) fn image(&self) -> Option<&[u8]> {
+        let compiled = || edd_run::compile(self.text.as_bytes()).ok();
+        let image = self
+            .image
+            .get_or_init(|| compiled().filter(|_| self.is_description()));
+        image.as_deref()
+    }
+
+    /// What a file of tests or a script names; none of a description.
+    pub(crate) fn sheet(&self) -> Option<&Sheet> {
+        let sheet = self.sheet.get_or_init(|| Sheet::of(&self.path, &self.text));
+        sheet.as_ref()
+    }
+
+    /// Finds out what the tokens are and what the names mean, so that no later question waits for it.
+    pub fn prepare(&self) {
+        self.syntax();
+        self.sheet();
+    }
+
+    /// The places of the names of the tests, in a file of tests.
+    ///
+    /// ```
+    /// use edd_ide::Document;
+    ///
+    /// let document = Document::named("tank.test", "source tank.edd\ntest it is shown\nshow\n");
+    /// let names: Vec<_> = document.tests().collect();
+    /// assert_eq!(names[0].text(document.text()), Some("it is shown"));
+    /// ```
+    pub fn tests(&self) -> impl Iterator<Item = Span> {
+        let tests = self.sheet().map_or(&[][..], |sheet| &sheet.tests);
+        tests.iter().map(|test| test.name)
     }
 
     pub(crate) fn bytes(&self) -> &[u8] {
@@ -73,7 +134,9 @@ impl Document {
     /// What the text's tokens are and mean. Of a line with a lexical fault what is before the fault
     /// is read; of a text of more than 1,048,576 bytes nothing.
     fn syntax(&self) -> &Syntax {
-        self.syntax.get_or_init(|| Syntax::of(self.bytes()))
+        let bytes = self.bytes();
+        let bytes = if self.is_description() { bytes } else { &[] };
+        self.syntax.get_or_init(|| Syntax::of(bytes))
     }
 
     pub(crate) fn tokens(&self) -> &[Token] {
@@ -198,6 +261,26 @@ impl Document {
     /// The collection whose members a name before a `.` has, by its place among the items.
     pub(crate) fn collection_at(&self, token: usize) -> Option<usize> {
         self.syntax().collection_of(self.meaning(token)?)
+    }
+
+    /// The item that is named at a byte, by its place among the items.
+    pub(crate) fn item_at(&self, byte: usize) -> Option<usize> {
+        match self.declared(self.meaning(self.token_at(byte)?)?)?.sort {
+            Sort::Item(item) => Some(item),
+            _ => None,
+        }
+    }
+
+    /// The first item of a name, by its place among the items.
+    pub(crate) fn item_of(&self, name: &str) -> Option<usize> {
+        self.items()
+            .iter()
+            .position(|item| self.word(item.name) == name)
+    }
+
+    /// The place of the name of an item, by its place among the items.
+    pub(crate) fn name_of(&self, item: usize) -> Option<Span> {
+        self.span(self.items().get(item)?.name)
     }
 
     /// The name of an item by its place among the items.

@@ -15,6 +15,9 @@ impl Document {
     /// assert_eq!((edit.span.range(), edit.text.as_str()), (11..12, ""));
     /// ```
     pub fn format_edits(&self) -> Vec<Edit> {
+        if !self.is_description() {
+            return Vec::new();
+        }
         edd_fmt::find_edits(self.text()).unwrap_or_default()
     }
 

@@ -5,6 +5,8 @@
 //! A [`Document`] is a version of a text. It answers about places, which count bytes, and knows of no
 //! protocol:
 //!
+//! A [`Project`] has the files that belong together: descriptions, devices, tests and scripts.
+//!
 //! ```
 //! use edd_ide::Document;
 //!
@@ -14,6 +16,8 @@
 //! assert_eq!(found.entries[0].label, "LABEL");
 //! ```
 
+mod calls;
+mod class_terms;
 mod comments;
 mod completion;
 mod constant;
@@ -22,6 +26,7 @@ mod cursor;
 mod declarations;
 mod described;
 mod document;
+mod findings;
 mod fixes;
 mod formatting;
 mod functions;
@@ -35,17 +40,25 @@ mod markdown;
 mod meanings;
 mod naming;
 mod offers;
+mod paths;
 mod place_terms;
+mod project;
+mod runs;
 mod scopes;
 mod selection;
 mod semantic;
+mod sheet;
+mod sheet_completion;
 mod signature;
 mod snippets;
 mod spots;
 mod syntax;
+mod ties;
+mod typing;
 mod values;
 mod walk;
 
+pub use calls::Call;
 pub use completion::Completions;
 pub use document::Document;
 pub use edd_source::{Edit, Fix, Span};
@@ -56,5 +69,8 @@ pub use hover::Hover;
 pub use listing::{Fold, Symbol};
 pub use naming::RenameError;
 pub use offers::{Completion, CompletionKind};
+pub use project::{Place, Project, ProjectRenameError};
+pub use runs::TestRun;
 pub use semantic::{SemanticToken, TokenClass};
 pub use signature::Signature;
+pub use typing::Typed;

@@ -2,6 +2,7 @@
 
 use crate::Document;
 use crate::comments::comments_in;
+use crate::walk::Item;
 use edd_source::Span;
 use edd_syntax::numbers::Kind;
 use edd_syntax::symbols::Symbol as Sign;
@@ -36,15 +37,17 @@ const SIGN: usize = 2;
 impl Document {
     /// The items of the text, in their order.
     pub fn symbols(&self) -> Vec<Symbol<'_>> {
-        let symbols = self.items().iter().map(|item| {
-            Some(Symbol {
-                name: self.word(item.name),
-                kind: item.kind,
-                span: self.span(item.first)?.up_to(self.span(item.last)?),
-                name_span: self.span(item.name)?,
-            })
-        });
+        let symbols = self.items().iter().map(|item| self.symbol(item));
         symbols.flatten().collect()
+    }
+
+    pub(crate) fn symbol(&self, item: &Item) -> Option<Symbol<'_>> {
+        Some(Symbol {
+            name: self.word(item.name),
+            kind: item.kind,
+            span: self.span(item.first)?.up_to(self.span(item.last)?),
+            name_span: self.span(item.name)?,
+        })
     }
 
     /// The braces and the block comments of the text, by where they begin.

@@ -44,7 +44,7 @@ impl Document {
     }
 
     /// The places at which a declaration is named.
-    fn places_of(&self, declaration: usize, declared: bool) -> Vec<Span> {
+    pub(crate) fn places_of(&self, declaration: usize, declared: bool) -> Vec<Span> {
         let own = self.declared(declaration).map(|found| found.token);
         let meanings = self.meanings().iter().enumerate();
         meanings
@@ -75,6 +75,15 @@ impl Document {
         let Some((_, declaration)) = self.declared_name_at(byte) else {
             return Err(RenameError::NothingHere);
         };
+        self.rename_declared(declaration, name)
+    }
+
+    /// The places at which a declaration is to get another name.
+    pub(crate) fn rename_declared(
+        &self,
+        declaration: usize,
+        name: &str,
+    ) -> Result<Vec<Span>, RenameError> {
         check_name(name)?;
         if let Some(token) = self.clash(declaration, name) {
             let span = self.span(token).unwrap_or(Span::before(0));

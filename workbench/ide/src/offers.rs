@@ -1,9 +1,10 @@
 //! The words that are offered at a place, as they are gathered.
 
 use crate::Document;
+use crate::class_terms::class_sentence;
 use crate::declarations::Sort;
-use crate::functions::as_called;
-use crate::keyword_terms::meaning_of;
+use crate::functions::{as_called, effect_of};
+use crate::keyword_terms::{documentation_of, meaning_of};
 use crate::place_terms::{CLASS_MEANING, Role, terms_of};
 use crate::walk::Item;
 use edd_lints::CLASSES;
@@ -41,6 +42,8 @@ pub struct Completion<'d> {
     pub kind: CompletionKind,
     /// One line on it, which may be empty.
     pub detail: String,
+    /// A sentence or two on a word of the language; empty where it is one of the text.
+    pub documentation: Cow<'static, str>,
     /// What an editor that takes snippets writes in its place, with places to fill in.
     pub snippet: Option<Cow<'static, str>>,
 }
@@ -65,6 +68,7 @@ impl<'d> Offers<'d> {
             label,
             kind,
             detail: detail.into(),
+            documentation: Cow::Borrowed(""),
             snippet: None,
         });
     }
@@ -80,6 +84,7 @@ impl<'d> Offers<'d> {
             label: word.spelling(),
             kind,
             detail: meaning_of(*word).to_owned(),
+            documentation: Cow::Owned(documentation_of(*word)),
             snippet: snippet(*word).map(Cow::Borrowed),
         });
         self.entries.extend(entries);
@@ -123,21 +128,30 @@ impl<'d> Offers<'d> {
 
     /// Reserved words, which are of one kind of completion.
     pub(crate) fn add_words(&mut self, words: &[Keyword], kind: CompletionKind) {
-        for word in words {
-            self.add(word.spelling(), kind, meaning_of(*word));
-        }
+        self.add_beginnings(words, kind, |_| None);
     }
 
     /// The words that stand for values in their place.
     pub(crate) fn add_values(&mut self, role: Role) {
         for (word, meaning) in terms_of(role) {
-            self.add(word, CompletionKind::Value, *meaning);
+            self.add_term(word, meaning, meaning);
         }
         if role == Role::Class {
             for class in CLASSES {
-                self.add(class, CompletionKind::Value, CLASS_MEANING);
+                let sentence = class_sentence(class).unwrap_or(CLASS_MEANING);
+                self.add_term(class, CLASS_MEANING, sentence);
             }
         }
+    }
+
+    fn add_term(&mut self, label: &'d str, detail: &str, sentence: &'static str) {
+        self.entries.push(Completion {
+            label,
+            kind: CompletionKind::Value,
+            detail: detail.to_owned(),
+            documentation: Cow::Borrowed(sentence),
+            snippet: None,
+        });
     }
 
     /// The functions that methods may call.
@@ -146,6 +160,7 @@ impl<'d> Offers<'d> {
             label: function.name(),
             kind: CompletionKind::Builtin,
             detail: as_called(function),
+            documentation: Cow::Borrowed(effect_of(function)),
             snippet: Some(Cow::Owned(format!("{}($1)", function.name()))),
         }));
     }

@@ -2,7 +2,7 @@
 
 #![allow(clippy::expect_used, clippy::panic, reason = "a test fails by a panic")]
 
-use edd_ide::Document;
+use edd_ide::{CompletionKind, Document};
 
 const HEADER: &str = "MANUFACTURER 1, DEVICE_TYPE 2, DEVICE_REVISION 3, DD_REVISION 4\n";
 
@@ -130,6 +130,35 @@ fn the_word_that_is_wanted_is_among_the_first_three() {
         later.iter().all(|(_, _, rank)| rank.is_some()),
         "{later:#?}"
     );
+}
+
+#[test]
+fn each_word_of_the_language_comes_with_a_sentence() {
+    let front = [HEADER, ITEMS].concat();
+    let all = PLACES.iter().map(|(place, _)| (front.as_str(), *place));
+    for (front, place) in all.chain(BEFORE_ITEMS.map(|(place, _)| ("", place))) {
+        let (before, behind) = place.split_once('$').expect("a mark");
+        let document = Document::new([front, before, behind].concat());
+        let found = document.completions(front.len().saturating_add(before.len()));
+        for entry in found.entries {
+            let is_word = match entry.kind {
+                CompletionKind::Attribute | CompletionKind::Keyword | CompletionKind::Builtin => {
+                    true
+                }
+                CompletionKind::Value => {
+                    entry.label.starts_with(|it: char| it.is_ascii_uppercase())
+                }
+                CompletionKind::Item(_) | CompletionKind::Member | CompletionKind::Local => false,
+            };
+            let told = entry.documentation;
+            assert_eq!(
+                is_word,
+                told.ends_with(['.', ';']),
+                "{}: {told}",
+                entry.label
+            );
+        }
+    }
 }
 
 #[test]

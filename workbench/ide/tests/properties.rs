@@ -8,7 +8,7 @@
     reason = "a test fails by a panic"
 )]
 
-use edd_ide::{Document, Fix, RenameError, Span};
+use edd_ide::{Document, Fix, RenameError, Span, Typed};
 use edd_source::Confidence;
 use proptest::collection::vec;
 use proptest::prelude::*;
@@ -134,6 +134,45 @@ fn edits_of_parts_are_those_of_the_whole() {
             parts.len() + whole.iter().filter(crosses).count(),
             whole.len()
         );
+    });
+}
+
+/// The places behind each character that may be typed, with what it is.
+fn typed_places(text: &str) -> impl Iterator<Item = (usize, Typed)> {
+    let places = text.char_indices();
+    places.filter_map(|(byte, character)| {
+        let typed = Typed::from_text(&character.to_string())?;
+        Some((byte + character.len_utf8(), typed))
+    })
+}
+
+#[test]
+fn what_is_typed_lays_out_lines_before_it_and_keeps_the_layout_of_the_whole() {
+    try_places(|document, _| {
+        let source = document.text();
+        let Ok(wanted) = edd_fmt::format(source.as_bytes()) else {
+            return;
+        };
+        for (byte, typed) in typed_places(source) {
+            let edits = document.format_edits_typed(byte, typed);
+            assert!(edits.iter().all(|edit| edit.span.end < byte.max(1)));
+            let text = apply(document, edits);
+            let formatted = edd_fmt::format(text.as_bytes()).expect("tokens");
+            assert_eq!(formatted, wanted, "{typed:?} at {byte} of {source:?}");
+        }
+    });
+}
+
+#[test]
+fn what_is_typed_changes_nothing_of_a_layout() {
+    try_places(|document, _| {
+        let Ok(formatted) = edd_fmt::format(document.text().as_bytes()) else {
+            return;
+        };
+        let formatted = Document::new(String::from_utf8(formatted).expect("a text"));
+        for (byte, typed) in typed_places(formatted.text()) {
+            assert_eq!(formatted.format_edits_typed(byte, typed), []);
+        }
     });
 }
 

@@ -26,9 +26,14 @@ pub enum Answer {
     Signatures(SignatureHelp),
     Actions(Vec<CodeAction>),
     Tokens(SemanticTokens),
+    ChangedTokens(SemanticTokensDelta),
     Selections(Vec<SelectionRange>),
     Hints(Vec<InlayHint>),
     Report(DiagnosticReport),
+    Lenses(Vec<CodeLens>),
+    CallItems(Vec<CallItem>),
+    Incoming(Vec<IncomingCall>),
+    Outgoing(Vec<OutgoingCall>),
 }
 
 /// What the server can.
@@ -57,9 +62,11 @@ pub struct Capabilities {
     pub folding_range_provider: bool,
     pub document_formatting_provider: bool,
     pub document_range_formatting_provider: bool,
+    pub document_on_type_formatting_provider: OnTypeFormattingProvider,
     pub selection_range_provider: bool,
     pub inlay_hint_provider: bool,
     pub workspace_symbol_provider: bool,
+    pub call_hierarchy_provider: bool,
     pub semantic_tokens_provider: SemanticTokensProvider,
     pub completion_provider: Triggers,
     pub signature_help_provider: Triggers,
@@ -68,6 +75,8 @@ pub struct Capabilities {
     pub code_action_provider: Option<CodeActionProvider>,
     #[serde(skip_serializing_if = "Option::is_none")]
     pub diagnostic_provider: Option<DiagnosticProvider>,
+    #[serde(skip_serializing_if = "Option::is_none")]
+    pub code_lens_provider: Option<CodeLensProvider>,
 }
 
 #[derive(Clone, Debug, Serialize)]
@@ -102,9 +111,21 @@ pub struct CodeActionProvider {
 }
 
 #[derive(Clone, Debug, Serialize)]
+#[serde(rename_all = "camelCase")]
+pub struct OnTypeFormattingProvider {
+    pub first_trigger_character: &'static str,
+    pub more_trigger_character: &'static [&'static str],
+}
+
+#[derive(Clone, Debug, Serialize)]
 pub struct SemanticTokensProvider {
     pub legend: Legend,
-    pub full: bool,
+    pub full: FullTokens,
+}
+
+#[derive(Clone, Debug, Serialize)]
+pub struct FullTokens {
+    pub delta: bool,
 }
 
 #[derive(Clone, Debug, Serialize)]
@@ -121,9 +142,35 @@ pub struct DiagnosticProvider {
     pub workspace_diagnostics: bool,
 }
 
+#[derive(Clone, Debug, Serialize)]
+#[serde(rename_all = "camelCase")]
+pub struct CodeLensProvider {
+    pub resolve_provider: bool,
+}
+
 /// Of each word its line and column behind the one before it, its length, type and modifiers.
 #[derive(Clone, Debug, Serialize)]
+#[serde(rename_all = "camelCase")]
 pub struct SemanticTokens {
+    /// By this an editor asks for what has changed since.
+    pub result_id: String,
+    pub data: Vec<usize>,
+}
+
+/// What has changed since an answer with words.
+#[derive(Clone, Debug, Serialize)]
+#[serde(rename_all = "camelCase")]
+pub struct SemanticTokensDelta {
+    pub result_id: String,
+    pub edits: Vec<SemanticTokensEdit>,
+}
+
+/// Numbers that take the place of some of those before.
+#[derive(Clone, Debug, PartialEq, Eq, Serialize)]
+#[serde(rename_all = "camelCase")]
+pub struct SemanticTokensEdit {
+    pub start: usize,
+    pub delete_count: usize,
     pub data: Vec<usize>,
 }
 
@@ -142,6 +189,49 @@ pub struct InlayHint {
     pub position: Position,
     pub label: String,
     pub padding_left: bool,
+}
+
+/// What an editor shows above a line, to be clicked.
+#[derive(Clone, Debug, Serialize)]
+pub struct CodeLens {
+    pub range: Range,
+    pub command: Command,
+}
+
+/// What the editor does then, by a command of its own.
+#[derive(Clone, Debug, Serialize)]
+pub struct Command {
+    pub title: &'static str,
+    pub command: &'static str,
+    pub arguments: Vec<String>,
+}
+
+/// An item that calls others, or is called.
+#[derive(Clone, Debug, Serialize)]
+#[serde(rename_all = "camelCase")]
+pub struct CallItem {
+    pub name: String,
+    pub kind: u8,
+    pub detail: &'static str,
+    pub uri: String,
+    pub range: Range,
+    pub selection_range: Range,
+}
+
+/// An item that calls another one, and where it does.
+#[derive(Clone, Debug, Serialize)]
+#[serde(rename_all = "camelCase")]
+pub struct IncomingCall {
+    pub from: CallItem,
+    pub from_ranges: Vec<Range>,
+}
+
+/// An item that is called by another one, and where it is.
+#[derive(Clone, Debug, Serialize)]
+#[serde(rename_all = "camelCase")]
+pub struct OutgoingCall {
+    pub to: CallItem,
+    pub from_ranges: Vec<Range>,
 }
 
 /// What is wrong with a document, for an editor that asks for it.
@@ -238,6 +328,8 @@ pub struct CompletionItem {
     pub kind: u8,
     #[serde(skip_serializing_if = "Option::is_none")]
     pub detail: Option<String>,
+    #[serde(skip_serializing_if = "Option::is_none")]
+    pub documentation: Option<String>,
     /// By this a client keeps the order.
     pub sort_text: String,
     /// 2 where the edit is a snippet.

@@ -1,8 +1,9 @@
 //! What an editor says of itself.
 
 use crate::answers::{
-    Capabilities, CodeActionProvider, DiagnosticProvider, Greeting, Legend, RenameProvider,
-    SemanticTokensProvider, ServerInfo, Synchronization, Triggers,
+    Capabilities, CodeActionProvider, CodeLensProvider, DiagnosticProvider, FullTokens, Greeting,
+    Legend, OnTypeFormattingProvider, RenameProvider, SemanticTokensProvider, ServerInfo,
+    Synchronization, Triggers,
 };
 use crate::positions::Encoding;
 use crate::requests::TOKEN_TYPES;
@@ -32,6 +33,8 @@ pub(crate) struct Client {
     pub(crate) has_snippets: bool,
     /// It asks for what is wrong, and is told nothing of it unasked.
     pub(crate) pulls: bool,
+    /// It shows what can be clicked above lines.
+    pub(crate) has_lenses: bool,
 }
 
 impl Client {
@@ -56,6 +59,7 @@ impl Client {
             ),
             has_snippets: in_text("completion/completionItem/snippetSupport"),
             pulls: at("textDocument/diagnostic").is_some(),
+            has_lenses: at("textDocument/codeLens").is_some(),
             has_actions: at("textDocument/codeAction/codeActionLiteralSupport").is_some(),
         }
     }
@@ -87,15 +91,20 @@ impl Client {
             folding_range_provider: true,
             document_formatting_provider: true,
             document_range_formatting_provider: true,
+            document_on_type_formatting_provider: OnTypeFormattingProvider {
+                first_trigger_character: "}",
+                more_trigger_character: &[";", "\n"],
+            },
             selection_range_provider: true,
             inlay_hint_provider: true,
             workspace_symbol_provider: true,
+            call_hierarchy_provider: true,
             semantic_tokens_provider: SemanticTokensProvider {
                 legend: Legend {
                     token_types: &TOKEN_TYPES,
                     token_modifiers: &["declaration"],
                 },
-                full: true,
+                full: FullTokens { delta: true },
             },
             completion_provider: Triggers {
                 trigger_characters: &[".", "[", "|"],
@@ -114,8 +123,11 @@ impl Client {
                 code_action_kinds: &[QUICK_FIX, FIX_ALL],
             }),
             diagnostic_provider: self.pulls.then_some(DiagnosticProvider {
-                inter_file_dependencies: false,
+                inter_file_dependencies: true,
                 workspace_diagnostics: false,
+            }),
+            code_lens_provider: self.has_lenses.then_some(CodeLensProvider {
+                resolve_provider: false,
             }),
         }
     }

@@ -28,6 +28,10 @@ impl View<'_> {
     }
 
     pub(crate) fn all_diagnostics(self) -> Vec<Diagnostic> {
+        if !self.open.document.is_description() {
+            let found = self.others.project().findings(&self.open.path);
+            return found.iter().map(|found| self.diagnostic(found)).collect();
+        }
         let report = self.open.document.report();
         let shown = report.shown.iter().map(|found| self.diagnostic(found));
         let more = (report.more > 0).then(|| self.more(report.more));

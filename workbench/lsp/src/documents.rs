@@ -1,9 +1,10 @@
 //! The documents that an editor has open, and how its changes change them.
 
+use crate::colours::SentTokens;
 use crate::params::ContentChange;
 use crate::positions::{Encoding, Lines};
+use crate::uri::path_of;
 use edd_ide::Document;
-
 use std::collections::BTreeMap;
 
 /// A document that is open.
@@ -14,18 +15,27 @@ pub(crate) struct Open {
     pub(crate) lines: Lines,
     /// Whether the editor knows what is wrong with this version.
     pub(crate) is_told: bool,
+    pub(crate) path: String,
+    /// The words that the editor was told of last, of this version or of an earlier one.
+    pub(crate) sent_tokens: SentTokens,
 }
 
 /// All that are open, by the names that the editor gives them.
 pub(crate) type Documents = BTreeMap<String, Open>;
 
 impl Open {
-    pub(crate) fn new(text: String, version: Option<i64>) -> Open {
+    pub(crate) fn new(uri: &str, text: String, version: Option<i64>) -> Open {
+        Open::of_path(path_of(uri), text, version)
+    }
+
+    fn of_path(path: String, text: String, version: Option<i64>) -> Open {
         Open {
             version,
             lines: Lines::of(&text),
-            document: Document::new(text),
+            document: Document::named(&path, text),
             is_told: false,
+            path,
+            sent_tokens: SentTokens::default(),
         }
     }
 
@@ -45,7 +55,10 @@ impl Open {
         let text = changes.fold(text, |text, change| {
             edited(&text, &Lines::of(&text), change, encoding)
         });
-        Open::new(text, version)
+        Open {
+            sent_tokens: self.sent_tokens.take(),
+            ..Open::of_path(self.path.clone(), text, version)
+        }
     }
 }
 
@@ -126,7 +139,8 @@ mod tests {
                     range: Some(Range { start, end }),
                     text,
                 });
-                let open = Open::new(text, None).changed(changes.collect(), Some(2), encoding);
+                let open =
+                    Open::new("f:d", text, None).changed(changes.collect(), Some(2), encoding);
                 prop_assert_eq!(open.document.text(), wanted);
                 prop_assert_eq!(open.version, Some(2));
                 Ok(())

@@ -24,6 +24,15 @@ pub(crate) struct Params {
     pub(crate) context: Context,
     #[serde(deserialize_with = "lenient")]
     pub(crate) positions: Vec<Position>,
+    /// The item whose calls are asked for.
+    #[serde(deserialize_with = "lenient")]
+    pub(crate) item: Named,
+    /// What was typed.
+    #[serde(deserialize_with = "lenient")]
+    pub(crate) ch: String,
+    /// By what the tokens are known that were answered before.
+    #[serde(deserialize_with = "lenient")]
+    pub(crate) previous_result_id: String,
     /// What the names of items have in them.
     #[serde(deserialize_with = "lenient")]
     pub(crate) query: String,
@@ -39,6 +48,16 @@ pub(crate) struct TextDocument {
     pub(crate) version: Option<i64>,
     #[serde(deserialize_with = "lenient")]
     pub(crate) text: Option<String>,
+}
+
+/// An item that is spoken of, by its document and its name there.
+#[derive(Debug, Default, Deserialize)]
+#[serde(rename_all = "camelCase", default)]
+pub(crate) struct Named {
+    #[serde(deserialize_with = "lenient")]
+    pub(crate) uri: Option<String>,
+    #[serde(deserialize_with = "lenient")]
+    pub(crate) selection_range: Option<Range>,
 }
 
 /// A change of a text: of a part, or of the whole.
@@ -62,6 +81,18 @@ pub(crate) struct Context {
 impl Params {
     pub(crate) fn read(params: Value) -> Params {
         serde_json::from_value(params).unwrap_or_default()
+    }
+
+    /// The document that is spoken of.
+    pub(crate) fn uri(&self) -> Option<&str> {
+        let uri = self.text_document.uri.as_ref();
+        uri.or(self.item.uri.as_ref()).map(String::as_str)
+    }
+
+    /// The place that is spoken of.
+    pub(crate) fn place(&self) -> Option<Position> {
+        let named = self.item.selection_range.map(|range| range.start);
+        self.position.or(named)
     }
 }
 

@@ -1,7 +1,9 @@
 //! The requests about a document.
 
 mod actions;
+mod calling;
 mod completing;
+mod lenses;
 mod outlining;
 mod places;
 mod renaming;
@@ -13,7 +15,7 @@ use crate::answers::Answer;
 use crate::messages::{ErrorCode, ResponseError};
 use crate::params::Params;
 use crate::view::View;
-use edd_ide::Document;
+use edd_ide::{Document, Project};
 use edd_source::Span;
 pub(crate) use outlining::workspace_symbols;
 pub(crate) use tokens::TOKEN_TYPES;
@@ -33,9 +35,18 @@ impl<'a> Query<'a> {
         &self.view.open.document
     }
 
+    /// The files that belong together.
+    fn project(&self) -> Project<'a> {
+        self.view.others.project()
+    }
+
+    fn path(&self) -> &'a str {
+        &self.view.open.path
+    }
+
     /// The byte at which the cursor is.
     fn byte(&self) -> Result<usize, ResponseError> {
-        let position = self.params.position;
+        let position = self.params.place();
         let position = position.ok_or_else(|| bad_params("no position is named"))?;
         Ok(self.view.byte(position))
     }
@@ -72,11 +83,17 @@ pub(crate) fn answer<'a>(
         "textDocument/signatureHelp" => texts::signature,
         "textDocument/formatting" => texts::format,
         "textDocument/rangeFormatting" => texts::format_range,
+        "textDocument/onTypeFormatting" => texts::format_typed,
         "textDocument/semanticTokens/full" => tokens::tokens,
+        "textDocument/semanticTokens/full/delta" => tokens::changed_tokens,
         "textDocument/selectionRange" => selecting::selections,
         "textDocument/inlayHint" => selecting::hints,
         "textDocument/diagnostic" => actions::diagnostics,
         "textDocument/codeAction" => actions::actions,
+        "textDocument/codeLens" => lenses::lenses,
+        "textDocument/prepareCallHierarchy" => calling::prepare,
+        "callHierarchy/incomingCalls" => calling::incoming,
+        "callHierarchy/outgoingCalls" => calling::outgoing,
         _ => {
             let (code, words) = (ErrorCode::MethodNotFound, "no such method");
             return Err(ResponseError::new(code, words));

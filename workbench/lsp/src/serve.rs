@@ -1,5 +1,6 @@
 //! The server over an input and an output.
 
+use crate::files::Files;
 use crate::framing::{Framing, HeaderError};
 use crate::messages::{ErrorCode, Id, Incoming, ResponseError};
 use crate::server::Ending;
@@ -23,7 +24,7 @@ pub enum ServeError {
     Output(#[source] io::Error),
 }
 
-/// Answers what comes on an input, up to `exit`. An input that ends before that has not ended well.
+/// Answers what comes on an input, up to `exit`; what the editor has not open is read from files. An input that ends before that has not ended well.
 ///
 /// One thread reads while another one answers, so that what waits in the input is known.
 ///
@@ -33,10 +34,11 @@ pub enum ServeError {
 pub fn serve(
     input: &mut impl Read,
     output: &mut (impl Write + Send),
+    files: impl Files + Send + 'static,
 ) -> Result<Ending, ServeError> {
     let (sender, receiver) = channel();
     thread::scope(|scope| {
-        let answering = scope.spawn(move || answer_all(&receiver, output));
+        let answering = scope.spawn(move || answer_all(&receiver, output, files));
         let read = read_all(input, sender);
         match answering.join() {
             Ok(answered) => {
@@ -89,8 +91,9 @@ fn read_all(input: &mut impl Read, messages: Sender<Incoming>) -> io::Result<()>
 fn answer_all(
     messages: &Receiver<Incoming>,
     output: &mut impl Write,
+    files: impl Files + 'static,
 ) -> io::Result<Option<Ending>> {
-    let mut session = Session::default();
+    let mut session = Session::new(files);
     while session.ending().is_none() {
         for message in messages.try_iter() {
             session.receive(message);

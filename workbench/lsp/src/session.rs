@@ -1,5 +1,6 @@
 //! A conversation: what has come and is not handled yet, and the server.
 
+use crate::files::Files;
 use crate::inbox::Inbox;
 use crate::messages::{Incoming, Outgoing};
 use crate::server::{Ending, Server};
@@ -15,6 +16,14 @@ pub struct Session {
 }
 
 impl Session {
+    /// A conversation that also reads files. The default one reads none.
+    pub fn new(files: impl Files + 'static) -> Session {
+        Session {
+            inbox: Inbox::default(),
+            server: Server::new(files),
+        }
+    }
+
     /// Takes a message that has come. It is handled by a later [`Session::step`].
     pub fn receive(&mut self, message: Incoming) {
         self.inbox.push(message);
@@ -28,7 +37,7 @@ impl Session {
         }
         match self.inbox.pop() {
             Some(message) => Some(self.server.handle(message)),
-            None => self.server.publish().map(|told| vec![told]),
+            None => self.server.publish(),
         }
     }
 

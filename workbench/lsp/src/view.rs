@@ -3,7 +3,9 @@
 use crate::answers::{Location, TextEdit, WorkspaceEdit};
 use crate::client::Client;
 use crate::documents::Open;
+use crate::others::Others;
 use crate::positions::{Position, Range};
+use edd_ide::Place;
 use edd_source::{Fix, Span};
 use std::collections::BTreeMap;
 
@@ -13,6 +15,7 @@ pub(crate) struct View<'a> {
     pub(crate) uri: &'a str,
     pub(crate) open: &'a Open,
     pub(crate) client: Client,
+    pub(crate) others: Others<'a>,
 }
 
 impl<'a> View<'a> {
@@ -54,6 +57,37 @@ impl<'a> View<'a> {
         TextEdit {
             range: self.range(span),
             new_text: text.into(),
+        }
+    }
+
+    /// Places with their files.
+    fn by_files<'p>(
+        self,
+        places: &'p [Place<'p>],
+    ) -> impl Iterator<Item = (View<'a>, &'p [Place<'p>])> {
+        let files = places.chunk_by(|first, second| first.path == second.path);
+        files.filter_map(move |places| Some((self.others.view(places.first()?.path)?, places)))
+    }
+
+    /// Places in this file and in other ones.
+    pub(crate) fn locations(self, places: &[Place<'_>]) -> Vec<Location> {
+        let files = self.by_files(places);
+        let locations = files.flat_map(|(view, places)| {
+            let places = places.iter();
+            places.map(move |place| view.location(place.span))
+        });
+        locations.collect()
+    }
+
+    /// Edits that put a text in these places of this file and of other ones.
+    pub(crate) fn replacements(self, places: &[Place<'_>], text: &str) -> WorkspaceEdit {
+        let files = self.by_files(places);
+        let changes = files.map(|(view, places)| {
+            let edits = places.iter().map(|place| view.edit(place.span, text));
+            (view.uri.to_owned(), edits.collect())
+        });
+        WorkspaceEdit {
+            changes: changes.collect(),
         }
     }
 

@@ -15,7 +15,7 @@ use proptest::sample::select;
 use proptest::test_runner::{Config, RngAlgorithm, TestRng, TestRunner};
 use serde_json::{Value, json};
 
-const METHODS: [&str; 20] = [
+const METHODS: &[&str] = &[
     "didOpen",
     "didChange",
     "didChange",
@@ -33,38 +33,55 @@ const METHODS: [&str; 20] = [
     "signatureHelp",
     "formatting",
     "codeAction",
+    "onTypeFormatting",
     "semanticTokens/full",
+    "semanticTokens/full/delta",
     "selectionRange",
     "inlayHint",
+    "codeLens",
+    "prepareCallHierarchy",
+    "callHierarchy/incomingCalls",
+    "callHierarchy/outgoingCalls",
 ];
 
-const TEXTS: [&str; 6] = [
+const URIS: [&str; 4] = [
+    "file:///a/b.edd",
+    "file:///a/b.device.edd",
+    "file:///a/b.test",
+    "file:///a/b.script",
+];
+
+const TEXTS: [&str; 7] = [
     "MANUFACTURER 1, DEVICE_TYPE 2, DEVICE_REVISION 3, DD_REVISION 4\nVARIABLE p { TYPE INTEGER; }",
     "METHOD m {\r\n DEFINITION { int k; k = 1; } } // \u{1d11e}\u{e4}\r VARIABLE k { LABEL \"|en|\"; }",
     "\"",
     "",
     "}\n{",
     "VARIABLE ",
+    "source b.edd\r\ndevice b.device.edd\ntest \u{e4}\nmethod p\n set p 1\nanswer 0 p=2 k=\n= value p 1\n",
 ];
 
 /// A message, some of whose members may be of another form.
 fn message() -> impl Strategy<Value = Value> {
     let place = (0..4_u64, 0..40_u64);
     let parts = (
-        select(&METHODS[..]),
+        select(METHODS),
         place.clone(),
         place,
         select(&TEXTS[..]),
-        0..40_usize,
+        (0..40_usize, select(&URIS[..])),
     );
-    parts.prop_map(|(method, start, end, text, damage)| {
+    parts.prop_map(|(method, start, end, text, (damage, uri))| {
         let at = |(line, character): (u64, u64)| json!({"line": line, "character": character});
         let range = json!({"start": at(start), "end": at(end)});
+        let typed = ["}", ";", "\n"][damage % 3];
         let mut params = json!({
-            "textDocument": {"uri": "f:a", "version": 1, "text": text},
+            "textDocument": {"uri": uri, "version": 1, "text": text},
             "position": at(start), "range": range, "positions": [at(start), at(end)],
             "contentChanges": [{"range": range, "text": text}], "newName": "n",
+            "ch": typed, "previousResultId": "1",
             "context": {"includeDeclaration": true, "only": ["source.fixAll", "quickfix"]},
+            "item": {"uri": uri, "selectionRange": range},
         });
         let members = [
             "textDocument",
@@ -84,7 +101,12 @@ fn message() -> impl Strategy<Value = Value> {
         if let (Some(member), Some(value)) = (members.get(damage), strange.get(damage)) {
             params[*member] = value.clone();
         }
-        json!({"method": format!("textDocument/{method}"), "params": params})
+        let method = if method.contains("Hierarchy/") {
+            method.to_owned()
+        } else {
+            format!("textDocument/{method}")
+        };
+        json!({"method": method, "params": params})
     })
 }
 

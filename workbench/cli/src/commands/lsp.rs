@@ -3,7 +3,7 @@
 use crate::failure::{Failure, REFUSED};
 use core_std::io::Read as CoreRead;
 use edd_files::{FileFault, Files, INPUT, of_file};
-use edd_lsp::{Ending, ServeError, serve};
+use edd_lsp::{Disk, Ending, ServeError, serve};
 use std::io::{self, Read, Write};
 
 /// The input as the rest of Rust reads it.
@@ -19,7 +19,7 @@ impl<R: CoreRead> Read for Input<R> {
 /// for the shutdown before.
 pub(crate) fn run(files: &mut impl Files, out: &mut (impl Write + Send)) -> Result<(), Failure> {
     let input = files.open(INPUT).map_err(|fault| of_file(INPUT, fault))?;
-    match serve(&mut Input(input), out) {
+    match serve(&mut Input(input), out, Disk) {
         Ok(Ending::Clean) => Ok(()),
         Ok(Ending::Unclean) => Err(Failure::Printed(REFUSED)),
         Err(ServeError::Output(error)) => Err(Failure::Output(error)),

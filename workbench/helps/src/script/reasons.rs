@@ -133,7 +133,7 @@ pub(super) fn help_of(image: &Image<'_>, word: &str, why: Why) -> ScriptHelp {
         Why::NoVariable if image.find(word).is_some() => ScriptHelp::NotAVariable { word: text() },
         Why::NoVariable => ScriptHelp::NoVariable {
             word: text(),
-            near: nearest(image, word).map(str::to_owned),
+            near: nearest_variable(image, word).map(str::to_owned),
         },
         Why::NoNumber => ScriptHelp::NoNumber { word: text() },
         Why::NoCode => ScriptHelp::NoCode { word: text() },
@@ -145,8 +145,8 @@ pub(super) fn help_of(image: &Image<'_>, word: &str, why: Why) -> ScriptHelp {
     }
 }
 
-// The variable whose name is nearest to a word.
-fn nearest<'b>(image: &Image<'b>, word: &str) -> Option<&'b str> {
+/// The variable of an image whose name is nearest to a word.
+pub fn nearest_variable<'b>(image: &Image<'b>, word: &str) -> Option<&'b str> {
     let mut nearest = Nearest::to(word);
     let variables = (0..image.counts().variables).map(|number| ItemNo::Variable(VarNo(number)));
     for name in variables.filter_map(|variable| image.name(variable)) {

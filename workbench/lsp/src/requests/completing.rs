@@ -26,7 +26,12 @@ fn kind_number(kind: CompletionKind) -> u8 {
 
 /// Answers with all that may be written there, in the order of the queries.
 pub(crate) fn completions(query: &Query<'_>) -> Outcome {
-    let found = query.document().completions(query.byte()?);
+    let byte = query.byte()?;
+    let found = if query.document().is_description() {
+        query.document().completions(byte)
+    } else {
+        query.project().completions(query.path(), byte)
+    };
     let entries = found.entries.into_iter().enumerate();
     let has_snippets = query.view.client.has_snippets;
     let items = entries.map(|(number, entry)| {
@@ -35,6 +40,7 @@ pub(crate) fn completions(query: &Query<'_>) -> Outcome {
             label: entry.label.to_owned(),
             kind: kind_number(entry.kind),
             detail: Some(entry.detail).filter(|detail| !detail.is_empty()),
+            documentation: Some(entry.documentation.into_owned()).filter(|it| !it.is_empty()),
             sort_text: format!("{number:06}"),
             insert_text_format: snippet.is_some().then_some(SNIPPET),
             text_edit: query

@@ -7,7 +7,7 @@ use edd_ide::{Fold, Kind};
 use edd_source::tokens::kind_word;
 
 /// A kind of item as the protocol counts kinds of symbols.
-fn symbol_kind(kind: Kind) -> u8 {
+pub(super) fn symbol_kind(kind: Kind) -> u8 {
     match kind {
         Kind::Variable => 13,
         Kind::Command => 24,
@@ -18,8 +18,37 @@ fn symbol_kind(kind: Kind) -> u8 {
     }
 }
 
-/// Answers with the items of the document, in order.
+/// The kind of a test as the protocol counts kinds of symbols: a function.
+pub(super) const TEST_KIND: u8 = 12;
+
+/// The tests of the document, for a client that shows a tree or a list.
+fn tests(query: &Query<'_>) -> Answer {
+    let view = query.view;
+    let tests = query.document().tests();
+    let tests = tests.map(|span| (span, span.text(view.text()).unwrap_or_default().to_owned()));
+    if view.client.has_tree {
+        let outline = tests.map(|(span, name)| DocumentSymbol {
+            name,
+            detail: "test",
+            kind: TEST_KIND,
+            range: view.range(span),
+            selection_range: view.range(span),
+        });
+        return Answer::Outline(outline.collect());
+    }
+    let list = tests.map(|(span, name)| SymbolInformation {
+        name,
+        kind: TEST_KIND,
+        location: view.location(span),
+    });
+    Answer::Symbols(list.collect())
+}
+
+/// Answers with the items of the document, or with its tests, in order.
 pub(crate) fn symbols(query: &Query<'_>) -> Outcome {
+    if !query.document().is_description() {
+        return Ok(tests(query));
+    }
     let symbols = query.document().symbols().into_iter();
     if query.view.client.has_tree {
         let outline = symbols.map(|symbol| DocumentSymbol {

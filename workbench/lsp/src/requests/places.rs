@@ -5,25 +5,27 @@ use crate::answers::{Answer, Highlight};
 
 /// Answers with the place of the declaration, or `null`.
 pub(crate) fn definition(query: &Query<'_>) -> Outcome {
-    let place = query.document().declaration(query.byte()?);
-    Ok(place.map_or(Answer::Nothing, |place| {
-        Answer::Location(query.view.location(place))
-    }))
+    let byte = query.byte()?;
+    let place = query.project().declaration(query.path(), byte);
+    let found = query.view.locations(place.as_slice()).into_iter().next();
+    Ok(found.map_or(Answer::Nothing, Answer::Location))
 }
 
 /// Answers with all places where it is named.
 pub(crate) fn references(query: &Query<'_>) -> Outcome {
     let declared = query.params.context.include_declaration;
-    let places = query.document().references(query.byte()?, declared);
-    let locations = places.into_iter().map(|place| query.view.location(place));
-    Ok(Answer::Locations(locations.collect()))
+    let byte = query.byte()?;
+    let places = query.project().references(query.path(), byte, declared);
+    Ok(Answer::Locations(query.view.locations(&places)))
 }
 
 /// Answers with the same places, the declaration too, to be shown in the text.
 pub(crate) fn highlights(query: &Query<'_>) -> Outcome {
-    let places = query.document().references(query.byte()?, true);
-    let highlights = places.into_iter().map(|place| Highlight {
-        range: query.view.range(place),
+    let byte = query.byte()?;
+    let places = query.project().references(query.path(), byte, true);
+    let own = places.iter().filter(|place| place.path == query.path());
+    let highlights = own.map(|place| Highlight {
+        range: query.view.range(place.span),
     });
     Ok(Answer::Highlights(highlights.collect()))
 }

@@ -5,11 +5,13 @@ use crate::answers::{
     Answer, Hover, Markup, ParameterInformation, ParameterLabel, SignatureHelp,
     SignatureInformation,
 };
+use edd_ide::Typed;
 use edd_source::{Edit, Span};
 
 /// Answers with what is told of the word at the cursor, or `null`.
 pub(crate) fn hover(query: &Query<'_>) -> Outcome {
-    let Some(told) = query.document().hover(query.byte()?) else {
+    let byte = query.byte()?;
+    let Some(told) = query.project().hover(query.path(), byte) else {
         return Ok(Answer::Nothing);
     };
     Ok(Answer::Hover(Hover {
@@ -67,6 +69,14 @@ pub(crate) fn format(query: &Query<'_>) -> Outcome {
 pub(crate) fn format_range(query: &Query<'_>) -> Outcome {
     let asked = query.span()?;
     Ok(edits(query, query.document().format_edits_in(asked)))
+}
+
+/// Answers with the edits of the lines that a typed character ends.
+pub(crate) fn format_typed(query: &Query<'_>) -> Outcome {
+    let byte = query.byte()?;
+    let typed = Typed::from_text(&query.params.ch);
+    let found = typed.map(|typed| query.document().format_edits_typed(byte, typed));
+    Ok(edits(query, found.unwrap_or_default()))
 }
 
 fn edits(query: &Query<'_>, edits: Vec<Edit>) -> Answer {

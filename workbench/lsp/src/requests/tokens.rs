@@ -1,7 +1,7 @@
 //! What each word of a document is, for its colours.
 
 use super::{Outcome, Query};
-use crate::answers::{Answer, SemanticTokens};
+use crate::answers::Answer;
 use crate::positions::Position;
 use crate::view::View;
 use edd_ide::{Kind, SemanticToken, TokenClass};
@@ -61,6 +61,25 @@ fn lines_of(view: View<'_>, span: Span) -> impl Iterator<Item = Span> {
 
 /// Answers with each word as the protocol codes it: by its distance from the one before.
 pub(crate) fn tokens(query: &Query<'_>) -> Outcome {
+    let data = token_data(query);
+    let sent = &query.view.open.sent_tokens;
+    Ok(Answer::Tokens(sent.send_all(data)))
+}
+
+/// Answers with what has changed since an earlier answer, or with all words where the last one was
+/// another.
+pub(crate) fn changed_tokens(query: &Query<'_>) -> Outcome {
+    let data = token_data(query);
+    let sent = &query.view.open.sent_tokens;
+    Ok(
+        match sent.send_changes(&query.params.previous_result_id, &data) {
+            Some(changed) => Answer::ChangedTokens(changed),
+            None => Answer::Tokens(sent.send_all(data)),
+        },
+    )
+}
+
+fn token_data(query: &Query<'_>) -> Vec<usize> {
     let view = query.view;
     let mut data = Vec::new();
     let mut before = Position {
@@ -72,7 +91,7 @@ pub(crate) fn tokens(query: &Query<'_>) -> Outcome {
             push_token(view, &token, span, &mut before, &mut data);
         }
     }
-    Ok(Answer::Tokens(SemanticTokens { data }))
+    data
 }
 
 fn push_token(

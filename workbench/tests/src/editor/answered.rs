@@ -1,6 +1,9 @@
 //! Writes the answers to an editor's queries as text. A place is a line and a column, both counted from 1.
 
-use edd_ide::{Completion, CompletionKind, Document, Fix, RenameError, Span, TokenClass};
+use edd_ide::{
+    Completion, CompletionKind, Document, Edit, Fix, RenameError, Span, TokenClass, Typed,
+};
+use edd_source::Confidence;
 use edd_source::tokens::kind_word;
 
 /// What an editor asks.
@@ -35,6 +38,10 @@ pub enum Query<'t> {
     FixAll,
     /// What an editor with snippets writes for the first completion.
     Snippet,
+    /// What is told of the first completion.
+    Documentation,
+    /// The text after the edits behind the character that was typed before the byte.
+    Typed,
 }
 
 impl<'t> Query<'t> {
@@ -60,6 +67,8 @@ impl<'t> Query<'t> {
             "fixes" => Query::Fixes,
             "fix_all" => Query::FixAll,
             "snippet" => Query::Snippet,
+            "documentation" => Query::Documentation,
+            "typed" => Query::Typed,
             _ => return None,
         })
     }
@@ -95,6 +104,8 @@ impl At<'_> {
             Query::Fixes => self.fixes(),
             Query::FixAll => self.fix_all(),
             Query::Snippet => self.snippet(),
+            Query::Documentation => self.documentation(),
+            Query::Typed => self.typed(),
         }
     }
 
@@ -231,6 +242,32 @@ impl At<'_> {
         let first = found.entries.into_iter().next();
         let snippet = first.and_then(|entry| entry.snippet);
         snippet.map_or_else(|| "none".to_owned(), |snippet| snippet.into_owned())
+    }
+
+    fn documentation(self) -> String {
+        let found = self.document.completions(self.byte);
+        let first = found.entries.into_iter().next();
+        first.map_or_else(
+            || "none".to_owned(),
+            |entry| entry.documentation.into_owned(),
+        )
+    }
+
+    /// Returns the edits behind the character before the byte; none where nothing is laid out behind it.
+    fn typed_edits(self) -> Option<Vec<Edit>> {
+        let before = self.document.text().get(..self.byte)?;
+        let typed = before.chars().next_back()?;
+        let typed = Typed::from_text(typed.encode_utf8(&mut [0; 4]))?;
+        Some(self.document.format_edits_typed(self.byte, typed))
+    }
+
+    fn typed(self) -> String {
+        let edits = self.typed_edits().filter(|edits| !edits.is_empty());
+        let confidence = Confidence::Sure;
+        edits.map_or_else(
+            || "none".to_owned(),
+            |edits| self.after(&Fix { edits, confidence }),
+        )
     }
 
     fn signature(self) -> String {

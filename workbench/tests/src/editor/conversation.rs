@@ -3,6 +3,7 @@
 //! - `> MESSAGE` sends a message.
 //! - `& MESSAGE` sends it together with the next one.
 //! - `- BYTES` sends bytes as they are, with the escapes of `unescaped`.
+//! - `% PATH TEXT` stores a file that the server may read, with the escapes of `unescaped`.
 //! - `< MESSAGE` is the next message that the server sends.
 //! - `= goes on`, `= clean` or `= unclean` is whether the conversation is over, and how.
 //!
@@ -10,8 +11,10 @@
 
 use crate::playing::NoAnswer;
 use crate::table::{Part, unescaped};
-use edd_lsp::{Ending, Framing, Outgoing, Session};
-use std::collections::VecDeque;
+use edd_lsp::{Ending, Files, Framing, Outgoing, Session, Stored};
+use std::cell::RefCell;
+use std::collections::{BTreeMap, VecDeque};
+use std::rc::Rc;
 
 /// The parameters of `initialize` of an editor that supports everything the server asks about.
 const ABLE: &str = concat!(
@@ -25,9 +28,28 @@ const ABLE: &str = concat!(
 /// Those of an editor that supports nothing, with columns in UTF-16.
 const PLAIN: &str = r#"{"capabilities":{}}"#;
 
+/// Files that are stored, by their paths.
+#[derive(Clone, Debug, Default)]
+struct InMemory(Rc<RefCell<BTreeMap<String, String>>>);
+
+impl Files for InMemory {
+    fn read_beside(&self, path: &str) -> Vec<Stored> {
+        let folder = path.rfind('/').and_then(|end| path.get(..=end));
+        let files = self.0.borrow();
+        let files = files.iter().filter_map(|(path, text)| {
+            Some(Stored {
+                path: path.strip_prefix(folder?)?.to_owned(),
+                text: text.clone(),
+            })
+        });
+        files.collect()
+    }
+}
+
 /// A conversation so far.
 struct Conversation {
     session: Session,
+    files: InMemory,
     framing: Framing,
     /// What is sent together with the next message.
     held: Vec<u8>,
@@ -52,8 +74,10 @@ fn content(message: &Outgoing) -> String {
 impl Conversation {
     /// Begins a conversation of this kind.
     fn begin(word: &str) -> Result<Self, NoAnswer> {
+        let files = InMemory::default();
         let mut conversation = Conversation {
-            session: Session::default(),
+            session: Session::new(files.clone()),
+            files,
             framing: Framing::default(),
             held: Vec::new(),
             untold: VecDeque::new(),
@@ -126,6 +150,14 @@ impl Conversation {
         }
     }
 
+    /// Stores a file.
+    fn store(&self, line: &str) -> Option<()> {
+        let (path, text) = line.split_once(' ')?;
+        let text = String::from_utf8(unescaped(text)?).ok()?;
+        self.files.0.borrow_mut().insert(path.to_owned(), text);
+        Some(())
+    }
+
     /// Takes a line of the part.
     fn take(&mut self, line: &str) -> Result<(), NoAnswer> {
         let (sign, rest) = line.split_once(' ').unwrap_or((line, ""));
@@ -138,6 +170,10 @@ impl Conversation {
                 self.send_bytes(&bytes);
             }
             "=" => self.compare_next(rest),
+            "%" => {
+                let stored = self.store(rest);
+                stored.ok_or(NoAnswer::Row("no file, or an escape without its end"))?;
+            }
             "#" => {}
             _ => return Err(NoAnswer::Row("a line that is none of a conversation")),
         }

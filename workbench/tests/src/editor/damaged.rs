@@ -11,7 +11,7 @@ MENU m { ITEMS { c.x (HIDDEN), a } } // end
 METHOD n { DEFINITION { int k = 1; { int l; l = r[1] + c.x; } DELAY(k, \"a\"); } }
 @\"";
 
-const QUERIES: [Query<'static>; 17] = [
+const QUERIES: [Query<'static>; 19] = [
     Query::Hover,
     Query::Declaration,
     Query::References,
@@ -28,6 +28,8 @@ const QUERIES: [Query<'static>; 17] = [
     Query::Hints,
     Query::Edits,
     Query::Snippet,
+    Query::Documentation,
+    Query::Typed,
     Query::FixAll,
 ];
 
