@@ -46,8 +46,9 @@ fn refusal_of(fault: TestFault) -> Option<Refusal> {
 
 impl<'p> Project<'p> {
     /// What is wrong with a file of tests or a script: lines that are refused, and names of items
-    /// that its description does not have, also in lines that are expected. Where the description is not there or is refused itself
-    /// nothing is said of names, and nothing of a test that expects that its run is refused.
+    /// that its description does not have, also in lines that are expected. Where the description is not
+    /// there or is refused itself nothing is said of names, and nothing of a test that expects that its
+    /// run is refused.
     ///
     /// ```
     /// use edd_ide::{Document, Project};
@@ -153,7 +154,7 @@ fn unknown_name(image: &Image<'_>, text: &str, named: TestName) -> Option<Diagno
     let (kind, refusal) = match named.sort {
         NameSort::Method => (Kind::Method, Refusal::new(301, "NO_METHOD", name)),
         NameSort::Printed(Some(kind)) => (kind, Refusal::new(21, "UNKNOWN_NAME", name)),
-        NameSort::Variable | NameSort::Printed(None) => return None,
+        NameSort::Variable | NameSort::Printed(None) | NameSort::Absent(_) => return None,
     };
     if image.find(name).map(kind_of) == Some(kind) {
         return None;

@@ -61,7 +61,9 @@ impl MentionSort {
         match self {
             MentionSort::Item(NameSort::Method) => kind == Kind::Method,
             MentionSort::Item(NameSort::Variable) => kind == Kind::Variable,
-            MentionSort::Item(NameSort::Printed(of)) => of.is_none_or(|of| of == kind),
+            MentionSort::Item(NameSort::Printed(of) | NameSort::Absent(of)) => {
+                of.is_none_or(|of| of == kind)
+            }
             MentionSort::File => false,
         }
     }

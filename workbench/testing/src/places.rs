@@ -71,6 +71,8 @@ pub enum NameSort {
     Variable,
     /// An item of this kind, or of any, in a line that is printed.
     Printed(Option<ItemKind>),
+    /// The same in a line that must not be printed, so that there may be no such item.
+    Absent(Option<ItemKind>),
 }
 
 impl TestFile {
@@ -180,17 +182,25 @@ impl TestPlaces {
             }
             Says::Whole(text) | Says::Part(text) => {
                 self.is_refused |= refusal_in(&[Seen { text, turn: 0 }]).is_some();
-                self.push_printed(kind, span_in(line, said.raw, text), text);
+                self.push_printed(kind, span_in(line, said.raw, text), text, NameSort::Printed);
             }
-            Says::Absent(text) => self.push_printed(kind, span_in(line, said.raw, text), text),
+            Says::Absent(text) => {
+                self.push_printed(kind, span_in(line, said.raw, text), text, NameSort::Absent);
+            }
             _ => {}
         }
     }
 
     /// Takes the names in a line that is printed, or that must not be.
-    fn push_printed(&mut self, kind: Kind<'_>, line: Span, text: &str) {
+    fn push_printed(
+        &mut self,
+        kind: Kind<'_>,
+        line: Span,
+        text: &str,
+        sort: impl Fn(Option<ItemKind>) -> NameSort,
+    ) {
         for (name, of) in names_printed(kind, text) {
-            self.push(moved(name, line.start), NameSort::Printed(of));
+            self.push(moved(name, line.start), sort(of));
         }
     }
 

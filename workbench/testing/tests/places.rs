@@ -46,6 +46,24 @@ fn names_have_their_places() {
 }
 
 #[test]
+fn names_in_lines_that_must_not_be_printed_have_places_too() {
+    let text = "source a\ntest one\nmethod m\n~ value x 1\n! value y 2\n";
+    let file = TestFile::read(text);
+    let [one] = file.tests.as_slice() else {
+        panic!("{file:?}");
+    };
+    let found: Vec<_> = one
+        .names
+        .iter()
+        .map(|name| (at(text, name.span), name.sort))
+        .collect();
+    assert_eq!(found.len(), 3);
+    assert_eq!(found[0], ("m", NameSort::Method));
+    assert!(matches!(found[1], ("x", NameSort::Printed(_))));
+    assert!(matches!(found[2], ("y", NameSort::Absent(_))));
+}
+
+#[test]
 fn what_is_refused_is_left_out() {
     let text = "source a\ntest one\nset x 1\nsett y 2\ntest two\nmethod m\nmethod n\n> q\nset z 3";
     let file = TestFile::read(text);
