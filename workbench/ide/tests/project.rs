@@ -278,6 +278,18 @@ fn nothing_is_found_without_a_description_that_is_accepted() {
 }
 
 #[test]
+fn a_line_that_must_not_be_printed_may_name_nothing() {
+    let tests = "source ../tank.edd\ntest one\nshow\n! variable gone INTEGER 2\n! variable level INTEGER 2\n";
+    let path = "/t/tests/tank.test";
+    let files = Files::with(&[(path, tests)]);
+    assert_eq!(findings(&files, path), [""; 0]);
+    let byte = files.byte(path, "level");
+    let places = files.project().rename(path, byte, "height").unwrap();
+    let of_tests = places.iter().filter(|place| place.path == path);
+    assert_eq!(of_tests.count(), 1);
+}
+
+#[test]
 fn what_names_a_description_depends_on_it() {
     let files = Files::with(&[]);
     let project = files.project();
