@@ -2,3 +2,4 @@ pub mod Done
 pub mod Refusals
 pub mod Runs
 pub mod Saved
+pub mod Statuses

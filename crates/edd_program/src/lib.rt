@@ -4,10 +4,13 @@
 //! anything.
 #![tactic(auto)]
 
-ghost use Rattle.std.specs.Prelude.{◌≡◌, ◌≤◌};
+ghost use Rattle.std.specs.Prelude.{◌≡◌, ◌≢◌, ◌≤◌, IfSome, true};
+ghost use Rattle.std.specs.Io.KnownBytes.{Appends};
 ghost use Rattle.edd_files.specs.Saves.{SavesOne};
 ghost use Rattle.edd_program.specs.Done.{Does};
+ghost use Rattle.edd_program.specs.Refusals.{refusal_in};
 ghost use Rattle.edd_program.specs.Saved.{MaySave};
+ghost use Rattle.edd_program.specs.Statuses.{Refuses, is_refusal, refusal_line};
 
 mod compiling;
 mod hints;
@@ -42,6 +45,7 @@ pub struct Ended {
 }
 
 /// Does what a request asks for, and prints to `out`, in pieces: a line is one or more of them.
+#[tactic(auto, using(crate::proofs::StatusLaws::refuses))]
 pub fn run<F: Files, W: Write>(
     alloc: Global,
     request: Request<'_>,
@@ -49,10 +53,13 @@ pub fn run<F: Files, W: Write>(
     out: &mut W,
 ) -> Ended
     ensures status { result.status ≤ 4 }
+    ensures words { result.status ≢ 2 }
     ensures saves { SavesOne (MaySave request.entry (F.account files.old)) (F.account files.old)
         (F.account files.new) }
     ensures done { result.status ≡ 0 → Does request.entry (F.account files.old)
         (F.account files.new) (W.contents out.old) (W.contents out.new) }
+    ensures refused { result.status ≡ 1 → Refuses request.entry (F.account files.old)
+        (W.contents out.old) (W.contents out.new) }
 {
     match requests::answer(alloc, request, files, out) {
         Ok(()) => Ended {
@@ -67,6 +74,10 @@ pub fn run<F: Files, W: Write>(
 fn stopped<F: Files, W: Write>(alloc: Global, stop: &Stop<'_>, files: &mut F, out: &mut W) -> Ended
     ensures stopped { 1 ≤ result.status }
     ensures status { result.status ≤ 4 }
+    ensures words { result.status ≢ 2 }
+    ensures refused { result.status ≡ 1 → is_refusal stop.now ≡ true }
+    ensures told { result.status ≡ 1 → IfSome (refusal_in stop.now)
+        (λ words. Appends (W.contents out.old) (W.contents out.new) (refusal_line words)) }
     ensures kept { F.account files.new ≡ F.account files.old }
 {
     match report(alloc, stop, out) {
@@ -87,7 +98,7 @@ fn stopped<F: Files, W: Write>(alloc: Global, stop: &Stop<'_>, files: &mut F, ou
 
 // Takes no memory itself.
 fn no_memory<W: Write>(out: &mut W) -> Ended
-    ensures stopped { 1 ≤ result.status }
+    ensures stopped { 3 ≤ result.status }
     ensures status { result.status ≤ 4 }
 {
     match out.write_all(b"no memory\n") {

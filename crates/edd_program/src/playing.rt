@@ -1,7 +1,9 @@
 //! What the program does to run a method of a source or an image.
 
-ghost use Rattle.std.specs.Prelude.{◌≡◌, IfOk, OnOk, Some};
+ghost use Rattle.std.specs.Prelude.{◌≡◌, IfErr, IfOk, None, OnOk, Some};
+ghost use Rattle.edd_program.specs.Refusals.{refusal_in};
 ghost use Rattle.edd_program.specs.Runs.{IsMethodNamed, IsPlayed, IsRun, OfImage, OfSource};
+ghost use Rattle.edd_program.specs.Statuses.{IsRefusedBehind, StopsBy};
 
 use crate::compiling::image_of_source;
 use crate::request::Run;
@@ -18,7 +20,8 @@ use std::io::Write;
 
 // The method of this name.
 fn method_named<'a>(image: &Image<'_>, name: &'a str) -> Result<MethNo, Stop<'a>>
-    ensures { IfOk result (IsMethodNamed image.now name.now) }
+    ensures sound { IfOk result (IsMethodNamed image.now name.now) }
+    ensures stopped { IfErr result (λ stop. refusal_in stop ≡ None) }
 {
     match image.find(name) {
         Some(ItemNo::Method(number)) => Ok(number),
@@ -35,7 +38,8 @@ fn played<'a>(
     method: &'a str,
     steps: u64,
 ) -> Result<Transcript, Stop<'a>>
-    ensures { IfOk result (IsRun image.now script.now method.now steps) }
+    ensures sound { IfOk result (IsRun image.now script.now method.now steps) }
+    ensures stopped { IfErr result (λ stop. refusal_in stop ≡ None) }
 {
     let said = edd_script::parse(alloc, image, script)?;
     let number = method_named(image, method)?;
@@ -56,6 +60,7 @@ fn play_bytes<'a, W: Write>(
 ) -> Result<(), Stop<'a>>
     ensures played { OnOk result (IsPlayed bytes.now script.now method.now language.now steps
         (W.contents out.old) (W.contents out.new)) }
+    ensures stopped { IfErr result (λ stop. refusal_in stop ≡ None) }
 {
     let image = load(alloc, bytes)?;
     let transcript = played(alloc, &image, script, method, steps)?;
@@ -89,6 +94,7 @@ pub fn play_image<'a, F: Files, W: Write>(
 }
 
 /// Compiles a source, and runs a method of it.
+#[tactic(auto, using(crate::proofs::StatusLaws::no_refusal, crate::proofs::StatusLaws::source_alone, crate::proofs::StatusLaws::told_of_file, crate::proofs::StatusLaws::others))]
 pub fn try_source<'a, F: Files, W: Write>(
     alloc: Global,
     source: &'a str,
@@ -100,6 +106,8 @@ pub fn try_source<'a, F: Files, W: Write>(
         (Some run.entry.script.now) (λ bytes script.
         IsPlayed bytes script run.entry.method.now run.entry.language.now run.entry.steps
         (W.contents out.old) (W.contents out.new))) }
+    ensures stopped { IfErr result (StopsBy (IsRefusedBehind (F.account files.old) source.now)
+        (F.account files.old) source.now (W.contents out.old) (W.contents out.new)) }
     ensures kept { F.account files.new ≡ F.account files.old }
 {
     let Run {

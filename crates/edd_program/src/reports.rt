@@ -1,6 +1,9 @@
 //! What is printed where the program stops, and the exit status.
 
-ghost use Rattle.std.specs.Prelude.{◌≤◌};
+ghost use Rattle.std.specs.Prelude.{◌≡◌, ◌≢◌, ◌≤◌, IfSome, OnOk, true};
+ghost use Rattle.std.specs.Io.KnownBytes.{Appends};
+ghost use Rattle.edd_program.specs.Refusals.{refusal_in};
+ghost use Rattle.edd_program.specs.Statuses.{is_refusal, refusal_line};
 
 use crate::stop::Stop;
 use edd_display::{ShowFault, print};
@@ -29,10 +32,13 @@ fn refused<W: Write, T: Display>(alloc: Global, fault: &T, out: &mut W) -> Resul
 }
 
 /// Prints why the program stops.
-pub fn report<W: Write>(alloc: Global, stop: &Stop<'_>, out: &mut W) -> Result<(), ShowFault> {
+pub fn report<W: Write>(alloc: Global, stop: &Stop<'_>, out: &mut W) -> Result<(), ShowFault>
+    ensures told { OnOk result (IfSome (refusal_in stop.now)
+        (λ words. Appends (W.contents out.old) (W.contents out.new) (refusal_line words))) }
+{
     match stop {
         Stop::File(name) => print(alloc, out, format_args!("file {name}")),
-        Stop::NotCompiled(fault) => refused(alloc, fault, out),
+        Stop::NotCompiled(words) => print(alloc, out, format_args!("refused {words}")),
         Stop::NotLoaded(fault) => refused(alloc, fault, out),
         Stop::TextAsImage(_) => refused(alloc, &LoadFault::Magic, out),
         Stop::Script(fault) => refused(alloc, fault, out),
@@ -48,6 +54,8 @@ pub fn report<W: Write>(alloc: Global, stop: &Stop<'_>, out: &mut W) -> Result<(
 pub fn status(stop: &Stop<'_>) -> u8
     ensures stopped { 1 ≤ result }
     ensures status { result ≤ 4 }
+    ensures words { result ≢ 2 }
+    ensures refused { result ≡ 1 → is_refusal stop.now ≡ true }
 {
     match stop {
         Stop::NotCompiled(_)

@@ -1,9 +1,10 @@
 //! What the program does on each request.
 
-ghost use Rattle.std.specs.Prelude.{OnOk};
+ghost use Rattle.std.specs.Prelude.{IfErr, OnOk};
 ghost use Rattle.edd_files.specs.Saves.{SavesOne};
 ghost use Rattle.edd_program.specs.Done.{Does};
 ghost use Rattle.edd_program.specs.Saved.{MaySave};
+ghost use Rattle.edd_program.specs.Statuses.{Stops};
 
 use crate::compiling::write_image;
 use crate::playing::{play_image, try_source};
@@ -26,6 +27,8 @@ pub fn answer<'a, F: Files, W: Write>(
         (F.account files.new) }
     ensures done { OnOk result (Does request.entry (F.account files.old) (F.account files.new)
         (W.contents out.old) (W.contents out.new)) }
+    ensures stopped { IfErr result (Stops request.entry (F.account files.old) (W.contents out.old)
+        (W.contents out.new)) }
 {
     match request {
         Request::Compile { source, image } => write_image(alloc, source, image, files, out),

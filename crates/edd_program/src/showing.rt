@@ -1,7 +1,9 @@
 //! What the program does to show a source or an image.
 
-ghost use Rattle.std.specs.Prelude.{◌≡◌, OnOk, option_map};
+ghost use Rattle.std.specs.Prelude.{◌≡◌, IfErr, None, OnOk, option_map};
+ghost use Rattle.edd_program.specs.Refusals.{refusal_in};
 ghost use Rattle.edd_program.specs.Runs.{IsShown, OfImage, OfSource};
+ghost use Rattle.edd_program.specs.Statuses.{IsRefusedBehind, StopsBy};
 
 use crate::compiling::image_of_source;
 use crate::hints::with_hint;
@@ -26,6 +28,7 @@ fn show_under<'a, W: Write>(
 ) -> Result<(), Stop<'a>>
     ensures shown { OnOk result (IsShown image.now script.now language.now (W.contents out.old)
         (W.contents out.new)) }
+    ensures stopped { IfErr result (λ stop. refusal_in stop ≡ None) }
 {
     let said = edd_script::parse(alloc, image, script)?;
     let values = Values::new(alloc, image, &said.values)?;
@@ -43,12 +46,14 @@ fn show_bytes<'a, W: Write>(
 ) -> Result<(), Stop<'a>>
     ensures shown { OnOk result (IsShown bytes.now script.now language.now (W.contents out.old)
         (W.contents out.new)) }
+    ensures stopped { IfErr result (λ stop. refusal_in stop ≡ None) }
 {
     let image = load(alloc, bytes)?;
     show_under(alloc, &image, script, language, out)
 }
 
 /// Compiles a source, and shows its image.
+#[tactic(auto, using(crate::proofs::StatusLaws::no_refusal, crate::proofs::StatusLaws::source_alone, crate::proofs::StatusLaws::told_of_file, crate::proofs::StatusLaws::others))]
 pub fn view_source<'a, F: Files, W: Write>(
     alloc: Global,
     showing: Showing<'a>,
@@ -59,6 +64,9 @@ pub fn view_source<'a, F: Files, W: Write>(
         (option_map (λ name. name.now) showing.entry.script) (λ bytes script.
         IsShown bytes script showing.entry.language.now (W.contents out.old)
         (W.contents out.new))) }
+    ensures stopped { IfErr result (StopsBy (IsRefusedBehind (F.account files.old)
+        showing.entry.file.now) (F.account files.old) showing.entry.file.now (W.contents out.old)
+        (W.contents out.new)) }
     ensures kept { F.account files.new ≡ F.account files.old }
 {
     let taken = take(alloc, showing.file, showing.script, files)?;

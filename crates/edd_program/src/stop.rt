@@ -29,10 +29,10 @@ pub enum Stop<'a> {
 }
 
 impl<'a> From<NamedFault<'a>> for Stop<'a> {
-    ghost use Rattle.std.specs.Prelude.{◌≡◌, None};
-    ghost use Rattle.edd_program.specs.Refusals.{refusal_in};
+    ghost use Rattle.std.specs.Prelude.{◌≡◌, false};
+    ghost use Rattle.edd_program.specs.Statuses.{is_refusal};
 
-    ghost from_gives = { λ _ stop. refusal_in stop ≡ None };
+    ghost from_gives = { λ _ stop. is_refusal stop ≡ false };
 
     fn from(fault: NamedFault<'a>) -> Self {
         match fault {
@@ -43,6 +43,11 @@ impl<'a> From<NamedFault<'a>> for Stop<'a> {
 }
 
 impl From<LoadFault> for Stop<'_> {
+    ghost use Rattle.std.specs.Prelude.{◌≡◌, None};
+    ghost use Rattle.edd_program.specs.Refusals.{refusal_in};
+
+    ghost from_gives = { λ _ stop. refusal_in stop ≡ None };
+
     fn from(fault: LoadFault) -> Self {
         match fault {
             LoadFault::Memory => Stop::Memory,
@@ -52,6 +57,11 @@ impl From<LoadFault> for Stop<'_> {
 }
 
 impl From<ScriptFault> for Stop<'_> {
+    ghost use Rattle.std.specs.Prelude.{◌≡◌, None};
+    ghost use Rattle.edd_program.specs.Refusals.{refusal_in};
+
+    ghost from_gives = { λ _ stop. refusal_in stop ≡ None };
+
     fn from(fault: ScriptFault) -> Self {
         match fault {
             ScriptFault::Memory => Stop::Memory,
@@ -61,6 +71,11 @@ impl From<ScriptFault> for Stop<'_> {
 }
 
 impl From<ValuesFault> for Stop<'_> {
+    ghost use Rattle.std.specs.Prelude.{◌≡◌, None};
+    ghost use Rattle.edd_program.specs.Refusals.{refusal_in};
+
+    ghost from_gives = { λ _ stop. refusal_in stop ≡ None };
+
     fn from(fault: ValuesFault) -> Self {
         match fault {
             ValuesFault::Memory => Stop::Memory,
@@ -70,6 +85,11 @@ impl From<ValuesFault> for Stop<'_> {
 }
 
 impl From<PlayFault> for Stop<'_> {
+    ghost use Rattle.std.specs.Prelude.{◌≡◌, None};
+    ghost use Rattle.edd_program.specs.Refusals.{refusal_in};
+
+    ghost from_gives = { λ _ stop. refusal_in stop ≡ None };
+
     fn from(fault: PlayFault) -> Self {
         match fault {
             PlayFault::Memory => Stop::Memory,
@@ -80,9 +100,12 @@ impl From<PlayFault> for Stop<'_> {
 
 impl From<ShowFault> for Stop<'_> {
     ghost use Rattle.std.specs.Prelude.{◌≡◌, None};
+    ghost use Rattle.edd_display.specs.Shown.{blames_values};
     ghost use Rattle.edd_program.specs.Refusals.{refusal_in};
+    ghost use Rattle.edd_program.specs.Statuses.{is_refusal};
 
-    ghost from_gives = { λ _ stop. refusal_in stop ≡ None };
+    ghost from_gives = { λ fault stop. (refusal_in stop ≡ None)
+        × (is_refusal stop ≡ blames_values fault) };
 
     fn from(fault: ShowFault) -> Self {
         match fault {

@@ -1,8 +1,9 @@
 //! The files that a command takes. They are read before anything else is done.
 
-ghost use Rattle.std.specs.Prelude.{◌≡◌, IfOk, option_map};
+ghost use Rattle.std.specs.Prelude.{◌≡◌, IfErr, IfOk, false, option_map};
 ghost use Rattle.edd_files.specs.Names.{input_name};
 ghost use Rattle.edd_files.specs.Saves.{Gave, GaveScript};
+ghost use Rattle.edd_program.specs.Statuses.{is_refusal};
 
 use crate::stop::Stop;
 use edd_files::{Files, read, read_script};
@@ -26,6 +27,7 @@ pub fn take<'a, F: Files>(
         (input_name description.now) taken.description.items) }
     ensures scripted { IfOk result (λ taken. GaveScript (F.account files.old)
         (option_map (λ name. name.now) script.entry) taken.script.items) }
+    ensures refused { IfErr result (λ stop. is_refusal stop ≡ false) }
     ensures kept { F.account files.new ≡ F.account files.old }
 {
     let description = read(alloc, files, description)?;
