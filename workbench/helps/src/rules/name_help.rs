@@ -22,6 +22,11 @@ pub enum NameHelp {
         /// It.
         near: String,
     },
+    /// A name that is used and that nothing has.
+    NothingHas {
+        /// It.
+        name: String,
+    },
     /// Two names that are as near.
     EitherMeant {
         /// One of them.
@@ -161,6 +166,10 @@ impl fmt::Display for NameHelp {
             NameHelp::NothingUses { near } => {
                 write!(f, "nothing uses {near}, which is declared")
             }
+            NameHelp::NothingHas { name } => write!(
+                f,
+                "{name} may be meant: nothing has this name, which is used"
+            ),
             NameHelp::EitherMeant { near, other } => write!(f, "{near} or {other} may be meant"),
             NameHelp::EnumeratorIsThere { variable } => {
                 write!(f, "the enumerator of {variable} is")

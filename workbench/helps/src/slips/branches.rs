@@ -90,10 +90,24 @@ pub(crate) fn no_word(around: &Around<'_>) -> Option<Placed> {
         return None;
     }
     let open = around.opening(PARENTHESES)?;
-    if around.statement() == open {
+    if around.statement() == open || is_behind_head(around, open) {
         return on(around.at.tokens.get(open)?, Slip::WordBeforeParentheses);
     }
     None
+}
+
+// Whether a token comes right behind the parentheses of a branch or a loop.
+fn is_behind_head(around: &Around<'_>, number: usize) -> bool {
+    let tokens = around.at.tokens;
+    let Some(before) = number.checked_sub(1) else {
+        return false;
+    };
+    word_before(tokens, before).is_some_and(|word| {
+        matches!(
+            word.kind,
+            TokenKind::Keyword(Keyword::MethodIf | Keyword::While | Keyword::For)
+        )
+    })
 }
 
 fn ends_before(token: &Token) -> bool {

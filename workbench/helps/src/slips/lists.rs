@@ -121,23 +121,33 @@ fn qualifier(around: &Around<'_>) -> Option<Placed> {
     if around.is(sign) || around.is(Symbol::Operator(Operator::Or)) {
         return around.here(Slip::QualifiersSideBySide);
     }
-    let is_qualifier = matches!(
-        around.word(around.token),
-        "READ_ONLY" | "HIDDEN" | "REVIEW" | "DISPLAY_VALUE"
-    );
-    if around.follows(Symbol::Comma) && !is_qualifier {
+    if around.follows(Symbol::Comma) && !is_qualifier(around, around.token) {
         return around.on_before(Slip::QualifiersNotClosed);
     }
     None
 }
 
+/// Whether a token is a qualifier of what a menu or a message has.
+pub(crate) fn is_qualifier(around: &Around<'_>, token: &Token) -> bool {
+    matches!(
+        around.word(token),
+        "READ_ONLY" | "HIDDEN" | "REVIEW" | "DISPLAY_VALUE" | "INFO" | "INDEX"
+    )
+}
+
+/// Whether the token is in the braces of an enumerator.
+pub(crate) fn is_in_enumerators(around: &Around<'_>) -> bool {
+    let brace = open_brace(around.at.tokens, around.at.number);
+    brace
+        .and_then(|brace| open_brace(around.at.tokens, brace))
+        .is_some_and(|outer| list_at(around, outer) == Some(List::Enumerators))
+}
+
 // An enumerator whose brace is not closed before the next one.
 fn open_enumerator(around: &Around<'_>) -> Option<Placed> {
-    let brace = open_brace(around.at.tokens, around.at.number)?;
-    let outer = open_brace(around.at.tokens, brace)?;
     let is_next = around.is(Symbol::OpenBrace) && around.follows(Symbol::Comma);
     let is_after_text = around.at.kind_back(2) == Some(TokenKind::String);
-    if is_next && is_after_text && list_at(around, outer)? == List::Enumerators {
+    if is_next && is_after_text && is_in_enumerators(around) {
         return around.on_before(Slip::EnumeratorNotClosed);
     }
     None

@@ -2,7 +2,7 @@
 //! and may not.
 
 use super::around::{Around, is_keyword, open_brace};
-use super::lists::list_around;
+use super::lists::{List, list_around};
 use super::{Placed, Slip};
 use edd_lexer::token::{Token, TokenKind};
 use edd_source::Span;
@@ -58,7 +58,10 @@ fn word_twice(around: &Around<'_>) -> Option<Placed> {
         _ => false,
     };
     let is_same = around.word(around.before) == around.word(around.token);
-    if is_word && is_same && around.is_on_line() {
+    // A member may have the name of what it is.
+    let is_member = is_same && list_around(around) == Some(List::Members);
+    let is_kind = item_kind(around.token).is_some();
+    if is_word && is_same && !is_member && !is_kind && around.is_on_line() {
         return around.here(Slip::WordTwice);
     }
     None

@@ -20,6 +20,7 @@ impl Placed {
             Slip::BracketHere => (here, "]", Confidence::Sure),
             Slip::ParenthesisHere => (here, ")", Confidence::Sure),
             Slip::BraceBeforeElse => (here, "} ", Confidence::Guess),
+            Slip::CommaForPoint => (place, ",", Confidence::Guess),
             Slip::SemicolonForComma => (place, ";", Confidence::Guess),
             Slip::SemicolonLeftOut => (place, "", Confidence::Sure),
             Slip::WordLeftOut | Slip::ThenLeftOut | Slip::CapitalThenLeftOut => {

@@ -133,6 +133,8 @@ sentences! {
         ElseIfIsWritten => "another condition is written else if (..), in attributes ELSE IF (..)",
         LocalIsOneNumber => "a local is one number: arrays have variables alone",
         LocalHasTypeAndName => "a local has a type and a name alone, as in int k = 1;",
+        EqualsBeforeValue => "a = is missing before this value, as in int k = 1;",
+        CommaForPoint => "a comma may be meant in place of this point",
         CommaBetweenLocals => "a comma stands between two locals: int a, b;",
         LocalHasOneType => "a local is of one type, as in long k;",
         MethodHasNoType => "a METHOD has a name alone, and no type",

@@ -95,6 +95,11 @@ pub enum SyntaxHelp {
         /// The word of the option.
         word: &'static str,
     },
+    /// An attribute stands among the options of TYPE.
+    AttributeInType {
+        /// The word of the attribute.
+        word: &'static str,
+    },
     /// A message stands outside of its TRANSACTION.
     PartOfTransaction {
         /// The word of the message.
@@ -168,6 +173,10 @@ impl fmt::Display for SyntaxHelp {
             SyntaxHelp::OptionOfType { word } => write!(
                 f,
                 "{word} stands in the braces of TYPE, as in TYPE INTEGER {{ {word} ..; }}"
+            ),
+            SyntaxHelp::AttributeInType { word } => write!(
+                f,
+                "{word} stands in the braces of VARIABLE, and not in those of TYPE"
             ),
             SyntaxHelp::PartOfTransaction { word } => {
                 write!(f, "{word} stands in the braces of TRANSACTION")
