@@ -5,6 +5,7 @@ mod attributes;
 mod counters;
 mod indexes;
 mod statements;
+mod stores;
 
 pub(crate) use attributes::{check_attributes, variables_read};
 pub(crate) use statements::check_body;
@@ -63,6 +64,7 @@ impl Observer for Ways<'_, '_, '_> {
                 }
             }
             Expr::Indexed(array, index) => indexes::check_index(self, e, *array, index, known),
+            Expr::Assign(to, _) => stores::check_store(self, e, *to, values, known),
             Expr::LogicalAnd(first, second) | Expr::LogicalOr(first, second) => {
                 for operand in [first, second] {
                     self.check_operand(operand, known);
@@ -95,10 +97,11 @@ impl<'c, 'd> Ways<'c, 'd, '_> {
         self.findings.is_reported(span) || children(e).any(|inner| self.is_reported(inner))
     }
 
-    /// Follows an expression.
+    /// Follows an expression. Of one that has a warning nothing is known: it may be another one that is meant.
     fn follow(&mut self, e: &Expr<Target>, known: &mut Environment<'c, 'd>) -> Values {
         if self.is_reported(e) {
-            return known.evaluate(e, &mut Nobody);
+            known.forget_changes(e);
+            return Values::any(known.sort);
         }
         known.evaluate(e, self)
     }

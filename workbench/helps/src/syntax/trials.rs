@@ -137,6 +137,12 @@ impl<'a, 'w> Trials<'a, 'w> {
 
     // Tries the signs that may be meant by a sign.
     fn attempt_signs(&mut self, token: &Token) {
+        // Behind a name a point is that of a member.
+        let is_of_member =
+            is_symbol(token, Symbol::Dot) && self.at.kind_back(1) == Some(TokenKind::Name);
+        if is_of_member {
+            return;
+        }
         for sign in signs_for(token.kind) {
             self.attempt(Change::Instead(sign));
         }

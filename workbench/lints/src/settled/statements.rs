@@ -4,6 +4,7 @@ use super::counters::{ForLoop, counter_of};
 use super::{Ways, depends};
 use crate::bodies::flow::is_abort;
 use crate::context::Context;
+use crate::expressions::stores::without_parentheses;
 use crate::kind::ConditionKind;
 use crate::source::TokenIndex;
 use crate::values::environment::Environment;
@@ -33,6 +34,15 @@ fn joined<'c, 'd>(one: Way<'c, 'd>, other: Way<'c, 'd>) -> Way<'c, 'd> {
     match (one, other) {
         (Some(one), Some(other)) => Some(one.join(&other)),
         (one, other) => one.or(other),
+    }
+}
+
+// What is known behind an `if` that was not taken: of one comparison that it fails. Where several are joined
+// it may be a check of ranges, after which others are checked for clarity.
+fn passed<'c, 'd>(condition: &Expr<Target>, known: Environment<'c, 'd>) -> Way<'c, 'd> {
+    match without_parentheses(condition) {
+        Expr::Compare(..) => known.refined(condition, false),
+        _ => Some(known),
     }
 }
 
@@ -75,7 +85,7 @@ impl<'c, 'd> Ways<'c, 'd, '_> {
                 self.is_chained = false;
                 let taken = known.clone().refined(condition, true);
                 let taken = taken.and_then(|inner| self.statement(first, inner));
-                joined(taken, Some(known))
+                joined(taken, passed(condition, known))
             }
             Stmt::IfElse(condition, first, otherwise) => {
                 self.branches(at, condition, [first, otherwise], known)
