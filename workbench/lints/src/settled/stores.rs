@@ -52,7 +52,9 @@ fn kind_of(ways: &Ways<'_, '_, '_>, variable: u16, values: Values) -> Option<Wro
     let name = || variable.name().to_owned();
     if let Some(number) = values.number().filter(|number| *number != 0) {
         let range = variable.range?;
-        if !range.holds(number) {
+        // All 32 bits with which a method computes are kept.
+        let keeps_bits = range.width() == i64::from(u32::MAX);
+        if !range.holds(number) && !keeps_bits {
             return Some(Wrong::Store(MethodKind::StoreOutOfRange(number, range)));
         }
         if variable.lacks(number) {
