@@ -62,7 +62,7 @@ METHOD m { DEFINITION { if (e == 5) e = 6; } }",
         name: "store-out-of-range",
         level: Level::Warn,
         summary: "a constant that is assigned to a variable which can't hold it",
-        details: "a constant that is assigned to a variable, by `=`, iassign or lassign, and that its type and size can't hold: the variable keeps another number. The same is said of a local that has this value there. `v = ~0;` means all bits that it has, and has no warning.",
+        details: "a constant that is assigned to a variable, by `=`, iassign or lassign, and that its type and size can't hold: the variable keeps another number. The same is said of a local that has this value there. `v = ~0;` means all bits that it has, and so does -1 in four octets: they have no warning.",
         example: "VARIABLE v { TYPE UNSIGNED_INTEGER; }
 METHOD m { DEFINITION { v = 256; } }",
         counterexample: "VARIABLE v { TYPE UNSIGNED_INTEGER; }
