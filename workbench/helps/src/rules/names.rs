@@ -47,10 +47,11 @@ fn say_split(description: &Description<'_>, number: usize, finding: &mut Finding
 
 // Whether a name is misspelled where an item is declared, which nothing uses. A member may have the name.
 fn is_misspelled_there(description: &Description<'_>, name: &str) -> bool {
-    let near = description.nearest(name, false).alone();
-    let declared = near.filter(|near| description.count(near) == 1);
-    description.item(name).is_none()
-        && declared.is_some_and(|near| description.item(near).is_some())
+    let is_member = description.item(name).is_none() && description.declared(name).is_some();
+    let near = is_member.then(|| description.nearest(name, false).alone());
+    near.flatten()
+        .filter(|near| description.count(near) == 1)
+        .is_some_and(|near| description.item(near).is_some())
 }
 
 // Says what helps where a name is one of a method, of a function or of something elsewhere.
