@@ -21,6 +21,7 @@ pub(crate) use around::{
 };
 pub(crate) use bodies::early_end;
 pub(crate) use left_out::slip_of_left_out;
+pub(crate) use lists::{MENU_QUALIFIERS, is_qualifier};
 pub(crate) use nesting::nested_comment;
 pub(crate) use operators::slip_at;
 pub(crate) use placed::Placed;

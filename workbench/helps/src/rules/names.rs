@@ -5,7 +5,7 @@ use super::description::{Description, number_of};
 use super::enumerators::compared_with;
 use super::{Foreign, NameHelp};
 use crate::near::Nearest;
-use crate::slips::{Slip, slip_of_left_out};
+use crate::slips::{MENU_QUALIFIERS, Slip, slip_of_left_out};
 use crate::{Advice, Finding};
 use edd_lexer::token::{Token, TokenKind};
 use edd_source::tokens::is_sign;
@@ -254,12 +254,10 @@ fn qualifier_meant(description: &Description<'_>, name: &str, number: usize) -> 
     if item.kind() != Kind::Menu || !is_behind_name || name.len() < 4 {
         return None;
     }
-    let qualifier = ["READ_ONLY", "HIDDEN", "REVIEW", "DISPLAY_VALUE"]
-        .into_iter()
-        .find(|qualifier| {
-            let begins = qualifier.get(..name.len());
-            begins.is_some_and(|begins| begins.eq_ignore_ascii_case(name))
-        })?;
+    let qualifier = MENU_QUALIFIERS.into_iter().find(|qualifier| {
+        let begins = qualifier.get(..name.len());
+        begins.is_some_and(|begins| begins.eq_ignore_ascii_case(name))
+    })?;
     Some(NameHelp::Qualifier {
         item: description.word(before).to_owned(),
         qualifier,

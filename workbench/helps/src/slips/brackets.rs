@@ -84,7 +84,7 @@ fn empty_parentheses(around: &Around<'_>) -> Option<Placed> {
 // Qualifiers of which the parenthesis that opens is missing.
 fn unopened_qualifiers(around: &Around<'_>) -> Option<Placed> {
     let is_open = super::open_parenthesis(around.at).is_some();
-    if is_open || !is_qualifier(around, around.before) {
+    if is_open || !is_qualifier(around.word(around.before)) {
         return None;
     }
     around.here(Slip::ParenthesisNotOpen)

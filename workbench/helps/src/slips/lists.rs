@@ -7,6 +7,12 @@ use edd_source::tokens::item_kind;
 use edd_syntax::operators::{Comparison, Operator};
 use edd_syntax::symbols::{Keyword, Symbol};
 
+/// The qualifiers of the entries of menus.
+pub(crate) const MENU_QUALIFIERS: [&str; 4] = ["READ_ONLY", "HIDDEN", "REVIEW", "DISPLAY_VALUE"];
+
+/// The qualifiers of what is in messages.
+const DATA_QUALIFIERS: [&str; 2] = ["INFO", "INDEX"];
+
 /// The lists in whose braces a token may be.
 #[derive(Clone, Copy, PartialEq, Eq)]
 pub(crate) enum List {
@@ -121,18 +127,15 @@ fn qualifier(around: &Around<'_>) -> Option<Placed> {
     if around.is(sign) || around.is(Symbol::Operator(Operator::Or)) {
         return around.here(Slip::QualifiersSideBySide);
     }
-    if around.follows(Symbol::Comma) && !is_qualifier(around, around.token) {
+    if around.follows(Symbol::Comma) && !is_qualifier(around.word(around.token)) {
         return around.on_before(Slip::QualifiersNotClosed);
     }
     None
 }
 
-/// Whether a token is a qualifier of what a menu or a message has.
-pub(crate) fn is_qualifier(around: &Around<'_>, token: &Token) -> bool {
-    matches!(
-        around.word(token),
-        "READ_ONLY" | "HIDDEN" | "REVIEW" | "DISPLAY_VALUE" | "INFO" | "INDEX"
-    )
+/// Whether a word is a qualifier of what a menu or a message has.
+pub(crate) fn is_qualifier(word: &str) -> bool {
+    MENU_QUALIFIERS.contains(&word) || DATA_QUALIFIERS.contains(&word)
 }
 
 /// Whether the token is in the braces of an enumerator.

@@ -2,7 +2,7 @@
 
 use super::SyntaxHelp;
 use crate::Finding;
-use crate::slips::At;
+use crate::slips::{At, is_qualifier};
 use edd_lexer::token::{Token, TokenKind};
 use edd_source::tokens::{is_word, word_of};
 use edd_source::{Confidence, Span};
@@ -131,11 +131,4 @@ fn wanted(at: At<'_>, open: usize) -> Option<&'static str> {
 fn is_after_type_word(at: At<'_>, open: usize) -> bool {
     let word = open.saturating_sub(2);
     is_word(at.tokens, word, Keyword::Type)
-}
-
-fn is_qualifier(word: &str) -> bool {
-    matches!(
-        word,
-        "READ_ONLY" | "HIDDEN" | "REVIEW" | "DISPLAY_VALUE" | "INFO" | "INDEX"
-    )
 }
