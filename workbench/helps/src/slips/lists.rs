@@ -7,6 +7,9 @@ use edd_source::tokens::item_kind;
 use edd_syntax::operators::{Comparison, Operator};
 use edd_syntax::symbols::{Keyword, Symbol};
 
+/// How many tokens are looked at for the end of qualifiers.
+const LONGEST: usize = 64;
+
 /// The qualifiers of the entries of menus.
 pub(crate) const MENU_QUALIFIERS: [&str; 4] = ["READ_ONLY", "HIDDEN", "REVIEW", "DISPLAY_VALUE"];
 
@@ -127,10 +130,28 @@ fn qualifier(around: &Around<'_>) -> Option<Placed> {
     if around.is(sign) || around.is(Symbol::Operator(Operator::Or)) {
         return around.here(Slip::QualifiersSideBySide);
     }
-    if around.follows(Symbol::Comma) && !is_qualifier(around.word(around.token)) {
-        return around.on_before(Slip::QualifiersNotClosed);
+    let is_open = around.follows(Symbol::Comma)
+        && !is_qualifier(around.word(around.token))
+        && !is_closed_later(around);
+    is_open
+        .then(|| around.on_before(Slip::QualifiersNotClosed))
+        .flatten()
+}
+
+// Whether a parenthesis that is open at the token is closed behind it in its list.
+fn is_closed_later(around: &Around<'_>) -> bool {
+    let behind = around.at.tokens.get(around.at.number..);
+    let mut open: usize = 0;
+    for token in behind.unwrap_or_default().iter().take(LONGEST) {
+        match token.kind {
+            TokenKind::Symbol(Symbol::OpenParenthesis) => open = open.saturating_add(1),
+            TokenKind::Symbol(Symbol::CloseParenthesis) if open == 0 => return true,
+            TokenKind::Symbol(Symbol::CloseParenthesis) => open = open.saturating_sub(1),
+            TokenKind::Symbol(Symbol::OpenBrace | Symbol::CloseBrace) => return false,
+            _ => {}
+        }
     }
-    None
+    false
 }
 
 /// Whether a word is a qualifier of what a menu or a message has.

@@ -32,6 +32,7 @@ impl Placed {
             Slip::QualifiersSideBySide => (place, "", Confidence::Guess),
             Slip::DefaultMeant => (place, "default", Confidence::Guess),
             Slip::CaseMeant => (place, "case", Confidence::Guess),
+            Slip::IntMeant => (place, "int", Confidence::Guess),
             Slip::WordTwice => (place, "", Confidence::Guess),
             Slip::DoLeftOut => (place, "", Confidence::Guess),
             Slip::IfMeant => (place, "if", Confidence::Sure),

@@ -18,6 +18,7 @@ sentences! {
         NoLabels => "there are no labels, and no goto",
         FunctionIsOneWord => "a name of a function is one word, as send_command",
         NoBranchWord => "no branch and no loop begins with this word, but with if, while, for or switch",
+        IntMeant => "int may be meant",
         IfMeant => "if may be meant",
         WhileMeant => "while may be meant",
         ForMeant => "for may be meant",

@@ -2,7 +2,7 @@
 
 use super::around::{Around, is_integer, is_symbol, on, open_parenthesis, parenthesis_open_at};
 use super::bodies::begins;
-use super::words::{is_misspelled_type, is_operator, is_unit};
+use super::words::{is_misspelled_type, is_operator, is_unit, slip_of_label};
 use super::{Placed, Slip};
 use crate::near::Nearest;
 use edd_lexer::token::{Token, TokenKind};
@@ -146,7 +146,15 @@ fn after_first_name(around: &Around<'_>) -> Option<Placed> {
         return around.here(Slip::ArgumentInParentheses);
     }
     if is_integer(around.token) && around.is_on_line() {
-        return around.here(Slip::AssignmentOrSemicolon);
+        let is_label = around.at.is_ahead(Symbol::Colon);
+        return match slip_of_label(before) {
+            Slip::CaseMeant if is_label => around.on_before(Slip::CaseMeant),
+            _ => around.here(Slip::AssignmentOrSemicolon),
+        };
+    }
+    // A word of two letters is near to none.
+    if before == "in" && around.token.kind == TokenKind::Name && around.is_on_line() {
+        return around.on_before(Slip::IntMeant);
     }
     let is_assigned = around.token.kind == TokenKind::Name
         && around.is_on_line()

@@ -118,6 +118,8 @@ fn wanted(at: At<'_>, open: usize) -> Option<&'static str> {
     let inside = at.tokens.get(open.checked_add(1)?)?;
     let word = word_of(at.text, before);
     match before.kind {
+        // The key of a text in the dictionary.
+        TokenKind::Keyword(Keyword::Label | Keyword::Help | Keyword::ConstantUnit) => Some("["),
         TokenKind::Keyword(_) => Some("("),
         TokenKind::Name if Builtin::named(word).is_some() => Some("("),
         TokenKind::Name if is_qualifier(word_of(at.text, inside)) => Some("("),
