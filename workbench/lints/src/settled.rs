@@ -56,7 +56,8 @@ impl Observer for Ways<'_, '_, '_> {
                 // What the type of a place says of a constant is reported elsewhere.
                 let is_of_type = is_with_constant(first, second, known.sort)
                     && self.by_types(e, known.sort).number().is_some();
-                let counts = |number: &i64| !is_of_type && (*number == 0 || !self.is_chained);
+                let is_careful = self.is_chained || known.reads_passed(e);
+                let counts = |number: &i64| !is_of_type && (*number == 0 || !is_careful);
                 if let Some(number) = values.number().filter(counts) {
                     let at = self.context.places.sign(e);
                     self.findings
@@ -128,7 +129,8 @@ impl<'c, 'd> Ways<'c, 'd, '_> {
         }
         let mut fresh = known.clone();
         let truth = fresh.evaluate(e, &mut Nobody).truth();
-        if let Some(truth) = truth.filter(|truth| !truth || !self.is_chained) {
+        let is_careful = self.is_chained || known.reads_passed(e);
+        if let Some(truth) = truth.filter(|truth| !truth || !is_careful) {
             let at = self.context.places.sign(e);
             self.findings.add(at, ConditionKind::SettledTest(truth));
         }

@@ -37,15 +37,6 @@ fn joined<'c, 'd>(one: Way<'c, 'd>, other: Way<'c, 'd>) -> Way<'c, 'd> {
     }
 }
 
-// What is known behind an `if` that was not taken: of one comparison that it fails. Where several are joined
-// it may be a check of ranges, after which others are checked for clarity.
-fn passed<'c, 'd>(condition: &Expr<Target>, known: Environment<'c, 'd>) -> Way<'c, 'd> {
-    match without_parentheses(condition) {
-        Expr::Compare(..) => known.refined(condition, false),
-        _ => Some(known),
-    }
-}
-
 impl<'c, 'd> Ways<'c, 'd, '_> {
     fn parts(&mut self, parts: &[Part<Target>], known: Environment<'c, 'd>) -> Way<'c, 'd> {
         let mut known = known;
@@ -85,7 +76,7 @@ impl<'c, 'd> Ways<'c, 'd, '_> {
                 self.is_chained = false;
                 let taken = known.clone().refined(condition, true);
                 let taken = taken.and_then(|inner| self.statement(first, inner));
-                joined(taken, passed(condition, known))
+                joined(taken, known.passed(without_parentheses(condition)))
             }
             Stmt::IfElse(condition, first, otherwise) => {
                 self.branches(at, condition, [first, otherwise], known)
@@ -193,6 +184,7 @@ impl<'c, 'd> Ways<'c, 'd, '_> {
         let mut known = known;
         let is_told = self.is_reported(on) || !depends(on, Sort::Method);
         let values = self.follow(on, &mut known);
+        let is_told = is_told || known.reads_passed(on);
         if let Some(number) = values.number().filter(|_| !is_told) {
             let at = self.context.places.expression(on).extent.start;
             self.findings

@@ -154,7 +154,7 @@ MENU x { ITEMS { e, IF (e == 1) { "on" } } }"#,
         name: "settled-condition",
         level: Level::Warn,
         summary: "a comparison or a test of bits that is settled where it stands",
-        details: "a comparison that always holds, or never does, by what is known at its place: by the conditions around it, by the last store to a local or a variable, by the bits of a mask; and a condition of bits that are never 0, or always. What is known of variables is forgotten at each request, and of all that a loop sets before the loop. Behind an `if` of one comparison that ends with a `return` or a `break` it is known that the comparison fails; where several are joined that does not count.",
+        details: "a comparison that always holds, or never does, by what is known at its place: by the conditions around it, by the last store to a local or a variable, by the bits of a mask; and a condition of bits that are never 0, or always. What is known of variables is forgotten at each request, and of all that a loop sets before the loop. Behind an `if` of one comparison that was not taken it is known that this fails: what can never hold then has a warning, and what always holds is a careful test. Where several are joined nothing is known behind them.",
         example: r#"VARIABLE e { TYPE ENUMERATED { { 0, "off" } { 1, "on" } { 3, "hold" } } }
 METHOD m { DEFINITION { if (e == 1) { if (e == 0) send_command(1); } } }"#,
         counterexample: r#"VARIABLE e { TYPE ENUMERATED { { 0, "off" } { 1, "on" } { 3, "hold" } } }
