@@ -4,7 +4,7 @@ use super::around::{
     Around, At, BRACES, PARENTHESES, is_integer, is_joined, is_keyword, is_symbol, on,
     open_parenthesis, opened, parenthesis_open_at, word_before,
 };
-use super::branches::{lone_else, no_condition, no_word};
+use super::branches::{is_behind_head, lone_else, no_condition, no_word};
 use super::values::{is_function, value_slip};
 use super::words::{
     are_one_function, branch_meant, slip_of_branch, slip_of_label, slip_of_statement,
@@ -225,7 +225,9 @@ fn after_call(around: &Around<'_>, word: &Token) -> Option<Placed> {
     if let Some(slip) = slip_of_statement(name).or_else(|| slip_of_branch(name)) {
         return on(word, slip);
     }
-    let is_first = around.statement().saturating_add(1) == around.opening(PARENTHESES)?;
+    let open = around.opening(PARENTHESES)?;
+    let is_first = around.statement().saturating_add(1) == open
+        || is_behind_head(around, open.checked_sub(1)?);
     let is_head = around.is(Symbol::OpenBrace) || (!around.is_on_line() && !is_function(name));
     if !is_first || !is_head || branch_meant(name).is_some() {
         return None;

@@ -96,8 +96,8 @@ pub(crate) fn no_word(around: &Around<'_>) -> Option<Placed> {
     None
 }
 
-// Whether a token comes right behind the parentheses of a branch or a loop.
-fn is_behind_head(around: &Around<'_>, number: usize) -> bool {
+/// Whether a token comes right behind the parentheses of a branch or a loop.
+pub(crate) fn is_behind_head(around: &Around<'_>, number: usize) -> bool {
     let tokens = around.at.tokens;
     let Some(before) = number.checked_sub(1) else {
         return false;
