@@ -199,66 +199,57 @@ impl Mistake {
     /// The mistake at a token, where it can be made.
     pub(crate) fn edits(self, original: &Original, number: usize) -> Option<Vec<Edit>> {
         let place = Place { original, number };
-        let edit = match self {
-            Instead(was, text) => place.spelled(0, was)?.replaced(text),
+        match self {
+            OutsideOfItem => place.outside(),
+            _ => self.edit(place).map(|edit| vec![edit]),
+        }
+    }
+
+    fn edit(self, place: Place<'_>) -> Option<Edit> {
+        match self {
+            Instead(was, text) => Some(place.spelled(0, was)?.replaced(text)),
             Before(was, next, text) => {
                 place.spelled(1, next)?;
-                place.spelled(0, was)?.replaced(text)
+                Some(place.spelled(0, was)?.replaced(text))
             }
             Behind(before, was, text) => {
                 place.follows(before)?;
-                place.spelled(0, was)?.replaced(text)
+                Some(place.spelled(0, was)?.replaced(text))
             }
-            Mistake::Keyword(letters) => {
-                matches!(place.token(0)?.kind, TokenKind::Keyword(_)).then_some(())?;
-                place.slipped(letters)?
+            Mistake::Keyword(letters) | Function(letters) | Use(letters) | Declaration(letters) => {
+                self.may_slip(place)
+                    .then(|| place.slipped(letters))
+                    .flatten()
             }
-            Function(letters) => {
-                Builtin::named(place.word(0)?)?;
-                place.slipped(letters)?
-            }
-            Use(letters) => {
-                // In brackets a name stands for a text that is looked up elsewhere.
-                let is_use = place.is_name() && !place.is_declared() && !place.is_in_dictionary();
-                is_use.then_some(())?;
-                place.slipped(letters)?
-            }
-            Declaration(letters) => {
-                let is_used = 1 < original.uses(place.word(0)?);
-                (place.is_declared() && is_used).then_some(())?;
-                place.slipped(letters)?
-            }
-            Quotes(opening, closing) => place.quoted(opening, closing)?,
+            Quotes(opening, closing) => place.quoted(opening, closing),
             Number(text) => {
-                matches!(place.token(0)?.kind, TokenKind::Integer(_)).then_some(())?;
-                place.replaced(text)
+                matches!(place.token(0)?.kind, TokenKind::Integer(_)).then(|| place.replaced(text))
             }
-            DroppedArgument => place.dropped_argument()?,
+            DroppedArgument => place.dropped_argument(),
             AddedArgument => {
                 place.call()?;
-                place.before(", 0")?
+                place.before(", 0")
             }
-            OutsideOfItem => return place.outside(),
-            AttributeTwice => {
-                let span = place.attribute()?;
-                let text = span.read(original.text.as_bytes());
-                insertion(span.end, &format!(" {text}"))
-            }
-            AttributeDropped => {
-                let is_needed = matches!(place.word(0)?, "NUMBER" | "OPERATION");
-                is_needed.then_some(())?;
-                Edit {
-                    span: place.attribute()?,
-                    text: String::new(),
-                }
-            }
-            NameOfOther => {
-                let is_used = 1 < original.uses(place.word(0)?);
-                is_used.then_some(())?;
-                place.name_of_other()?
-            }
-        };
-        Some(vec![edit])
+            AttributeTwice => place.repeated(),
+            AttributeDropped => place.left_out(),
+            NameOfOther => place.name_of_other(),
+            OutsideOfItem => None,
+        }
+    }
+
+    // Whether the word at a place is of the sort that has a slip of typing.
+    fn may_slip(self, place: Place<'_>) -> bool {
+        let word = place.word(0).unwrap_or_default();
+        match self {
+            Mistake::Keyword(_) => place
+                .token(0)
+                .is_some_and(|token| matches!(token.kind, TokenKind::Keyword(_))),
+            Function(_) => Builtin::named(word).is_some(),
+            // In brackets a name stands for a text that is looked up elsewhere.
+            Use(_) => place.is_name() && !place.is_declared() && !place.is_in_dictionary(),
+            Declaration(_) => place.is_declared() && 1 < place.original.uses(word),
+            _ => false,
+        }
     }
 }
 
@@ -397,6 +388,23 @@ impl<'o> Place<'o> {
         })
     }
 
+    /// The attribute once more behind itself.
+    fn repeated(self) -> Option<Edit> {
+        let span = self.attribute()?;
+        let text = span.read(self.original.text.as_bytes());
+        Some(insertion(span.end, &format!(" {text}")))
+    }
+
+    /// Nothing in place of an attribute that its item needs.
+    fn left_out(self) -> Option<Edit> {
+        let is_needed = matches!(self.word(0)?, "NUMBER" | "OPERATION");
+        let span = self.attribute().filter(|_| is_needed)?;
+        Some(Edit {
+            span,
+            text: String::new(),
+        })
+    }
+
     fn outside(self) -> Option<Vec<Edit>> {
         let span = self.attribute()?;
         let outline = Outline::of(self.tokens());
@@ -419,7 +427,8 @@ impl<'o> Place<'o> {
     }
 
     fn name_of_other(self) -> Option<Edit> {
-        self.is_declared().then_some(())?;
+        let is_used = 1 < self.original.uses(self.word(0)?);
+        (is_used && self.is_declared()).then_some(())?;
         let earlier = (0..self.number).rev().find(|number| {
             Place {
                 number: *number,
