@@ -17,7 +17,7 @@ use planted::{Outcome, Planted, originals, plant};
 use std::env;
 
 /// How many mistakes are planted.
-const COUNT: usize = 1000;
+const COUNT: usize = 600;
 
 /// Of so many mistakes one may have more than one diagnostic, or none.
 const MOST_UNSAID: usize = 50;
