@@ -8,6 +8,7 @@ mod comments;
 mod confidence;
 mod faults;
 mod fitting;
+mod lines;
 mod pairs;
 mod sentences;
 mod split_words;

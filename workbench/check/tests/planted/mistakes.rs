@@ -41,11 +41,13 @@ pub(crate) enum Mistake {
     AttributeDropped,
     /// An item has the name of the one before.
     NameOfOther,
+    /// A line that opens braces is there twice.
+    LineTwice,
 }
 
 use Mistake::{
     AddedArgument, AttributeDropped, AttributeTwice, Before, Behind, Declaration, DroppedArgument,
-    Function, Instead, NameOfOther, Number, OutsideOfItem, Quotes, Use,
+    Function, Instead, LineTwice, NameOfOther, Number, OutsideOfItem, Quotes, Use,
 };
 
 /// What a mistake is called, and what it is.
@@ -190,6 +192,7 @@ pub(crate) const MISTAKES: &[(&str, Mistake)] = &[
     ("attribute twice", AttributeTwice),
     ("attribute left out", AttributeDropped),
     ("name of another item", NameOfOther),
+    ("line that opens braces twice", LineTwice),
     ("comment that is not closed", Instead("METHOD", "/* METHOD")),
     ("no-break space", Instead("TYPE", "TYPE\u{a0}")),
     ("full-width ;", Instead(";", "\u{ff1b}")),
@@ -233,6 +236,7 @@ impl Mistake {
             AttributeTwice => place.repeated(),
             AttributeDropped => place.left_out(),
             NameOfOther => place.name_of_other(),
+            LineTwice => place.line_twice(),
             OutsideOfItem => None,
         }
     }
@@ -386,6 +390,16 @@ impl<'o> Place<'o> {
             start: self.span().start,
             end: Span::of(self.token(end)?).end,
         })
+    }
+
+    /// The line of a brace that opens, and ends it, once more.
+    fn line_twice(self) -> Option<Edit> {
+        self.spelled(0, "{")?;
+        let behind = self.original.text.get(self.span().end..)?;
+        behind.starts_with('\n').then_some(())?;
+        let before = self.original.text.get(..self.span().end)?;
+        let line = before.rsplit('\n').next()?;
+        Some(insertion(self.span().end, &format!("\n{line}")))
     }
 
     /// The attribute once more behind itself.

@@ -7,6 +7,7 @@ use super::change::{Change, Workshop};
 use super::comments::open_comment;
 use super::confidence::{confidence_of, confidence_without};
 use super::fitting::what_fits;
+use super::lines::say_line_twice;
 use super::pairs::say_other_bracket;
 use super::split_words::say_split_word;
 use super::trials::{best_change, best_word, is_too_many, wants_if, wants_text};
@@ -66,6 +67,9 @@ pub(crate) fn explain(text: &[u8], tokens: &[Token], fault: &ParseFault) -> Expl
 fn say_misfit(at: At<'_>, outline: &Outline, finding: &mut Finding) {
     if let Some(comment) = open_comment(at) {
         return finding.say_at(Some(comment), TextHelp::CommentGoesOn);
+    }
+    if say_line_twice(at, || workshop_of(at, outline), finding) {
+        return;
     }
     let Some(token) = at.token() else {
         return say_end(at, outline, finding);

@@ -95,6 +95,8 @@ pub enum SyntaxHelp {
         /// The word of the option.
         word: &'static str,
     },
+    /// A line stands twice, one right below the other.
+    LineTwice,
     /// An attribute stands among the options of TYPE.
     AttributeInType {
         /// The word of the attribute.
@@ -174,6 +176,7 @@ impl fmt::Display for SyntaxHelp {
                 f,
                 "{word} stands in the braces of TYPE, as in TYPE INTEGER {{ {word} ..; }}"
             ),
+            SyntaxHelp::LineTwice => f.write_str("this line stands here twice"),
             SyntaxHelp::AttributeInType { word } => write!(
                 f,
                 "{word} stands in the braces of VARIABLE, and not in those of TYPE"
