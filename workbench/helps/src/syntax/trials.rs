@@ -4,7 +4,7 @@ use super::candidates::{
     BEFORE, BEHIND, is_option, missing_before, nearest_word, signs_for, word_for,
 };
 use super::change::{Change, Workshop};
-use crate::slips::{At, is_joined, is_symbol};
+use crate::slips::{At, is_symbol};
 use edd_lexer::token::{Token, TokenKind};
 use edd_source::tokens::{is_sign, item_kind, word_of};
 use edd_syntax::operators::{Builtin, Comparison, Operator};
@@ -60,8 +60,9 @@ pub(super) fn is_too_many(at: At<'_>, misfit: &Token, workshop: &mut Workshop) -
         && match token.kind {
             TokenKind::Symbol(Symbol::OpenParenthesis | Symbol::OpenBrace) => true,
             TokenKind::Symbol(Symbol::CloseBrace) => {
-                let are_joined = at.back(1).is_some_and(|before| is_joined(before, token));
-                are_joined && is_symbol(misfit, Symbol::Comma)
+                let behind = at.tokens.get(at.number.saturating_add(2));
+                let goes_on = behind.is_some_and(|next| !is_symbol(next, Symbol::CloseBrace));
+                goes_on && is_symbol(misfit, Symbol::Comma)
             }
             _ => false,
         };
