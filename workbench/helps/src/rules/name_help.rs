@@ -10,8 +10,10 @@ use edd_syntax::operators::Builtin;
 worded! {
     /// What is said of a name.
     pub enum NameHelp {
-        /// A name that other languages have, or EDDL elsewhere.
-        Foreign(Foreign),
+        [
+            /// A name that other languages have, or EDDL elsewhere.
+            Foreign(Foreign)
+        ]
         /// The nearest name.
         Meant {
             /// It.
