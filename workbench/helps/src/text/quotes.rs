@@ -68,6 +68,16 @@ fn closes(text: &[u8], string: Span) -> bool {
     is_blank || behind.starts_with([';', ',', ')', '}'])
 }
 
+// Whether the bytes in a string end as what stands before a text, so that its quote opens one.
+fn ends_as_code(text: &[u8], string: Span) -> bool {
+    let inside = Span {
+        end: string.end.saturating_sub(1),
+        ..string
+    };
+    let words = inside.read(text);
+    words.ends_with(' ') && words.trim_end().ends_with([',', ';', ':', '{'])
+}
+
 // Whether the first line of a string ends as a line of code.
 fn is_code(words: &str) -> bool {
     words
@@ -110,7 +120,7 @@ fn strings_before(text: &[u8], place: usize) -> impl Iterator<Item = Span> {
 /// The first string before a place that goes up to the quote of another one.
 pub(super) fn missing_quote(text: &[u8], before: usize) -> Option<MissingQuote> {
     let string = strings_before(text, before).find(|string| is_too_long(text, *string))?;
-    if is_inside(text, string) {
+    if is_inside(text, string) && !closes(text, string) && !ends_as_code(text, string) {
         let end = string.end;
         return Some(MissingQuote {
             string: Span {
