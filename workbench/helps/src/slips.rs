@@ -16,7 +16,7 @@ mod values;
 mod words;
 
 pub(crate) use around::{
-    Around, At, is_integer, is_joined, is_symbol, open_bracket, open_parenthesis,
+    Around, At, is_integer, is_joined, is_symbol, open_brace, open_bracket, open_parenthesis,
     opening_parenthesis, parenthesis_open_at,
 };
 pub(crate) use bodies::early_end;

@@ -10,11 +10,11 @@ use super::fitting::what_fits;
 use super::lines::say_line_twice;
 use super::pairs::say_other_bracket;
 use super::split_words::say_split_word;
-use super::trials::{best_change, best_word, is_too_many, wants_if, wants_text};
+use super::trials::{best_change, best_word, is_too_many, wants_else, wants_if, wants_text};
 use super::unsupported::say_unsupported;
 use crate::slips::{
-    At, Placed, Slip, early_end, is_symbol, nested_comment, open_bracket, open_parenthesis,
-    opening_parenthesis, parenthesis_open_at, slip_at, slip_of_left_out,
+    At, Placed, Slip, early_end, is_symbol, nested_comment, open_brace, open_bracket,
+    open_parenthesis, opening_parenthesis, parenthesis_open_at, slip_at, slip_of_left_out,
 };
 use crate::text::long_string;
 use crate::{Advice, Explained, Finding, TextHelp};
@@ -213,8 +213,23 @@ fn change_of<'a>(
     {
         return Some((condition, open, Change::Missing("IF", "IF")));
     }
+    if let Some((branch, brace)) = branch_around(at)
+        && wants_else(branch, at.number, workshop)
+    {
+        return Some((branch, brace, Change::Missing("ELSE", "ELSE")));
+    }
     let change = best_change(at, token, workshop)?;
     Some((at, token, change))
+}
+
+// The brace that is open at a token, where it stands right behind another pair of braces.
+fn branch_around(at: At<'_>) -> Option<(At<'_>, &Token)> {
+    let number = open_brace(at.tokens, at.number)?;
+    let branch = At { number, ..at };
+    let brace = branch.token()?;
+    branch
+        .is_back(1, Symbol::CloseBrace)
+        .then_some((branch, brace))
 }
 
 // The parenthesis right before a token, or the one that is closed right before its brace, where it begins a

@@ -211,6 +211,13 @@ impl<'a, 'w> Trials<'a, 'w> {
     }
 }
 
+/// Whether the text leads past the token that does not fit, and the one behind it, with an ELSE before a
+/// brace.
+pub(super) fn wants_else(at: At<'_>, misfit: usize, workshop: &mut Workshop) -> bool {
+    let reached = workshop.reached(at.number, Change::Missing("ELSE", "ELSE"));
+    misfit.saturating_add(1) < reached
+}
+
 // Whether the token and the one before it are values, so that no `(` is missing between them but an
 // operator.
 fn parts_values(at: At<'_>, token: &Token) -> bool {
