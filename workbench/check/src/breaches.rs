@@ -6,7 +6,7 @@ use crate::sound::Sound;
 use edd_breaches::RuleFault;
 use edd_compiler::Fault;
 use edd_findings::{Found, Verdict};
-use edd_helps::{Advice, Description, Finding, NameHelp, OtherKinds, explain_breach};
+use edd_helps::{Advice, Description, Finding, NameHelp, OtherKinds, Unnamed, explain_breach};
 use edd_lexer::line_of;
 use edd_lexer::token::Token;
 use edd_report::{Diagnostic, Refusal, Report};
@@ -108,25 +108,59 @@ struct Told<'f> {
     /// The names that mean nothing, with the item around each; none where one change mends all uses.
     names: HashMap<&'f str, Option<usize>>,
     kinds: OtherKinds,
+    /// The name that an item has to have in place of that of another one.
+    unnamed: Option<Unnamed<'f>>,
+    /// What the change that was proposed last replaces: what stands in it is the same mistake.
+    changed: Span,
+    /// Whether these are several words that stand for one.
+    is_joined: bool,
 }
 
 impl<'f> Told<'f> {
     // Nothing of these breaches.
-    fn of(description: &Description<'_>, breaches: impl Iterator<Item = &'f Found>) -> Told<'f> {
+    fn of(
+        description: &Description<'_>,
+        breaches: impl Iterator<Item = &'f Found> + Clone,
+    ) -> Told<'f> {
         Told {
             names: HashMap::new(),
-            kinds: OtherKinds::of(description, breaches),
+            kinds: OtherKinds::of(description, breaches.clone()),
+            unnamed: Unnamed::of(description, breaches),
+            changed: Span::before(0),
+            is_joined: false,
         }
     }
 
     // Whether a breach is said already.
     fn has(&self, description: &Description<'_>, found: &Found) -> bool {
+        if matches!(found.rule, RuleFault::Mismatch { .. }) {
+            return self.is_of_changed(description, found);
+        }
         let RuleFault::UnknownName(name) = &found.rule else {
             return self.kinds.has_told(description, found);
         };
+        let is_unnamed = self.unnamed.is_some_and(|it| it.is_told_by(found));
+        if is_unnamed || self.is_changed(found) {
+            return true;
+        }
         self.names
             .get(name.as_str())
             .is_some_and(|item| item.is_none() || *item == item_of(description, found))
+    }
+
+    // Whether the change that was proposed last has the place of a breach.
+    fn is_changed(&self, found: &Found) -> bool {
+        found
+            .place
+            .is_some_and(|place| self.changed.start <= place.start && place.end <= self.changed.end)
+    }
+
+    // Whether a call has other arguments since several words in them stand for one name.
+    fn is_of_changed(&self, description: &Description<'_>, found: &Found) -> bool {
+        let call = found.at.filter(|_| self.is_joined);
+        let arguments = call.and_then(|at| description.arguments(number_of(at)));
+        arguments
+            .is_some_and(|span| span.start <= self.changed.start && self.changed.end <= span.end)
     }
 
     // Notes what is said of a breach, or has it be said for others too.
@@ -136,6 +170,14 @@ impl<'f> Told<'f> {
             self.names.insert(name.as_str(), item);
         }
         self.kinds.tell(description, found, finding);
+        if let Some(unnamed) = self.unnamed {
+            unnamed.tell(description, found, finding);
+        }
+        let fixes = finding.helps.iter().filter_map(|help| help.fix.as_ref());
+        if let Some(edit) = fixes.flat_map(|fix| &fix.edits).next() {
+            self.changed = edit.span;
+            self.is_joined = found.place.is_some_and(|place| place.end < edit.span.end);
+        }
     }
 }
 

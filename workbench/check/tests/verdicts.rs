@@ -8,6 +8,7 @@ use edd_report::{Diagnostic, MOST, Report};
 use edd_source::Span;
 use proptest::prelude::*;
 use proptest::test_runner::{Config, RngAlgorithm, TestRng, TestRunner};
+use std::time::{Duration, Instant};
 
 /// The pieces of which texts are made.
 const PIECES: &[&str] = &[
@@ -144,6 +145,40 @@ fn long_texts_are_read_past_their_faults() {
     expect_long("METHOD m { DEFINITION { ", "{ ", " IF ( ; } }");
     expect_long("MENU m { ITEMS { ", "a, , ", " } }");
     expect_long("", "VARIABLE v { LABEL \"a\";\n", "");
+}
+
+/// How long a text of so many faulty items takes at best.
+fn time_of(item: impl Fn(usize) -> String, count: usize) -> Duration {
+    let items: String = (0..count).map(item).collect();
+    let text = [HEAD, &items].concat();
+    let taken = (0..3).map(|_| {
+        let begun = Instant::now();
+        let report = check(text.as_bytes(), &Levels::default());
+        assert!(count <= report.shown.len().saturating_add(report.more));
+        begun.elapsed()
+    });
+    taken.min().expect("it is checked three times")
+}
+
+/// Four times as many faults take no more than nine times as long. Where each one was looked for among all
+/// others, they would take sixteen times as long.
+fn expect_linear(item: impl Fn(usize) -> String) {
+    let (few, many) = (time_of(&item, 1000), time_of(&item, 4000));
+    assert!(
+        many < few.saturating_mul(9),
+        "{}: {few:?} {many:?}",
+        item(1)
+    );
+}
+
+#[test]
+fn time_grows_with_the_faults_as_with_the_text() {
+    expect_linear(|i| format!("VARIABLE v{i} {{ LABEL \"p\" TYPE INTEGER; }}\n"));
+    expect_linear(|i| format!("VARIABLE v{i} {{ TYPE INTEGER {{ MAX_VALUE q{i}; }} }}\n"));
+    expect_linear(|i| format!("VARIABLE v{i} {{ TYPE INTEGER\u{a7}; }}\n"));
+    expect_linear(|i| format!("VARIABLE v{i} {{ TYPE UNSIGNED INTEGER; DISPLAY FORMAT; }}\n"));
+    expect_linear(|i| format!("METHOD m{i} {{ DEFINITION {{ int k; k = ; DELAY(a-b); }} }}\n"));
+    expect_linear(|i| format!("METHOD m{i} {{ DEFINITION {{ int k; k == 5; if (k = 1) ; }} }}\n"));
 }
 
 /// A source with independent mistakes, and how many diagnostics it has.

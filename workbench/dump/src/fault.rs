@@ -29,72 +29,58 @@ pub(crate) fn write_fault(
     sections: &Sections<'_>,
     spot: Spot,
 ) -> fmt::Result {
-    let (place, word, number, fields) = match spot {
-        Spot::VariableRow(number) => {
-            let place = row_place(sections.variable_rows, VARIABLE_ROW, number);
-            (
-                place,
-                "variable_row",
-                number,
-                text(sections.variable_row(number)),
-            )
-        }
-        Spot::NameRow(number) => {
-            let place = row_place(sections.name_rows, NAME_ROW, number);
-            (place, "name_row", number, text(sections.name_span(number)))
-        }
-        Spot::AttributeRow(number) => {
-            let place = row_place(sections.attribute_rows, ATTRIBUTE_ROW, number);
-            (
-                place,
-                "attribute_row",
-                number,
-                text(sections.attribute_row(number)),
-            )
-        }
-        Spot::ElementRow(number) => {
-            let place = row_place(sections.element_rows, ELEMENT_ROW, number);
-            let fields = sections.element(number).map(element_text);
-            (place, "element_row", number, fields)
-        }
-        Spot::StringRow(number) => {
-            let place = row_place(sections.string_rows, STRING_ROW, number);
-            (
-                place,
-                "string_row",
-                number,
-                text(sections.string_span(number)),
-            )
-        }
-        Spot::Name(number) => {
-            let span = sections.name_span(number);
-            (place_in(sections.names, span), "name", number, text(span))
-        }
-        Spot::String(number) => {
-            let span = sections.string_span(number);
-            (
-                place_in(sections.strings, span),
-                "string",
-                number,
-                text(span),
-            )
-        }
-        Spot::Instruction(site) => {
-            let unit = sections.attribute_row(site.row).map(|row| row.unit);
-            let place = place_in(sections.code, unit).saturating_add(site.place);
-            (
-                place,
-                "row",
-                site.row,
-                Some(instruction_text(sections, site)),
-            )
-        }
-        Spot::Header | Spot::Zero | Spot::SecondZero => (0, "header", 0, None),
-    };
+    let place = place_of(sections, spot);
+    let (word, number) = name_of(spot);
     write!(f, "fault {place} {word} {number}")?;
-    match fields {
+    match fields_at(sections, spot) {
         Some(fields) => writeln!(f, " {fields}"),
         None => writeln!(f),
+    }
+}
+
+/// What a spot is called, and which one it is.
+fn name_of(spot: Spot) -> (&'static str, usize) {
+    match spot {
+        Spot::VariableRow(number) => ("variable_row", number),
+        Spot::NameRow(number) => ("name_row", number),
+        Spot::AttributeRow(number) => ("attribute_row", number),
+        Spot::ElementRow(number) => ("element_row", number),
+        Spot::StringRow(number) => ("string_row", number),
+        Spot::Name(number) => ("name", number),
+        Spot::String(number) => ("string", number),
+        Spot::Instruction(site) => ("row", site.row),
+        Spot::Header | Spot::Zero | Spot::SecondZero => ("header", 0),
+    }
+}
+
+/// Where a spot begins in the image.
+fn place_of(sections: &Sections<'_>, spot: Spot) -> usize {
+    match spot {
+        Spot::VariableRow(number) => row_place(sections.variable_rows, VARIABLE_ROW, number),
+        Spot::NameRow(number) => row_place(sections.name_rows, NAME_ROW, number),
+        Spot::AttributeRow(number) => row_place(sections.attribute_rows, ATTRIBUTE_ROW, number),
+        Spot::ElementRow(number) => row_place(sections.element_rows, ELEMENT_ROW, number),
+        Spot::StringRow(number) => row_place(sections.string_rows, STRING_ROW, number),
+        Spot::Name(number) => place_in(sections.names, sections.name_span(number)),
+        Spot::String(number) => place_in(sections.strings, sections.string_span(number)),
+        Spot::Instruction(site) => {
+            let unit = sections.attribute_row(site.row).map(|row| row.unit);
+            place_in(sections.code, unit).saturating_add(site.place)
+        }
+        Spot::Header | Spot::Zero | Spot::SecondZero => 0,
+    }
+}
+
+/// What is there, where it can be read.
+fn fields_at(sections: &Sections<'_>, spot: Spot) -> Option<String> {
+    match spot {
+        Spot::VariableRow(number) => text(sections.variable_row(number)),
+        Spot::AttributeRow(number) => text(sections.attribute_row(number)),
+        Spot::ElementRow(number) => sections.element(number).map(element_text),
+        Spot::NameRow(number) | Spot::Name(number) => text(sections.name_span(number)),
+        Spot::StringRow(number) | Spot::String(number) => text(sections.string_span(number)),
+        Spot::Instruction(site) => Some(instruction_text(sections, site)),
+        Spot::Header | Spot::Zero | Spot::SecondZero => None,
     }
 }
 

@@ -37,6 +37,12 @@ impl Explanation {
         }
     }
 
+    /// The first paragraph of its meaning, on one line.
+    pub fn summary(&self) -> String {
+        let lines = self.meaning.lines().take_while(|line| !line.is_empty());
+        lines.collect::<Vec<_>>().join(" ")
+    }
+
     pub(crate) const fn wrong(mut self, code: &'static str) -> Self {
         self.wrong = Some(Example::new(None, code));
         self

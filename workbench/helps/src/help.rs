@@ -47,6 +47,16 @@ impl Finding {
         self.help(None, advice.into(), fix);
     }
 
+    /// Adds what is said of a second place, with the change that it is.
+    pub(crate) fn propose_at(
+        &mut self,
+        span: Option<Span>,
+        advice: impl Into<Advice>,
+        fix: Option<Fix>,
+    ) {
+        self.help(span, advice.into(), fix);
+    }
+
     fn help(&mut self, span: Option<Span>, advice: Advice, fix: Option<Fix>) {
         self.helps.push(Help { span, advice, fix });
     }

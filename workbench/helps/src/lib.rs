@@ -27,6 +27,7 @@ mod rules;
 mod script;
 mod sentences;
 mod slips;
+mod split;
 mod syntax;
 mod text;
 
@@ -34,7 +35,9 @@ pub use advice::Advice;
 pub use explaining::{Explained, TextFault, explain, text_fault};
 pub use help::{Finding, Help};
 pub use recovery::{Later, Recovered, recover};
-pub use rules::{Description, Foreign, NameHelp, OtherKinds, OtherType, RuleHelp, explain_breach};
+pub use rules::{
+    Description, Foreign, NameHelp, OtherKinds, OtherType, RuleHelp, Unnamed, explain_breach,
+};
 pub use script::{
     ScriptHelp, ScriptSlip, Wrong, explain_script, explain_script_line, nearest_method,
     nearest_variable, script_name_before, script_names,

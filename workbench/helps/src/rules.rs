@@ -2,6 +2,7 @@
 
 mod arguments;
 mod description;
+mod duplicates;
 mod enumerators;
 mod foreign;
 mod members;
@@ -11,6 +12,7 @@ mod other_types;
 mod sentences;
 
 pub use description::Description;
+pub use duplicates::Unnamed;
 pub use foreign::Foreign;
 pub use members::OtherKinds;
 pub use name_help::NameHelp;
@@ -64,7 +66,7 @@ fn say_own(
                 finding.say(RuleHelp::Needs { kind, word });
             }
         }
-        RuleFault::OtherType { word, .. } => say_type(word, finding),
+        RuleFault::OtherType { word, .. } => say_type(description, word, finding),
         RuleFault::Mismatch { .. } => {
             finding.say(help_of_mismatch(word));
             if let Some(at) = at {
@@ -109,8 +111,17 @@ fn say_hidden(description: &Description<'_>, at: usize, finding: &mut Finding) {
     finding.say_at(description.span(number), NameHelp::HidesVariable { name });
 }
 
-// Says which type may be meant by a word.
-fn say_type(word: &str, finding: &mut Finding) {
+// Says which type may be meant by a word, or by it and the one after it.
+fn say_type(description: &Description<'_>, word: &str, finding: &mut Finding) {
+    let place = finding.span.and_then(|span| description.number_at(span));
+    let split = place.and_then(|at| description.split_around(at, OtherType::is_type));
+    if let Some(split) = split
+        && let Some(meant) = OtherType::spelled(&split.joined)
+    {
+        finding.span = Some(split.span);
+        let fix = finding.replacement(meant, Confidence::Guess);
+        return finding.propose(RuleHelp::Type(OtherType::Meant(meant)), fix);
+    }
     let help = OtherType::of(word);
     let fix = match help {
         OtherType::Meant(meant) => finding.replacement(meant, Confidence::Guess),

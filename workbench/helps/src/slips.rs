@@ -16,10 +16,12 @@ mod values;
 mod words;
 
 pub(crate) use around::{
-    Around, At, is_symbol, open_bracket, open_parenthesis, opening_parenthesis,
+    Around, At, is_integer, is_joined, is_symbol, open_brace, open_bracket, open_parenthesis,
+    opening_parenthesis, parenthesis_open_at,
 };
 pub(crate) use bodies::early_end;
 pub(crate) use left_out::slip_of_left_out;
+pub(crate) use lists::{MENU_QUALIFIERS, is_qualifier};
 pub(crate) use nesting::nested_comment;
 pub(crate) use operators::slip_at;
 pub(crate) use placed::Placed;

@@ -4,9 +4,14 @@ mod attributes;
 mod braces;
 mod candidates;
 mod change;
+mod comments;
+mod confidence;
 mod faults;
 mod fitting;
+mod lines;
+mod pairs;
 mod sentences;
+mod split_words;
 mod trials;
 mod unsupported;
 

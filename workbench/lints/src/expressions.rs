@@ -23,8 +23,8 @@ use operands::{
     check_settled, ranged_place,
 };
 use slips::{
-    check_answer, check_argument, check_binary, check_changed_bits, check_code, check_named,
-    check_reversed, check_stepped, check_truth_of_number,
+    check_answer, check_argument, check_assigned_operand, check_binary, check_changed_bits,
+    check_code, check_named, check_reversed, check_stepped, check_truth_of_number,
 };
 use stores::{check_assigned, check_stored, check_wrapped, is_itself};
 use walk::Walk;
@@ -180,6 +180,8 @@ fn check_operator(
     check_expression(first, false, walk);
     check_logical(first, second, sign, at, walk);
     check_truth_of_number([first, second], at, walk);
+    check_assigned_operand(first, walk);
+    check_assigned_operand(second, walk);
     check_expression(second, false, walk);
     walk.ranged = before;
 }

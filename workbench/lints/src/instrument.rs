@@ -40,7 +40,7 @@ pub(crate) struct Instrument<'i> {
     /// The index of each item, by kind and number.
     by_kind: HashMap<u8, Vec<usize>>,
     variables: Vec<Variable<'i>>,
-    elements: HashSet<(u16, u32)>,
+    elements: HashMap<(u16, u32), u16>,
     /// The arrays with elements.
     arrays: HashSet<u16>,
     /// The commands by their numbers.
@@ -162,7 +162,7 @@ impl<'i> Instrument<'i> {
             variables: Vec::new(),
             elements: elements
                 .iter()
-                .map(|element| (element.array.0, element.number))
+                .map(|element| ((element.array.0, element.number), element.var.0))
                 .collect(),
             arrays: elements.iter().map(|element| element.array.0).collect(),
             commands: HashMap::new(),
@@ -227,9 +227,15 @@ impl<'i> Instrument<'i> {
         self.names.contains(name)
     }
 
+    /// The variable that an element of an array is.
+    pub(crate) fn element(&self, array: u16, number: i64) -> Option<u16> {
+        let number = u32::try_from(number).ok()?;
+        self.elements.get(&(array, number)).copied()
+    }
+
     /// Whether an array has an element of a number.
     pub(crate) fn has_element(&self, array: u16, number: i64) -> bool {
-        u32::try_from(number).is_ok_and(|number| self.elements.contains(&(array, number)))
+        u32::try_from(number).is_ok_and(|number| self.elements.contains_key(&(array, number)))
     }
 
     /// Whether an array has an element.

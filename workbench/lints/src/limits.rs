@@ -2,6 +2,7 @@
 
 use crate::context::Context;
 use crate::cycles::{Cycle, find_cycles};
+use crate::expressions::stores::without_parentheses;
 use crate::instrument::Variable;
 use crate::kind::VariableKind;
 use crate::settled::variables_read;
@@ -12,12 +13,13 @@ use crate::values::environment::Environment;
 use crate::values::evaluation::Nobody;
 use crate::visit::{Visitor, visit_conditional};
 use crate::warning::Findings;
+use edd_constants::evaluate;
 use edd_instructions::Sort;
 use edd_syntax::cond::{Arm, Cond};
 use edd_syntax::expr::Expr;
 use edd_syntax::item::Attribute;
-use edd_syntax::numbers::NumberOption;
-use edd_syntax::operators::Comparison;
+use edd_syntax::numbers::{ItemNo, NumberOption};
+use edd_syntax::operators::{Comparison, Operator};
 use edd_syntax::reference::Target;
 use edd_syntax::types::VarType;
 use std::collections::HashMap;
@@ -161,6 +163,40 @@ fn check_order(
     Some((low.at, kind(least, greatest), high.at))
 }
 
+// What an expression adds to something that it reads, where it does nothing else.
+fn sum_of(e: &Expr<Target>) -> Option<(Target, i64)> {
+    match without_parentheses(e) {
+        Expr::Reference(target) => Some((*target, 0)),
+        Expr::Binary(operator, first, second) => {
+            let number = |e| evaluate(e, Sort::Attribute).number();
+            let (inner, number) = match (operator, number(first), number(second)) {
+                (Operator::Add, _, Some(number)) => (first, number),
+                (Operator::Add, Some(number), _) => (second, number),
+                (Operator::Subtract, _, Some(number)) => (first, number.checked_neg()?),
+                _ => return None,
+            };
+            let (target, so_far) = sum_of(inner)?;
+            Some((target, so_far.checked_add(number)?))
+        }
+        _ => None,
+    }
+}
+
+// Two limits that are sums with the same, of which the first is always over the second.
+fn apart(
+    least: NumberPart<'_>,
+    greatest: NumberPart<'_>,
+) -> Option<(TokenIndex, VariableKind, TokenIndex)> {
+    let plain = |part: &NumberPart<'_>| match part.value {
+        Cond::Value(e) => sum_of(e),
+        _ => None,
+    };
+    let (low, high) = (plain(&least)?, plain(&greatest)?);
+    let over = low.1.checked_sub(high.1)?;
+    let is_over = low.0 == high.0 && 0 < over;
+    is_over.then_some((least.at, VariableKind::LimitsApart(over), greatest.at))
+}
+
 /// Checks the limits of a variable, which may be under conditions.
 pub(crate) fn check_limits_under_conditions(
     variable: &Variable<'_>,
@@ -170,7 +206,8 @@ pub(crate) fn check_limits_under_conditions(
     let least = || part_of(variable, NumberOption::MinValue);
     let greatest = || part_of(variable, NumberOption::MaxValue);
     let default = || part_of(variable, NumberOption::DefaultValue);
-    let crossed = check_order(least(), greatest(), VariableKind::CrossedLimits, context);
+    let crossed = check_order(least(), greatest(), VariableKind::CrossedLimits, context)
+        .or_else(|| apart(least()?, greatest()?));
     let over = check_order(default(), greatest(), VariableKind::DefaultOver, context);
     for (at, kind, other) in crossed.into_iter().chain(over) {
         findings.add_beside(at, kind, other);
@@ -204,16 +241,23 @@ fn check_single_value(
 }
 
 /// The variables that an attribute reads, and where the attribute is.
-#[derive(Default)]
-struct Reading {
+struct Reading<'c, 'd> {
+    context: &'c Context<'d>,
     at: TokenIndex,
     read: Vec<u16>,
 }
 
-impl<'t> Visitor<'t> for Reading {
-    fn expression(&mut self, e: &'t Expr<Target>, _: Sort) {
-        if let Expr::Reference(_) = e {
-            variables_read(e, &mut self.read);
+impl<'t> Visitor<'t> for Reading<'_, '_> {
+    fn expression(&mut self, e: &'t Expr<Target>, sort: Sort) {
+        match e {
+            Expr::Reference(_) => variables_read(e, &mut self.read),
+            Expr::Indexed(Target::Item(ItemNo::Array(array)), index) => {
+                let number = evaluate(index, sort).number();
+                let instrument = &self.context.instrument;
+                let element = number.and_then(|number| instrument.element(array.0, number));
+                self.read.extend(element);
+            }
+            _ => {}
         }
     }
 }
@@ -236,8 +280,12 @@ impl Circular {
         }
     }
 
-    fn reading(self, variable: &Variable<'_>) -> Reading {
-        let mut reading = Reading::default();
+    fn reading<'c, 'd>(self, variable: &Variable<'_>, context: &'c Context<'d>) -> Reading<'c, 'd> {
+        let mut reading = Reading {
+            context,
+            at: 0,
+            read: Vec::new(),
+        };
         for attribute in &variable.item.attributes {
             match (self, attribute) {
                 (Circular::Validity, Attribute::Validity(at, c)) => {
@@ -274,7 +322,10 @@ pub(crate) fn check_circular(context: &Context<'_>, findings: &mut Findings<'_>)
         Circular::Handling,
     ];
     for which in all {
-        let all: Vec<_> = variables.iter().map(|one| which.reading(one)).collect();
+        let all: Vec<_> = variables
+            .iter()
+            .map(|one| which.reading(one, context))
+            .collect();
         let next = all
             .iter()
             .map(|reading| reading.read.iter().copied().map(usize::from).collect())

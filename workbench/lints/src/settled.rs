@@ -5,6 +5,7 @@ mod attributes;
 mod counters;
 mod indexes;
 mod statements;
+mod stores;
 
 pub(crate) use attributes::{check_attributes, variables_read};
 pub(crate) use statements::check_body;
@@ -55,7 +56,8 @@ impl Observer for Ways<'_, '_, '_> {
                 // What the type of a place says of a constant is reported elsewhere.
                 let is_of_type = is_with_constant(first, second, known.sort)
                     && self.by_types(e, known.sort).number().is_some();
-                let counts = |number: &i64| !is_of_type && (*number == 0 || !self.is_chained);
+                let is_careful = self.is_chained || known.reads_passed(e);
+                let counts = |number: &i64| !is_of_type && (*number == 0 || !is_careful);
                 if let Some(number) = values.number().filter(counts) {
                     let at = self.context.places.sign(e);
                     self.findings
@@ -63,6 +65,7 @@ impl Observer for Ways<'_, '_, '_> {
                 }
             }
             Expr::Indexed(array, index) => indexes::check_index(self, e, *array, index, known),
+            Expr::Assign(to, _) => stores::check_store(self, e, *to, values, known),
             Expr::LogicalAnd(first, second) | Expr::LogicalOr(first, second) => {
                 for operand in [first, second] {
                     self.check_operand(operand, known);
@@ -95,10 +98,11 @@ impl<'c, 'd> Ways<'c, 'd, '_> {
         self.findings.is_reported(span) || children(e).any(|inner| self.is_reported(inner))
     }
 
-    /// Follows an expression.
+    /// Follows an expression. Of one that has a warning nothing is known: it may be another one that is meant.
     fn follow(&mut self, e: &Expr<Target>, known: &mut Environment<'c, 'd>) -> Values {
         if self.is_reported(e) {
-            return known.evaluate(e, &mut Nobody);
+            known.forget_changes(e);
+            return Values::any(known.sort);
         }
         known.evaluate(e, self)
     }
@@ -125,7 +129,8 @@ impl<'c, 'd> Ways<'c, 'd, '_> {
         }
         let mut fresh = known.clone();
         let truth = fresh.evaluate(e, &mut Nobody).truth();
-        if let Some(truth) = truth.filter(|truth| !truth || !self.is_chained) {
+        let is_careful = self.is_chained || known.reads_passed(e);
+        if let Some(truth) = truth.filter(|truth| !truth || !is_careful) {
             let at = self.context.places.sign(e);
             self.findings.add(at, ConditionKind::SettledTest(truth));
         }

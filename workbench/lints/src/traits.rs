@@ -6,6 +6,7 @@ use crate::instrument::Variable;
 use crate::kind::{TextKind, VariableKind};
 use crate::lists::{Listed, enumerators_of, values_in};
 use crate::source::{TokenIndex, index};
+use crate::texts::variants::Variants;
 use crate::warning::Findings;
 use edd_lexer::token::TokenKind;
 use edd_syntax::cond::Cond;
@@ -53,9 +54,15 @@ fn check_texts(enumerators: &[Listed<'_, Enumerator>], findings: &mut Findings<'
         };
         if text.is_empty() {
             findings.add(at, TextKind::EmptyText);
-        } else if let Some(earlier) = seen.insert((listed.list, text), at)
-            && !is_spare(text)
-        {
+            continue;
+        }
+        // In one language alone two of them can't be told apart either.
+        let mut earlier = None;
+        for variant in Variants::of(text.as_bytes()).filter(|variant| !variant.words.is_empty()) {
+            let same = seen.insert((listed.list, variant.code, variant.words), at);
+            earlier = earlier.or(same.filter(|same| *same != at));
+        }
+        if let Some(earlier) = earlier.filter(|_| !is_spare(text)) {
             findings.add_beside(at, VariableKind::RepeatedText, earlier);
         }
     }

@@ -1,6 +1,7 @@
 //! Where variables are used: in messages of commands, in menus, in expressions and methods.
 
 use crate::expressions::calls::target_of_argument;
+use crate::expressions::stores::without_parentheses;
 use crate::instrument::variable_of;
 use crate::lists::values_of;
 use crate::menus::{entries_of, item_shown};
@@ -9,8 +10,9 @@ use edd_instructions::Sort;
 use edd_syntax::expr::Expr;
 use edd_syntax::item::{Attribute, DataItem, Item, ItemKind, TransactionPart};
 use edd_syntax::numbers::ItemNo;
-use edd_syntax::operators::{Builtin, RequestKind};
+use edd_syntax::operators::{Builtin, Comparison, RequestKind};
 use edd_syntax::reference::Target;
+use edd_syntax::stmt::Stmt;
 use edd_syntax::types::Operation;
 use std::collections::HashSet;
 
@@ -117,6 +119,16 @@ impl Usage {
 }
 
 impl<'t> Visitor<'t> for Usage {
+    // A comparison of which nothing is used has a warning of its own, and is meant to set what it compares.
+    fn statement(&mut self, s: &'t Stmt<Target>) {
+        if let Stmt::Evaluate(e) = s
+            && let Expr::Compare(Comparison::Equal, first, _) = without_parentheses(e)
+            && let Expr::Reference(target) = **first
+        {
+            self.add_set(Some(target));
+        }
+    }
+
     fn expression(&mut self, e: &'t Expr<Target>, _: Sort) {
         match e {
             Expr::Reference(target) => self.mentioned.extend(variable_of(*target)),

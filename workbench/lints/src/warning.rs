@@ -50,6 +50,8 @@ pub(crate) struct Findings<'s> {
     found: Vec<Finding>,
     // Where they begin.
     starts: HashSet<usize>,
+    // The last place where one begins: most that is asked for lies behind it.
+    furthest: usize,
 }
 
 impl<'s> Findings<'s> {
@@ -58,6 +60,7 @@ impl<'s> Findings<'s> {
             source,
             found: Vec::new(),
             starts: HashSet::new(),
+            furthest: 0,
         }
     }
 
@@ -76,12 +79,13 @@ impl<'s> Findings<'s> {
             fixes: Vec::new(),
         };
         self.starts.insert(span.start);
+        self.furthest = self.furthest.max(span.start);
         self.found.push(Finding { line, warning });
     }
 
     /// Whether there is a warning at a span.
     pub(crate) fn is_reported(&self, span: Span) -> bool {
-        self.starts.contains(&span.start)
+        span.start <= self.furthest && self.starts.contains(&span.start)
     }
 
     /// Adds a warning at a token that is in conflict with another one.

@@ -1,4 +1,4 @@
-//! Plays the list of doubtful sources: which lint warns of each, or why none does.
+//! Plays the lists of doubtful sources: which lint warns of each, or why none does.
 
 use core_std::alloc::Global;
 use edd_compiler::checked_of;
@@ -6,7 +6,10 @@ use edd_lexer::lex;
 use edd_lints::{Level, Levels, Lint, find};
 use std::collections::BTreeSet;
 
-const LIST: &str = include_str!("doubtful.txt");
+const LISTS: [&str; 2] = [
+    include_str!("doubtful.txt"),
+    include_str!("doubtful_more.txt"),
+];
 
 /// What a source is to be told.
 #[derive(Debug, PartialEq, Eq)]
@@ -46,7 +49,7 @@ fn wanted(answer: &str) -> Option<Wanted> {
 fn read() -> (String, Vec<Doubtful>) {
     let mut base = String::new();
     let mut all: Vec<Doubtful> = Vec::new();
-    for line in LIST.lines() {
+    for line in LISTS.into_iter().flat_map(str::lines) {
         if let Some(code) = line.strip_prefix("    ") {
             let items = all.last_mut().map_or(&mut base, |last| &mut last.items);
             items.push_str(code);
@@ -78,7 +81,7 @@ fn lints_of(text: &str, levels: &Levels) -> Option<BTreeSet<Lint>> {
 fn the_description_that_all_have_in_common_is_clean() {
     let (base, all) = read();
     assert_eq!(lints_of(&base, &Levels::default()), Some(BTreeSet::new()));
-    assert_eq!(all.len(), 190);
+    assert_eq!(all.len(), 290);
 }
 
 #[test]

@@ -5,6 +5,7 @@ mod places;
 
 use crate::{Diagnostic, Kind, Report, Severity};
 use document::{Document, Driver, Invocation, Message, Notice, Outcome, Rule, Run, Tool};
+use edd_explain::Explanation;
 use edd_source::Source;
 use places::{changes_of, first_location, related_locations};
 use std::collections::HashMap;
@@ -79,12 +80,6 @@ fn outcome_of(source: &Source<'_>, diagnostic: &Diagnostic, rules: &mut Rules) -
     }
 }
 
-// The first paragraph of a text, on one line.
-fn first_paragraph(text: &str) -> String {
-    let lines = text.lines().take_while(|line| !line.is_empty());
-    lines.collect::<Vec<_>>().join(" ")
-}
-
 // What is said, and a line for each help.
 fn message_of(diagnostic: &Diagnostic) -> Message {
     let mut text = diagnostic.kind.to_string();
@@ -97,15 +92,17 @@ fn message_of(diagnostic: &Diagnostic) -> Message {
 impl Rules {
     // The id of a rule and its place, where it is added if it is not there.
     fn of(&mut self, kind: &Kind) -> (String, usize) {
-        let (id, name, meaning) = match kind {
+        let (id, name, summary) = match kind {
             Kind::Refused(refusal) => {
                 let number = refusal.number();
-                let meaning = edd_explain::by_number(number.into()).map(|it| it.meaning);
-                (number.to_string(), refusal.name(), meaning)
+                let explanation = edd_explain::by_number(number.into());
+                let summary = explanation.map(Explanation::summary);
+                (number.to_string(), refusal.name(), summary)
             }
             Kind::Warned(warning) => {
                 let lint = warning.lint();
-                (lint.name().to_owned(), lint.name(), Some(lint.summary()))
+                let summary = lint.summary().to_owned();
+                (lint.name().to_owned(), lint.name(), Some(summary))
             }
         };
         if let Some(place) = self.places.get(&id) {
@@ -116,7 +113,7 @@ impl Rules {
         self.list.push(Rule {
             id: id.clone(),
             name,
-            short_description: Message::new(first_paragraph(meaning.unwrap_or(name))),
+            short_description: Message::new(summary.unwrap_or_else(|| name.to_owned())),
             help: Message::new(format!("`edd explain {id}` says what it means")),
         });
         (id, place)

@@ -2,6 +2,8 @@
 
 use super::enumerators::Enumerators;
 use crate::near::{Nearest, names_alike};
+use crate::slips::At;
+use crate::split::{Split, split_around};
 use edd_lexer::token::{Token, TokenKind};
 use edd_source::tokens::{is_sign, is_word, word_of};
 use edd_source::{Outline, Span};
@@ -128,6 +130,34 @@ impl<'a> Description<'a> {
         self.tokens.get(number).map(Span::of)
     }
 
+    /// Where the arguments of a function are whose name is a token, with their parentheses.
+    pub fn arguments(&self, name: usize) -> Option<Span> {
+        let open = name.checked_add(1)?;
+        if !is_sign(self.tokens, open, Symbol::OpenParenthesis) {
+            return None;
+        }
+        let mut depth: usize = 0;
+        for number in open..self.tokens.len() {
+            if is_sign(self.tokens, number, Symbol::OpenParenthesis) {
+                depth = depth.saturating_add(1);
+            } else if is_sign(self.tokens, number, Symbol::CloseParenthesis) {
+                depth = depth.saturating_sub(1);
+                if depth == 0 {
+                    return Some(self.span(open)?.up_to(self.span(number)?));
+                }
+            }
+        }
+        None
+    }
+
+    /// The number of the token at a place.
+    pub(super) fn number_at(&self, span: Span) -> Option<usize> {
+        let number = self
+            .tokens
+            .partition_point(|token| Span::of(token).start < span.start);
+        (self.span(number)? == span).then_some(number)
+    }
+
     /// The bytes of a token; none where there is no token of this number.
     pub fn word(&self, number: usize) -> &'a str {
         self.tokens
@@ -198,6 +228,21 @@ impl<'a> Description<'a> {
         let begins = is_sign(self.tokens, before, Symbol::OpenBrace)
             || is_sign(self.tokens, before, Symbol::Semicolon);
         begins && is_sign(self.tokens, number.saturating_add(1), Symbol::Comma)
+    }
+
+    /// The words around a token that stand for one that is meant.
+    pub(super) fn split_around(
+        &self,
+        number: usize,
+        is_meant: impl Fn(&str) -> bool,
+    ) -> Option<Split> {
+        let at = At {
+            text: self.text,
+            tokens: self.tokens,
+            number,
+            first: number,
+        };
+        split_around(at, is_meant)
     }
 
     /// The name that is nearest to this one: of members, or of items, of functions and of what else

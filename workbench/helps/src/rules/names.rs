@@ -5,14 +5,14 @@ use super::description::{Description, number_of};
 use super::enumerators::compared_with;
 use super::{Foreign, NameHelp};
 use crate::near::Nearest;
-use crate::slips::slip_of_left_out;
+use crate::slips::{MENU_QUALIFIERS, Slip, slip_of_left_out};
 use crate::{Advice, Finding};
 use edd_lexer::token::{Token, TokenKind};
-use edd_source::Confidence;
 use edd_source::tokens::is_sign;
+use edd_source::{Confidence, Fix};
 use edd_syntax::item::Item;
 use edd_syntax::numbers::Kind;
-use edd_syntax::operators::{Builtin, Parameter};
+use edd_syntax::operators::{BUILTINS, Builtin, Parameter};
 use edd_syntax::reference::Path;
 use edd_syntax::symbols::Symbol;
 
@@ -24,9 +24,34 @@ pub(super) fn say_unknown(
     finding: &mut Finding,
 ) {
     let is_member = is_sign(description.tokens(), number.saturating_sub(1), Symbol::Dot);
-    if is_member || !say_known(description, name, number, finding) {
+    if say_split(description, number, finding) {
+        return;
+    }
+    let is_misspelled = !is_member && is_misspelled_there(description, name);
+    if is_member || is_misspelled || !say_known(description, name, number, finding) {
         say_new(description, name, number, is_member, finding);
     }
+}
+
+// Says which name is meant by several ones, whose `_` is a blank or a hyphen. Returns whether it is so.
+fn say_split(description: &Description<'_>, number: usize, finding: &mut Finding) -> bool {
+    let is_declared = |name: &str| description.declared(name).is_some();
+    let Some(split) = description.split_around(number, is_declared) else {
+        return false;
+    };
+    finding.span = Some(split.span);
+    let fix = finding.replacement(&split.joined, Confidence::Guess);
+    finding.propose(NameHelp::Meant { near: split.joined }, fix);
+    true
+}
+
+// Whether a name is misspelled where an item is declared, which nothing uses. A member may have the name.
+fn is_misspelled_there(description: &Description<'_>, name: &str) -> bool {
+    let is_member = description.item(name).is_none() && description.declared(name).is_some();
+    let near = is_member.then(|| description.nearest(name, false).alone());
+    near.flatten()
+        .filter(|near| description.count(near) == 1)
+        .is_some_and(|near| description.item(near).is_some())
 }
 
 // Says what helps where a name is one of a method, of a function or of something elsewhere.
@@ -44,7 +69,11 @@ fn say_known(
         let place = description.span(declared);
         finding.say_at(place, Advice::from(NameHelp::MeansNothingHere { name }));
     } else if let Some(foreign) = Foreign::of(name) {
-        finding.say(NameHelp::Foreign(foreign));
+        let function = BUILTINS
+            .iter()
+            .find(|it| it.name().eq_ignore_ascii_case(name));
+        let fix = function.and_then(|it| finding.replacement(it.name(), Confidence::Guess));
+        finding.propose(NameHelp::Foreign(foreign), fix);
     } else if let Some(slip) = slip_of_left_out(name) {
         finding.say(slip);
     } else if let Some(function) = Builtin::named(name) {
@@ -80,19 +109,13 @@ fn say_new(
     finding: &mut Finding,
 ) {
     let nearest = description.nearest(name, is_member);
+    let near = nearest
+        .found
+        .filter(|near| may_stand(description, near, number));
     let statement = statement_meant(description, name, number);
-    match (nearest.found.or(statement), nearest.other) {
+    match (near.or(statement), nearest.other) {
         (None, _) if !is_member && say_text(description, name, number, finding) => {}
-        (Some(near), None) => {
-            let fix = finding.replacement(near, Confidence::Guess);
-            finding.propose(
-                NameHelp::Meant {
-                    near: near.to_owned(),
-                },
-                fix,
-            );
-            say_misspelled(description, name, near, finding);
-        }
+        (Some(near), None) => say_near(description, name, near, finding),
         (Some(near), Some(other)) => finding.say(NameHelp::EitherMeant {
             near: near.to_owned(),
             other: other.to_owned(),
@@ -104,14 +127,33 @@ fn say_new(
     }
 }
 
-// Says where a name is declared that nothing uses, where another one is used that is near: then the
-// declaration may be what is misspelled.
-fn say_misspelled(description: &Description<'_>, name: &str, near: &str, finding: &mut Finding) {
+// Whether a name may stand at a token: not that of an ARRAY or a COLLECTION where a VARIABLE is wanted and
+// nothing of them is read.
+fn may_stand(description: &Description<'_>, near: &str, number: usize) -> bool {
+    let next = number.saturating_add(1);
+    let tokens = description.tokens();
+    let is_read = is_sign(tokens, next, Symbol::OpenBracket) || is_sign(tokens, next, Symbol::Dot);
+    let is_compound = description
+        .item(near)
+        .is_some_and(|item| matches!(item.kind(), Kind::Array | Kind::Collection));
+    !is_compound || is_read || kind_wanted(description, number) != Some(Kind::Variable)
+}
+
+// Says which name is meant. Where nothing uses that, and this name is used several times, the declaration is
+// what is misspelled.
+fn say_near(description: &Description<'_>, name: &str, near: &str, finding: &mut Finding) {
     let is_unused = description.count(near) == 1 && 1 < description.count(name);
-    if let Some(declared) = description.declared(near).filter(|_| is_unused) {
-        let near = near.to_owned();
-        finding.say_at(description.span(declared), NameHelp::NothingUses { near });
+    let declared = description.declared(near).filter(|_| is_unused);
+    let place = declared.and_then(|declared| description.span(declared));
+    let near = near.to_owned();
+    if let Some(place) = place {
+        let fix = Fix::replace(place, name, Confidence::Guess);
+        let unused = NameHelp::NothingUses { near: near.clone() };
+        finding.propose_at(Some(place), unused, Some(fix));
+        return finding.say(NameHelp::Meant { near });
     }
+    let fix = finding.replacement(&near, Confidence::Guess);
+    finding.propose(NameHelp::Meant { near }, fix);
 }
 
 // Says that a name is the text of an enumerator, whose number is meant. Returns whether it is one.
@@ -212,12 +254,10 @@ fn qualifier_meant(description: &Description<'_>, name: &str, number: usize) -> 
     if item.kind() != Kind::Menu || !is_behind_name || name.len() < 4 {
         return None;
     }
-    let qualifier = ["READ_ONLY", "HIDDEN", "REVIEW", "DISPLAY_VALUE"]
-        .into_iter()
-        .find(|qualifier| {
-            let begins = qualifier.get(..name.len());
-            begins.is_some_and(|begins| begins.eq_ignore_ascii_case(name))
-        })?;
+    let qualifier = MENU_QUALIFIERS.into_iter().find(|qualifier| {
+        let begins = qualifier.get(..name.len());
+        begins.is_some_and(|begins| begins.eq_ignore_ascii_case(name))
+    })?;
     Some(NameHelp::Qualifier {
         item: description.word(before).to_owned(),
         qualifier,
@@ -262,6 +302,26 @@ fn help_to_declare(description: &Description<'_>, name: &str, number: usize) -> 
     }
 }
 
+// Says that a comma is meant by the point between a variable and another item. Returns whether it is so.
+fn say_comma(
+    description: &Description<'_>,
+    item: &Item<Path>,
+    number: usize,
+    finding: &mut Finding,
+) -> bool {
+    let point = number.saturating_add(1);
+    let is_point = is_sign(description.tokens(), point, Symbol::Dot);
+    let next = description.item(description.word(point.saturating_add(1)));
+    let place = description.span(point);
+    let (Some(place), true, Kind::Variable) = (place, is_point && next.is_some(), item.kind())
+    else {
+        return false;
+    };
+    let fix = Fix::replace(place, ",", Confidence::Guess);
+    finding.propose_at(Some(place), Slip::CommaForPoint, Some(fix));
+    true
+}
+
 /// Says what helps where a name means something of another kind.
 pub(super) fn say_kind(
     description: &Description<'_>,
@@ -282,6 +342,9 @@ pub(super) fn say_kind(
     let Some(item) = description.item(name) else {
         return;
     };
+    if say_comma(description, item, number, finding) {
+        return;
+    }
     let name = name.to_owned();
     let is_in_body = description.is_in_body(number);
     let is_read = is_in_body && parameter_at(description, number).is_none();

@@ -43,6 +43,16 @@ impl OtherType {
         }
     }
 
+    /// Whether a word is a type.
+    pub(super) fn is_type(word: &str) -> bool {
+        TYPES.contains(&word)
+    }
+
+    /// The type with this spelling.
+    pub(super) fn spelled(word: &str) -> Option<&'static str> {
+        TYPES.into_iter().find(|other| *other == word)
+    }
+
     fn nearest(word: &str) -> OtherType {
         let mut nearest = Nearest::to_word(word);
         for other in TYPES {

@@ -228,6 +228,25 @@ pub(crate) fn open_brace(tokens: &[Token], number: usize) -> Option<usize> {
     opened(tokens, number, 0, BRACES)
 }
 
+/// The number of the last parenthesis before a token that is not closed, also across the `;` of a `for`.
+pub(crate) fn parenthesis_open_at(at: At<'_>) -> Option<usize> {
+    let mut closed: usize = 0;
+    for count in 1..=LONGEST {
+        let number = at.number.checked_sub(count)?;
+        if is_sign(at.tokens, number, Symbol::CloseParenthesis) {
+            closed = closed.saturating_add(1);
+        } else if is_sign(at.tokens, number, Symbol::OpenParenthesis) {
+            if closed == 0 {
+                return Some(number);
+            }
+            closed = closed.saturating_sub(1);
+        } else if is_sign(at.tokens, number, Symbol::OpenBrace) {
+            return None;
+        }
+    }
+    None
+}
+
 /// The last parenthesis of the statement before a token that is not closed.
 pub(crate) fn open_parenthesis(at: At<'_>) -> Option<Span> {
     open_sign(at, PARENTHESES)

@@ -2,11 +2,13 @@
 
 use super::around::{
     Around, At, BRACES, PARENTHESES, is_integer, is_joined, is_keyword, is_symbol, on,
-    open_parenthesis, opened, word_before,
+    open_parenthesis, opened, parenthesis_open_at, word_before,
 };
-use super::branches::{lone_else, no_condition, no_word};
-use super::values::value_slip;
-use super::words::{are_one_function, slip_of_branch, slip_of_label, slip_of_statement};
+use super::branches::{is_behind_head, lone_else, no_condition, no_word};
+use super::values::{is_function, value_slip};
+use super::words::{
+    are_one_function, branch_meant, slip_of_branch, slip_of_label, slip_of_statement,
+};
 use super::{Placed, Slip};
 use edd_lexer::token::{Token, TokenKind};
 use edd_source::Outline;
@@ -15,27 +17,8 @@ use edd_syntax::numbers::{Attr, Kind};
 use edd_syntax::operators::Operator;
 use edd_syntax::symbols::{Keyword, Symbol};
 
-/// How many tokens are looked at for the `for` whose parts these are.
+/// How many tokens are looked at for the `do` behind a condition.
 const LONGEST: usize = 64;
-
-// The number of the parenthesis that is open before the token, also across the `;` of a `for`.
-fn open_before(around: &Around<'_>) -> Option<usize> {
-    let mut closed: usize = 0;
-    for count in 1..=LONGEST {
-        let number = around.at.number.checked_sub(count)?;
-        if is_sign(around.at.tokens, number, Symbol::CloseParenthesis) {
-            closed = closed.saturating_add(1);
-        } else if is_sign(around.at.tokens, number, Symbol::OpenParenthesis) {
-            if closed == 0 {
-                return Some(number);
-            }
-            closed = closed.saturating_sub(1);
-        } else if is_sign(around.at.tokens, number, Symbol::OpenBrace) {
-            return None;
-        }
-    }
-    None
-}
 
 // A fourth part of a `for`, a second expression in one, or one part alone.
 fn part_of_for(around: &Around<'_>) -> Option<Placed> {
@@ -46,7 +29,7 @@ fn part_of_for(around: &Around<'_>) -> Option<Placed> {
         (TokenKind::Symbol(Symbol::Comma), _) => Slip::ForPartIsOneExpression,
         _ => return None,
     };
-    let word = open_before(around)?.checked_sub(1)?;
+    let word = parenthesis_open_at(around.at)?.checked_sub(1)?;
     if is_word(around.at.tokens, word, Keyword::For) {
         return around.here(slip);
     }
@@ -68,7 +51,9 @@ fn ends_do(around: &Around<'_>) -> bool {
 
 // What is missing before a closing brace.
 fn cut_off(around: &Around<'_>) -> Option<Placed> {
-    if !around.is(Symbol::CloseBrace) {
+    let is_for_parenthesis =
+        around.follows(Symbol::OpenParenthesis) && around.at.is_ahead(Symbol::Semicolon);
+    if !around.is(Symbol::CloseBrace) || is_for_parenthesis {
         return None;
     }
     match around.before.kind {
@@ -109,6 +94,13 @@ fn half_of_do(around: &Around<'_>) -> Option<Placed> {
     if !is_word(around.at.tokens, word, Keyword::Do) {
         return None;
     }
+    if around.token.kind == TokenKind::Name {
+        match around.word(around.token) {
+            "until" | "UNTIL" => return around.here(Slip::NoUntil),
+            word if branch_meant(word) == Some("while") => return around.here(Slip::WhileMeant),
+            _ => {}
+        }
+    }
     let is_while = is_sign(
         around.at.tokens,
         word.checked_sub(1)?,
@@ -122,8 +114,8 @@ fn half_of_do(around: &Around<'_>) -> Option<Placed> {
     on(around.at.tokens.get(word)?, slip)
 }
 
-// Whether a statement begins with the token before.
-fn begins(around: &Around<'_>) -> bool {
+/// Whether a statement begins with the token before.
+pub(crate) fn begins(around: &Around<'_>) -> bool {
     around.is_second()
         || around.at.is_back(2, Symbol::CloseParenthesis)
         || around
@@ -183,7 +175,10 @@ fn capital_for(around: &Around<'_>) -> Option<Placed> {
     if !around.is(Symbol::Semicolon) {
         return None;
     }
-    let word = around.at.tokens.get(open_before(around)?.checked_sub(1)?)?;
+    let word = around
+        .at
+        .tokens
+        .get(parenthesis_open_at(around.at)?.checked_sub(1)?)?;
     let name = around.word(word);
     if word.kind == TokenKind::Name && name.eq_ignore_ascii_case("for") {
         return on(word, Slip::ForMeant);
@@ -230,8 +225,11 @@ fn after_call(around: &Around<'_>, word: &Token) -> Option<Placed> {
     if let Some(slip) = slip_of_statement(name).or_else(|| slip_of_branch(name)) {
         return on(word, slip);
     }
-    let is_first = around.statement().saturating_add(1) == around.opening(PARENTHESES)?;
-    if !is_first || !around.is(Symbol::OpenBrace) {
+    let open = around.opening(PARENTHESES)?;
+    let is_first = around.statement().saturating_add(1) == open
+        || is_behind_head(around, open.checked_sub(1)?);
+    let is_head = around.is(Symbol::OpenBrace) || (!around.is_on_line() && !is_function(name));
+    if !is_first || !is_head || branch_meant(name).is_some() {
         return None;
     }
     let slip = Slip::NoBranchWord;

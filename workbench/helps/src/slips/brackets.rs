@@ -1,7 +1,7 @@
 //! Slips at parentheses, brackets and braces: those that are missing, or that do not belong there.
 
 use super::around::{Around, is_integer, is_symbol};
-use super::lists::{List, is_before_entry, list_around};
+use super::lists::{List, is_before_entry, is_in_enumerators, is_qualifier, list_around};
 use super::shapes::{is_after_type, is_type};
 use super::{Placed, Slip};
 use edd_lexer::token::TokenKind;
@@ -61,7 +61,7 @@ fn mask(around: &Around<'_>) -> Option<Placed> {
 fn bare_enumerator(around: &Around<'_>) -> Option<Placed> {
     if is_integer(around.before)
         && is_symbol(around.at.back(2)?, Symbol::OpenBrace)
-        && !around.at.is_in_body()
+        && is_in_enumerators(around)
     {
         return around.here(Slip::EnumeratorHasText);
     }
@@ -81,6 +81,24 @@ fn empty_parentheses(around: &Around<'_>) -> Option<Placed> {
     None
 }
 
+// Qualifiers of which the parenthesis that opens is missing.
+fn unopened_qualifiers(around: &Around<'_>) -> Option<Placed> {
+    let is_open = super::open_parenthesis(around.at).is_some();
+    if is_open || !is_qualifier(around.word(around.before)) {
+        return None;
+    }
+    around.here(Slip::ParenthesisNotOpen)
+}
+
+// A parenthesis for the brace before the first enumerator.
+fn enumerators_in_parentheses(around: &Around<'_>) -> Option<Placed> {
+    let word = around.word(around.at.back(2)?);
+    if !matches!(word, "ENUMERATED" | "BIT_ENUMERATED") {
+        return None;
+    }
+    around.on_before(Slip::EnumeratorsInBraces)
+}
+
 /// A slip at a parenthesis, a bracket or a brace.
 pub(crate) fn bracket_slip(around: &Around<'_>) -> Option<Placed> {
     let is_after_name = around.before.kind == TokenKind::Name;
@@ -90,7 +108,12 @@ pub(crate) fn bracket_slip(around: &Around<'_>) -> Option<Placed> {
             around.here(Slip::TextInParentheses)
         }
         TokenKind::Symbol(Symbol::OpenParenthesis) => open_parenthesis(around),
-        TokenKind::Symbol(Symbol::CloseParenthesis) => empty_parentheses(around),
+        TokenKind::Symbol(Symbol::CloseParenthesis) => {
+            unopened_qualifiers(around).or_else(|| empty_parentheses(around))
+        }
+        TokenKind::Symbol(Symbol::OpenBrace) if around.follows(Symbol::OpenParenthesis) => {
+            enumerators_in_parentheses(around)
+        }
         TokenKind::Symbol(Symbol::CloseBrace) => bare_enumerator(around),
         TokenKind::Symbol(
             Symbol::OpenBracket

@@ -1,6 +1,7 @@
 //! Slips at `else` and at conditions.
 
 use super::around::{Around, PARENTHESES, is_integer, is_keyword, on, open_brace, word_before};
+use super::bodies::begins;
 use super::{Placed, Slip};
 use edd_lexer::token::{Token, TokenKind};
 use edd_syntax::symbols::{Keyword, Symbol};
@@ -34,7 +35,9 @@ fn may_end_statement(around: &Around<'_>) -> bool {
 
 /// An `else` that belongs to no `if`.
 pub(crate) fn lone_else(around: &Around<'_>) -> Option<Placed> {
-    if may_end_statement(around) {
+    let is_lone = around.before.kind == TokenKind::Name && begins(around);
+    let goes_on = !around.at.is_ahead(Symbol::Semicolon) && !is_lone;
+    if may_end_statement(around) && goes_on {
         return around.behind(Slip::SemicolonHere);
     }
     if around.follows(Symbol::CloseParenthesis) {
@@ -90,10 +93,24 @@ pub(crate) fn no_word(around: &Around<'_>) -> Option<Placed> {
         return None;
     }
     let open = around.opening(PARENTHESES)?;
-    if around.statement() == open {
+    if around.statement() == open || is_behind_head(around, open) {
         return on(around.at.tokens.get(open)?, Slip::WordBeforeParentheses);
     }
     None
+}
+
+/// Whether a token comes right behind the parentheses of a branch or a loop.
+pub(crate) fn is_behind_head(around: &Around<'_>, number: usize) -> bool {
+    let tokens = around.at.tokens;
+    let Some(before) = number.checked_sub(1) else {
+        return false;
+    };
+    word_before(tokens, before).is_some_and(|word| {
+        matches!(
+            word.kind,
+            TokenKind::Keyword(Keyword::MethodIf | Keyword::While | Keyword::For)
+        )
+    })
 }
 
 fn ends_before(token: &Token) -> bool {

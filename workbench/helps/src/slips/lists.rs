@@ -7,6 +7,15 @@ use edd_source::tokens::item_kind;
 use edd_syntax::operators::{Comparison, Operator};
 use edd_syntax::symbols::{Keyword, Symbol};
 
+/// How many tokens are looked at for the end of qualifiers.
+const LONGEST: usize = 64;
+
+/// The qualifiers of the entries of menus.
+pub(crate) const MENU_QUALIFIERS: [&str; 4] = ["READ_ONLY", "HIDDEN", "REVIEW", "DISPLAY_VALUE"];
+
+/// The qualifiers of what is in messages.
+const DATA_QUALIFIERS: [&str; 2] = ["INFO", "INDEX"];
+
 /// The lists in whose braces a token may be.
 #[derive(Clone, Copy, PartialEq, Eq)]
 pub(crate) enum List {
@@ -121,23 +130,48 @@ fn qualifier(around: &Around<'_>) -> Option<Placed> {
     if around.is(sign) || around.is(Symbol::Operator(Operator::Or)) {
         return around.here(Slip::QualifiersSideBySide);
     }
-    let is_qualifier = matches!(
-        around.word(around.token),
-        "READ_ONLY" | "HIDDEN" | "REVIEW" | "DISPLAY_VALUE"
-    );
-    if around.follows(Symbol::Comma) && !is_qualifier {
-        return around.on_before(Slip::QualifiersNotClosed);
+    let is_open = around.follows(Symbol::Comma)
+        && !is_qualifier(around.word(around.token))
+        && !is_closed_later(around);
+    is_open
+        .then(|| around.on_before(Slip::QualifiersNotClosed))
+        .flatten()
+}
+
+// Whether a parenthesis that is open at the token is closed behind it in its list.
+fn is_closed_later(around: &Around<'_>) -> bool {
+    let behind = around.at.tokens.get(around.at.number..);
+    let mut open: usize = 0;
+    for token in behind.unwrap_or_default().iter().take(LONGEST) {
+        match token.kind {
+            TokenKind::Symbol(Symbol::OpenParenthesis) => open = open.saturating_add(1),
+            TokenKind::Symbol(Symbol::CloseParenthesis) if open == 0 => return true,
+            TokenKind::Symbol(Symbol::CloseParenthesis) => open = open.saturating_sub(1),
+            TokenKind::Symbol(Symbol::OpenBrace | Symbol::CloseBrace) => return false,
+            _ => {}
+        }
     }
-    None
+    false
+}
+
+/// Whether a word is a qualifier of what a menu or a message has.
+pub(crate) fn is_qualifier(word: &str) -> bool {
+    MENU_QUALIFIERS.contains(&word) || DATA_QUALIFIERS.contains(&word)
+}
+
+/// Whether the token is in the braces of an enumerator.
+pub(crate) fn is_in_enumerators(around: &Around<'_>) -> bool {
+    let brace = open_brace(around.at.tokens, around.at.number);
+    brace
+        .and_then(|brace| open_brace(around.at.tokens, brace))
+        .is_some_and(|outer| list_at(around, outer) == Some(List::Enumerators))
 }
 
 // An enumerator whose brace is not closed before the next one.
 fn open_enumerator(around: &Around<'_>) -> Option<Placed> {
-    let brace = open_brace(around.at.tokens, around.at.number)?;
-    let outer = open_brace(around.at.tokens, brace)?;
     let is_next = around.is(Symbol::OpenBrace) && around.follows(Symbol::Comma);
     let is_after_text = around.at.kind_back(2) == Some(TokenKind::String);
-    if is_next && is_after_text && list_at(around, outer)? == List::Enumerators {
+    if is_next && is_after_text && is_in_enumerators(around) {
         return around.on_before(Slip::EnumeratorNotClosed);
     }
     None

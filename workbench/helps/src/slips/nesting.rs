@@ -2,7 +2,7 @@
 //! and may not.
 
 use super::around::{Around, is_keyword, open_brace};
-use super::lists::list_around;
+use super::lists::{List, list_around};
 use super::{Placed, Slip};
 use edd_lexer::token::{Token, TokenKind};
 use edd_source::Span;
@@ -49,6 +49,15 @@ fn closes_later(text: &[u8], place: usize) -> bool {
     closing.is_some_and(|closing| piece_at(line, closing).shape != Shape::Comment)
 }
 
+// Whether the words before and at the token are a member and what it is, which may have one name, without
+// the comma between them: no third name comes behind a comma.
+fn is_member_without_comma(around: &Around<'_>) -> bool {
+    let third = around.at.tokens.get(around.at.number.saturating_add(2));
+    let has_third = around.at.is_ahead(Symbol::Comma)
+        && third.is_some_and(|token| token.kind == TokenKind::Name);
+    list_around(around) == Some(List::Members) && !has_third
+}
+
 // The same word once more.
 fn word_twice(around: &Around<'_>) -> Option<Placed> {
     let is_word = match around.token.kind {
@@ -58,7 +67,9 @@ fn word_twice(around: &Around<'_>) -> Option<Placed> {
         _ => false,
     };
     let is_same = around.word(around.before) == around.word(around.token);
-    if is_word && is_same && around.is_on_line() {
+    let is_member = is_same && is_member_without_comma(around);
+    let is_kind = item_kind(around.token).is_some();
+    if is_word && is_same && !is_member && !is_kind && around.is_on_line() {
         return around.here(Slip::WordTwice);
     }
     None

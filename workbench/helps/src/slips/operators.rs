@@ -1,6 +1,8 @@
 //! Slips that are known by the tokens around them, each with its own words.
 
-use super::around::{Around, At, is_integer, is_joined, is_keyword, on, open_parenthesis};
+use super::around::{
+    Around, At, is_integer, is_joined, is_keyword, is_symbol, on, open_parenthesis,
+};
 use super::bodies::statement_slip;
 use super::brackets::bracket_slip;
 use super::lists::list_slip;
@@ -12,8 +14,11 @@ use super::{Placed, Slip};
 use edd_lexer::token::{Token, TokenKind};
 use edd_source::Span;
 use edd_source::tokens::{is_sign, item_kind};
-use edd_syntax::operators::Operator;
+use edd_syntax::operators::{Builtin, Operator};
 use edd_syntax::symbols::{Keyword, Symbol};
+
+/// How many tokens of a value are looked at for its `?`.
+const LONGEST: usize = 16;
 
 // A slip of two signs that are joined.
 fn joined(around: &Around<'_>, one: &Token, other: &Token) -> Option<Placed> {
@@ -98,7 +103,13 @@ fn declaration(around: &Around<'_>) -> Option<Placed> {
         return around.here(Slip::LocalIsOneNumber);
     }
     if around.is(Symbol::OpenParenthesis) && around.before.kind == TokenKind::Name {
-        return on(around.before, Slip::NoFunctions);
+        let is_call = Builtin::named(around.word(around.before)).is_some();
+        return match around.at.back(2) {
+            Some(comma) if is_call && is_symbol(comma, Symbol::Comma) => {
+                on(comma, Slip::SemicolonForComma)
+            }
+            _ => on(around.before, Slip::NoFunctions),
+        };
     }
     if !are_names(around) {
         return None;
@@ -106,10 +117,18 @@ fn declaration(around: &Around<'_>) -> Option<Placed> {
     if slip_of_type(around.word(around.before)).is_some() {
         return around.on_before(Slip::LocalHasTypeAndName);
     }
-    if around.is_on_line() {
-        return around.here(Slip::CommaBetweenLocals);
+    if !around.is_on_line() {
+        return None;
     }
-    None
+    let is_next_local = matches!(
+        around.at.ahead()?.kind,
+        TokenKind::Symbol(Symbol::Semicolon | Symbol::Comma | Symbol::Equals)
+    );
+    around.here(if is_next_local {
+        Slip::CommaBetweenLocals
+    } else {
+        Slip::EqualsBeforeValue
+    })
 }
 
 // The word of a type where none stands.
@@ -151,6 +170,9 @@ fn parted_name(around: &Around<'_>) -> Option<Placed> {
 
 // A sign between texts.
 fn joined_texts(around: &Around<'_>) -> Option<Placed> {
+    if around.is(Symbol::Dot) && around.at.ahead()?.kind != TokenKind::String {
+        return None;
+    }
     if around.at.is_in_body() && around.at.ahead()?.kind != TokenKind::String {
         return around.here(Slip::TextShowsNoValues);
     }
@@ -168,33 +190,52 @@ fn second_text(around: &Around<'_>) -> Option<Placed> {
     }
 }
 
-// A comma inside of a number.
+// A comma inside of a number, where it or the digits behind it do not fit.
 fn comma_in_number(around: &Around<'_>) -> Option<Placed> {
-    let next = around.at.ahead()?;
-    if !is_integer(next)
-        || !is_joined(around.before, around.token)
-        || !is_joined(around.token, next)
-    {
+    let (before, comma, next) = if around.is(Symbol::Comma) {
+        (around.before, around.token, around.at.ahead()?)
+    } else {
+        (around.at.back(2)?, around.before, around.token)
+    };
+    let are_digits = is_integer(before) && is_integer(next);
+    if !are_digits || !is_joined(before, comma) || !is_joined(comma, next) {
         return None;
     }
     let is_group = around.word(next).len() == 3;
-    around.here(if is_group {
+    let slip = if is_group {
         Slip::DigitsWithoutSign
     } else {
         Slip::NumbersAreWhole
-    })
+    };
+    on(comma, slip)
 }
 
 // A `=` behind what is not set, or in a condition.
 fn equals(around: &Around<'_>) -> Option<Placed> {
     if !around.at.is_in_body() {
-        open_parenthesis(around.at)?;
-        return around.here(Slip::EqualIsWritten);
+        let is_in_condition = open_parenthesis(around.at).is_some() || is_asked(around);
+        return is_in_condition
+            .then(|| around.here(Slip::EqualIsWritten))
+            .flatten();
     }
     if around.before.kind == TokenKind::Name {
         return None;
     }
     around.here(Slip::VariableBeforeEquals)
+}
+
+// Whether a `?` stands behind the token in its value.
+fn is_asked(around: &Around<'_>) -> bool {
+    let behind = around.at.tokens.get(around.at.number..);
+    let value = behind.unwrap_or_default().iter().take_while(|token| {
+        !matches!(
+            token.kind,
+            TokenKind::Symbol(Symbol::Semicolon | Symbol::OpenBrace | Symbol::CloseBrace)
+        )
+    });
+    value
+        .take(LONGEST)
+        .any(|token| is_symbol(token, Symbol::Question))
 }
 
 // Whether a sign sets what stands before it.
@@ -207,6 +248,9 @@ fn is_setting(sign: Symbol) -> bool {
 
 // A sign where no text, number or name has one.
 fn operand(around: &Around<'_>) -> Option<Placed> {
+    if is_integer(around.token) && around.follows(Symbol::Comma) {
+        return comma_in_number(around);
+    }
     let TokenKind::Symbol(sign) = around.token.kind else {
         return None;
     };
@@ -256,6 +300,20 @@ fn value(around: &Around<'_>) -> Option<Placed> {
     }
 }
 
+// A number that ends with a point, where a comma is meant.
+fn point_for_comma(around: &Around<'_>) -> Option<Placed> {
+    let ends_so =
+        |token: &&Token| token.kind == TokenKind::Decimal && around.word(token).ends_with('.');
+    let number = [around.token, around.before].into_iter().find(ends_so)?;
+    let end = Span::of(number).end;
+    let place = Span {
+        start: end.checked_sub(1)?,
+        end,
+    };
+    let slip = Slip::CommaForPoint;
+    Some(Placed { place, slip })
+}
+
 // What the tokens right before say.
 fn neighbours(around: &Around<'_>) -> Option<Placed> {
     let is_word = matches!(around.token.kind, TokenKind::Name | TokenKind::Keyword(_));
@@ -303,6 +361,7 @@ fn marks(around: &Around<'_>) -> Option<Placed> {
 pub(crate) fn slip_at(at: At<'_>) -> Option<Placed> {
     let around = Around::of(at)?;
     nesting_slip(&around)
+        .or_else(|| point_for_comma(&around))
         .or_else(|| neighbours(&around))
         .or_else(|| marks(&around))
         .or_else(|| shape_slip(&around))

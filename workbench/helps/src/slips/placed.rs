@@ -20,6 +20,7 @@ impl Placed {
             Slip::BracketHere => (here, "]", Confidence::Sure),
             Slip::ParenthesisHere => (here, ")", Confidence::Sure),
             Slip::BraceBeforeElse => (here, "} ", Confidence::Guess),
+            Slip::CommaForPoint => (place, ",", Confidence::Guess),
             Slip::SemicolonForComma => (place, ";", Confidence::Guess),
             Slip::SemicolonLeftOut => (place, "", Confidence::Sure),
             Slip::WordLeftOut | Slip::ThenLeftOut | Slip::CapitalThenLeftOut => {
@@ -31,6 +32,7 @@ impl Placed {
             Slip::QualifiersSideBySide => (place, "", Confidence::Guess),
             Slip::DefaultMeant => (place, "default", Confidence::Guess),
             Slip::CaseMeant => (place, "case", Confidence::Guess),
+            Slip::IntMeant => (place, "int", Confidence::Guess),
             Slip::WordTwice => (place, "", Confidence::Guess),
             Slip::DoLeftOut => (place, "", Confidence::Guess),
             Slip::IfMeant => (place, "if", Confidence::Sure),

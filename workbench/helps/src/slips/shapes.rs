@@ -8,6 +8,9 @@ use edd_syntax::numbers::{Attr, Kind, ValueKind};
 use edd_syntax::operators::Operator;
 use edd_syntax::symbols::{Keyword, Symbol};
 
+/// How many tokens are looked at for the end of a condition.
+const LONGEST: usize = 64;
+
 // The kind of the item whose name is the token before.
 fn kind_named(around: &Around<'_>) -> Option<Kind> {
     if around.before.kind != TokenKind::Name {
@@ -127,6 +130,24 @@ fn gives(word: Keyword, value: ValueKind) -> bool {
     Attr::from_word(word).is_some_and(|attr| attr.shape().value == value)
 }
 
+// Whether a parenthesis begins at the token behind which a brace comes: the word of a condition is missing.
+fn begins_condition(around: &Around<'_>) -> bool {
+    let behind = around.at.tokens.get(around.at.number..);
+    let mut open: usize = 0;
+    let mut behind = behind.unwrap_or_default().iter().take(LONGEST);
+    let end = behind.find(|token| {
+        match token.kind {
+            TokenKind::Symbol(Symbol::OpenParenthesis) => open = open.saturating_add(1),
+            TokenKind::Symbol(Symbol::CloseParenthesis) => open = open.saturating_sub(1),
+            _ => {}
+        }
+        open == 0
+    });
+    let next = end.and_then(|_| behind.next());
+    around.is(Symbol::OpenParenthesis)
+        && next.is_some_and(|token| token.kind == TokenKind::Symbol(Symbol::OpenBrace))
+}
+
 // A single value in brackets.
 fn value(around: &Around<'_>) -> Option<Placed> {
     let (TokenKind::Keyword(word), TokenKind::Symbol(sign)) =
@@ -137,7 +158,8 @@ fn value(around: &Around<'_>) -> Option<Placed> {
     if !matches!(
         sign,
         Symbol::OpenBrace | Symbol::OpenBracket | Symbol::OpenParenthesis
-    ) {
+    ) || begins_condition(around)
+    {
         return None;
     }
     let slip = match word {

@@ -1,12 +1,16 @@
 //! Slips in the values of methods, and in what functions take.
 
-use super::around::{Around, is_integer, is_symbol, open_parenthesis};
-use super::words::{is_misspelled_type, is_operator, is_unit};
+use super::around::{Around, is_integer, is_symbol, on, open_parenthesis, parenthesis_open_at};
+use super::bodies::begins;
+use super::words::{is_misspelled_type, is_operator, is_unit, slip_of_label};
 use super::{Placed, Slip};
 use crate::near::Nearest;
 use edd_lexer::token::{Token, TokenKind};
 use edd_syntax::operators::{BUILTINS, Builtin};
 use edd_syntax::symbols::{Keyword, Symbol};
+
+/// How many tokens are looked at for the parenthesis that closes arguments.
+const LONGEST: usize = 64;
 
 // Whether a sign stands in the statement before the token.
 fn has_sign(around: &Around<'_>, sign: Symbol) -> bool {
@@ -31,7 +35,8 @@ fn unopened(around: &Around<'_>) -> Option<Placed> {
     let is_unopened = around.is(Symbol::CloseParenthesis)
         && !around.follows(Symbol::CloseParenthesis)
         && open_parenthesis(around.at).is_none();
-    if is_unopened && is_in_value && has_sign(around, Symbol::Equals) {
+    let is_alone = begins(around) && around.before.kind == TokenKind::Name;
+    if is_unopened && (is_alone || is_in_value && has_sign(around, Symbol::Equals)) {
         return around.here(Slip::ParenthesisNotOpen);
     }
     None
@@ -39,7 +44,15 @@ fn unopened(around: &Around<'_>) -> Option<Placed> {
 
 // A parenthesis or a bracket that is open at a closing brace.
 fn unclosed(around: &Around<'_>) -> Option<Placed> {
-    if !around.is(Symbol::CloseBrace) || is_symbol(around.at.ahead()?, Symbol::OpenBrace) {
+    // Where a value goes on or ends behind the brace a parenthesis is meant by it.
+    let is_other = match around.at.ahead()?.kind {
+        TokenKind::Symbol(sign) => !matches!(
+            sign,
+            Symbol::CloseBrace | Symbol::OpenParenthesis | Symbol::Increment | Symbol::Decrement
+        ),
+        _ => false,
+    };
+    if !around.is(Symbol::CloseBrace) || is_other || is_in_head(around) {
         return None;
     }
     if is_symbol(around.at.back(2)?, Symbol::OpenBracket) {
@@ -47,6 +60,44 @@ fn unclosed(around: &Around<'_>) -> Option<Placed> {
     }
     open_parenthesis(around.at)?;
     around.behind(Slip::ParenthesisHere)
+}
+
+// Whether the parenthesis that is open is that of a branch or a loop.
+fn is_in_head(around: &Around<'_>) -> bool {
+    let word = parenthesis_open_at(around.at).and_then(|open| open.checked_sub(1));
+    word.and_then(|word| around.at.tokens.get(word))
+        .is_some_and(|word| {
+            matches!(
+                word.kind,
+                TokenKind::Keyword(
+                    Keyword::MethodIf | Keyword::While | Keyword::For | Keyword::Switch
+                )
+            )
+        })
+}
+
+// Arguments right behind a name that begins a statement, with the parenthesis that closes them alone.
+fn unopened_arguments(around: &Around<'_>) -> Option<Placed> {
+    if !around.is(Symbol::Comma) || around.before.kind != TokenKind::Name || !begins(around) {
+        return None;
+    }
+    let behind = around.at.tokens.get(around.at.number..)?;
+    let ends = |token: &&Token| {
+        matches!(
+            token.kind,
+            TokenKind::Symbol(
+                Symbol::Semicolon
+                    | Symbol::OpenParenthesis
+                    | Symbol::CloseParenthesis
+                    | Symbol::OpenBrace
+                    | Symbol::CloseBrace
+            )
+        )
+    };
+    let end = behind.iter().take(LONGEST).find(ends)?;
+    is_symbol(end, Symbol::CloseParenthesis)
+        .then(|| on(end, Slip::ParenthesisNotOpen))
+        .flatten()
 }
 
 // A `:` that belongs to no `?`, or a `=` in a condition.
@@ -78,8 +129,8 @@ fn no_value(around: &Around<'_>) -> Option<Placed> {
     }
 }
 
-// Whether a name is that of a function, or by a slip of typing.
-fn is_function(name: &str) -> bool {
+/// Whether a name is that of a function, or by a slip of typing.
+pub(crate) fn is_function(name: &str) -> bool {
     let mut nearest = Nearest::to(name);
     for function in BUILTINS {
         nearest.look(function.name());
@@ -95,7 +146,15 @@ fn after_first_name(around: &Around<'_>) -> Option<Placed> {
         return around.here(Slip::ArgumentInParentheses);
     }
     if is_integer(around.token) && around.is_on_line() {
-        return around.here(Slip::AssignmentOrSemicolon);
+        let is_label = around.at.is_ahead(Symbol::Colon);
+        return match slip_of_label(before) {
+            Slip::CaseMeant if is_label => around.on_before(Slip::CaseMeant),
+            _ => around.here(Slip::AssignmentOrSemicolon),
+        };
+    }
+    // A word of two letters is near to none.
+    if before == "in" && around.token.kind == TokenKind::Name && around.is_on_line() {
+        return around.on_before(Slip::IntMeant);
     }
     let is_assigned = around.token.kind == TokenKind::Name
         && around.is_on_line()
@@ -128,6 +187,14 @@ fn goes_on(ahead: TokenKind) -> bool {
 // A value right after a value inside of a statement.
 fn after_value(around: &Around<'_>) -> Option<Placed> {
     let is_value = matches!(around.token.kind, TokenKind::Integer(_) | TokenKind::Name);
+    let is_in_for = around.at.is_ahead(Symbol::Semicolon);
+    if is_integer(around.token)
+        && is_in_for
+        && around.is_on_line()
+        && open_parenthesis(around.at).is_some()
+    {
+        return around.here(Slip::OperatorMissing);
+    }
     if goes_on(around.at.ahead()?.kind)
         || !is_value
         || !around.is_on_line()
@@ -184,6 +251,7 @@ fn beside_parentheses(around: &Around<'_>) -> Option<Placed> {
 /// A slip in a value of a method.
 pub(crate) fn value_slip(around: &Around<'_>) -> Option<Placed> {
     unopened(around)
+        .or_else(|| unopened_arguments(around))
         .or_else(|| unclosed(around))
         .or_else(|| signs(around))
         .or_else(|| no_value(around))

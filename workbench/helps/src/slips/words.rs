@@ -70,6 +70,15 @@ pub(crate) fn slip_of_branch(word: &str) -> Option<Slip> {
     .map(|(_, slip)| slip)
 }
 
+/// The word of a branch or a loop that is meant by a word with a slip of typing.
+pub(crate) fn branch_meant(word: &str) -> Option<&'static str> {
+    let mut nearest = Nearest::to_word(word);
+    for branch in ["if", "while", "for", "switch"] {
+        nearest.look(branch);
+    }
+    nearest.alone()
+}
+
 /// Whether a word is an operator of other languages, which have words for them.
 pub(crate) fn is_operator(word: &str) -> bool {
     matches!(

@@ -2,11 +2,18 @@
 
 use super::SyntaxHelp;
 use crate::Finding;
-use crate::slips::At;
+use crate::slips::{At, is_symbol};
 use edd_lexer::token::{Token, TokenKind};
-use edd_source::tokens::{kind_word, word_of};
+use edd_source::Outline;
+use edd_source::tokens::{is_word, kind_word, word_of};
 use edd_syntax::numbers::{ATTRIBUTES, Attr, Home, KINDS, Kind};
-use edd_syntax::symbols::Keyword;
+use edd_syntax::symbols::{Keyword, Symbol};
+
+/// How many tokens a type has, with its size.
+const LONGEST_TYPE: usize = 5;
+
+/// How many tokens of an attribute are looked at for its end.
+const LONGEST_ATTRIBUTE: usize = 16;
 
 /// The attribute with this word.
 pub(super) fn attribute_of(word: &str) -> Option<Attr> {
@@ -31,6 +38,38 @@ pub(super) fn say_in_item(at: At<'_>, token: &Token, kind: Kind, finding: &mut F
         }
         None => false,
     }
+}
+
+/// Says that an attribute stands among the options of a type, where one of these comes behind it. Returns
+/// whether it is so.
+pub(super) fn say_in_options(
+    at: At<'_>,
+    token: &Token,
+    outline: &Outline,
+    finding: &mut Finding,
+) -> bool {
+    let attribute = attribute_of(word_of(at.text, token)).filter(|it| !is_option(*it));
+    let Some(attribute) = attribute.filter(|_| is_among_options(at, outline)) else {
+        return false;
+    };
+    let word = attribute.word();
+    finding.say(SyntaxHelp::AttributeInType { word });
+    true
+}
+
+// Whether a token is in the braces behind a type, and an option comes behind the next `;`.
+fn is_among_options(at: At<'_>, outline: &Outline) -> bool {
+    let Some(brace) = outline.opened(at.tokens, at.number) else {
+        return false;
+    };
+    let mut heads = (0..brace).rev().take(LONGEST_TYPE);
+    let is_of_type = heads.any(|number| is_word(at.tokens, number, Keyword::Type));
+    let behind = at.tokens.get(at.number..).unwrap_or_default();
+    let mut behind = behind.iter().take(LONGEST_ATTRIBUTE);
+    let end = behind.find(|token| is_symbol(token, Symbol::Semicolon));
+    let next = end.and_then(|_| behind.next());
+    let next = next.and_then(|token| attribute_of(word_of(at.text, token)));
+    is_of_type && next.is_some_and(is_option)
 }
 
 // Where a condition stands, or that an attribute has none.

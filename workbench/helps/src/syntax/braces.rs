@@ -121,10 +121,32 @@ fn indent_before(text: &[u8], place: usize) -> Option<usize> {
     Some(count)
 }
 
-// How far in the line of a token begins.
+// How far in the line of a token begins, or the one on which the parentheses open that go on there.
 fn indent_of(at: At<'_>, token: &Token) -> Option<usize> {
-    let first = at.tokens.get(tokens_before(at.tokens, token.line))?;
+    let mut first = tokens_before(at.tokens, token.line);
+    while let Some(open) = parenthesis_around(at, first) {
+        let line = at.tokens.get(open)?.line;
+        first = tokens_before(at.tokens, line);
+    }
+    let first = at.tokens.get(first)?;
     indent_before(at.text, Span::of(first).start)
+}
+
+// The parenthesis before a token in its statement that is not closed before it.
+fn parenthesis_around(at: At<'_>, number: usize) -> Option<usize> {
+    let mut closed: usize = 0;
+    for place in (0..number).rev() {
+        match at.tokens.get(place)?.kind {
+            TokenKind::Symbol(Symbol::CloseParenthesis) => closed = closed.saturating_add(1),
+            TokenKind::Symbol(Symbol::OpenParenthesis) if closed == 0 => return Some(place),
+            TokenKind::Symbol(Symbol::OpenParenthesis) => closed = closed.saturating_sub(1),
+            TokenKind::Symbol(Symbol::Semicolon | Symbol::OpenBrace | Symbol::CloseBrace) => {
+                return None;
+            }
+            _ => {}
+        }
+    }
+    None
 }
 
 // How far in a line begins, where the token of a number is its first one.
@@ -162,15 +184,26 @@ fn missing_before(at: At<'_>, crooked: Crooked) -> usize {
 fn head_before<'a>(at: At<'a>, crooked: Crooked) -> Option<&'a Token> {
     let mut before = (crooked.open..crooked.close).rev();
     let first = before.find(|number| indent_at(at, *number) == Some(crooked.own))?;
-    let next_line = at.tokens.get(first)?.line.saturating_add(1);
-    let behind = tokens_before(at.tokens, next_line);
-    let last = at.tokens.get(behind.checked_sub(1)?)?;
+    let last = last_of_head(at, first)?;
     let opens = matches!(
         last.kind,
         TokenKind::Symbol(Symbol::CloseParenthesis)
             | TokenKind::Keyword(Keyword::MethodElse | Keyword::Do | Keyword::Else)
     );
     opens.then_some(last)
+}
+
+// The last token of the line that begins with one, and of the lines to which its parentheses go on.
+fn last_of_head(at: At<'_>, first: usize) -> Option<&Token> {
+    let mut last = first;
+    loop {
+        let next_line = at.tokens.get(last)?.line.saturating_add(1);
+        let behind = tokens_before(at.tokens, next_line);
+        match parenthesis_around(at, behind).filter(|open| first <= *open) {
+            Some(_) if last < behind && behind < at.tokens.len() => last = behind,
+            _ => return at.tokens.get(behind.checked_sub(1)?),
+        }
+    }
 }
 
 // Says that an opening brace is missing after a token.

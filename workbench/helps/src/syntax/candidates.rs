@@ -2,7 +2,7 @@
 
 use crate::near::Nearest;
 use edd_lexer::token::TokenKind;
-use edd_syntax::operators::Comparison;
+use edd_syntax::operators::{BUILTINS, Comparison};
 use edd_syntax::symbols::{KEYWORDS, Keyword, Symbol};
 
 /// The signs that may be missing after a token, and before one.
@@ -20,6 +20,16 @@ const VALUE: Missing = ("1", "a value");
 const TEXT: Missing = ("\"\"", "a text");
 
 const STATEMENT: Missing = ("DEFINITION {", "DEFINITION {");
+
+const DEFINITION: Missing = ("DEFINITION", "DEFINITION");
+
+const TRANSACTION: Missing = ("TRANSACTION", "TRANSACTION");
+
+/// What may be missing before a brace.
+const BEFORE_BRACES: [Missing; 4] = [DEFINITION, TRANSACTION, VALUE, TEXT];
+
+/// What may be missing before a brace that stands right behind another one.
+const AFTER_BRACES: [Missing; 5] = [("ELSE", "ELSE"), DEFINITION, TRANSACTION, VALUE, TEXT];
 
 // What may be missing after a token, whatever comes.
 fn missing_after(before: Option<TokenKind>) -> Option<&'static [Missing]> {
@@ -51,10 +61,15 @@ pub(super) fn missing_before(
             &[("TYPE", "TYPE")]
         }
         (TokenKind::Name | TokenKind::Keyword(_), _) => &[STATEMENT],
-        (TokenKind::Symbol(Symbol::OpenBrace), _) => &[("DEFINITION", "DEFINITION"), VALUE, TEXT],
+        (TokenKind::Symbol(Symbol::OpenBrace), _) => match before {
+            Some(TokenKind::Symbol(Symbol::CloseBrace)) => &AFTER_BRACES,
+            _ => &BEFORE_BRACES,
+        },
+        (TokenKind::Symbol(Symbol::OpenParenthesis), _) => &[("IF", "IF"), VALUE, TEXT],
         (TokenKind::Integer(_), _) => &[
             ("CASE", "CASE"),
             ("NUMBER", "NUMBER"),
+            TRANSACTION,
             ("MAX_VALUE", "a word such as MAX_VALUE"),
         ],
         (TokenKind::String, _) => &[("LABEL", "a word such as LABEL")],
@@ -73,6 +88,7 @@ pub(super) fn signs_for(kind: TokenKind) -> &'static [&'static str] {
         Symbol::Semicolon => &[",", ":"],
         Symbol::Comma => &[";", ":"],
         Symbol::Colon => &[";", ","],
+        Symbol::Dot => &[","],
         Symbol::OpenParenthesis => &["{", "["],
         Symbol::OpenBrace => &["(", "["],
         Symbol::OpenBracket => &["(", "{"],
@@ -82,6 +98,22 @@ pub(super) fn signs_for(kind: TokenKind) -> &'static [&'static str] {
         _ => &[],
     }
 }
+
+/// Whether a name is one for which the grammar asks.
+pub(super) fn is_option(name: &str) -> bool {
+    NAMES.contains(&name)
+}
+
+/// The word of the language, the function or the type with this spelling.
+pub(super) fn word_spelled(word: &str) -> Option<&'static str> {
+    let keywords = KEYWORDS.iter().map(|keyword| keyword.spelling());
+    let functions = BUILTINS.iter().map(|function| function.name());
+    let mut words = keywords.chain(functions).chain(NAMES).chain(TYPES);
+    words.find(|other| *other == word)
+}
+
+/// The types whose names have several parts.
+const TYPES: [&str; 2] = ["UNSIGNED_INTEGER", "BIT_ENUMERATED"];
 
 /// The names for which the grammar asks in their places.
 const NAMES: [&str; 17] = [
@@ -149,6 +181,11 @@ pub(super) fn word_for(word: &str) -> Option<&'static str> {
         "SELECT" => "switch",
         "ELIF" | "ELSIF" | "ELSEIF" => "ELSE IF",
         "ELSE" | "OTHERWISE" => "DEFAULT",
+        "NAME" => "LABEL",
+        "DESCRIPTION" => "HELP",
+        "DEFAULT" => "DEFAULT_VALUE",
+        "MIN" => "MIN_VALUE",
+        "MAX" => "MAX_VALUE",
         "EXECUTE" | "RUN" => "COMMAND",
         "bool" | "boolean" | "byte" | "integer" | "var" => "int",
         _ => return None,

@@ -2,6 +2,7 @@
 
 use crate::core::lex;
 use edd_lexer::token::Token;
+use std::ops::Range;
 
 /// What is done with a token.
 #[derive(Clone, Copy, Debug)]
@@ -80,6 +81,18 @@ impl Workshop {
         match refused {
             None => usize::MAX,
             Some(place) => self.outside(original(place, own, middle.len())),
+        }
+    }
+
+    /// The token of the text at which the grammar refuses it without some tokens; past all where it is read.
+    pub(super) fn reached_without(&mut self, left_out: Range<usize>) -> usize {
+        let (start, end) = (self.inside(left_out.start), self.inside(left_out.end));
+        let head = self.tokens.get(..start).unwrap_or(&self.tokens);
+        let rest = self.tokens.get(end..).unwrap_or_default();
+        match crate::core::refused_at(&self.text, &[head, rest].concat()) {
+            None => usize::MAX,
+            Some(place) if place < start => self.outside(place),
+            Some(place) => self.outside(place.saturating_add(left_out.len())),
         }
     }
 

@@ -1,22 +1,26 @@
 //! What is said of a text that spells no unit.
 
 use super::SyntaxHelp;
-use super::attributes::{attribute_of, say_in_item};
+use super::attributes::{attribute_of, say_in_item, say_in_options};
 use super::braces::say_braces;
 use super::change::{Change, Workshop};
+use super::comments::open_comment;
+use super::confidence::{confidence_of, confidence_without};
 use super::fitting::what_fits;
-use super::trials::{best_change, best_word, wants_text};
+use super::lines::say_line_twice;
+use super::pairs::say_other_bracket;
+use super::split_words::say_split_word;
+use super::trials::{best_change, best_word, is_too_many, wants_else, wants_if, wants_text};
 use super::unsupported::say_unsupported;
 use crate::slips::{
-    Around, At, Placed, Slip, early_end, is_symbol, nested_comment, open_bracket, open_parenthesis,
-    opening_parenthesis, slip_at, slip_of_left_out,
+    At, Placed, Slip, early_end, is_symbol, nested_comment, open_brace, open_bracket,
+    open_parenthesis, opening_parenthesis, parenthesis_open_at, slip_at, slip_of_left_out,
 };
 use crate::text::long_string;
 use crate::{Advice, Explained, Finding, TextHelp};
 use edd_lexer::token::{Token, TokenKind};
 use edd_source::tokens::{item_kind, tokens_before, word_of};
 use edd_source::{Confidence, Fix, Outline, Span};
-use edd_syntax::numbers::Attr;
 use edd_syntax::operators::Builtin;
 use edd_syntax::symbols::{Keyword, Symbol};
 use edd_token_reader::fault::ParseFault;
@@ -61,9 +65,21 @@ pub(crate) fn explain(text: &[u8], tokens: &[Token], fault: &ParseFault) -> Expl
 }
 
 fn say_misfit(at: At<'_>, outline: &Outline, finding: &mut Finding) {
+    if let Some(comment) = open_comment(at) {
+        return finding.say_at(Some(comment), TextHelp::CommentGoesOn);
+    }
+    if say_line_twice(at, || workshop_of(at, outline), finding) {
+        return;
+    }
     let Some(token) = at.token() else {
         return say_end(at, outline, finding);
     };
+    if say_split_word(at, finding)
+        || say_other_bracket(at, finding)
+        || say_in_options(at, token, outline, finding)
+    {
+        return;
+    }
     if may_be_braces(at, token, outline) && say_braces(at, outline, finding) {
         return;
     }
@@ -170,24 +186,84 @@ fn workshop_of(at: At<'_>, outline: &Outline) -> Workshop {
     Workshop::without(at.text, at.tokens, first, last)
 }
 
-// The token and the change of it that may be meant: a word right before the one that does not
-// fit, or a change of that one.
+// The token and the change of it that may be meant: a word before the one that does not fit, a sign that
+// is too many before it, or a change of that one.
 fn change_of<'a>(
     at: At<'a>,
     token: &'a Token,
     workshop: &mut Workshop,
 ) -> Option<(At<'a>, &'a Token, Change)> {
-    let number = at.number.saturating_sub(1);
-    if let Some(before) = at.back(1)
-        && at.first <= number
-    {
+    for number in words_before(at) {
         let earlier = At { number, ..at };
-        if let Some(change) = best_word(earlier, before, workshop) {
+        if let Some(before) = earlier.token()
+            && let Some(change) = best_word(earlier, before, at.number, workshop)
+        {
             return Some((earlier, before, change));
         }
     }
+    let number = at.number.saturating_sub(1);
+    let earlier = At { number, ..at };
+    if let Some(before) = at.back(1)
+        && is_too_many(earlier, token, workshop)
+    {
+        return Some((earlier, before, Change::LeaveOut));
+    }
+    if let Some((condition, open)) = condition_before(at)
+        && wants_if(condition, workshop)
+    {
+        return Some((condition, open, Change::Missing("IF", "IF")));
+    }
+    if let Some((branch, brace)) = branch_around(at)
+        && wants_else(branch, at.number, workshop)
+    {
+        return Some((branch, brace, Change::Missing("ELSE", "ELSE")));
+    }
     let change = best_change(at, token, workshop)?;
     Some((at, token, change))
+}
+
+// The brace that is open at a token, where it stands right behind another pair of braces.
+fn branch_around(at: At<'_>) -> Option<(At<'_>, &Token)> {
+    let number = open_brace(at.tokens, at.number)?;
+    let branch = At { number, ..at };
+    let brace = branch.token()?;
+    branch
+        .is_back(1, Symbol::CloseBrace)
+        .then_some((branch, brace))
+}
+
+// The parenthesis right before a token, or the one that is closed right before its brace, where it begins a
+// condition without its word.
+fn condition_before(at: At<'_>) -> Option<(At<'_>, &Token)> {
+    let last = at.number.checked_sub(1)?;
+    let is_brace = at
+        .token()
+        .is_some_and(|it| is_symbol(it, Symbol::OpenBrace));
+    let number = match at.tokens.get(last)?.kind {
+        TokenKind::Symbol(Symbol::OpenParenthesis) => last,
+        TokenKind::Symbol(Symbol::CloseParenthesis) if is_brace => {
+            opening_parenthesis(at.tokens, last)?
+        }
+        _ => return None,
+    };
+    let condition = At { number, ..at };
+    Some((condition, condition.token()?))
+}
+
+// Where words stand before a token that may be what is wrong: right before it on its line, or alone on the
+// line before, and before the parentheses that end right before it or are open there.
+fn words_before(at: At<'_>) -> impl Iterator<Item = usize> {
+    let last = at.number.checked_sub(1);
+    let is_alone = |number: &usize| {
+        let line = at.tokens.get(*number).map(|token| token.line);
+        let before = number.checked_sub(1).and_then(|it| at.tokens.get(it));
+        at.first <= *number || before.map(|token| token.line) != line
+    };
+    let closed = last.and_then(|last| opening_parenthesis(at.tokens, last));
+    let open = parenthesis_open_at(at);
+    let behind = [closed, open].into_iter().flatten();
+    let heads = behind.filter_map(|number| number.checked_sub(1));
+    last.filter(is_alone).into_iter().chain(heads)
 }
 
 // Says what a change of a token is.
@@ -200,7 +276,10 @@ fn describe(at: At<'_>, token: &Token, change: Change, finding: &mut Finding) {
             let fix = here.map(|here| Fix::replace(here, format!("{sign} "), Confidence::Guess));
             finding.propose(SyntaxHelp::SignBefore { sign, word }, fix);
         }
-        Change::Missing(_, wanted) => finding.say(SyntaxHelp::WantedBefore { wanted, word }),
+        Change::Missing(_, wanted) => {
+            finding.span = Some(Span::of(token));
+            finding.say(SyntaxHelp::WantedBefore { wanted, word });
+        }
         Change::Instead(meant) => {
             finding.span = Some(Span::of(token));
             let fix = finding.replacement(meant, Confidence::Guess);
@@ -214,58 +293,6 @@ fn describe(at: At<'_>, token: &Token, change: Change, finding: &mut Finding) {
         }
         Change::Quoted => finding.say(SyntaxHelp::Quotes { word }),
         Change::Renamed => finding.say(SyntaxHelp::Reserved { word }),
-    }
-}
-
-// How sure it is that a sign is missing before a token: what ends a statement or parts a list is where
-// the line breaks, else something else may be missing or too much.
-fn confidence_of(at: At<'_>, sign: &str) -> Confidence {
-    let (Some(before), Some(token)) = (at.back(1), at.token()) else {
-        return Confidence::Guess;
-    };
-    let breaks = before.line != token.line || is_symbol(token, Symbol::CloseBrace);
-    let are_names = before.kind == TokenKind::Name && token.kind == TokenKind::Name;
-    let is_sure = match sign {
-        ";" => (breaks && !begins_with_parenthesis(at)) || begins_attribute(token),
-        "," => breaks || are_names,
-        ")" => true,
-        _ => false,
-    };
-    if is_sure {
-        Confidence::Sure
-    } else {
-        Confidence::Guess
-    }
-}
-
-fn begins_attribute(token: &Token) -> bool {
-    match token.kind {
-        TokenKind::Keyword(word) => Attr::begun_by(word).is_some(),
-        _ => false,
-    }
-}
-
-// Whether the statement before a token begins with parentheses, whose word may be missing.
-fn begins_with_parenthesis(at: At<'_>) -> bool {
-    let first = Around::of(at).and_then(|around| around.so_far().first());
-    first.is_some_and(|token| is_symbol(token, Symbol::OpenParenthesis))
-}
-
-// How sure it is that a token is one too many: a `;` behind another one, or behind a brace.
-fn confidence_without(at: At<'_>) -> Confidence {
-    let is_idle = at
-        .token()
-        .is_some_and(|token| is_symbol(token, Symbol::Semicolon))
-        && matches!(
-            at.kind_back(1),
-            Some(TokenKind::Symbol(
-                Symbol::Semicolon | Symbol::OpenBrace | Symbol::CloseBrace
-            ))
-        );
-    if is_idle {
-        Confidence::Sure
-    } else {
-        Confidence::Guess
     }
 }
 

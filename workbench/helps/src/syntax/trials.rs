@@ -1,12 +1,17 @@
 //! Changes of the token that does not fit, of which the best one is what helps.
 
-use super::candidates::{BEFORE, BEHIND, missing_before, nearest_word, signs_for, word_for};
+use super::candidates::{
+    BEFORE, BEHIND, is_option, missing_before, nearest_word, signs_for, word_for,
+};
 use super::change::{Change, Workshop};
 use crate::slips::{At, is_symbol};
 use edd_lexer::token::{Token, TokenKind};
 use edd_source::tokens::{is_sign, item_kind, word_of};
-use edd_syntax::operators::{Comparison, Operator};
+use edd_syntax::operators::{Builtin, Comparison, Operator};
 use edd_syntax::symbols::{Keyword, Symbol};
+
+/// How many tokens behind one are looked at for the `]` that closes.
+const FARTHEST: usize = 16;
 
 /// Changes of a token that are tried: the best one so far, and the token at which the text is
 /// refused then. Of changes that get as far it is the first one.
@@ -24,13 +29,55 @@ pub(super) fn best_change(at: At<'_>, token: &Token, workshop: &mut Workshop) ->
     trials.best
 }
 
-/// The word or the sign that is meant by a token, if it leads past the two after it.
-pub(super) fn best_word(at: At<'_>, token: &Token, workshop: &mut Workshop) -> Option<Change> {
+/// The word or the sign that is meant by a token, if it leads past the two after it and past the one
+/// that does not fit.
+pub(super) fn best_word(
+    at: At<'_>,
+    token: &Token,
+    misfit: usize,
+    workshop: &mut Workshop,
+) -> Option<Change> {
     let number = at.number.saturating_add(1);
-    let mut trials = Trials::past(at, workshop, last_near(At { number, ..at }));
+    let near = last_near(At { number, ..at });
+    let mut trials = Trials::past(at, workshop, near.max(misfit));
     trials.attempt_words(token);
     trials.attempt_signs(token);
     trials.best
+}
+
+/// Whether the text leads past the token that does not fit without a token before it, which is a
+/// bracket that is there twice, or a `;` or a brace before ELSE.
+pub(super) fn is_too_many(at: At<'_>, misfit: &Token, workshop: &mut Workshop) -> bool {
+    let (Some(before), Some(token)) = (at.kind_back(1), at.token()) else {
+        return false;
+    };
+    let is_before_else = misfit.kind == TokenKind::Keyword(Keyword::Else)
+        && matches!(
+            token.kind,
+            TokenKind::Symbol(Symbol::Semicolon | Symbol::CloseBrace)
+        );
+    let is_twice = token.kind == before
+        && match token.kind {
+            TokenKind::Symbol(Symbol::OpenParenthesis | Symbol::OpenBrace) => true,
+            TokenKind::Symbol(Symbol::CloseBrace) => {
+                let behind = at.tokens.get(at.number.saturating_add(2));
+                let goes_on = behind.is_some_and(|next| !is_symbol(next, Symbol::CloseBrace));
+                goes_on && is_symbol(misfit, Symbol::Comma)
+            }
+            _ => false,
+        };
+    let past = at.number.saturating_add(1);
+    (is_before_else || is_twice) && past < workshop.reached(at.number, Change::LeaveOut)
+}
+
+/// Whether the text leads past a parenthesis, and the brace behind it, with an IF before it.
+pub(super) fn wants_if(at: At<'_>, workshop: &mut Workshop) -> bool {
+    let behind = at.tokens.get(at.number..).unwrap_or_default();
+    let brace = behind
+        .iter()
+        .position(|token| is_symbol(token, Symbol::OpenBrace));
+    let past = brace.map(|brace| at.number.saturating_add(brace));
+    past.is_some_and(|past| past < workshop.reached(at.number, Change::Missing("IF", "IF")))
 }
 
 /// Whether a text fits in place of a name that does not.
@@ -91,6 +138,12 @@ impl<'a, 'w> Trials<'a, 'w> {
 
     // Tries the signs that may be meant by a sign.
     fn attempt_signs(&mut self, token: &Token) {
+        // Behind a name a point is that of a member.
+        let is_of_member =
+            is_symbol(token, Symbol::Dot) && self.at.kind_back(1) == Some(TokenKind::Name);
+        if is_of_member {
+            return;
+        }
         for sign in signs_for(token.kind) {
             self.attempt(Change::Instead(sign));
         }
@@ -142,12 +195,65 @@ impl<'a, 'w> Trials<'a, 'w> {
             self.attempt(Change::LeaveOut);
         }
         self.attempt_signs(token);
+        let are_values = parts_values(self.at, token);
         for sign in BEFORE {
-            self.attempt(Change::Before(sign));
+            let may_part = match sign {
+                "(" => false,
+                "[" => closes_bracket(self.at),
+                _ => true,
+            };
+            if may_part || !are_values {
+                self.attempt(Change::Before(sign));
+            }
         }
         self.attempt_missing(token);
         self.attempt_kinds(token);
     }
+}
+
+/// Whether the text leads past the token that does not fit, and the one behind it, with an ELSE before a
+/// brace.
+pub(super) fn wants_else(at: At<'_>, misfit: usize, workshop: &mut Workshop) -> bool {
+    let reached = workshop.reached(at.number, Change::Missing("ELSE", "ELSE"));
+    misfit.saturating_add(1) < reached
+}
+
+// Whether the token and the one before it are values, so that no `(` is missing between them but an
+// operator.
+fn parts_values(at: At<'_>, token: &Token) -> bool {
+    let is_value = match token.kind {
+        TokenKind::Name => !is_option(word_of(at.text, token)),
+        kind => matches!(
+            kind,
+            TokenKind::Integer(_) | TokenKind::Decimal | TokenKind::String
+        ),
+    };
+    let is_after_value = at.back(1).is_some_and(|before| match before.kind {
+        TokenKind::Name => Builtin::named(word_of(at.text, before)).is_none(),
+        kind => matches!(
+            kind,
+            TokenKind::Integer(_)
+                | TokenKind::Decimal
+                | TokenKind::Symbol(Symbol::CloseParenthesis | Symbol::CloseBracket)
+        ),
+    });
+    is_value && is_after_value
+}
+
+// Whether a `]` stands behind the token in its statement.
+fn closes_bracket(at: At<'_>) -> bool {
+    let behind = at.tokens.get(at.number..).unwrap_or_default().iter();
+    let mut signs = behind.take(FARTHEST).filter_map(|token| match token.kind {
+        TokenKind::Symbol(sign) => Some(sign),
+        _ => None,
+    });
+    let ends = |sign: &Symbol| {
+        matches!(
+            sign,
+            Symbol::CloseBracket | Symbol::Semicolon | Symbol::OpenBrace | Symbol::CloseBrace
+        )
+    };
+    signs.find(ends) == Some(Symbol::CloseBracket)
 }
 
 // Whether a value has to come after a token of this kind.

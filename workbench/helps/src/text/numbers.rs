@@ -16,7 +16,7 @@ pub(super) fn help_of_number(word: &str, before: u8) -> TextHelp {
     } else if is_based && !is_of(word, "0123456789abcdefABCDEFxX") {
         TextHelp::HexDigits
     } else if is_based {
-        TextHelp::NumberHasRange
+        TextHelp::NumberIsTooLarge
     } else if is_member(word) {
         TextHelp::MemberIsNamed
     } else if word.contains('.') {
@@ -40,8 +40,10 @@ fn help_of_letters(word: &str) -> TextHelp {
         TextHelp::NumberOrName
     } else if word.bytes().any(|byte| byte.is_ascii_alphabetic()) {
         TextHelp::NameBegins
+    } else if 1 < word.len() && word.starts_with('0') {
+        TextHelp::NumberHasNoZero
     } else {
-        TextHelp::NumberHasRange
+        TextHelp::NumberIsTooLarge
     }
 }
 

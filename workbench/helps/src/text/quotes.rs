@@ -1,6 +1,7 @@
 //! Where a quote is missing before a fault that comes of it.
 
 use super::TextHelp;
+use super::characters::{CharacterHelp, CharacterLooks};
 use edd_source::Span;
 use edd_source::pieces::{Shape, byte_at, pieces_of};
 
@@ -16,6 +17,22 @@ fn goes_on(byte: u8) -> bool {
     byte.is_ascii_alphanumeric()
         || matches!(byte, b'_' | b'%' | b'|' | b'#' | b'\'')
         || 0x80 <= byte
+}
+
+// Whether what stands at a place goes on so: no character that looks like a sign or a space.
+fn goes_on_at(text: &[u8], place: usize) -> bool {
+    let behind = text.get(place..).unwrap_or_default();
+    let character = behind
+        .utf8_chunks()
+        .next()
+        .and_then(|chunk| chunk.valid().chars().next());
+    match character.filter(|character| !character.is_ascii()) {
+        Some(character) => {
+            let looks = CharacterHelp::of(character).looks;
+            character.is_alphabetic() || looks == CharacterLooks::Other
+        }
+        None => goes_on(byte_at(text, place)),
+    }
 }
 
 // Whether a byte may stand after a text.
@@ -43,12 +60,22 @@ fn may_follow(byte: u8) -> bool {
 fn closes(text: &[u8], string: Span) -> bool {
     let inside = Span {
         start: string.start.saturating_add(1),
+        end: string.end.saturating_sub(1),
+    };
+    let words = inside.read(text);
+    let behind = words.trim_start();
+    let is_blank = behind.is_empty() && !words.is_empty();
+    is_blank || behind.starts_with([';', ',', ')', '}'])
+}
+
+// Whether the bytes in a string end as what stands before a text, so that its quote opens one.
+fn ends_as_code(text: &[u8], string: Span) -> bool {
+    let inside = Span {
+        end: string.end.saturating_sub(1),
         ..string
     };
-    inside
-        .read(text)
-        .trim_start()
-        .starts_with([';', ',', ')', '}'])
+    let words = inside.read(text);
+    words.ends_with(' ') && words.trim_end().ends_with([',', ';', ':', '{'])
 }
 
 // Whether the first line of a string ends as a line of code.
@@ -65,7 +92,7 @@ fn is_too_long(text: &[u8], string: Span) -> bool {
     if words.contains('\n') {
         !may_follow(next) || is_code(words)
     } else {
-        goes_on(next)
+        goes_on_at(text, string.end)
     }
 }
 
@@ -93,7 +120,7 @@ fn strings_before(text: &[u8], place: usize) -> impl Iterator<Item = Span> {
 /// The first string before a place that goes up to the quote of another one.
 pub(super) fn missing_quote(text: &[u8], before: usize) -> Option<MissingQuote> {
     let string = strings_before(text, before).find(|string| is_too_long(text, *string))?;
-    if is_inside(text, string) {
+    if is_inside(text, string) && !closes(text, string) && !ends_as_code(text, string) {
         let end = string.end;
         return Some(MissingQuote {
             string: Span {

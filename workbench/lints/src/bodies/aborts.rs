@@ -1,6 +1,7 @@
 //! Abort methods that are added where they do nothing, or again and again.
 
 use super::flow::is_abort;
+use super::stores::has_call;
 use crate::context::Context;
 use crate::kind::MethodKind;
 use crate::source::{TokenIndex, index};
@@ -85,8 +86,13 @@ fn is_abort_part(part: &Part<Target>) -> bool {
     matches!(part, Part::Statement(Stmt::Evaluate(e)) if is_abort(e))
 }
 
+// Whether nothing in a part asks a host or aborts.
 fn is_quiet(part: &Part<Target>) -> bool {
-    matches!(part, Part::Statement(Stmt::Empty | Stmt::Return))
+    match part {
+        Part::Statement(Stmt::Empty | Stmt::Return) => true,
+        Part::Statement(Stmt::Evaluate(e)) => !has_call(e),
+        _ => false,
+    }
 }
 
 /// Checks where the body of a method adds abort methods.

@@ -1,8 +1,11 @@
-//! Choices that a list does not have, in comparisons of the local that keeps the answer.
+//! Choices that a list does not have, and codes that a command does not list, in comparisons of the local
+//! that keeps the answer.
 
 use crate::context::Context;
+use crate::expressions::calls::number_of_argument;
 use crate::expressions::choices::count_choices;
 use crate::expressions::operands::referred;
+use crate::expressions::slips::LISTED_CODES;
 use crate::expressions::stores::without_parentheses;
 use crate::kind::MethodKind;
 use crate::source::index;
@@ -16,30 +19,69 @@ use edd_syntax::reference::Target;
 use edd_syntax::stmt::{Part, Stmt};
 use std::collections::HashMap;
 
-// How many choices the list has whose answer an expression is.
-fn choices_of(e: &Expr<Target>) -> Option<i64> {
-    match without_parentheses(e) {
-        Expr::Call {
-            function: Target::Function(Builtin::Ask(RequestKind::SelectFromList)),
+/// What gave an answer.
+#[derive(Clone, Copy, PartialEq, Eq)]
+enum Asked {
+    /// A list of so many choices.
+    Choices(i64),
+    /// The command of a number.
+    Command(i64),
+}
+
+impl Asked {
+    // What gives the answer that an expression is.
+    fn by(e: &Expr<Target>) -> Option<Asked> {
+        let Expr::Call {
+            function: Target::Function(Builtin::Ask(request)),
             arguments,
             ..
-        } => count_choices(arguments),
-        _ => None,
+        } = without_parentheses(e)
+        else {
+            return None;
+        };
+        match request {
+            RequestKind::SelectFromList => count_choices(arguments).map(Asked::Choices),
+            RequestKind::SendCommand | RequestKind::SendCommandTrans => {
+                number_of_argument(arguments, 0).map(Asked::Command)
+            }
+            _ => None,
+        }
+    }
+
+    // What gives the answer where one of two does: of lists the longest one counts.
+    fn joined(self, other: Asked) -> Option<Asked> {
+        match (self, other) {
+            (Asked::Choices(one), Asked::Choices(two)) => Some(Asked::Choices(one.max(two))),
+            _ => (self == other).then_some(self),
+        }
+    }
+
+    // What is wrong with a number that the answer is compared with.
+    fn wrong(self, number: i64, context: &Context<'_>) -> Option<MethodKind> {
+        match self {
+            Asked::Choices(choices) => {
+                (choices <= number).then_some(MethodKind::MissingChoice(number))
+            }
+            Asked::Command(command) => {
+                let is_lacking = LISTED_CODES.contains(&number)
+                    && context.instrument.lacks_code(command, number);
+                is_lacking.then_some(MethodKind::UnlistedCode(number, command))
+            }
+        }
     }
 }
 
-/// The locals of a body that keep answers alone, with the number of choices.
+/// The locals of a body that keep answers alone, with what gives them.
 #[derive(Default)]
 struct Answers {
-    choices: HashMap<u8, Option<i64>>,
+    kept: HashMap<u8, Option<Asked>>,
 }
 
 impl Answers {
-    fn add(&mut self, target: Target, choices: Option<i64>) {
+    fn add(&mut self, target: Target, asked: Option<Asked>) {
         if let Target::Local(slot) = target {
-            let known = self.choices.entry(slot).or_insert(choices);
-            // The longest of several lists counts.
-            *known = known.zip(choices).map(|(one, other)| one.max(other));
+            let known = self.kept.entry(slot).or_insert(asked);
+            *known = known.zip(asked).and_then(|(one, other)| one.joined(other));
         }
     }
 }
@@ -47,7 +89,7 @@ impl Answers {
 impl<'t> Visitor<'t> for Answers {
     fn expression(&mut self, e: &'t Expr<Target>, _: Sort) {
         match e {
-            Expr::Assign(to, value) => self.add(*to, choices_of(value)),
+            Expr::Assign(to, value) => self.add(*to, Asked::by(value)),
             Expr::CompoundAssign(_, to, _) | Expr::Increment(_, to) => self.add(*to, None),
             _ => {}
         }
@@ -55,7 +97,7 @@ impl<'t> Visitor<'t> for Answers {
 
     fn declared(&mut self, place: Target, value: &'t Expr<Target>) {
         // A first value that no choice has says that none was taken.
-        self.add(place, choices_of(value));
+        self.add(place, Asked::by(value));
     }
 }
 
@@ -67,9 +109,9 @@ struct Compared<'c, 'd, 'f> {
 }
 
 impl Compared<'_, '_, '_> {
-    fn choices(&self, e: &Expr<Target>) -> Option<i64> {
+    fn asked(&self, e: &Expr<Target>) -> Option<Asked> {
         match referred(e)? {
-            Target::Local(slot) => *self.answers.choices.get(&slot)?,
+            Target::Local(slot) => *self.answers.kept.get(&slot)?,
             _ => None,
         }
     }
@@ -81,11 +123,12 @@ impl<'t> Visitor<'t> for Compared<'_, '_, '_> {
             return;
         };
         let number = evaluate(second, Sort::Method).number();
-        if let (Some(choices), Some(number)) = (self.choices(first), number)
-            && choices <= number
-        {
-            let at = self.context.places.sign(e);
-            self.findings.add(at, MethodKind::MissingChoice(number));
+        let wrong = self
+            .asked(first)
+            .zip(number)
+            .and_then(|(asked, number)| asked.wrong(number, self.context));
+        if let Some(kind) = wrong {
+            self.findings.add(self.context.places.sign(e), kind);
         }
     }
 
@@ -93,15 +136,14 @@ impl<'t> Visitor<'t> for Compared<'_, '_, '_> {
         let Stmt::Switch(on, parts) = s else {
             return;
         };
-        let Some(choices) = self.choices(on).or_else(|| choices_of(on)) else {
+        let Some(asked) = self.asked(on).or_else(|| Asked::by(on)) else {
             return;
         };
         for part in parts {
             if let Part::CaseLabel { at, label } = part
-                && choices <= *label
+                && let Some(kind) = asked.wrong(*label, self.context)
             {
-                self.findings
-                    .add(index(*at), MethodKind::MissingChoice(*label));
+                self.findings.add(index(*at), kind);
             }
         }
     }

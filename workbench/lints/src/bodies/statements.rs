@@ -56,6 +56,19 @@ fn check_next(s: &Stmt<Target>, so_far: Flow, walk: &mut Walk<'_, '_>) -> Flow {
     }
 }
 
+/// What was seen so far of what is between braces.
+#[derive(Default)]
+struct SoFar {
+    flow: Flow,
+    /// The branch or the loop without a body right before.
+    head: Option<TokenIndex>,
+    /// Whether that is so of any branch or loop.
+    lacks_body: bool,
+    /// Whether there is a statement behind the last label.
+    has_statement: bool,
+    is_dead: bool,
+}
+
 /// Checks what is between braces, of which the last is at a token.
 pub(super) fn check_parts(
     parts: &[Part<Target>],
@@ -64,38 +77,52 @@ pub(super) fn check_parts(
 ) -> Flow {
     check_layout(parts, walk);
     check_stores(parts, walk);
-    let mut flow = Flow::default();
-    let mut has_statement = false;
-    let mut is_dead = false;
-    let mut head = None;
+    let mut so_far = SoFar::default();
     for (number, part) in parts.iter().enumerate() {
         let next = parts.get(number.saturating_add(1));
         match part {
             Part::Declare(declarators) => {
-                flow.leaves |= check_declarators(declarators, walk);
-                head = None;
+                so_far.flow.leaves |= check_declarators(declarators, walk);
+                so_far.head = None;
+                so_far.lacks_body = false;
             }
-            Part::Statement(s) => {
-                check_block_after(head, s, walk);
-                head = has_no_body(s).then_some(walk.context.places.statement(s).sign);
-                is_dead = is_dead || flow.ends.is_some();
-                flow = check_next(s, flow, walk);
-                check_empty_else(s, next, walk);
-                has_statement = true;
-            }
+            Part::Statement(s) => check_part(s, next, &mut so_far, walk),
             Part::CaseLabel { at, .. } | Part::DefaultLabel { at } => {
-                if has_statement && !is_dead {
-                    check_fall(flow, index(*at), next, walk);
+                if so_far.has_statement && !so_far.is_dead {
+                    check_fall(so_far.flow, index(*at), next, walk);
                 }
                 check_label_part(part, walk);
-                flow.ends = None;
-                has_statement = false;
-                is_dead = false;
+                so_far.flow.ends = None;
+                so_far.has_statement = false;
+                so_far.is_dead = false;
             }
         }
     }
-    flow.is_remarked = walk.context.source.has_comment_before(close);
-    flow
+    so_far.flow.is_remarked = walk.context.source.has_comment_before(close);
+    so_far.flow
+}
+
+// A statement between braces.
+fn check_part(
+    s: &Stmt<Target>,
+    next: Option<&Part<Target>>,
+    so_far: &mut SoFar,
+    walk: &mut Walk<'_, '_>,
+) {
+    check_block_after(so_far.head, s, walk);
+    // A block behind a branch or a loop without a body is meant to be that.
+    let is_body = so_far.lacks_body && matches!(s, Stmt::Block(_));
+    so_far.head = has_no_body(s).then_some(walk.context.places.statement(s).sign);
+    let is_empty_if = matches!(s, Stmt::If(_, body) if matches!(**body, Stmt::Empty));
+    so_far.lacks_body = so_far.head.is_some() || is_empty_if;
+    so_far.is_dead = so_far.is_dead || so_far.flow.ends.is_some();
+    let ends = so_far.flow.ends;
+    so_far.flow = check_next(s, so_far.flow, walk);
+    if is_body {
+        so_far.flow.ends = ends;
+    }
+    check_empty_else(s, next, walk);
+    so_far.has_statement = true;
 }
 
 // An `else` without a statement. Where a block follows, a ; is before it.

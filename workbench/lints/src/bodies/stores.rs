@@ -48,7 +48,8 @@ impl Pending {
     }
 }
 
-fn has_call(e: &Expr<Target>) -> bool {
+/// Whether an expression calls a function.
+pub(super) fn has_call(e: &Expr<Target>) -> bool {
     matches!(e, Expr::Call { .. }) || children(e).any(has_call)
 }
 

@@ -16,7 +16,7 @@ use edd_syntax::reference::Target;
 use edd_syntax::types::VarType;
 
 /// The codes that a command lists. Beyond them are those of the host and the line.
-const LISTED_CODES: std::ops::RangeInclusive<i64> = 1..=127;
+pub(crate) const LISTED_CODES: std::ops::RangeInclusive<i64> = 1..=127;
 
 /// `&&` or `||` with a number that is neither 0 nor 1, as a macro may leave them.
 pub(super) fn check_truth_of_number(
@@ -24,8 +24,14 @@ pub(super) fn check_truth_of_number(
     at: TokenIndex,
     walk: &mut Walk<'_, '_>,
 ) {
+    // Beside a comparison with a number 1 is what was to be compared too, and no macro.
+    let least = if operands.iter().any(|e| compares_number(e)) {
+        1
+    } else {
+        2
+    };
     let number = operands.iter().find_map(|e| match without_parentheses(e) {
-        Expr::Literal(number) if 1 < *number => Some(*number),
+        Expr::Literal(number) if least <= *number => Some(*number),
         _ => None,
     });
     let Some(number) = number else {
@@ -46,10 +52,32 @@ pub(super) fn check_truth_of_number(
     }
 }
 
+// Whether an expression is whether something is a plain number, or is not.
+fn compares_number(e: &Expr<Target>) -> bool {
+    match without_parentheses(e) {
+        Expr::Compare(Comparison::Equal | Comparison::NotEqual, first, second) => {
+            let is_plain = |e: &Expr<Target>| matches!(without_parentheses(e), Expr::Literal(_));
+            referred(first).is_some() && is_plain(second)
+        }
+        _ => false,
+    }
+}
+
 fn is_of_bits(e: &Expr<Target>, walk: &Walk<'_, '_>) -> bool {
     let variable = referred(e).and_then(variable_of);
     let known = variable.and_then(|number| walk.context.instrument.variable(number));
     known.is_some_and(|known| known.kind == Some(VarType::BitEnumerated))
+}
+
+/// An operand of `&&` or `||` that sets something to a constant: it is always true, or never.
+pub(super) fn check_assigned_operand(e: &Expr<Target>, walk: &mut Walk<'_, '_>) {
+    let e = without_parentheses(e);
+    if let Expr::Assign(_, value) = e
+        && evaluate(value, walk.sort).number().is_some()
+    {
+        let at = walk.context.places.sign(e);
+        walk.findings.add(at, MethodKind::AssignedCondition);
+    }
 }
 
 /// An operator on two numbers.
@@ -71,6 +99,9 @@ pub(super) fn check_binary(
             if matches!(operator, Operator::Multiply | Operator::And)
                 && [first, second].into_iter().any(is_zero) =>
         {
+            walk.findings.add(at, ConditionKind::AlwaysZero);
+        }
+        (Known::Nothing, Known::Number(1 | -1)) if operator == Operator::Remainder => {
             walk.findings.add(at, ConditionKind::AlwaysZero);
         }
         _ => {}

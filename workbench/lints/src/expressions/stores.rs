@@ -33,10 +33,11 @@ fn stored_number(value: &Expr<Target>, sort: Sort) -> Option<i64> {
     }
 }
 
-// Whether all bits of a number that was computed with 32 bits are kept.
-fn keeps_bits(range: Range, value: &Expr<Target>, sort: Sort) -> bool {
+// Whether all bits of a number that was computed with 32 bits are kept. A negative one is seldom meant so, but
+// -1 is all bits.
+fn keeps_bits(range: Range, value: &Expr<Target>, number: i64, sort: Sort) -> bool {
     let value = without_parentheses(value);
-    let is_negated = matches!(value, Expr::Unary(UnaryOperator::Minus, _));
+    let is_negated = matches!(value, Expr::Unary(UnaryOperator::Minus, _)) && number != -1;
     range.width() == i64::from(u32::MAX) && !is_negated && sort == Sort::Method
 }
 
@@ -61,7 +62,7 @@ pub(super) fn check_stored(
         check_listed(variable, number, at, walk);
         check_named(&Expr::Reference(to), value, at, walk);
         check_limits(variable, number, at, walk);
-    } else if !keeps_bits(range, value, walk.sort) {
+    } else if !keeps_bits(range, value, number, walk.sort) {
         walk.findings
             .add(at, MethodKind::StoreOutOfRange(number, range));
     }

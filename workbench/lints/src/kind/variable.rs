@@ -30,6 +30,8 @@ kinds! {
             "{role} {number} is outside of the type's {range}"
         CrossedLimits(least: i64, greatest: i64) LimitsCrossed
             "MIN_VALUE {least} is over MAX_VALUE {greatest}"
+        LimitsApart(over: i64) LimitsCrossed
+            "MIN_VALUE is always {over} over MAX_VALUE"
         DefaultBelow(default: i64, least: i64) DefaultOutsideLimits
             "DEFAULT_VALUE {default} is below MIN_VALUE {least}"
         DefaultOver(default: i64, greatest: i64) DefaultOutsideLimits

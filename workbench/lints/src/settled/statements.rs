@@ -4,6 +4,7 @@ use super::counters::{ForLoop, counter_of};
 use super::{Ways, depends};
 use crate::bodies::flow::is_abort;
 use crate::context::Context;
+use crate::expressions::stores::without_parentheses;
 use crate::kind::ConditionKind;
 use crate::source::TokenIndex;
 use crate::values::environment::Environment;
@@ -75,7 +76,7 @@ impl<'c, 'd> Ways<'c, 'd, '_> {
                 self.is_chained = false;
                 let taken = known.clone().refined(condition, true);
                 let taken = taken.and_then(|inner| self.statement(first, inner));
-                joined(taken, Some(known))
+                joined(taken, known.passed(without_parentheses(condition)))
             }
             Stmt::IfElse(condition, first, otherwise) => {
                 self.branches(at, condition, [first, otherwise], known)
@@ -183,6 +184,7 @@ impl<'c, 'd> Ways<'c, 'd, '_> {
         let mut known = known;
         let is_told = self.is_reported(on) || !depends(on, Sort::Method);
         let values = self.follow(on, &mut known);
+        let is_told = is_told || known.reads_passed(on);
         if let Some(number) = values.number().filter(|_| !is_told) {
             let at = self.context.places.expression(on).extent.start;
             self.findings

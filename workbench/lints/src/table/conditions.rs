@@ -154,7 +154,7 @@ MENU x { ITEMS { e, IF (e == 1) { "on" } } }"#,
         name: "settled-condition",
         level: Level::Warn,
         summary: "a comparison or a test of bits that is settled where it stands",
-        details: "a comparison that always holds, or never does, by what is known at its place: by the conditions around it, by the last store to a local or a variable, by the bits of a mask; and a condition of bits that are never 0, or always. What is known of variables is forgotten at each request, and of all that a loop sets before the loop. What comes after a `return` or a `break` under a condition does not count.",
+        details: "a comparison that always holds, or never does, by what is known at its place: by the conditions around it, by the last store to a local or a variable, by the bits of a mask; and a condition of bits that are never 0, or always. What is known of variables is forgotten at each request, and of all that a loop sets before the loop. Behind an `if` of one comparison that was not taken it is known that this fails: what can never hold then has a warning, and what always holds is a careful test. Where several are joined nothing is known behind them.",
         example: r#"VARIABLE e { TYPE ENUMERATED { { 0, "off" } { 1, "on" } { 3, "hold" } } }
 METHOD m { DEFINITION { if (e == 1) { if (e == 0) send_command(1); } } }"#,
         counterexample: r#"VARIABLE e { TYPE ENUMERATED { { 0, "off" } { 1, "on" } { 3, "hold" } } }
@@ -166,7 +166,7 @@ METHOD m { DEFINITION { if (e == 1) { send_command(1); if (e == 0) send_command(
         name: "truth-of-number",
         level: Level::Warn,
         summary: "a number as an operand of && or ||",
-        details: "a plain number other than 0 and 1 as an operand of `&&` or `||`: it is always true. `mode == 1 || 3` does not compare with 3, and `flags && 4` takes no bit.",
+        details: "a plain number other than 0 and 1 as an operand of `&&` or `||`: it is always true. `mode == 1 || 3` does not compare with 3, and `flags && 4` takes no bit. Beside a comparison with a plain number 1 has a warning too, as in `mode == 0 || 1`.",
         example: r#"VARIABLE e { TYPE ENUMERATED { { 0, "off" } { 1, "on" } { 3, "hold" } } }
 METHOD m { DEFINITION { if (e == 1 || 3) send_command(1); } }"#,
         counterexample: r#"VARIABLE e { TYPE ENUMERATED { { 0, "off" } { 1, "on" } { 3, "hold" } } }
@@ -178,7 +178,7 @@ METHOD m { DEFINITION { if (e == 1 || e == 3) send_command(1); } }"#,
         name: "always-zero",
         level: Level::Warn,
         summary: "a product or a mask with a constant 0",
-        details: "`*` or `&` with a constant 0 and something that is none: the value is always 0.",
+        details: "`*` or `&` with a constant 0 and something that is none, and `%` by 1: the value is always 0.",
         example: "VARIABLE a { TYPE INTEGER; }
 METHOD m { DEFINITION { a = a * 0; } }",
         counterexample: "VARIABLE a { TYPE INTEGER; }

@@ -205,7 +205,7 @@ METHOD n { DEFINITION { save_values(); } }",
         name: "late-abort-method",
         level: Level::Warn,
         summary: "an add_abort_method after which nothing can abort",
-        details: "an add_abort_method that is the last statement of a body, behind others: no abort can follow.",
+        details: "an add_abort_method behind other statements of a body, after which no function is called: no abort can follow.",
         example: "METHOD m { DEFINITION { send_command(1); add_abort_method(n); } }
 METHOD n { DEFINITION { save_values(); } }",
         counterexample: "METHOD m { DEFINITION { add_abort_method(n); send_command(1); } }

@@ -30,7 +30,7 @@ pub(super) const ROWS: &[Row] = &[
         name: "assigned-condition",
         level: Level::Warn,
         summary: "an assignment as a condition: == is meant, or a second pair of parentheses",
-        details: "an assignment as the condition of an `if`, `switch` or loop. In a second pair of parentheses it says so on purpose and has no warning.",
+        details: "an assignment as the condition of an `if`, `switch` or loop. In a second pair of parentheses it says so on purpose and has no warning; but as an operand of `&&` or `||` the assignment of a constant has one.",
         example: "METHOD m { DEFINITION { int i; if (i = 5) save_values(); } }",
         counterexample: "METHOD m { DEFINITION { int i; if ((i = 5)) save_values(); } }",
         notes: "",
@@ -62,7 +62,7 @@ METHOD m { DEFINITION { if (e == 5) e = 6; } }",
         name: "store-out-of-range",
         level: Level::Warn,
         summary: "a constant that is assigned to a variable which can't hold it",
-        details: "a constant that is assigned to a variable, by `=`, iassign or lassign, and that its type and size can't hold: the variable keeps another number. `v = ~0;` means all bits that it has, and has no warning.",
+        details: "a constant that is assigned to a variable, by `=`, iassign or lassign, and that its type and size can't hold: the variable keeps another number. The same is said of a local that has this value there. `v = ~0;` means all bits that it has, and so does -1 in four octets: they have no warning.",
         example: "VARIABLE v { TYPE UNSIGNED_INTEGER; }
 METHOD m { DEFINITION { v = 256; } }",
         counterexample: "VARIABLE v { TYPE UNSIGNED_INTEGER; }
@@ -193,7 +193,7 @@ METHOD m { DEFINITION { int code; code = GET_DEV_VAR_VALUE("Limit?", a); if (cod
         name: "unlisted-response-code",
         level: Level::Warn,
         summary: "a code that the command does not list",
-        details: "a constant from 1 to 127 with which the answer of a command is compared by `==` or `!=`, and that is none of the response codes which the command lists.",
+        details: "a constant from 1 to 127 with which the answer of a command is compared by `==` or `!=`, or a local that keeps such answers alone, and that is none of the response codes which the command lists.",
         example: r#"COMMAND c { NUMBER 1; OPERATION READ; TRANSACTION { } RESPONSE_CODES { 0, SUCCESS, "OK"; 16, MODE_ERROR, "Locked" } }
 METHOD m { DEFINITION { if (send_command(1) == 5) abort(); } }"#,
         counterexample: r#"COMMAND c { NUMBER 1; OPERATION READ; TRANSACTION { } RESPONSE_CODES { 0, SUCCESS, "OK"; 16, MODE_ERROR, "Locked" } }
@@ -215,7 +215,7 @@ METHOD m { DEFINITION { if (send_command(1) == 16) abort(); } }"#,
         name: "store-outside-limits",
         level: Level::Warn,
         summary: "a constant outside of the limits of the variable that it is assigned to",
-        details: "a constant that is assigned to a variable, and is below its MIN_VALUE or over its MAX_VALUE, in all branches of these. 0 often says that there is none, and has no warning.",
+        details: "a constant that is assigned to a variable, or a value of which so much is known at its place, and that is below its MIN_VALUE or over its MAX_VALUE, in all branches of these. 0 often says that there is none, and has no warning.",
         example: "VARIABLE a { TYPE INTEGER (2) { MAX_VALUE 100; } }
 METHOD m { DEFINITION { a = 200; send_command(1); } }",
         counterexample: "VARIABLE a { TYPE INTEGER (2) { MAX_VALUE 100; } }

@@ -10,7 +10,7 @@ pub(super) const ROWS: &[Row] = &[
         name: "stray-bar",
         level: Level::Warn,
         summary: "a bar in a text that begins or ends no code of a language",
-        details: r#"a bar in a text that neither opens nor closes the code of a language, such as `|DE|` in capitals. It is shown as it is; where that is meant, `\|` says so."#,
+        details: r#"a bar in a text that neither opens nor closes the code of a language, such as `|DE|` in capitals. It is shown as it is; where that is meant, `\|` says so. A bar before a blank, as in `Low | High`, has no warning."#,
         example: r#"MENU a { LABEL "|en|Level|DE|Stand"; ITEMS { "x" } }"#,
         counterexample: r#"MENU a { LABEL "|en|Level\|DE\|Stand"; ITEMS { "x" } }"#,
         notes: "",

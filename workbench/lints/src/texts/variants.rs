@@ -74,7 +74,8 @@ impl<'r> Iterator for Variants<'r> {
                 let words = words.get(..bar).unwrap_or_default();
                 return Some(Variant { code, words });
             }
-            self.has_stray_bar = true;
+            // Before a blank it parts words.
+            self.has_stray_bar |= behind.first() != Some(&b' ');
         }
         Some(Variant { code, words })
     }

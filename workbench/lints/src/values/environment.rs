@@ -5,12 +5,13 @@ use crate::context::Context;
 use crate::expressions::operands::{referred, turned};
 use crate::instrument::variable_of;
 use crate::range::Range;
+use crate::visit::children;
 use edd_constants::evaluate;
 use edd_instructions::Sort;
 use edd_syntax::expr::Expr;
 use edd_syntax::operators::{Comparison, Operator, UnaryOperator};
 use edd_syntax::reference::Target;
-use std::collections::BTreeMap;
+use std::collections::{BTreeMap, BTreeSet};
 
 /// A local or a variable.
 #[derive(Clone, Copy, Debug, PartialEq, Eq, PartialOrd, Ord)]
@@ -36,6 +37,8 @@ pub(crate) struct Environment<'c, 'd> {
     context: &'c Context<'d>,
     pub(crate) sort: Sort,
     known: BTreeMap<Storage, Values>,
+    /// The places of which something is known since a branch before was not taken.
+    passed: BTreeSet<Storage>,
 }
 
 impl<'c, 'd> Environment<'c, 'd> {
@@ -45,6 +48,7 @@ impl<'c, 'd> Environment<'c, 'd> {
             context,
             sort,
             known: BTreeMap::new(),
+            passed: BTreeSet::new(),
         }
     }
 
@@ -73,6 +77,7 @@ impl<'c, 'd> Environment<'c, 'd> {
 
     /// Sets what a place holds. A variable keeps of it what its type holds.
     pub(crate) fn set(&mut self, storage: Storage, values: Values) {
+        self.passed.remove(&storage);
         let Range { low, high } = self.typed(storage).range;
         let is_kept = low <= values.range.low && values.range.high <= high;
         if is_kept {
@@ -92,16 +97,43 @@ impl<'c, 'd> Environment<'c, 'd> {
     /// Forgets what is known of a place.
     pub(crate) fn forget(&mut self, storage: Storage) {
         self.known.remove(&storage);
+        self.passed.remove(&storage);
+    }
+
+    /// What holds where a comparison fails, since the branch under it was not taken: code that tests the
+    /// opposite again is careful.
+    pub(crate) fn passed(self, comparison: &Expr<Target>) -> Option<Environment<'c, 'd>> {
+        let Expr::Compare(_, first, second) = comparison else {
+            return Some(self);
+        };
+        let mut passed = self.refined(comparison, false)?;
+        let compared = [first, second].into_iter().filter_map(|e| referred(e));
+        passed.passed.extend(compared.filter_map(storage_of));
+        Some(passed)
+    }
+
+    /// Whether an expression reads a place of which something is known so.
+    pub(crate) fn reads_passed(&self, e: &Expr<Target>) -> bool {
+        let is_passed = match e {
+            Expr::Reference(target) => {
+                storage_of(*target).is_some_and(|storage| self.passed.contains(&storage))
+            }
+            _ => false,
+        };
+        is_passed || children(e).any(|inner| self.reads_passed(inner))
     }
 
     /// Forgets the variables: a host that is asked may change each of them.
     pub(crate) fn forget_variables(&mut self) {
         self.known
             .retain(|storage, _| matches!(storage, Storage::Local(_)));
+        self.passed
+            .retain(|storage| matches!(storage, Storage::Local(_)));
     }
 
     /// What holds where one of two environments does.
     pub(crate) fn join(mut self, other: &Environment<'_, '_>) -> Environment<'c, 'd> {
+        self.passed.extend(&other.passed);
         self.known = self
             .known
             .into_iter()

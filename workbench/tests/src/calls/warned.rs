@@ -17,7 +17,7 @@ const HEAD: &str = "MANUFACTURER 1 DEVICE_TYPE 2 DEVICE_REVISION 3 DD_REVISION 4
 
 /// What stands around a body.
 const AROUND: (&str, &str) = (
-    "VARIABLE a { TYPE INTEGER { MAX_VALUE r[1]; } } ARRAY OF VARIABLE r { ELEMENTS { 1, a; } }
+    "VARIABLE a { CONSTANT_UNIT IF (r[1]) { \"m\"; } ELSE { \"mm\"; } TYPE INTEGER; } ARRAY OF VARIABLE r { ELEMENTS { 1, a; } }
 METHOD m { DEFINITION {\n",
     "} }",
 );
