@@ -19,8 +19,8 @@ use edd_syntax::numbers::ItemNo;
 use edd_syntax::operators::{Builtin, Comparison, Operator, RequestKind};
 use edd_syntax::reference::Target;
 use operands::{
-    Logical, check_bits, check_chosen, check_compared, check_logical, check_operands,
-    check_settled, ranged_place,
+    Logical, check_bits, check_chosen, check_compared, check_compound, check_logical,
+    check_operands, check_settled, ranged_place,
 };
 use slips::{
     check_answer, check_argument, check_assigned_operand, check_binary, check_changed_bits,
@@ -123,6 +123,7 @@ pub(crate) fn check_expression(e: &Expr<Target>, is_statement: bool, walk: &mut 
     match e {
         Expr::Literal(_) | Expr::Decimal { .. } => {}
         Expr::Reference(to) => walk.read(*to),
+        Expr::Increment(_, to) if is_statement => walk.count(*to),
         Expr::Increment(_, to) => walk.change(*to),
         Expr::Indexed(array, index) => {
             check_index(*array, index, at, walk);
@@ -157,8 +158,13 @@ pub(crate) fn check_expression(e: &Expr<Target>, is_statement: bool, walk: &mut 
         Expr::CompoundAssign(operator, to, value) => {
             check_trap(*operator, value, at, walk);
             check_changed_bits(*operator, *to, value, at, walk);
+            check_compound(*operator, *to, value, at, walk);
             check_expression(value, false, walk);
-            walk.change(*to);
+            if is_statement {
+                walk.count(*to);
+            } else {
+                walk.change(*to);
+            }
         }
         Expr::Call {
             function,

@@ -82,6 +82,25 @@ impl<'t> Visitor<'t> for Looped<'_, '_> {
     }
 }
 
+/// The calls that add, under a condition, what the statements before have added.
+struct Again<'s, 'f, 'd> {
+    seen: &'s HashMap<Option<usize>, (TokenIndex, usize)>,
+    context: &'s Context<'d>,
+    findings: &'f mut Findings<'d>,
+}
+
+impl<'t> Visitor<'t> for Again<'_, '_, '_> {
+    fn expression(&mut self, e: &'t Expr<Target>, _: Sort) {
+        if let Some((method, at)) = added_by(e)
+            && let Some((earlier, _)) = self.seen.get(&self.context.instrument.place_of(method))
+            && !self.findings.is_reported(self.findings.source.span(at))
+        {
+            self.findings
+                .add_beside(at, MethodKind::RepeatedAbortMethod, *earlier);
+        }
+    }
+}
+
 fn is_abort_part(part: &Part<Target>) -> bool {
     matches!(part, Part::Statement(Stmt::Evaluate(e)) if is_abort(e))
 }
@@ -96,14 +115,23 @@ fn is_quiet(part: &Part<Target>) -> bool {
 }
 
 /// Checks where the body of a method adds abort methods.
-pub(super) fn check_abort_methods(
+pub(super) fn check_abort_methods<'d>(
     own: Option<ItemNo>,
     parts: &[Part<Target>],
-    context: &Context<'_>,
-    findings: &mut Findings<'_>,
+    context: &Context<'d>,
+    findings: &mut Findings<'d>,
 ) {
     let mut seen = HashMap::new();
-    for (method, at) in parts.iter().filter_map(added_by_part) {
+    for part in parts {
+        let Some((method, at)) = added_by_part(part) else {
+            let mut again = Again {
+                seen: &seen,
+                context,
+                findings,
+            };
+            visit_parts(std::slice::from_ref(part), &mut again);
+            continue;
+        };
         let place = context.instrument.place_of(method);
         // The second one tells enough.
         let (earlier, count) = seen.entry(place).or_insert((at, 0usize));

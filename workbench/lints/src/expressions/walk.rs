@@ -115,6 +115,17 @@ impl<'w, 'd> Walk<'w, 'd> {
         }
     }
 
+    /// Notes that a place is changed from what it was, and that nothing else looks at what it was.
+    pub(crate) fn count(&mut self, target: Target) {
+        let was_read = matches!(target, Target::Local(slot) if self.reads.contains(&slot));
+        self.change(target);
+        if let Target::Local(slot) = target
+            && !was_read
+        {
+            self.reads.remove(&slot);
+        }
+    }
+
     /// Notes that a place is changed from what it was.
     pub(crate) fn change(&mut self, target: Target) {
         let before = self.assigned.replace(target);

@@ -1,9 +1,9 @@
 //! Indexes that come to numbers of which an array has no element.
 
 use super::Ways;
-use crate::expressions::operands::referred;
 use crate::instrument::Variable;
 use crate::kind::ConditionKind;
+use crate::limits::sum_of;
 use crate::source::TokenIndex;
 use crate::types::number_parts;
 use crate::values::Values;
@@ -63,15 +63,22 @@ pub(super) fn check_index(
     if let Some(number) = values.number().filter(is_missing) {
         return ways.findings.add(at, ConditionKind::MissingElement(number));
     }
-    let Some(storage) = referred(index).and_then(storage_of) else {
+    let sum = sum_of(index, known.sort);
+    let Some((storage, more)) = sum.and_then(|(target, more)| Some((storage_of(target)?, more)))
+    else {
         return;
     };
-    if ways.counters.get(&storage) == Some(&values) {
-        let numbers = numbers_of(values);
-        if let Some(number) = numbers.and_then(|mut numbers| numbers.find(is_missing)) {
+    let counted = known.get(storage);
+    if ways.counters.get(&storage) == Some(&counted) {
+        let numbers = numbers_of(counted).into_iter().flatten();
+        let mut reached = numbers.map(|number| number.saturating_add(more));
+        if let Some(number) = reached.find(is_missing) {
             ways.findings
                 .add(at, ConditionKind::CountedPastElements(number));
         }
+        return;
+    }
+    if more != 0 {
         return;
     }
     check_variable(ways, storage, at, known, is_missing);

@@ -45,7 +45,7 @@ VARIABLE b { TYPE INTEGER; }",
         name: "misread-operators",
         level: Level::Warn,
         summary: "operators that bind otherwise than they look: parentheses say what is meant",
-        details: "operators that bind otherwise than they look: a comparison that is an operand of `&`, `|` or `^` without parentheses, since comparisons bind closer; a comparison of what a comparison gives, as in `1 < a < 5`; and `!` before a comparison, or before an operand of `&`, `|` or `^`, as in `!flags & 4`. `!a == !b` and `a == 1 | a == 2` are evaluated as they look and have no warning.",
+        details: "operators that bind otherwise than they look: a comparison that is an operand of `&`, `|` or `^` without parentheses, since comparisons bind closer; a comparison of what a comparison gives, as in `1 < a < 5`; and `!` before a comparison, or before an operand of `&`, `|` or `^`, as in `!flags & 4`. So it is of `10 ^ 3`, which is no power, where both are plain decimal numbers and the first is 2 or 10. `!a == !b` and `a == 1 | a == 2` are evaluated as they look and have no warning.",
         example: "VARIABLE a { TYPE INTEGER { MAX_VALUE b & 2 == 2; } }
 VARIABLE b { TYPE INTEGER; }",
         counterexample: "VARIABLE a { TYPE INTEGER { MAX_VALUE (b & 2) == 2; } }
@@ -57,7 +57,7 @@ VARIABLE b { TYPE INTEGER; }",
         name: "settled-comparison",
         level: Level::Warn,
         summary: "a comparison or a CASE that the type of the variable has settled",
-        details: "a comparison of a variable with a constant that is true, or false, for all that the variable can hold, and a label of a SELECT or `switch` over it that it can't hold. So are two comparisons of one name with constants, joined by `&&` or `||`, that never hold together, or of which one always holds. Where two comparisons joined by `&&` or `||` have the two ends of a range, the order may be settled by one of them. In a method an unsigned variable of four octets is read as a number with a sign.",
+        details: "a comparison of a variable with a constant that is true, or false, for all that the variable can hold, and a label of a SELECT or `switch` over it, or over what is computed, that it can't be. So are two comparisons of one name with constants, or of the same two names, joined by `&&` or `||`, that never hold together, or of which one always holds. Where two comparisons joined by `&&` or `||` have the two ends of a range, the order may be settled by one of them. In a method an unsigned variable of four octets is read as a number with a sign.",
         example: "VARIABLE a { TYPE INTEGER; VALIDITY IF (b < 300) { TRUE; } ELSE { FALSE; } }
 VARIABLE b { TYPE UNSIGNED_INTEGER; }",
         counterexample:
@@ -70,7 +70,7 @@ VARIABLE b { TYPE UNSIGNED_INTEGER; }",
         name: "equal-operands",
         level: Level::Warn,
         summary: "an operator with the same on both of its sides",
-        details: "a comparison, `-`, `/`, `%`, `&`, `|` or `^` with the same name on both sides, and `&&` or `||` with the same name or the same comparison.",
+        details: "a comparison, `-`, `/`, `%`, `&`, `|` or `^` with the same name on both sides, also as `-=` and so on, and `&&` or `||` with the same name or the same comparison.",
         example: "METHOD m { DEFINITION { int i; i = 2; if (i == 1 || i == 1) save_values(); } }",
         counterexample: "METHOD m { DEFINITION { int i; i = 2; if (i == 1 || i == 2) save_values(); } }",
         notes: "`i == 1 || i == 2` and `i + i` have no warning.",
@@ -154,7 +154,7 @@ MENU x { ITEMS { e, IF (e == 1) { "on" } } }"#,
         name: "settled-condition",
         level: Level::Warn,
         summary: "a comparison or a test of bits that is settled where it stands",
-        details: "a comparison that always holds, or never does, by what is known at its place: by the conditions around it, by the last store to a local or a variable, by the bits of a mask; and a condition of bits that are never 0, or always. What is known of variables is forgotten at each request, and of all that a loop sets before the loop. Behind an `if` of one comparison that was not taken it is known that this fails: what can never hold then has a warning, and what always holds is a careful test. Where several are joined nothing is known behind them.",
+        details: "a comparison that always holds, or never does, by what is known at its place: by the conditions around it, by the last store to a local or a variable, by the bits of a mask; and a condition of bits that are never 0, or always. What is known of variables is forgotten at each request, and of all that a loop sets before the loop. Behind an `if` of one comparison that was not taken it is known that this fails: what can never hold then has a warning, and what always holds is a careful test. Where the last condition of a chain always holds, an `else` behind it is never reached, and has one. An element of a constant number is the variable that it is. Where several are joined nothing is known behind them.",
         example: r#"VARIABLE e { TYPE ENUMERATED { { 0, "off" } { 1, "on" } { 3, "hold" } } }
 METHOD m { DEFINITION { if (e == 1) { if (e == 0) send_command(1); } } }"#,
         counterexample: r#"VARIABLE e { TYPE ENUMERATED { { 0, "off" } { 1, "on" } { 3, "hold" } } }
@@ -190,7 +190,7 @@ METHOD m { DEFINITION { a = a * 2; } }",
         name: "zero-quotient",
         level: Level::Warn,
         summary: "a division of constants that gives 0",
-        details: "a division of two constants of which the first is the smaller one: without a fraction it gives 0.",
+        details: "a division of two constants of which the first is the smaller one: without a fraction it gives 0. So it is of one that does not come out even and is multiplied, as in `a * (9 / 5)`.",
         example: "VARIABLE a { TYPE INTEGER; }
 METHOD m { DEFINITION { a = 1 / 2 * a; } }",
         counterexample: "VARIABLE a { TYPE INTEGER; }
@@ -226,7 +226,7 @@ METHOD m { DEFINITION { a = a + 1; } }",
         name: "unnamed-bits",
         level: Level::Warn,
         summary: "a number of bits that no enumerator of its variable names",
-        details: "a constant with bits that no enumerator names, of a BIT_ENUMERATED variable with enumerators: what it is compared with by `==` or `!=`, set to by `=` or `|=`, or selected by; and a mask of `&`, `|` or `^` none of whose bits has a name.",
+        details: "a constant with bits that no enumerator names, of a BIT_ENUMERATED variable with enumerators: what it is compared with by `==` or `!=`, set to by `=`, `|=` or `^=`, or selected by; and a mask of `&`, `|` or `^` none of whose bits has a name, also as `&=`, and of `& ~`.",
         example: r#"VARIABLE b { TYPE BIT_ENUMERATED { { 1, "hot" } { 4, "worn" } } }
 METHOD m { DEFINITION { if (b & 2) send_command(1); } }"#,
         counterexample: r#"VARIABLE b { TYPE BIT_ENUMERATED { { 1, "hot" } { 4, "worn" } } }

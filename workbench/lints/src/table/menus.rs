@@ -118,7 +118,7 @@ MENU m { LABEL "Main"; ITEMS { a } }"#,
         name: "invalid-entry",
         level: Level::Warn,
         summary: "an entry under a condition under which the item is not valid",
-        details: "an entry of a menu under conditions under which the VALIDITY of the item is always FALSE: it is never shown.",
+        details: "an entry of a menu under conditions under which the VALIDITY of the item is always FALSE, or whose VALIDITY is FALSE under all: it is never shown.",
         example: r#"VARIABLE e { TYPE ENUMERATED { { 0, "off" } { 1, "on" } { 3, "hold" } } }
 VARIABLE v { VALIDITY IF (e == 1) { TRUE; } ELSE { FALSE; } TYPE INTEGER; }
 MENU m { ITEMS { IF (e == 0) { v } } }"#,

@@ -20,7 +20,7 @@ pub(super) const ROWS: &[Row] = &[
         name: "dropped-value",
         level: Level::Warn,
         summary: "a statement that computes a value and does nothing with it",
-        details: "a statement that computes a value, sets nothing and asks for nothing. A plain number, as a macro may leave it, has no warning.",
+        details: "a statement that computes a value, sets nothing and asks for nothing; and one whose operator gives what nothing uses, as `!send_command(1);`. A plain number, as a macro may leave it, has no warning.",
         example: "METHOD m { DEFINITION { int i; i = 2; i + 1; } }",
         counterexample: "METHOD m { DEFINITION { int i; i = 2; i++; } }",
         notes: "`i++;` has no warning.",
@@ -40,7 +40,7 @@ pub(super) const ROWS: &[Row] = &[
         name: "assigned-to-itself",
         level: Level::Warn,
         summary: "a variable or a local that is set to itself",
-        details: "a variable or a local that is set to itself, by `=`, iassign or lassign, also by way of ivar_value or lvar_value.",
+        details: "a variable or a local that is set to itself, by `=`, iassign or lassign, also by way of ivar_value or lvar_value. So it is of `b = a;` where nothing has changed since `a = b;`, and of an `if` by `==` that begins by setting the same.",
         example: "METHOD m { DEFINITION { int i; i = i; } }",
         counterexample: "METHOD m { DEFINITION { int i; i = i + 1; } }",
         notes: "",
@@ -96,7 +96,7 @@ METHOD m { DEFINITION { send_command(130); } }",
         name: "missing-transaction",
         level: Level::Warn,
         summary: "a transaction that the command does not have",
-        details: "a `send_command_trans` with two constants of which the first is the NUMBER of a command of the description, all of whose transactions have their numbers written, and the second is none of them. Of a command that is not declared it says nothing.",
+        details: "a `send_command_trans` with two constants of which the first is the NUMBER of a command of the description, and the second is none of its transactions: those without a number may count by their order. Of a command that is not declared it says nothing.",
         example: "COMMAND c { NUMBER 3; OPERATION READ; TRANSACTION 0 { REQUEST { } REPLY { } } }
 METHOD m { DEFINITION { send_command_trans(3, 1); } }",
         counterexample:
@@ -163,7 +163,7 @@ METHOD m { DEFINITION { int code; code = GET_DEV_VAR_VALUE("Limit?", a); if (cod
         name: "missing-choice",
         level: Level::Warn,
         summary: "a choice that the list of a SELECT_FROM_LIST does not have",
-        details: "what a SELECT_FROM_LIST, or a local that keeps answers of such alone, is compared with by `==` or `!=`, or a label of a `switch` over it, that is no choice: they are counted from 0.",
+        details: "what a SELECT_FROM_LIST, or a local that keeps answers of such alone, is compared with by `==`, `!=`, `>=` or `>`, or a label of a `switch` over it, that is no choice: they are counted from 0. What is joined by `&&` or `||` may test a range, and has none for an order.",
         example: r#"METHOD m { DEFINITION { if (SELECT_FROM_LIST("Go?", "Yes;No") == 2) abort(); } }"#,
         counterexample: r#"METHOD m { DEFINITION { if (SELECT_FROM_LIST("Go?", "Yes;No") == 1) abort(); } }"#,
         notes: "",
@@ -227,7 +227,7 @@ METHOD m { DEFINITION { a = 100; send_command(1); } }",
         name: "dead-store",
         level: Level::Warn,
         summary: "a value that is replaced before anything reads it",
-        details: "a value that is stored by a statement, and replaced by one after it in the same block, with other assignments between at most, none of which reads it.",
+        details: "a value that is stored by a statement, and replaced by one after it in the same block, with other assignments between at most, none of which reads it. So it is of what a technician has entered.",
         example: "VARIABLE a { TYPE INTEGER; }
 METHOD m { DEFINITION { a = 5; a = 6; send_command(1); } }",
         counterexample: "VARIABLE a { TYPE INTEGER; }
@@ -275,7 +275,7 @@ METHOD m { DEFINITION { switch (a) { case 1: send_command(1); } } }",
         name: "misleading-indentation",
         level: Level::Warn,
         summary: "a statement that looks like part of the one before it",
-        details: "a statement that stands below what is in the `if`, `else`, `while` or `for` before it, which has no braces: it is executed in any case.",
+        details: "a statement that stands below what is in the `if`, `else`, `while` or `for` before it, or in the last statement of that, where none has braces: it is executed in any case.",
         example: "VARIABLE a { TYPE INTEGER; }
 METHOD m { DEFINITION {
     if (a)

@@ -70,6 +70,15 @@ impl<'c, 'd> Environment<'c, 'd> {
         known.unwrap_or_else(|| self.typed(storage))
     }
 
+    /// What an element of an array may hold.
+    pub(crate) fn element(&self, array: Target, index: &Expr<Target>) -> Values {
+        let element = self.context.instrument.element_at(array, index, self.sort);
+        match element.and_then(storage_of) {
+            Some(storage) => self.get(storage),
+            None => Values::any(self.sort),
+        }
+    }
+
     /// Whether more is known of a place than its type says.
     pub(crate) fn knows(&self, storage: Storage) -> bool {
         self.known.contains_key(&storage)
