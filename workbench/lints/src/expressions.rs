@@ -114,7 +114,12 @@ fn check_assignment(to: Target, value: &Expr<Target>, at: TokenIndex, walk: &mut
     let before = walk.assigned.replace(to);
     check_expression(value, false, walk);
     walk.assigned = before;
-    walk.write(to);
+    // An assignment of a place to itself is told as that alone.
+    if is_itself(to, value) {
+        walk.change(to);
+    } else {
+        walk.write(to);
+    }
 }
 
 /// Checks an expression. The value of a statement's is not used, in parentheses or not.

@@ -3,7 +3,7 @@
 use crate::context::Context;
 use crate::cycles::{Cycle, find_cycles};
 use crate::expressions::stores::without_parentheses;
-use crate::instrument::Variable;
+use crate::instrument::{Instrument, Variable};
 use crate::kind::VariableKind;
 use crate::settled::variables_read;
 use crate::source::{Source, TokenIndex, index};
@@ -32,6 +32,8 @@ struct Leaf<'c, 'd> {
     /// The conditions around it, as they are written, with the branch of each.
     path: String,
     values: Values,
+    /// What it adds to a place, where it does nothing else.
+    sum: Option<(Target, i64)>,
     /// What holds in the branch.
     known: Environment<'c, 'd>,
 }
@@ -75,6 +77,7 @@ impl<'c, 'd> Leaves<'c, 'd> {
             Cond::Value(e) => self.all.push(Leaf {
                 path: path.to_owned(),
                 values: known.clone().evaluate(e, &mut Nobody),
+                sum: sum_of(e, Sort::Attribute, &self.context.instrument),
                 known: known.clone(),
             }),
             Cond::If {
@@ -201,9 +204,14 @@ fn check_order(
 }
 
 /// What an expression adds to something that it reads, where it does nothing else.
-pub(crate) fn sum_of(e: &Expr<Target>, sort: Sort) -> Option<(Target, i64)> {
+pub(crate) fn sum_of(
+    e: &Expr<Target>,
+    sort: Sort,
+    instrument: &Instrument<'_>,
+) -> Option<(Target, i64)> {
     match without_parentheses(e) {
         Expr::Reference(target) => Some((*target, 0)),
+        Expr::Indexed(array, index) => Some((instrument.element_at(*array, index, sort)?, 0)),
         Expr::Binary(operator, first, second) => {
             let number = |e| evaluate(e, sort).number();
             let (inner, number) = match (operator, number(first), number(second)) {
@@ -212,22 +220,38 @@ pub(crate) fn sum_of(e: &Expr<Target>, sort: Sort) -> Option<(Target, i64)> {
                 (Operator::Subtract, _, Some(number)) => (first, number.checked_neg()?),
                 _ => return None,
             };
-            let (target, so_far) = sum_of(inner, sort)?;
+            let (target, so_far) = sum_of(inner, sort, instrument)?;
             Some((target, so_far.checked_add(number)?))
         }
         _ => None,
     }
 }
 
-// By how much an option is over another one, where both are sums with the same.
-fn distance(one: &NumberPart<'_>, other: &NumberPart<'_>) -> Option<i64> {
-    let plain = |part: &NumberPart<'_>| match part.value {
-        Cond::Value(e) => sum_of(e, Sort::Attribute),
-        _ => None,
-    };
-    let (one, other) = (plain(one)?, plain(other)?);
-    let over = one.1.checked_sub(other.1)?;
-    (one.0 == other.0).then_some(over)
+// By how much an option of a branch is over those of another option there, where all are sums with the
+// same.
+fn distance(one: &Leaf<'_, '_>, others: &[Leaf<'_, '_>]) -> Option<i64> {
+    let (place, number) = one.sum?;
+    let distances: Option<Vec<_>> = others
+        .iter()
+        .map(|other| match other.sum? {
+            (same, less) if same == place => number.checked_sub(less),
+            _ => None,
+        })
+        .collect();
+    distances?.into_iter().min()
+}
+
+// The distances of two options in the branches of the first.
+fn distances(
+    low: &NumberPart<'_>,
+    high: &NumberPart<'_>,
+    context: &Context<'_>,
+) -> Vec<Option<i64>> {
+    let (lower, upper) = (Leaves::of(low, context), Leaves::of(high, context));
+    let is_short = lower.len().saturating_mul(upper.len()) <= MOST_PAIRS;
+    let looked_at = if is_short { lower } else { Vec::new() };
+    let there = |leaf: &Leaf<'_, '_>| distance(leaf, &Leaves::under(high, &leaf.known, context));
+    looked_at.iter().map(there).collect()
 }
 
 // Two options that are sums with the same, of which the first is always over the second.
@@ -235,9 +259,11 @@ fn apart(
     low: Option<NumberPart<'_>>,
     high: Option<NumberPart<'_>>,
     kind: impl Fn(i64) -> VariableKind,
+    context: &Context<'_>,
 ) -> Option<(TokenIndex, VariableKind, TokenIndex)> {
     let (low, high) = (low?, high?);
-    let over = distance(&low, &high).filter(|over| 0 < *over)?;
+    let mut over = distances(&low, &high, context).into_iter().flatten();
+    let over = over.find(|over| 0 < *over)?;
     Some((low.at, kind(over), high.at))
 }
 
@@ -251,25 +277,26 @@ pub(crate) fn check_limits_under_conditions(
     let greatest = || part_of(variable, NumberOption::MaxValue);
     let default = || part_of(variable, NumberOption::DefaultValue);
     let crossed = check_order(least(), greatest(), VariableKind::CrossedLimits, context)
-        .or_else(|| apart(least(), greatest(), VariableKind::LimitsApart));
+        .or_else(|| apart(least(), greatest(), VariableKind::LimitsApart, context));
     let over = check_order(default(), greatest(), VariableKind::DefaultOver, context)
-        .or_else(|| apart(default(), greatest(), VariableKind::DefaultApart));
+        .or_else(|| apart(default(), greatest(), VariableKind::DefaultApart, context));
     for (at, kind, other) in crossed.into_iter().chain(over) {
         findings.add_beside(at, kind, other);
     }
     let below = |least, default| VariableKind::DefaultBelow(default, least);
     let below = check_order(least(), default(), below, context)
-        .or_else(|| apart(least(), default(), VariableKind::DefaultApartBelow));
+        .or_else(|| apart(least(), default(), VariableKind::DefaultApartBelow, context));
     if let Some((other, kind, at)) = below {
         findings.add_beside(at, kind, other);
     }
-    check_single_value(variable, least(), greatest(), findings);
+    check_single_value(variable, least(), greatest(), context, findings);
 }
 
 fn check_single_value(
     variable: &Variable<'_>,
     least: Option<NumberPart<'_>>,
     greatest: Option<NumberPart<'_>>,
+    context: &Context<'_>,
     findings: &mut Findings<'_>,
 ) {
     let (Some(least), Some(greatest)) = (least, greatest) else {
@@ -285,9 +312,13 @@ fn check_single_value(
     if !is_number || variable.is_read_only {
         return;
     }
+    let are_same = || {
+        let distances = distances(&least, &greatest, context);
+        !distances.is_empty() && distances.iter().all(|distance| *distance == Some(0))
+    };
     if let Some(number) = same {
         findings.add_beside(least.at, VariableKind::SingleValue(number), greatest.at);
-    } else if distance(&least, &greatest) == Some(0) {
+    } else if are_same() {
         findings.add_beside(least.at, VariableKind::SameLimits, greatest.at);
     }
 }

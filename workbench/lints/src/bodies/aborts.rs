@@ -9,6 +9,7 @@ use crate::visit::{Visitor, visit_parts, visit_statement};
 use crate::warning::Findings;
 use edd_instructions::Sort;
 use edd_syntax::expr::{Argument, Expr};
+use edd_syntax::item::{Attribute, Item};
 use edd_syntax::numbers::ItemNo;
 use edd_syntax::operators::Builtin;
 use edd_syntax::reference::Target;
@@ -39,17 +40,34 @@ fn added_by_part(part: &Part<Target>) -> Option<(ItemNo, TokenIndex)> {
 }
 
 /// The calls in a body.
-struct Calls<'f, 'd> {
+struct Calls<'f, 'c, 'd> {
+    context: &'c Context<'d>,
     findings: &'f mut Findings<'d>,
     own: Option<ItemNo>,
 }
 
-impl<'t> Visitor<'t> for Calls<'_, '_> {
+// Whether a method begins with an abort.
+fn only_aborts(method: &Item<Target>) -> bool {
+    method.attributes.iter().any(|attribute| match attribute {
+        Attribute::Definition(_, parts) => parts.first().is_some_and(is_abort_part),
+        _ => false,
+    })
+}
+
+impl<'t> Visitor<'t> for Calls<'_, '_, '_> {
     fn expression(&mut self, e: &'t Expr<Target>, _: Sort) {
-        if let Some((method, at)) = added_by(e)
-            && Some(method) == self.own
-        {
+        let Some((method, at)) = added_by(e) else {
+            return;
+        };
+        let instrument = &self.context.instrument;
+        let place = instrument.place_of(method);
+        if Some(method) == self.own {
             self.findings.add(at, MethodKind::OwnAbortMethod);
+        } else if place
+            .and_then(|place| instrument.items.get(place))
+            .is_some_and(only_aborts)
+        {
+            self.findings.add(at, MethodKind::IdleAbortMethod);
         }
     }
 
@@ -153,5 +171,10 @@ pub(super) fn check_abort_methods<'d>(
     if let Some((_, at)) = last.filter(|_| is_reached && has_others) {
         findings.add(at, MethodKind::LateAbortMethod);
     }
-    visit_parts(parts, &mut Calls { findings, own });
+    let mut calls = Calls {
+        context,
+        findings,
+        own,
+    };
+    visit_parts(parts, &mut calls);
 }

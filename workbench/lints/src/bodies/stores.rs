@@ -6,9 +6,10 @@ use crate::expressions::stores::is_itself;
 use crate::expressions::walk::Walk;
 use crate::kind::MethodKind;
 use crate::source::TokenIndex;
+use crate::traits::quoted;
 use crate::values::environment::{Storage, storage_of};
 use crate::visit::children;
-use edd_syntax::expr::Expr;
+use edd_syntax::expr::{Argument, Expr};
 use edd_syntax::operators::{Builtin, RequestKind};
 use edd_syntax::reference::Target;
 use edd_syntax::stmt::{Part, Stmt};
@@ -16,18 +17,29 @@ use std::collections::BTreeMap;
 
 /// What was stored by the statements before, and not read since, with the places of the stores.
 #[derive(Default)]
-struct Pending {
-    stores: BTreeMap<Storage, Stored>,
+struct Pending<'t> {
+    stores: BTreeMap<Storage, Stored<'t>>,
     /// The places that are copies of others.
     copies: BTreeMap<Storage, Storage>,
 }
 
 /// What a store stores, with its place.
 #[derive(Clone, Copy)]
-enum Stored {
+enum Stored<'t> {
     Value(TokenIndex),
-    /// What a technician has entered.
-    Entry(TokenIndex),
+    /// What a technician has entered, and what was asked.
+    Entry(TokenIndex, Option<&'t str>),
+}
+
+// What a technician is asked.
+fn question(e: &Expr<Target>) -> Option<&str> {
+    match e {
+        Expr::Call { arguments, .. } => match arguments.first()? {
+            Argument::Text(text) => quoted(text),
+            Argument::Value(_) => None,
+        },
+        _ => None,
+    }
 }
 
 // The variable that a call asks a technician for.
@@ -42,7 +54,7 @@ fn entered(e: &Expr<Target>) -> Option<Target> {
     }
 }
 
-impl Pending {
+impl<'t> Pending<'t> {
     fn forget(&mut self, target: Target) {
         if let Some(storage) = storage_of(target) {
             self.stores.remove(&storage);
@@ -68,14 +80,22 @@ impl Pending {
     }
 
     // Notes a store, and returns the one that it replaces.
-    fn store(&mut self, target: Target, stored: Stored) -> Option<Stored> {
+    fn store(&mut self, target: Target, stored: Stored<'t>) -> Option<Stored<'t>> {
         self.stores.insert(storage_of(target)?, stored)
     }
 
     // Notes what is entered by a call.
-    fn enter(&mut self, e: &Expr<Target>, at: TokenIndex) {
+    fn enter(&mut self, e: &'t Expr<Target>, at: TokenIndex) {
         if let Some(storage) = entered(e).and_then(storage_of) {
-            self.stores.insert(storage, Stored::Entry(at));
+            self.stores.insert(storage, Stored::Entry(at, question(e)));
+        }
+    }
+
+    // The entry right before that another one replaces. The same question again may be a second try.
+    fn entered_before(&mut self, e: &'t Expr<Target>) -> Option<TokenIndex> {
+        match self.stores.remove(&storage_of(entered(e)?)?)? {
+            Stored::Entry(at, asked) => (asked != question(e)).then_some(at),
+            Stored::Value(_) => None,
         }
     }
 
@@ -126,6 +146,10 @@ pub(super) fn check_stores(parts: &[Part<Target>], walk: &mut Walk<'_, '_>) {
         pending.change(e);
         let at = walk.context.places.sign(e);
         let Expr::Assign(to, value) = e else {
+            if let Some(earlier) = pending.entered_before(e) {
+                walk.findings
+                    .add_beside(earlier, MethodKind::ReplacedEntry, at);
+            }
             pending.read(e);
             pending.enter(e, at);
             continue;
@@ -138,7 +162,7 @@ pub(super) fn check_stores(parts: &[Part<Target>], walk: &mut Walk<'_, '_>) {
             Some(Stored::Value(earlier)) => {
                 walk.findings.add_beside(earlier, MethodKind::DeadStore, at);
             }
-            Some(Stored::Entry(earlier)) => {
+            Some(Stored::Entry(earlier, _)) => {
                 walk.findings
                     .add_beside(earlier, MethodKind::ReplacedEntry, at);
             }

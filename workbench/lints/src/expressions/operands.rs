@@ -1,7 +1,7 @@
 //! Operators that bind otherwise than they look, and operands that settle what an operator gives.
 
 use super::slips::check_named_label;
-use super::stores::{check_listed, without_parentheses};
+use super::stores::{check_listed, check_set_bits, without_parentheses};
 use super::walk::Walk;
 use crate::instrument::variable_of;
 use crate::kind::{ConditionKind, VariableKind};
@@ -97,14 +97,27 @@ fn are_same_values(first: &Expr<Target>, second: &Expr<Target>, walk: &Walk<'_, 
     }
 }
 
-// Whether both are the same place, or the same comparison of places and plain numbers.
+// Whether both are the same place, or the same operator on the same operands.
 fn are_same(first: &Expr<Target>, second: &Expr<Target>, walk: &Walk<'_, '_>) -> bool {
+    let are_operands =
+        |a, b| are_same_values(a, b, walk) || (has_operator(a) && are_same(a, b, walk));
     match (without_parentheses(first), without_parentheses(second)) {
         (Expr::Compare(one, a, b), Expr::Compare(other, c, d)) => {
-            one == other && are_same_values(a, c, walk) && are_same_values(b, d, walk)
+            one == other && are_operands(a, c) && are_operands(b, d)
         }
+        (Expr::Binary(one, a, b), Expr::Binary(other, c, d)) => {
+            one == other && are_operands(a, c) && are_operands(b, d)
+        }
+        (Expr::Unary(one, a), Expr::Unary(other, b)) => one == other && are_operands(a, b),
         _ => are_one_place(first, second, walk),
     }
+}
+
+fn has_operator(e: &Expr<Target>) -> bool {
+    matches!(
+        without_parentheses(e),
+        Expr::Compare(..) | Expr::Binary(..) | Expr::Unary(..)
+    )
 }
 
 /// An operator on bits or a difference, both of whose operands are one reference.
@@ -138,6 +151,7 @@ pub(super) fn check_compound(
     walk: &mut Walk<'_, '_>,
 ) {
     check_operands(operator, &Expr::Reference(to), value, at, walk);
+    check_set_bits(operator, to, value, at, walk);
     let number = evaluate(value, walk.sort).number();
     let is_zero = match operator {
         Operator::Multiply => number == Some(0),

@@ -76,6 +76,8 @@ kinds! {
             "{number} has bits that no enumerator of {variable} names"
         UntestedIndex(variable: String, number: i64) UntestedIndex
             "{variable} may be {number}, and the array has no element of that number"
+        UntestedSum(number: i64) UntestedIndex
+            "this may be {number}, and the array has no element of that number"
         CountedPastElements(number: i64) LoopLeavesArray
             "the loop comes to {number}, and the array has no element of that number"
     }

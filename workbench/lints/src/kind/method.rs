@@ -124,6 +124,8 @@ kinds! {
             "this method is its own abort method"
         RepeatedAbortMethod RepeatedAbortMethod
             "this abort method is added already"
+        IdleAbortMethod EmptyMethod
+            "this abort method does nothing but abort"
         LateAbortMethod LateAbortMethod
             "nothing comes behind this that could abort"
         LoopedAbortMethod LoopedAbortMethod

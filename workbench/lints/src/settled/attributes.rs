@@ -153,6 +153,35 @@ fn may_hold(conditional: &Cond<Target, bool>, known: &Environment<'_, '_>) -> bo
     }
 }
 
+// What holds where a menu is shown. Entries that test it again are careful.
+fn where_valid<'c, 'd>(menu: &Item<Target>, known: Environment<'c, 'd>) -> Environment<'c, 'd> {
+    let condition = menu
+        .attributes
+        .iter()
+        .find_map(|attribute| match attribute {
+            Attribute::Validity(
+                _,
+                Cond::If {
+                    condition,
+                    first,
+                    otherwise,
+                },
+            ) => match (&**first, &**otherwise) {
+                ([Cond::Value(true)], [Cond::Value(false)]) => Some((condition, true)),
+                ([Cond::Value(false)], [] | [Cond::Value(true)]) => Some((condition, false)),
+                _ => None,
+            },
+            _ => None,
+        });
+    match condition {
+        Some((condition, truth)) => {
+            let there = known.clone().refined(condition, truth);
+            there.map_or(known, Environment::all_passed)
+        }
+        None => known,
+    }
+}
+
 /// Follows the conditionals of an item's attributes.
 pub(crate) fn check_attributes<'d>(
     item: &Item<Target>,
@@ -166,7 +195,12 @@ pub(crate) fn check_attributes<'d>(
         is_chained: false,
     };
     for attribute in &item.attributes {
-        conditionals_of(attribute, &mut ways);
+        if let Attribute::Items(_, entries) = attribute {
+            let known = where_valid(item, Environment::new(Sort::Attribute, context));
+            ways.conditionals(entries, &known, false);
+        } else {
+            conditionals_of(attribute, &mut ways);
+        }
     }
 }
 

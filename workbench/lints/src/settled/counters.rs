@@ -124,6 +124,38 @@ pub(super) fn counter_of_while(
     (is_plain && is_one).then_some((storage, range))
 }
 
+/// Whether the condition of a `do` does not hold after its first turn, which counts a place that is known
+/// where it begins by its last statement alone.
+pub(super) fn ends_after_first_turn(
+    body: &Stmt<Target>,
+    condition: &Expr<Target>,
+    known: &Environment<'_, '_>,
+) -> bool {
+    let ends = || {
+        let (target, comparison, limit) = limit_of(Some(condition))?;
+        let Stmt::Block(parts) = body else {
+            return None;
+        };
+        let (Part::Statement(Stmt::Evaluate(last)), rest) = parts.split_last()? else {
+            return None;
+        };
+        let (counted, step) = step_of(Some(last))?;
+        let limit = evaluate(limit, Sort::Method).number()?;
+        let start = known.get(storage_of(target)?).number()?;
+        let mut uses = Uses {
+            target,
+            sets: false,
+            tests: false,
+            continues: false,
+        };
+        visit_parts(rest, &mut uses);
+        let reached = start.checked_add(step)?;
+        let is_plain = target == counted && !uses.sets && !uses.continues;
+        Some(is_plain && !holds(comparison, reached, limit))
+    };
+    ends() == Some(true)
+}
+
 fn counted_range(start: i64, comparison: Comparison, limit: i64, step: i64) -> Option<Range> {
     let last = match (comparison, step) {
         (Comparison::LessOrEqual, 1) | (Comparison::GreaterOrEqual, -1) => limit,

@@ -63,7 +63,7 @@ pub(super) fn check_index(
     if let Some(number) = values.number().filter(is_missing) {
         return ways.findings.add(at, ConditionKind::MissingElement(number));
     }
-    let sum = sum_of(index, known.sort);
+    let sum = sum_of(index, known.sort, &ways.context.instrument);
     let Some((storage, more)) = sum.and_then(|(target, more)| Some((storage_of(target)?, more)))
     else {
         return;
@@ -78,16 +78,13 @@ pub(super) fn check_index(
         }
         return;
     }
-    if more != 0 {
-        return;
-    }
-    check_variable(ways, storage, at, known, is_missing);
+    check_variable(ways, (storage, more), at, known, is_missing);
 }
 
-// An index that is a variable of which nothing is known but its type.
+// An index that is a variable of which nothing is known but its type, or a sum of it and a constant.
 fn check_variable(
     ways: &mut Ways<'_, '_, '_>,
-    storage: Storage,
+    (storage, more): (Storage, i64),
     at: TokenIndex,
     known: &Environment<'_, '_>,
     is_missing: impl Fn(&i64) -> bool,
@@ -100,8 +97,13 @@ fn check_variable(
     };
     let is_untested = !known.knows(storage);
     let listed = listed_numbers(variable);
-    if let Some(missing) = listed.into_iter().find(is_missing).filter(|_| is_untested) {
-        let kind = ConditionKind::UntestedIndex(variable.name().to_owned(), missing);
+    let mut indexes = listed.into_iter().map(|number| number.saturating_add(more));
+    if let Some(missing) = indexes.find(is_missing).filter(|_| is_untested) {
+        let kind = if more == 0 {
+            ConditionKind::UntestedIndex(variable.name().to_owned(), missing)
+        } else {
+            ConditionKind::UntestedSum(missing)
+        };
         ways.findings.add(at, kind);
     }
 }

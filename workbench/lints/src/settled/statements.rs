@@ -1,6 +1,6 @@
 //! Ways through the body of a method.
 
-use super::counters::{ForLoop, counter_of, counter_of_while};
+use super::counters::{ForLoop, counter_of, counter_of_while, ends_after_first_turn};
 use super::{Ways, depends};
 use crate::bodies::flow::is_abort;
 use crate::context::Context;
@@ -100,6 +100,10 @@ impl<'c, 'd> Ways<'c, 'd, '_> {
                 Some(known)
             }
             Stmt::Do(body, condition) => {
+                if ends_after_first_turn(body, condition, &known) {
+                    let at = self.context.places.sign(condition);
+                    self.findings.add(at, ConditionKind::SettledHere(false));
+                }
                 self.forget_in(s, &mut known);
                 if let Some(mut behind) = self.statement(body, known.clone()) {
                     self.test_at(at, condition, &mut behind);
@@ -197,6 +201,7 @@ impl<'c, 'd> Ways<'c, 'd, '_> {
     ) -> Way<'c, 'd> {
         let mut known = known;
         let is_chained = self.is_chained;
+        let is_passed = known.reads_passed(condition);
         self.test_at(at, condition, &mut known);
         self.is_chained = false;
         let [first, otherwise] = branches;
@@ -205,7 +210,7 @@ impl<'c, 'd> Ways<'c, 'd, '_> {
         let taken = taken.and_then(|inner| self.statement(first, inner));
         self.is_chained = matches!(otherwise, Stmt::If(..) | Stmt::IfElse(..));
         let other = known.refined(condition, false);
-        if is_chained && other.is_none() {
+        if (is_chained || is_passed) && other.is_none() {
             self.check_last_else(condition, Sort::Method);
         }
         let other = other.and_then(|inner| self.statement(otherwise, inner));

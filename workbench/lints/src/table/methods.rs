@@ -227,7 +227,7 @@ METHOD m { DEFINITION { a = 100; send_command(1); } }",
         name: "dead-store",
         level: Level::Warn,
         summary: "a value that is replaced before anything reads it",
-        details: "a value that is stored by a statement, and replaced by one after it in the same block, with other assignments between at most, none of which reads it. So it is of what a technician has entered.",
+        details: "a value that is stored by a statement, and replaced by one after it in the same block, with other assignments between at most, none of which reads it. So it is of what a technician has entered, also where another question asks for the same variable.",
         example: "VARIABLE a { TYPE INTEGER; }
 METHOD m { DEFINITION { a = 5; a = 6; send_command(1); } }",
         counterexample: "VARIABLE a { TYPE INTEGER; }

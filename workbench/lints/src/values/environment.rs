@@ -121,6 +121,12 @@ impl<'c, 'd> Environment<'c, 'd> {
         Some(passed)
     }
 
+    /// The same, where a test of anything that is known is careful.
+    pub(crate) fn all_passed(mut self) -> Environment<'c, 'd> {
+        self.passed.extend(self.known.keys());
+        self
+    }
+
     /// Whether an expression reads a place of which something is known so.
     pub(crate) fn reads_passed(&self, e: &Expr<Target>) -> bool {
         let is_passed = match e {
