@@ -19,8 +19,10 @@ use std::collections::BTreeMap;
 #[derive(Default)]
 struct Pending<'t> {
     stores: BTreeMap<Storage, Stored<'t>>,
-    /// The places that are copies of others.
-    copies: BTreeMap<Storage, Storage>,
+    /// The places that are copies of others, with how often the other one had been set by then.
+    copies: BTreeMap<Storage, (Storage, usize)>,
+    /// How often each place was set.
+    sets: BTreeMap<Storage, usize>,
 }
 
 /// What a store stores, with its place.
@@ -105,13 +107,19 @@ impl<'t> Pending<'t> {
             return false;
         };
         let from = referred(value).and_then(storage_of);
-        let is_back = from.is_some_and(|from| self.copies.get(&from) == Some(&to) && from != to);
-        self.copies
-            .retain(|copy, original| *copy != to && *original != to);
-        if let Some(from) = from {
-            self.copies.insert(to, from);
-        }
+        let original = from.and_then(|from| self.copies.get(&from));
+        let is_back = original == Some(&(to, self.sets_of(to))) && from != Some(to);
+        let sets = self.sets_of(to).saturating_add(1);
+        self.sets.insert(to, sets);
+        match from {
+            Some(from) => self.copies.insert(to, (from, self.sets_of(from))),
+            None => self.copies.remove(&to),
+        };
         is_back
+    }
+
+    fn sets_of(&self, storage: Storage) -> usize {
+        self.sets.get(&storage).copied().unwrap_or(0)
     }
 
     // Forgets all copies that an expression may change.
