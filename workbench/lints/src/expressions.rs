@@ -24,7 +24,8 @@ use operands::{
 };
 use slips::{
     check_answer, check_argument, check_assigned_operand, check_binary, check_changed_bits,
-    check_code, check_named, check_reversed, check_stepped, check_truth_of_number,
+    check_code, check_entered_order, check_named, check_reversed, check_stepped,
+    check_truth_of_number,
 };
 use stores::{check_assigned, check_stored, check_wrapped, is_itself};
 use walk::Walk;
@@ -97,6 +98,7 @@ fn check_comparison(e: &Expr<Target>, at: TokenIndex, is_statement: bool, walk: 
         check_named(first, second, at, walk);
         check_code(*comparison, first, second, at, walk);
     } else {
+        check_entered_order(first, second, at, walk);
         check_wrapped(second, walk);
     }
     check_expression(second, false, walk);

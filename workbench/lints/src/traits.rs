@@ -196,7 +196,11 @@ pub(crate) fn check_traits(
 /// Checks whether the LABEL of an item is empty.
 pub(crate) fn check_label(attribute: &Attribute<Target>, findings: &mut Findings<'_>) {
     if let Attribute::OneText(at, TextAttribute::Label, label) = attribute {
-        let is_empty = |text: &Text| quoted(text).is_some_and(|text| text.trim().is_empty());
+        let is_empty = |text: &Text| {
+            quoted(text).is_some_and(|text| {
+                Variants::of(text.as_bytes()).all(|variant| variant.words.trim_ascii().is_empty())
+            })
+        };
         if values_in(label).iter().any(|listed| is_empty(listed.value)) {
             findings.add(index(*at), TextKind::EmptyText);
         }

@@ -3,6 +3,7 @@
 use super::slips::check_named_label;
 use super::stores::{check_listed, check_set_bits, without_parentheses};
 use super::walk::Walk;
+use crate::branches::are_alike;
 use crate::instrument::variable_of;
 use crate::kind::{ConditionKind, VariableKind};
 use crate::range::Range;
@@ -255,7 +256,10 @@ pub(super) fn check_chosen(
     at: TokenIndex,
     walk: &mut Walk<'_, '_>,
 ) {
-    if are_same_values(first, second, walk) {
+    let extents = [first, second].map(|e| walk.context.places.expression(e).extent);
+    let [one, other] = extents;
+    let are_written_alike = are_alike(one, other, walk.context.source);
+    if are_same_values(first, second, walk) || are_written_alike {
         walk.findings.add(at, ConditionKind::EqualChoice);
     }
 }

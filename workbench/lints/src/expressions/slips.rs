@@ -7,6 +7,7 @@ use super::walk::Walk;
 use crate::instrument::variable_of;
 use crate::kind::{ConditionKind, MethodKind};
 use crate::source::TokenIndex;
+use crate::traits::classes_of;
 use edd_constants::{Known, evaluate};
 use edd_instructions::Sort;
 use edd_source::{Confidence, Edit, Fix};
@@ -348,11 +349,36 @@ pub(super) fn check_answer(
     else {
         return;
     };
-    if super::calls::target_of_argument(arguments, 1) == Some(to)
-        && let Some(variable) = variable_of(to)
-    {
-        let name = walk.context.instrument.name_of(variable);
+    let known = variable_of(to).and_then(|number| walk.context.instrument.variable(number));
+    let Some(variable) = known else {
+        return;
+    };
+    // A variable of the host may keep a code.
+    if super::calls::target_of_argument(arguments, 1) == Some(to) {
+        let name = variable.name().to_owned();
         walk.findings.add(at, MethodKind::StoredAnswer(name));
+    } else if !classes_of(variable).contains("LOCAL") {
+        walk.findings.add(at, MethodKind::StoredCode);
+    }
+}
+
+/// An order of the code with which an entry was answered to a number other than 0.
+pub(super) fn check_entered_order(
+    first: &Expr<Target>,
+    second: &Expr<Target>,
+    at: TokenIndex,
+    walk: &mut Walk<'_, '_>,
+) {
+    let is_entry = matches!(
+        without_parentheses(first),
+        Expr::Call {
+            function: Target::Function(Builtin::Ask(RequestKind::GetDevVarValue)),
+            ..
+        }
+    );
+    let number = evaluate(second, walk.sort).number();
+    if is_entry && number.is_some_and(|number| number != 0) {
+        walk.findings.add(at, MethodKind::ComparedAnswer);
     }
 }
 

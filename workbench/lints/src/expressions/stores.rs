@@ -11,7 +11,7 @@ use crate::source::TokenIndex;
 use edd_constants::evaluate;
 use edd_instructions::Sort;
 use edd_syntax::expr::Expr;
-use edd_syntax::operators::{Builtin, Operator, UnaryOperator};
+use edd_syntax::operators::{Builtin, Operator, RequestKind, UnaryOperator};
 use edd_syntax::reference::Target;
 
 /// The greatest number that a method computes with.
@@ -58,6 +58,7 @@ pub(super) fn check_stored(
         return check_stored(to, second, at, walk);
     }
     check_kept_bits(to, value, at, walk);
+    check_stored_choice(to, value, at, walk);
     let (Some(variable), Some(number)) = (variable_of(to), stored_number(value, walk.sort)) else {
         return;
     };
@@ -80,6 +81,27 @@ fn check_kept_bits(to: Target, value: &Expr<Target>, at: TokenIndex, walk: &mut 
         && referred(first) == Some(to)
     {
         check_set_bits(*operator, to, second, at, walk);
+    }
+}
+
+// A choice that is stored in a variable of enumerators, of which one of the choices is none.
+fn check_stored_choice(to: Target, value: &Expr<Target>, at: TokenIndex, walk: &mut Walk<'_, '_>) {
+    let Expr::Call {
+        function: Target::Function(Builtin::Ask(RequestKind::SelectFromList)),
+        arguments,
+        ..
+    } = without_parentheses(value)
+    else {
+        return;
+    };
+    let known = variable_of(to).and_then(|number| walk.context.instrument.variable(number));
+    let choices = super::choices::count_choices(arguments);
+    let Some((variable, choices)) = known.zip(choices) else {
+        return;
+    };
+    if let Some(number) = (0..choices).find(|number| variable.lacks(*number)) {
+        let name = variable.name().to_owned();
+        walk.findings.add(at, VariableKind::Unlisted(number, name));
     }
 }
 

@@ -76,6 +76,10 @@ kinds! {
             "this sets a place to what it counts: one of both is enough"
         StoredAnswer(variable: String) StoredAnswer
             "this replaces what was entered for {variable} by the code of the answer"
+        StoredCode StoredAnswer
+            "this stores the code of the answer, and not what was entered"
+        ComparedAnswer StoredAnswer
+            "this compares the code of the answer, and not what was entered"
         DroppedChoice DroppedChoice
             "what is chosen here makes no difference"
         MissingChoice(number: i64) MissingChoice

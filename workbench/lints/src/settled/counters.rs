@@ -28,6 +28,19 @@ struct Uses {
     tests: bool,
     /// Whether a `continue` may pass over the rest of it.
     continues: bool,
+    breaks: bool,
+}
+
+impl Uses {
+    fn of(target: Target) -> Uses {
+        Uses {
+            target,
+            sets: false,
+            tests: false,
+            continues: false,
+            breaks: false,
+        }
+    }
 }
 
 fn mentions(e: &Expr<Target>, target: Target) -> bool {
@@ -54,6 +67,7 @@ impl<'t> Visitor<'t> for Uses {
 
     fn statement(&mut self, s: &'t Stmt<Target>) {
         self.continues |= matches!(s, Stmt::Continue { .. });
+        self.breaks |= matches!(s, Stmt::Break { .. });
         if let Stmt::If(test, _)
         | Stmt::IfElse(test, ..)
         | Stmt::While(test, _)
@@ -82,15 +96,19 @@ pub(super) fn counter_of(looped: &ForLoop<'_>) -> Option<(Storage, Range)> {
     let limit = evaluate(limit, Sort::Method).number()?;
     let is_one = target == compared && target == counted && holds(comparison, start, limit);
     let range = counted_range(start, comparison, limit, step)?;
-    let mut uses = Uses {
-        target,
-        sets: false,
-        tests: false,
-        continues: false,
-    };
+    let mut uses = Uses::of(target);
     visit_statement(looped.body, &mut uses);
     let is_plain = is_one && !uses.sets && !uses.tests;
     Some((storage_of(target)?, range)).filter(|_| is_plain)
+}
+
+/// What a counter is behind its loop, where no `break` leaves it.
+pub(super) fn reached_behind(looped: &ForLoop<'_>, range: Range) -> Option<i64> {
+    let (target, step) = step_of(looped.update)?;
+    let mut uses = Uses::of(target);
+    visit_statement(looped.body, &mut uses);
+    let last = if step < 0 { range.low } else { range.high };
+    last.checked_add(step).filter(|_| !uses.breaks)
 }
 
 /// The same of a `while` whose counter is known where it begins, and is counted by the last statement
@@ -112,12 +130,7 @@ pub(super) fn counter_of_while(
     let storage = storage_of(target)?;
     let start = known.get(storage).number()?;
     let range = counted_range(start, comparison, limit, step)?;
-    let mut uses = Uses {
-        target,
-        sets: false,
-        tests: false,
-        continues: false,
-    };
+    let mut uses = Uses::of(target);
     visit_parts(rest, &mut uses);
     let is_plain = !uses.sets && !uses.tests && !uses.continues;
     let is_one = target == counted && holds(comparison, start, limit);
@@ -142,12 +155,7 @@ pub(super) fn ends_after_first_turn(
         let (counted, step) = step_of(Some(last))?;
         let limit = evaluate(limit, Sort::Method).number()?;
         let start = known.get(storage_of(target)?).number()?;
-        let mut uses = Uses {
-            target,
-            sets: false,
-            tests: false,
-            continues: false,
-        };
+        let mut uses = Uses::of(target);
         visit_parts(rest, &mut uses);
         let reached = start.checked_add(step)?;
         let is_plain = target == counted && !uses.sets && !uses.continues;

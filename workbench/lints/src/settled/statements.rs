@@ -1,6 +1,8 @@
 //! Ways through the body of a method.
 
-use super::counters::{ForLoop, counter_of, counter_of_while, ends_after_first_turn};
+use super::counters::{
+    ForLoop, counter_of, counter_of_while, ends_after_first_turn, reached_behind,
+};
 use super::{Ways, depends};
 use crate::bodies::flow::is_abort;
 use crate::context::Context;
@@ -9,6 +11,7 @@ use crate::expressions::stores::without_parentheses;
 use crate::kind::{ConditionKind, MethodKind};
 use crate::range::Range;
 use crate::source::{TokenIndex, index};
+use crate::values::Values;
 use crate::values::environment::{Environment, Storage, storage_of};
 use crate::values::evaluation::Nobody;
 use crate::visit::{Visitor, visit_parts, visit_statement};
@@ -250,6 +253,14 @@ impl<'c, 'd> Ways<'c, 'd, '_> {
             self.follow(e, &mut behind);
         }
         self.close_counter(counter);
+        let behind = counter.and_then(|(storage, range)| {
+            let reached = reached_behind(looped, range)?;
+            Some((storage, Values::exactly(reached)))
+        });
+        // A request may have set a variable.
+        if let Some((storage @ Storage::Local(_), reached)) = behind {
+            known.set(storage, reached);
+        }
         known
     }
 

@@ -140,8 +140,8 @@ METHOD m { DEFINITION { GET_DEV_VAR_VALUE("Level?", a); } }"#,
         lint: Lint::StoredAnswer,
         name: "stored-answer",
         level: Level::Warn,
-        summary: "the code of GET_DEV_VAR_VALUE stored in the variable that was asked for",
-        details: "an assignment to a variable of the code with which a GET_DEV_VAR_VALUE of it was answered: it replaces what was entered.",
+        summary: "the code of GET_DEV_VAR_VALUE in the place of what was entered",
+        details: "an assignment to a variable of the code with which a GET_DEV_VAR_VALUE of it was answered: it replaces what was entered. So it is of another variable that is not of CLASS LOCAL, and of an order of the code to a number other than 0, as in `GET_DEV_VAR_VALUE(\"Limit?\", a) > 100`.",
         example: r#"VARIABLE a { TYPE INTEGER; }
 METHOD m { DEFINITION { a = GET_DEV_VAR_VALUE("Limit?", a); } }"#,
         counterexample: r#"VARIABLE a { TYPE INTEGER; }

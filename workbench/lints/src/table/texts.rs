@@ -110,7 +110,7 @@ pub(super) const ROWS: &[Row] = &[
         name: "empty-text",
         level: Level::Warn,
         summary: "a LABEL, an enumerator or a response code without words",
-        details: r#"a LABEL, an enumerator or a response code whose text is empty. `HELP ""` and `CONSTANT_UNIT ""` say that there is none."#,
+        details: r#"a LABEL, an enumerator or a response code whose text is empty, of a LABEL in all of its languages. `HELP ""` and `CONSTANT_UNIT ""` say that there is none."#,
         example: r#"VARIABLE a { TYPE ENUMERATED { { 0, "" } { 1, "on" } } }"#,
         counterexample: r#"VARIABLE a { TYPE ENUMERATED { { 0, "off" } { 1, "on" } } }"#,
         notes: "",

@@ -60,7 +60,7 @@ pub(super) const ROWS: &[Row] = &[
         name: "unlisted-value",
         level: Level::Warn,
         summary: "a default, a CASE, a comparison or a store that is none of the variable's enumerators",
-        details: "a constant that is none of the enumerators of an ENUMERATED variable: its DEFAULT_VALUE, a label of a SELECT or `switch` over it, what it is compared with by `==` or `!=`, or what is assigned to it, also by a local that has this value there. The enumerators of all branches count, and where there are none nothing is said. Of `<`, `<=`, `>` and `>=` it is one that no enumerator meets. Of a BIT_ENUMERATED only a DEFAULT_VALUE is looked at: it should have no bit that no enumerator names.",
+        details: "a constant that is none of the enumerators of an ENUMERATED variable: its DEFAULT_VALUE, a label of a SELECT or `switch` over it, what it is compared with by `==` or `!=`, or what is assigned to it, also by a local that has this value there or as a choice of a SELECT_FROM_LIST. The enumerators of all branches count, and where there are none nothing is said. Of `<`, `<=`, `>` and `>=` it is one that no enumerator meets. Of a BIT_ENUMERATED only a DEFAULT_VALUE is looked at: it should have no bit that no enumerator names.",
         example: r#"VARIABLE a { TYPE ENUMERATED { { 0, "off" } { 2, "on" } } }
 METHOD m { DEFINITION { if (a == 1) a = 0; } }"#,
         counterexample: r#"VARIABLE a { TYPE ENUMERATED { { 0, "off" } { 2, "on" } } }
