@@ -167,13 +167,16 @@ fn crossed(low: &[Leaf<'_, '_>], high: &[Leaf<'_, '_>]) -> Option<(i64, i64)> {
 fn crossed_there(
     low: &[Leaf<'_, '_>],
     high: &NumberPart<'_>,
-    count: usize,
+    upper: &[Leaf<'_, '_>],
     context: &Context<'_>,
 ) -> Option<(i64, i64)> {
-    if MOST_PAIRS < low.len().saturating_mul(count) {
+    if MOST_PAIRS < low.len().saturating_mul(upper.len()) {
         return None;
     }
-    low.iter().find_map(|leaf| {
+    // Only what is over some branch can be over those that are left.
+    let smallest = upper.iter().map(|leaf| leaf.values.range.high).min()?;
+    let over = low.iter().filter(|leaf| smallest < leaf.values.range.low);
+    over.into_iter().find_map(|leaf| {
         let there = Leaves::under(high, &leaf.known, context);
         let (_, greatest) = ends_of(there.iter())?;
         let least = leaf.values.range.low;
@@ -199,7 +202,7 @@ fn check_order(
     }
     let (lower, upper) = (Leaves::of(&low, context), Leaves::of(&high, context));
     let (least, greatest) =
-        crossed(&lower, &upper).or_else(|| crossed_there(&lower, &high, upper.len(), context))?;
+        crossed(&lower, &upper).or_else(|| crossed_there(&lower, &high, &upper, context))?;
     Some((low.at, kind(least, greatest), high.at))
 }
 
@@ -248,10 +251,16 @@ fn distances(
     context: &Context<'_>,
 ) -> Vec<Option<i64>> {
     let (lower, upper) = (Leaves::of(low, context), Leaves::of(high, context));
+    let has_sums = |leaves: &[Leaf<'_, '_>]| leaves.iter().any(|leaf| leaf.sum.is_some());
     let is_short = lower.len().saturating_mul(upper.len()) <= MOST_PAIRS;
-    let looked_at = if is_short { lower } else { Vec::new() };
-    let there = |leaf: &Leaf<'_, '_>| distance(leaf, &Leaves::under(high, &leaf.known, context));
-    looked_at.iter().map(there).collect()
+    if !is_short || !has_sums(&lower) || !has_sums(&upper) {
+        return Vec::new();
+    }
+    let there = |leaf: &Leaf<'_, '_>| {
+        leaf.sum?;
+        distance(leaf, &Leaves::under(high, &leaf.known, context))
+    };
+    lower.iter().map(there).collect()
 }
 
 // Two options that are sums with the same, of which the first is always over the second.
