@@ -35,8 +35,8 @@ fn written(extent: Extent, source: Source<'_>) -> Option<String> {
     Some(written)
 }
 
-// Whether two extents have the same tokens, of which there are some.
-fn are_alike(first: Extent, second: Extent, source: Source<'_>) -> bool {
+/// Whether two extents have the same tokens, of which there are some.
+pub(crate) fn are_alike(first: Extent, second: Extent, source: Source<'_>) -> bool {
     let (first, second) = (first.start..first.end, second.start..second.end);
     !first.is_empty()
         && first.len() == second.len()

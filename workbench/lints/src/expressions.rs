@@ -19,12 +19,13 @@ use edd_syntax::numbers::ItemNo;
 use edd_syntax::operators::{Builtin, Comparison, Operator, RequestKind};
 use edd_syntax::reference::Target;
 use operands::{
-    Logical, check_bits, check_chosen, check_compared, check_logical, check_operands,
-    check_settled, ranged_place,
+    Logical, check_bits, check_chosen, check_compared, check_compound, check_logical,
+    check_operands, check_settled, ranged_place,
 };
 use slips::{
     check_answer, check_argument, check_assigned_operand, check_binary, check_changed_bits,
-    check_code, check_named, check_reversed, check_stepped, check_truth_of_number,
+    check_code, check_entered_order, check_named, check_reversed, check_stepped,
+    check_truth_of_number,
 };
 use stores::{check_assigned, check_stored, check_wrapped, is_itself};
 use walk::Walk;
@@ -97,6 +98,7 @@ fn check_comparison(e: &Expr<Target>, at: TokenIndex, is_statement: bool, walk: 
         check_named(first, second, at, walk);
         check_code(*comparison, first, second, at, walk);
     } else {
+        check_entered_order(first, second, at, walk);
         check_wrapped(second, walk);
     }
     check_expression(second, false, walk);
@@ -114,7 +116,12 @@ fn check_assignment(to: Target, value: &Expr<Target>, at: TokenIndex, walk: &mut
     let before = walk.assigned.replace(to);
     check_expression(value, false, walk);
     walk.assigned = before;
-    walk.write(to);
+    // An assignment of a place to itself is told as that alone.
+    if is_itself(to, value) {
+        walk.change(to);
+    } else {
+        walk.write(to);
+    }
 }
 
 /// Checks an expression. The value of a statement's is not used, in parentheses or not.
@@ -123,6 +130,7 @@ pub(crate) fn check_expression(e: &Expr<Target>, is_statement: bool, walk: &mut 
     match e {
         Expr::Literal(_) | Expr::Decimal { .. } => {}
         Expr::Reference(to) => walk.read(*to),
+        Expr::Increment(_, to) if is_statement => walk.count(*to),
         Expr::Increment(_, to) => walk.change(*to),
         Expr::Indexed(array, index) => {
             check_index(*array, index, at, walk);
@@ -157,8 +165,13 @@ pub(crate) fn check_expression(e: &Expr<Target>, is_statement: bool, walk: &mut 
         Expr::CompoundAssign(operator, to, value) => {
             check_trap(*operator, value, at, walk);
             check_changed_bits(*operator, *to, value, at, walk);
+            check_compound(*operator, *to, value, at, walk);
             check_expression(value, false, walk);
-            walk.change(*to);
+            if is_statement {
+                walk.count(*to);
+            } else {
+                walk.change(*to);
+            }
         }
         Expr::Call {
             function,

@@ -3,9 +3,12 @@
 use crate::lists::{enumerators_of, is_total, values_in};
 use crate::range::Range;
 use crate::types::{number_of, number_parts};
+use edd_constants::evaluate;
+use edd_instructions::Sort;
 use edd_syntax::cond::Cond;
+use edd_syntax::expr::Expr;
 use edd_syntax::item::{Attribute, Item, ItemKind, TypePart, TypeWord};
-use edd_syntax::numbers::{Element, ItemNo, NumberOption};
+use edd_syntax::numbers::{Element, ItemNo, NumberOption, VarNo};
 use edd_syntax::reference::Target;
 use edd_syntax::types::{Handling, VarType};
 use std::collections::{HashMap, HashSet};
@@ -32,6 +35,8 @@ struct Command {
     codes: HashSet<u32>,
     /// Whether all transactions have their numbers written.
     are_numbered: bool,
+    /// How many transactions there are.
+    count: i64,
 }
 
 /// What is known of the items of a description.
@@ -132,6 +137,7 @@ impl Command {
             match attribute {
                 Attribute::Transaction { number, .. } => {
                     self.are_numbered &= number.is_some();
+                    self.count = self.count.saturating_add(1);
                     self.transactions.extend(number);
                 }
                 Attribute::ResponseCodes(_, codes) => {
@@ -190,6 +196,7 @@ impl<'i> Instrument<'i> {
             };
             own.add(&command.attributes);
             known.are_numbered |= own.are_numbered;
+            known.count = known.count.saturating_add(own.count);
             known.transactions.extend(own.transactions);
             known.codes.extend(own.codes);
         }
@@ -233,6 +240,21 @@ impl<'i> Instrument<'i> {
         self.elements.get(&(array, number)).copied()
     }
 
+    /// The variable that an element is whose index is a constant.
+    pub(crate) fn element_at(
+        &self,
+        array: Target,
+        index: &Expr<Target>,
+        sort: Sort,
+    ) -> Option<Target> {
+        let Target::Item(ItemNo::Array(array)) = array else {
+            return None;
+        };
+        let number = evaluate(index, sort).number()?;
+        let variable = self.element(array.0, number)?;
+        Some(Target::Item(ItemNo::Variable(VarNo(variable))))
+    }
+
     /// Whether an array has an element of a number.
     pub(crate) fn has_element(&self, array: u16, number: i64) -> bool {
         u32::try_from(number).is_ok_and(|number| self.elements.contains_key(&(array, number)))
@@ -259,15 +281,15 @@ impl<'i> Instrument<'i> {
         })
     }
 
-    /// Whether the command of a number is one of the description, all of whose transactions have
-    /// their numbers written, and none has this one.
+    /// Whether the command of a number is one of the description, none of whose transactions has this
+    /// number. Those without a number may count by their order.
     pub(crate) fn lacks_transaction(&self, command: i64, transaction: i64) -> bool {
         let number = u32::try_from(command).ok();
         let command = number.and_then(|number| self.commands.get(&number));
         command.is_some_and(|command| {
             let has = u32::try_from(transaction)
                 .is_ok_and(|transaction| command.transactions.contains(&transaction));
-            !has && command.are_numbered
+            !has && (command.are_numbered || command.count <= transaction)
         })
     }
 }

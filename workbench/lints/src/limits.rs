@@ -3,7 +3,7 @@
 use crate::context::Context;
 use crate::cycles::{Cycle, find_cycles};
 use crate::expressions::stores::without_parentheses;
-use crate::instrument::Variable;
+use crate::instrument::{Instrument, Variable};
 use crate::kind::VariableKind;
 use crate::settled::variables_read;
 use crate::source::{Source, TokenIndex, index};
@@ -24,17 +24,24 @@ use edd_syntax::reference::Target;
 use edd_syntax::types::VarType;
 use std::collections::HashMap;
 
+/// How many pairs of branches of two options are looked at.
+const MOST_PAIRS: usize = 1024;
+
 /// What an option gives in one of its branches.
-struct Leaf {
+struct Leaf<'c, 'd> {
     /// The conditions around it, as they are written, with the branch of each.
     path: String,
     values: Values,
+    /// What it adds to a place, where it does nothing else.
+    sum: Option<(Target, i64)>,
+    /// What holds in the branch.
+    known: Environment<'c, 'd>,
 }
 
 /// A walk over the branches of an option.
 struct Leaves<'c, 'd> {
     context: &'c Context<'d>,
-    all: Vec<Leaf>,
+    all: Vec<Leaf<'c, 'd>>,
 }
 
 fn written(e: &Expr<Target>, context: &Context<'_>) -> String {
@@ -47,12 +54,21 @@ fn written(e: &Expr<Target>, context: &Context<'_>) -> String {
 }
 
 impl<'c, 'd> Leaves<'c, 'd> {
-    fn of(part: &NumberPart<'_>, context: &'c Context<'d>) -> Vec<Leaf> {
+    fn of(part: &NumberPart<'_>, context: &'c Context<'d>) -> Vec<Leaf<'c, 'd>> {
+        Leaves::under(part, &Environment::new(Sort::Attribute, context), context)
+    }
+
+    // What an option gives where something is known.
+    fn under(
+        part: &NumberPart<'_>,
+        known: &Environment<'c, 'd>,
+        context: &'c Context<'d>,
+    ) -> Vec<Leaf<'c, 'd>> {
         let mut leaves = Leaves {
             context,
             all: Vec::new(),
         };
-        leaves.add(part.value, "", &Environment::new(Sort::Attribute, context));
+        leaves.add(part.value, "", known);
         leaves.all
     }
 
@@ -61,6 +77,8 @@ impl<'c, 'd> Leaves<'c, 'd> {
             Cond::Value(e) => self.all.push(Leaf {
                 path: path.to_owned(),
                 values: known.clone().evaluate(e, &mut Nobody),
+                sum: sum_of(e, Sort::Attribute, &self.context.instrument),
+                known: known.clone(),
             }),
             Cond::If {
                 condition,
@@ -113,7 +131,9 @@ impl<'c, 'd> Leaves<'c, 'd> {
 }
 
 // The least of the low ends, and the greatest of the high ends.
-fn ends_of<'l>(leaves: impl Iterator<Item = &'l Leaf> + Clone) -> Option<(i64, i64)> {
+fn ends_of<'l, 'c: 'l, 'd: 'c>(
+    leaves: impl Iterator<Item = &'l Leaf<'c, 'd>> + Clone,
+) -> Option<(i64, i64)> {
     let low = leaves.clone().map(|leaf| leaf.values.range.low).min()?;
     let high = leaves.map(|leaf| leaf.values.range.high).max()?;
     Some((low, high))
@@ -121,13 +141,13 @@ fn ends_of<'l>(leaves: impl Iterator<Item = &'l Leaf> + Clone) -> Option<(i64, i
 
 // Two numbers of which the first is surely over the second: in all branches, or in those of one
 // path.
-fn crossed(low: &[Leaf], high: &[Leaf]) -> Option<(i64, i64)> {
+fn crossed(low: &[Leaf<'_, '_>], high: &[Leaf<'_, '_>]) -> Option<(i64, i64)> {
     let whole = ends_of(low.iter()).zip(ends_of(high.iter()));
     if let Some(((least, _), (_, greatest))) = whole.filter(|(low, high)| high.1 < low.0) {
         return Some((least, greatest));
     }
     let by_path: HashMap<_, _> = high.iter().map(|leaf| (leaf.path.as_str(), leaf)).collect();
-    let plain = |leaves: &[Leaf]| match leaves {
+    let plain = |leaves: &[Leaf<'_, '_>]| match leaves {
         [one] if one.path.is_empty() => Some(one.values),
         _ => None,
     };
@@ -141,6 +161,27 @@ fn crossed(low: &[Leaf], high: &[Leaf]) -> Option<(i64, i64)> {
     let mut pairs = pairs.chain(others);
     let found = pairs.find(|(low, high)| high.range.high < low.range.low)?;
     Some((found.0.range.low, found.1.range.high))
+}
+
+// Two numbers of which the first is surely over the second where the conditions of the first hold.
+fn crossed_there(
+    low: &[Leaf<'_, '_>],
+    high: &NumberPart<'_>,
+    upper: &[Leaf<'_, '_>],
+    context: &Context<'_>,
+) -> Option<(i64, i64)> {
+    if MOST_PAIRS < low.len().saturating_mul(upper.len()) {
+        return None;
+    }
+    // Only what is over some branch can be over those that are left.
+    let smallest = upper.iter().map(|leaf| leaf.values.range.high).min()?;
+    let over = low.iter().filter(|leaf| smallest < leaf.values.range.low);
+    over.into_iter().find_map(|leaf| {
+        let there = Leaves::under(high, &leaf.known, context);
+        let (_, greatest) = ends_of(there.iter())?;
+        let least = leaf.values.range.low;
+        (greatest < least).then_some((least, greatest))
+    })
 }
 
 fn part_of<'t>(variable: &Variable<'t>, which: NumberOption) -> Option<NumberPart<'t>> {
@@ -159,42 +200,80 @@ fn check_order(
     if low.number().is_some() && high.number().is_some() {
         return None;
     }
-    let (least, greatest) = crossed(&Leaves::of(&low, context), &Leaves::of(&high, context))?;
+    let (lower, upper) = (Leaves::of(&low, context), Leaves::of(&high, context));
+    let (least, greatest) =
+        crossed(&lower, &upper).or_else(|| crossed_there(&lower, &high, &upper, context))?;
     Some((low.at, kind(least, greatest), high.at))
 }
 
-// What an expression adds to something that it reads, where it does nothing else.
-fn sum_of(e: &Expr<Target>) -> Option<(Target, i64)> {
+/// What an expression adds to something that it reads, where it does nothing else.
+pub(crate) fn sum_of(
+    e: &Expr<Target>,
+    sort: Sort,
+    instrument: &Instrument<'_>,
+) -> Option<(Target, i64)> {
     match without_parentheses(e) {
         Expr::Reference(target) => Some((*target, 0)),
+        Expr::Indexed(array, index) => Some((instrument.element_at(*array, index, sort)?, 0)),
         Expr::Binary(operator, first, second) => {
-            let number = |e| evaluate(e, Sort::Attribute).number();
+            let number = |e| evaluate(e, sort).number();
             let (inner, number) = match (operator, number(first), number(second)) {
                 (Operator::Add, _, Some(number)) => (first, number),
                 (Operator::Add, Some(number), _) => (second, number),
                 (Operator::Subtract, _, Some(number)) => (first, number.checked_neg()?),
                 _ => return None,
             };
-            let (target, so_far) = sum_of(inner)?;
+            let (target, so_far) = sum_of(inner, sort, instrument)?;
             Some((target, so_far.checked_add(number)?))
         }
         _ => None,
     }
 }
 
-// Two limits that are sums with the same, of which the first is always over the second.
-fn apart(
-    least: NumberPart<'_>,
-    greatest: NumberPart<'_>,
-) -> Option<(TokenIndex, VariableKind, TokenIndex)> {
-    let plain = |part: &NumberPart<'_>| match part.value {
-        Cond::Value(e) => sum_of(e),
-        _ => None,
+// By how much an option of a branch is over those of another option there, where all are sums with the
+// same.
+fn distance(one: &Leaf<'_, '_>, others: &[Leaf<'_, '_>]) -> Option<i64> {
+    let (place, number) = one.sum?;
+    let distances: Option<Vec<_>> = others
+        .iter()
+        .map(|other| match other.sum? {
+            (same, less) if same == place => number.checked_sub(less),
+            _ => None,
+        })
+        .collect();
+    distances?.into_iter().min()
+}
+
+// The distances of two options in the branches of the first.
+fn distances(
+    low: &NumberPart<'_>,
+    high: &NumberPart<'_>,
+    context: &Context<'_>,
+) -> Vec<Option<i64>> {
+    let (lower, upper) = (Leaves::of(low, context), Leaves::of(high, context));
+    let has_sums = |leaves: &[Leaf<'_, '_>]| leaves.iter().any(|leaf| leaf.sum.is_some());
+    let is_short = lower.len().saturating_mul(upper.len()) <= MOST_PAIRS;
+    if !is_short || !has_sums(&lower) || !has_sums(&upper) {
+        return Vec::new();
+    }
+    let there = |leaf: &Leaf<'_, '_>| {
+        leaf.sum?;
+        distance(leaf, &Leaves::under(high, &leaf.known, context))
     };
-    let (low, high) = (plain(&least)?, plain(&greatest)?);
-    let over = low.1.checked_sub(high.1)?;
-    let is_over = low.0 == high.0 && 0 < over;
-    is_over.then_some((least.at, VariableKind::LimitsApart(over), greatest.at))
+    lower.iter().map(there).collect()
+}
+
+// Two options that are sums with the same, of which the first is always over the second.
+fn apart(
+    low: Option<NumberPart<'_>>,
+    high: Option<NumberPart<'_>>,
+    kind: impl Fn(i64) -> VariableKind,
+    context: &Context<'_>,
+) -> Option<(TokenIndex, VariableKind, TokenIndex)> {
+    let (low, high) = (low?, high?);
+    let mut over = distances(&low, &high, context).into_iter().flatten();
+    let over = over.find(|over| 0 < *over)?;
+    Some((low.at, kind(over), high.at))
 }
 
 /// Checks the limits of a variable, which may be under conditions.
@@ -207,22 +286,26 @@ pub(crate) fn check_limits_under_conditions(
     let greatest = || part_of(variable, NumberOption::MaxValue);
     let default = || part_of(variable, NumberOption::DefaultValue);
     let crossed = check_order(least(), greatest(), VariableKind::CrossedLimits, context)
-        .or_else(|| apart(least()?, greatest()?));
-    let over = check_order(default(), greatest(), VariableKind::DefaultOver, context);
+        .or_else(|| apart(least(), greatest(), VariableKind::LimitsApart, context));
+    let over = check_order(default(), greatest(), VariableKind::DefaultOver, context)
+        .or_else(|| apart(default(), greatest(), VariableKind::DefaultApart, context));
     for (at, kind, other) in crossed.into_iter().chain(over) {
         findings.add_beside(at, kind, other);
     }
     let below = |least, default| VariableKind::DefaultBelow(default, least);
-    if let Some((other, kind, at)) = check_order(least(), default(), below, context) {
+    let below = check_order(least(), default(), below, context)
+        .or_else(|| apart(least(), default(), VariableKind::DefaultApartBelow, context));
+    if let Some((other, kind, at)) = below {
         findings.add_beside(at, kind, other);
     }
-    check_single_value(variable, least(), greatest(), findings);
+    check_single_value(variable, least(), greatest(), context, findings);
 }
 
 fn check_single_value(
     variable: &Variable<'_>,
     least: Option<NumberPart<'_>>,
     greatest: Option<NumberPart<'_>>,
+    context: &Context<'_>,
     findings: &mut Findings<'_>,
 ) {
     let (Some(least), Some(greatest)) = (least, greatest) else {
@@ -235,8 +318,17 @@ fn check_single_value(
     let same = least
         .number()
         .filter(|number| greatest.number() == Some(*number));
-    if let Some(number) = same.filter(|_| is_number && !variable.is_read_only) {
+    if !is_number || variable.is_read_only {
+        return;
+    }
+    let are_same = || {
+        let distances = distances(&least, &greatest, context);
+        !distances.is_empty() && distances.iter().all(|distance| *distance == Some(0))
+    };
+    if let Some(number) = same {
         findings.add_beside(least.at, VariableKind::SingleValue(number), greatest.at);
+    } else if are_same() {
+        findings.add_beside(least.at, VariableKind::SameLimits, greatest.at);
     }
 }
 
@@ -268,6 +360,7 @@ enum Circular {
     Validity,
     Least,
     Greatest,
+    Default,
     Handling,
 }
 
@@ -276,6 +369,7 @@ impl Circular {
         match self {
             Circular::Validity => VariableKind::CircularValidity(variable),
             Circular::Least | Circular::Greatest => VariableKind::CircularLimits(variable),
+            Circular::Default => VariableKind::CircularDefault(variable),
             Circular::Handling => VariableKind::CircularHandling(variable),
         }
     }
@@ -302,6 +396,7 @@ impl Circular {
         let limit = match self {
             Circular::Least => NumberOption::MinValue,
             Circular::Greatest => NumberOption::MaxValue,
+            Circular::Default => NumberOption::DefaultValue,
             Circular::Validity | Circular::Handling => return reading,
         };
         for part in number_parts(variable.parts()).filter(|part| part.which == limit) {
@@ -319,6 +414,7 @@ pub(crate) fn check_circular(context: &Context<'_>, findings: &mut Findings<'_>)
         Circular::Validity,
         Circular::Least,
         Circular::Greatest,
+        Circular::Default,
         Circular::Handling,
     ];
     for which in all {

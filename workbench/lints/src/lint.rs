@@ -103,6 +103,7 @@ lints! {
     EscapedEscape
     CommaChoices
     EmptyChoice
+    RepeatedChoice
     UnknownLint
     UnusedItem
     DroppedComparison

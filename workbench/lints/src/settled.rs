@@ -13,10 +13,11 @@ pub(crate) use statements::check_body;
 use crate::context::Context;
 use crate::expressions::operands::referred;
 use crate::expressions::stores::without_parentheses;
+use crate::instrument::variable_of;
 use crate::kind::ConditionKind;
 use crate::source::TokenIndex;
 use crate::values::Values;
-use crate::values::environment::{Environment, Storage};
+use crate::values::environment::{Environment, Storage, storage_of};
 use crate::values::evaluation::{Nobody, Observer};
 use crate::visit::children;
 use crate::warning::Findings;
@@ -68,7 +69,7 @@ impl Observer for Ways<'_, '_, '_> {
             Expr::Assign(to, _) => stores::check_store(self, e, *to, values, known),
             Expr::LogicalAnd(first, second) | Expr::LogicalOr(first, second) => {
                 for operand in [first, second] {
-                    self.check_operand(operand, known);
+                    self.check_operand(operand, true, known);
                 }
             }
             _ => {}
@@ -111,28 +112,56 @@ impl<'c, 'd> Ways<'c, 'd, '_> {
     fn test(&mut self, e: &Expr<Target>, known: &mut Environment<'c, 'd>) {
         let is_reported = self.is_reported(e);
         if !is_reported {
-            self.check_operand(e, &known.clone());
+            self.check_operand(e, true, &known.clone());
         }
         self.follow(e, known);
     }
 
-    // An operand of which the truth counts: bits, or a complement, that are never or always 0.
-    fn check_operand(&mut self, e: &Expr<Target>, known: &Environment<'_, '_>) {
+    // An operand of which the truth counts: bits or a complement that are never or always 0, what a
+    // function always returns, and a variable of which the conditions around tell. A careful one may
+    // always hold, which it does where its truth is `wanted`.
+    fn check_operand(&mut self, e: &Expr<Target>, wanted: bool, known: &Environment<'_, '_>) {
         let e = without_parentheses(e);
-        let counts = match e {
-            Expr::Binary(..) | Expr::Unary(UnaryOperator::Complement, _) => true,
-            Expr::Unary(UnaryOperator::Not, inner) => return self.check_operand(inner, known),
-            _ => false,
+        let kind: fn(bool) -> ConditionKind = match e {
+            Expr::Unary(UnaryOperator::Not, inner) => {
+                return self.check_operand(inner, !wanted, known);
+            }
+            Expr::Binary(..) | Expr::Unary(UnaryOperator::Complement, _) => {
+                ConditionKind::SettledTest
+            }
+            Expr::Call { .. } => ConditionKind::SettledHere,
+            Expr::Reference(target) => match storage_of(*target) {
+                Some(place @ Storage::Variable(_)) if known.knows(place) => {
+                    ConditionKind::SettledHere
+                }
+                _ => return,
+            },
+            _ => return,
         };
-        if !counts || !depends(e, known.sort) {
+        if !depends(e, known.sort) {
             return;
         }
         let mut fresh = known.clone();
         let truth = fresh.evaluate(e, &mut Nobody).truth();
         let is_careful = self.is_chained || known.reads_passed(e);
-        if let Some(truth) = truth.filter(|truth| !truth || !is_careful) {
+        if let Some(truth) = truth.filter(|truth| *truth != wanted || !is_careful) {
             let at = self.context.places.sign(e);
-            self.findings.add(at, ConditionKind::SettledTest(truth));
+            self.findings.add(at, kind(truth));
         }
+    }
+
+    // The last condition of a chain, of which nothing is left for an `else` behind it.
+    fn check_last_else(&mut self, condition: &Expr<Target>, sort: Sort) {
+        if depends(condition, sort) && !self.is_reported(condition) {
+            let at = self.context.places.sign(without_parentheses(condition));
+            self.findings.add(at, ConditionKind::SettledHere(true));
+        }
+    }
+
+    // Whether the labels of a SELECT or a `switch` are compared with what is computed. Those of a
+    // variable are checked with its type.
+    fn has_computed_labels(&self, on: &Expr<Target>, values: Values, sort: Sort) -> bool {
+        let is_variable = referred(on).and_then(variable_of).is_some();
+        !is_variable && values.number().is_none() && depends(on, sort)
     }
 }

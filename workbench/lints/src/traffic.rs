@@ -23,6 +23,8 @@ const MOST: u32 = 65_535;
 struct Transaction<'t> {
     at: TokenIndex,
     number: Option<u32>,
+    /// Whether a condition is around something that it sends.
+    is_conditional: bool,
     request: Vec<&'t DataItem<Target>>,
     reply: Vec<&'t DataItem<Target>>,
 }
@@ -34,10 +36,15 @@ fn transactions_of(command: &Item<Target>) -> Vec<Transaction<'_>> {
             let mut transaction = Transaction {
                 at: index(*at),
                 number: *number,
+                is_conditional: false,
                 request: Vec::new(),
                 reply: Vec::new(),
             };
             for part in parts {
+                if let TransactionPart::Request(_, items) = part {
+                    transaction.is_conditional |=
+                        items.iter().any(|item| !matches!(item, Cond::Value(_)));
+                }
                 let (list, items) = match part {
                     TransactionPart::Request(_, items) => (&mut transaction.request, items),
                     TransactionPart::Reply(_, items) => (&mut transaction.reply, items),
@@ -69,6 +76,38 @@ fn check_numbers(transactions: &[Transaction<'_>], findings: &mut Findings<'_>) 
                 CommandKind::AmbiguousTransaction,
                 earlier.at,
             );
+        }
+    }
+}
+
+// What a transaction sends, where that is under no condition and has a constant, as transactions have
+// that are told apart by what they send.
+fn sent(transaction: &Transaction<'_>) -> Option<Vec<Sent>> {
+    let is_constant = |item: &&DataItem<Target>| matches!(item, DataItem::Constant { .. });
+    let counts = !transaction.is_conditional && transaction.request.iter().any(is_constant);
+    let all = transaction.request.iter().map(|item| match item {
+        DataItem::Constant { value, .. } => Some(Sent::Constant(i64::from(*value))),
+        DataItem::Variable { mask, .. } => Some(Sent::Variable(carried(item)?, *mask)),
+    });
+    counts.then(|| all.collect()).flatten()
+}
+
+/// What a message has at a place: a constant, or a variable with its mask.
+#[derive(PartialEq, Eq, Hash)]
+enum Sent {
+    Constant(i64),
+    Variable(u16, Option<u32>),
+}
+
+// Transactions that send the same.
+fn check_requests(transactions: &[Transaction<'_>], findings: &mut Findings<'_>) {
+    let mut seen = HashMap::new();
+    for transaction in transactions {
+        let Some(sent) = sent(transaction) else {
+            continue;
+        };
+        if let Some(earlier) = seen.insert(sent, transaction.at) {
+            findings.add_beside(transaction.at, CommandKind::EqualRequests, earlier);
         }
     }
 }
@@ -133,6 +172,7 @@ pub(crate) fn check_traffic(
 ) {
     let transactions = transactions_of(command);
     check_numbers(&transactions, findings);
+    check_requests(&transactions, findings);
     match operation_of(command) {
         Some(Operation::Read) => {
             let silent =

@@ -58,9 +58,15 @@ fn check_texts(enumerators: &[Listed<'_, Enumerator>], findings: &mut Findings<'
         }
         // In one language alone two of them can't be told apart either.
         let mut earlier = None;
-        for variant in Variants::of(text.as_bytes()).filter(|variant| !variant.words.is_empty()) {
-            let same = seen.insert((listed.list, variant.code, variant.words), at);
-            earlier = earlier.or(same.filter(|same| *same != at));
+        for variant in Variants::of(text.as_bytes()) {
+            let words = variant.words.trim_ascii();
+            if words.is_empty() {
+                continue;
+            }
+            // What is under no condition is in the lists of all branches.
+            let always = seen.get(&(0, variant.code, words)).copied();
+            let same = seen.insert((listed.list, variant.code, words), at);
+            earlier = earlier.or(same.or(always).filter(|same| *same != at));
         }
         if let Some(earlier) = earlier.filter(|_| !is_spare(text)) {
             findings.add_beside(at, VariableKind::RepeatedText, earlier);
@@ -190,7 +196,11 @@ pub(crate) fn check_traits(
 /// Checks whether the LABEL of an item is empty.
 pub(crate) fn check_label(attribute: &Attribute<Target>, findings: &mut Findings<'_>) {
     if let Attribute::OneText(at, TextAttribute::Label, label) = attribute {
-        let is_empty = |text: &Text| quoted(text).is_some_and(|text| text.trim().is_empty());
+        let is_empty = |text: &Text| {
+            quoted(text).is_some_and(|text| {
+                Variants::of(text.as_bytes()).all(|variant| variant.words.trim_ascii().is_empty())
+            })
+        };
         if values_in(label).iter().any(|listed| is_empty(listed.value)) {
             findings.add(index(*at), TextKind::EmptyText);
         }

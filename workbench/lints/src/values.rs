@@ -66,6 +66,13 @@ impl Values {
         }
     }
 
+    // The same where so many of its last bits are 0.
+    fn with_last_zeros(self, count: u32) -> Values {
+        let mask = !u64::MAX.checked_shl(count).unwrap_or(0);
+        let bits = self.bits.with_zeros(mask.cast_signed());
+        Values { bits, ..self }.reduced().unwrap_or(self)
+    }
+
     // The range of wide numbers, or any number where the width does not hold them.
     fn between(low: i128, high: i128, sort: Sort) -> Values {
         let width = width(sort);
@@ -208,7 +215,13 @@ impl Values {
         match operator {
             Operator::Add => Values::between(sum(a.0, b.0), sum(a.1, b.1), sort),
             Operator::Subtract => Values::between(less(a.0, b.1), less(a.1, b.0), sort),
-            Operator::Multiply => Values::corners(a, b, i128::saturating_mul, sort),
+            Operator::Multiply => {
+                let zeros = self
+                    .bits
+                    .last_zeros()
+                    .saturating_add(other.bits.last_zeros());
+                Values::corners(a, b, i128::saturating_mul, sort).with_last_zeros(zeros)
+            }
             Operator::Divide => self.divided(other, sort),
             Operator::Remainder => self.remainder(other, sort),
             Operator::ShiftLeft | Operator::ShiftRight => self.shifted(operator, other, sort),
@@ -268,7 +281,7 @@ impl Values {
         match operator {
             Operator::ShiftLeft if count < Some(32) => {
                 let (low, high) = (low.saturating_mul(factor), high.saturating_mul(factor));
-                Values::between(low, high, sort)
+                Values::between(low, high, sort).with_last_zeros(count.unwrap_or(0))
             }
             Operator::ShiftRight if count < Some(64) => {
                 Values::between(low.div_euclid(factor), high.div_euclid(factor), sort)

@@ -9,6 +9,7 @@ use crate::visit::{Visitor, visit_parts, visit_statement};
 use crate::warning::Findings;
 use edd_instructions::Sort;
 use edd_syntax::expr::{Argument, Expr};
+use edd_syntax::item::{Attribute, Item};
 use edd_syntax::numbers::ItemNo;
 use edd_syntax::operators::Builtin;
 use edd_syntax::reference::Target;
@@ -39,17 +40,34 @@ fn added_by_part(part: &Part<Target>) -> Option<(ItemNo, TokenIndex)> {
 }
 
 /// The calls in a body.
-struct Calls<'f, 'd> {
+struct Calls<'f, 'c, 'd> {
+    context: &'c Context<'d>,
     findings: &'f mut Findings<'d>,
     own: Option<ItemNo>,
 }
 
-impl<'t> Visitor<'t> for Calls<'_, '_> {
+// Whether a method begins with an abort.
+fn only_aborts(method: &Item<Target>) -> bool {
+    method.attributes.iter().any(|attribute| match attribute {
+        Attribute::Definition(_, parts) => parts.first().is_some_and(is_abort_part),
+        _ => false,
+    })
+}
+
+impl<'t> Visitor<'t> for Calls<'_, '_, '_> {
     fn expression(&mut self, e: &'t Expr<Target>, _: Sort) {
-        if let Some((method, at)) = added_by(e)
-            && Some(method) == self.own
-        {
+        let Some((method, at)) = added_by(e) else {
+            return;
+        };
+        let instrument = &self.context.instrument;
+        let place = instrument.place_of(method);
+        if Some(method) == self.own {
             self.findings.add(at, MethodKind::OwnAbortMethod);
+        } else if place
+            .and_then(|place| instrument.items.get(place))
+            .is_some_and(only_aborts)
+        {
+            self.findings.add(at, MethodKind::IdleAbortMethod);
         }
     }
 
@@ -82,6 +100,25 @@ impl<'t> Visitor<'t> for Looped<'_, '_> {
     }
 }
 
+/// The calls that add, under a condition, what the statements before have added.
+struct Again<'s, 'f, 'd> {
+    seen: &'s HashMap<Option<usize>, (TokenIndex, usize)>,
+    context: &'s Context<'d>,
+    findings: &'f mut Findings<'d>,
+}
+
+impl<'t> Visitor<'t> for Again<'_, '_, '_> {
+    fn expression(&mut self, e: &'t Expr<Target>, _: Sort) {
+        if let Some((method, at)) = added_by(e)
+            && let Some((earlier, _)) = self.seen.get(&self.context.instrument.place_of(method))
+            && !self.findings.is_reported(self.findings.source.span(at))
+        {
+            self.findings
+                .add_beside(at, MethodKind::RepeatedAbortMethod, *earlier);
+        }
+    }
+}
+
 fn is_abort_part(part: &Part<Target>) -> bool {
     matches!(part, Part::Statement(Stmt::Evaluate(e)) if is_abort(e))
 }
@@ -96,14 +133,23 @@ fn is_quiet(part: &Part<Target>) -> bool {
 }
 
 /// Checks where the body of a method adds abort methods.
-pub(super) fn check_abort_methods(
+pub(super) fn check_abort_methods<'d>(
     own: Option<ItemNo>,
     parts: &[Part<Target>],
-    context: &Context<'_>,
-    findings: &mut Findings<'_>,
+    context: &Context<'d>,
+    findings: &mut Findings<'d>,
 ) {
     let mut seen = HashMap::new();
-    for (method, at) in parts.iter().filter_map(added_by_part) {
+    for part in parts {
+        let Some((method, at)) = added_by_part(part) else {
+            let mut again = Again {
+                seen: &seen,
+                context,
+                findings,
+            };
+            visit_parts(std::slice::from_ref(part), &mut again);
+            continue;
+        };
         let place = context.instrument.place_of(method);
         // The second one tells enough.
         let (earlier, count) = seen.entry(place).or_insert((at, 0usize));
@@ -125,5 +171,10 @@ pub(super) fn check_abort_methods(
     if let Some((_, at)) = last.filter(|_| is_reached && has_others) {
         findings.add(at, MethodKind::LateAbortMethod);
     }
-    visit_parts(parts, &mut Calls { findings, own });
+    let mut calls = Calls {
+        context,
+        findings,
+        own,
+    };
+    visit_parts(parts, &mut calls);
 }

@@ -8,7 +8,7 @@ use crate::expressions::operands::referred;
 use crate::expressions::slips::LISTED_CODES;
 use crate::expressions::stores::without_parentheses;
 use crate::kind::MethodKind;
-use crate::source::index;
+use crate::source::{TokenIndex, index};
 use crate::visit::{Visitor, visit_parts};
 use crate::warning::Findings;
 use edd_constants::evaluate;
@@ -17,7 +17,7 @@ use edd_syntax::expr::Expr;
 use edd_syntax::operators::{Builtin, Comparison, RequestKind};
 use edd_syntax::reference::Target;
 use edd_syntax::stmt::{Part, Stmt};
-use std::collections::HashMap;
+use std::collections::{HashMap, HashSet};
 
 /// What gave an answer.
 #[derive(Clone, Copy, PartialEq, Eq)]
@@ -104,6 +104,8 @@ impl<'t> Visitor<'t> for Answers {
 /// The comparisons of a body.
 struct Compared<'c, 'd, 'f> {
     answers: Answers,
+    /// The operands of && and ||, which may test both ends of a range.
+    joined: HashSet<TokenIndex>,
     context: &'c Context<'d>,
     findings: &'f mut Findings<'d>,
 }
@@ -119,9 +121,25 @@ impl Compared<'_, '_, '_> {
 
 impl<'t> Visitor<'t> for Compared<'_, '_, '_> {
     fn expression(&mut self, e: &'t Expr<Target>, _: Sort) {
-        let Expr::Compare(Comparison::Equal | Comparison::NotEqual, first, second) = e else {
+        if let Expr::LogicalAnd(first, second) | Expr::LogicalOr(first, second) = e {
+            let signs = [first, second].map(|e| self.context.places.sign(without_parentheses(e)));
+            self.joined.extend(signs);
+        }
+        let Expr::Compare(comparison, first, second) = e else {
             return;
         };
+        let is_told = match comparison {
+            Comparison::Equal | Comparison::NotEqual => true,
+            // Of an order the number may be the least that is no choice.
+            Comparison::GreaterOrEqual | Comparison::Greater => {
+                let is_alone = !self.joined.contains(&self.context.places.sign(e));
+                is_alone && matches!(self.asked(first), Some(Asked::Choices(_)))
+            }
+            _ => false,
+        };
+        if !is_told {
+            return;
+        }
         let number = evaluate(second, Sort::Method).number();
         let wrong = self
             .asked(first)
@@ -159,6 +177,7 @@ pub(super) fn check_choices<'d>(
     visit_parts(parts, &mut answers);
     let mut compared = Compared {
         answers,
+        joined: HashSet::new(),
         context,
         findings,
     };

@@ -16,14 +16,17 @@ fn inner(s: &Stmt<Target>) -> Option<&Stmt<Target>> {
     }
 }
 
-// A statement at the left of the next one, which is as far to the right as what is in the first.
+// A statement at the left of the next one, which is as far to the right as what is in the first, or in
+// the last statement of that, and so on. An `if` may stand right behind its `else`.
 fn looks_inner(s: &Stmt<Target>, next: TokenIndex, walk: &Walk<'_, '_>) -> Option<bool> {
     let (source, places) = (walk.context.source, &walk.context.places);
-    let inner = inner(s).filter(|inner| !matches!(inner, Stmt::Block(_) | Stmt::Empty))?;
     let outer = source.indentation(places.statement(s).sign)?;
-    let inside = source.indentation(places.statement(inner).sign)?;
     let behind = source.indentation(next)?;
-    Some(inside == behind && outer.len() < inside.len() && inside.starts_with(outer))
+    let is_behind = outer.len() < behind.len() && behind.starts_with(outer);
+    let mut within = std::iter::successors(inner(s), |s| inner(s))
+        .take_while(|inner| !matches!(inner, Stmt::Block(_) | Stmt::Empty));
+    let is_level = |s: &Stmt<Target>| source.indentation(places.statement(s).sign) == Some(behind);
+    Some(is_behind && within.any(is_level))
 }
 
 fn check_pair(s: &Stmt<Target>, next: &Part<Target>, walk: &mut Walk<'_, '_>) {

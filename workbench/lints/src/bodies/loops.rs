@@ -167,8 +167,8 @@ pub(crate) fn step_of(update: Option<&Expr<Target>>) -> Option<(Target, i64)> {
     }
 }
 
-// Whether a step leads away from the limit.
-fn leads_away(comparison: Comparison, step: i64) -> bool {
+/// Whether a step leads away from the limit.
+pub(super) fn leads_away(comparison: Comparison, step: i64) -> bool {
     match comparison {
         Comparison::Less | Comparison::LessOrEqual => step < 0,
         Comparison::Greater | Comparison::GreaterOrEqual => 0 < step,

@@ -3,9 +3,9 @@
 use super::cases::{check_block_after, check_fall, check_label_part};
 use super::flow::{Flow, counts, is_abort, is_empty_block};
 use super::layout::{check_else, check_layout};
-use super::loops::{Head, Loop, check_head, check_loop, has_no_body};
+use super::loops::{Head, Loop, check_head, check_loop, has_no_body, step_of};
 use super::stores::check_stores;
-use super::waits::{check_counting, check_wait};
+use super::waits::{check_away, check_counting, check_single_turn, check_wait};
 use crate::expressions::operands::selected_variable;
 use crate::expressions::stores::{check_wrapped, without_parentheses};
 use crate::expressions::walk::Walk;
@@ -149,8 +149,12 @@ fn is_dropped(e: &Expr<Target>) -> bool {
 fn check_evaluated(e: &Expr<Target>, at: TokenIndex, walk: &mut Walk<'_, '_>) -> Flow {
     let before = walk.acts;
     let asks = asks_in(walk, |walk| check_expression(e, true, walk));
+    let is_operator = matches!(without_parentheses(e), Expr::Unary(..) | Expr::Binary(..));
     if before == walk.acts && is_dropped(e) {
         walk.findings.add(at, MethodKind::DroppedValue);
+    } else if is_operator {
+        walk.findings
+            .add(walk.context.places.sign(e), MethodKind::DroppedOperator);
     }
     if let Expr::Call {
         function: Target::Function(Builtin::Ask(RequestKind::SelectFromList)),
@@ -276,10 +280,15 @@ fn check_for(head: Head<'_>, body: &Stmt<Target>, at: TokenIndex, walk: &mut Wal
     let tested = walk.uses.len();
     if let Some(e) = update {
         check_expression(e, true, walk);
+        // What a head counts is there for the loop, whatever its condition reads.
+        if let Some((counted, _)) = step_of(update) {
+            walk.read(counted);
+        }
     }
     let asks = before != walk.asks;
     let begin = walk.uses.len();
     let flow = check_statement(body, walk);
+    check_single_turn(flow, update, body, at, walk);
     close_loop(walk);
     check_head(at, head, begin, matches!(body, Stmt::Empty), walk);
     let looped = Loop {
@@ -330,10 +339,12 @@ fn check_statement(s: &Stmt<Target>, walk: &mut Walk<'_, '_>) -> Flow {
         }
         Stmt::While(condition, body) => {
             check_wait(Some(condition), None, body, at, walk);
+            check_away(condition, body, at, walk);
             check_while(condition, body, at, walk)
         }
         Stmt::Do(body, condition) => {
             check_wait(Some(condition), None, body, at, walk);
+            check_away(condition, body, at, walk);
             check_do(body, condition, at, walk)
         }
         Stmt::For {

@@ -1,23 +1,62 @@
 //! Values that are replaced before anything reads them.
 
+use crate::expressions::calls::target_of_argument;
+use crate::expressions::operands::referred;
 use crate::expressions::stores::is_itself;
 use crate::expressions::walk::Walk;
 use crate::kind::MethodKind;
 use crate::source::TokenIndex;
+use crate::traits::quoted;
 use crate::values::environment::{Storage, storage_of};
 use crate::visit::children;
-use edd_syntax::expr::Expr;
+use edd_syntax::expr::{Argument, Expr};
+use edd_syntax::operators::{Builtin, RequestKind};
 use edd_syntax::reference::Target;
 use edd_syntax::stmt::{Part, Stmt};
 use std::collections::BTreeMap;
 
 /// What was stored by the statements before, and not read since, with the places of the stores.
 #[derive(Default)]
-struct Pending {
-    stores: BTreeMap<Storage, TokenIndex>,
+struct Pending<'t> {
+    stores: BTreeMap<Storage, Stored<'t>>,
+    /// The places that are copies of others, with how often the other one had been set by then.
+    copies: BTreeMap<Storage, (Storage, usize)>,
+    /// How often each place was set.
+    sets: BTreeMap<Storage, usize>,
 }
 
-impl Pending {
+/// What a store stores, with its place.
+#[derive(Clone, Copy)]
+enum Stored<'t> {
+    Value(TokenIndex),
+    /// What a technician has entered, and what was asked.
+    Entry(TokenIndex, Option<&'t str>),
+}
+
+// What a technician is asked.
+fn question(e: &Expr<Target>) -> Option<&str> {
+    match e {
+        Expr::Call { arguments, .. } => match arguments.first()? {
+            Argument::Text(text) => quoted(text),
+            Argument::Value(_) => None,
+        },
+        _ => None,
+    }
+}
+
+// The variable that a call asks a technician for.
+fn entered(e: &Expr<Target>) -> Option<Target> {
+    match e {
+        Expr::Call {
+            function: Target::Function(Builtin::Ask(RequestKind::GetDevVarValue)),
+            arguments,
+            ..
+        } => target_of_argument(arguments, 1),
+        _ => None,
+    }
+}
+
+impl<'t> Pending<'t> {
     fn forget(&mut self, target: Target) {
         if let Some(storage) = storage_of(target) {
             self.stores.remove(&storage);
@@ -43,9 +82,60 @@ impl Pending {
     }
 
     // Notes a store, and returns the one that it replaces.
-    fn store(&mut self, target: Target, at: TokenIndex) -> Option<TokenIndex> {
-        self.stores.insert(storage_of(target)?, at)
+    fn store(&mut self, target: Target, stored: Stored<'t>) -> Option<Stored<'t>> {
+        self.stores.insert(storage_of(target)?, stored)
     }
+
+    // Notes what is entered by a call.
+    fn enter(&mut self, e: &'t Expr<Target>, at: TokenIndex) {
+        if let Some(storage) = entered(e).and_then(storage_of) {
+            self.stores.insert(storage, Stored::Entry(at, question(e)));
+        }
+    }
+
+    // The entry right before that another one replaces. The same question again may be a second try.
+    fn entered_before(&mut self, e: &'t Expr<Target>) -> Option<TokenIndex> {
+        match self.stores.remove(&storage_of(entered(e)?)?)? {
+            Stored::Entry(at, asked) => (asked != question(e)).then_some(at),
+            Stored::Value(_) => None,
+        }
+    }
+
+    // Notes what an assignment copies, and returns whether it copies back what it was copied from.
+    fn copy(&mut self, target: Target, value: &Expr<Target>) -> bool {
+        let Some(to) = storage_of(target) else {
+            return false;
+        };
+        let from = referred(value).and_then(storage_of);
+        let original = from.and_then(|from| self.copies.get(&from));
+        let is_back = original == Some(&(to, self.sets_of(to))) && from != Some(to);
+        let sets = self.sets_of(to).saturating_add(1);
+        self.sets.insert(to, sets);
+        match from {
+            Some(from) => self.copies.insert(to, (from, self.sets_of(from))),
+            None => self.copies.remove(&to),
+        };
+        is_back
+    }
+
+    fn sets_of(&self, storage: Storage) -> usize {
+        self.sets.get(&storage).copied().unwrap_or(0)
+    }
+
+    // Forgets all copies that an expression may change.
+    fn change(&mut self, e: &Expr<Target>) {
+        if has_call(e) || !matches!(e, Expr::Assign(..)) || children(e).any(has_assignment) {
+            self.copies.clear();
+        }
+    }
+}
+
+fn has_assignment(e: &Expr<Target>) -> bool {
+    let is_one = matches!(
+        e,
+        Expr::Assign(..) | Expr::CompoundAssign(..) | Expr::Increment(..)
+    );
+    is_one || children(e).any(has_assignment)
 }
 
 /// Whether an expression calls a function.
@@ -58,21 +148,38 @@ pub(super) fn check_stores(parts: &[Part<Target>], walk: &mut Walk<'_, '_>) {
     let mut pending = Pending::default();
     for part in parts {
         let Part::Statement(Stmt::Evaluate(e)) = part else {
-            pending.stores.clear();
+            pending = Pending::default();
             continue;
         };
+        pending.change(e);
+        let at = walk.context.places.sign(e);
         let Expr::Assign(to, value) = e else {
+            if let Some(earlier) = pending.entered_before(e) {
+                walk.findings
+                    .add_beside(earlier, MethodKind::ReplacedEntry, at);
+            }
             pending.read(e);
+            pending.enter(e, at);
             continue;
         };
         pending.read(value);
-        let at = walk.context.places.sign(e);
-        if let Some(earlier) = pending.store(*to, at) {
-            walk.findings.add_beside(earlier, MethodKind::DeadStore, at);
+        if pending.copy(*to, value) {
+            walk.findings.add(at, MethodKind::CopiedBack);
+        }
+        match pending.store(*to, Stored::Value(at)) {
+            Some(Stored::Value(earlier)) => {
+                walk.findings.add_beside(earlier, MethodKind::DeadStore, at);
+            }
+            Some(Stored::Entry(earlier, _)) => {
+                walk.findings
+                    .add_beside(earlier, MethodKind::ReplacedEntry, at);
+            }
+            None => {}
         }
         // A place that is set to itself has a warning of its own, and 0 is where many begin.
         if has_call(value) || is_itself(*to, value) || matches!(**value, Expr::Literal(0)) {
             pending.forget(*to);
         }
+        pending.enter(value, at);
     }
 }

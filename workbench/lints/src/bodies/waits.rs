@@ -1,15 +1,19 @@
 //! Loops with requests that nothing in them ends: what their conditions read never changes.
 
+use super::flow::Flow;
+use super::loops::{leads_away, limit_of, start_of, step_of};
 use crate::expressions::calls::target_of_argument;
+use crate::expressions::operands::referred;
 use crate::expressions::walk::Walk;
 use crate::instrument::variable_of;
 use crate::kind::MethodKind;
 use crate::source::TokenIndex;
 use crate::visit::{Visitor, visit_expression, visit_statement};
+use edd_arithmetic::operate;
 use edd_constants::evaluate;
 use edd_instructions::Sort;
 use edd_syntax::expr::Expr;
-use edd_syntax::operators::{Builtin, Comparison, RequestKind};
+use edd_syntax::operators::{Builtin, Comparison, Operator, RequestKind};
 use edd_syntax::reference::Target;
 use edd_syntax::stmt::{Part, Stmt};
 
@@ -25,6 +29,8 @@ struct Doings {
     refreshes: bool,
     /// Whether what it reads may be any variable.
     reads_elements: bool,
+    /// Whether a `continue` may begin its next turn.
+    continues: bool,
 }
 
 impl<'t> Visitor<'t> for Doings {
@@ -59,7 +65,102 @@ impl<'t> Visitor<'t> for Doings {
 
     fn statement(&mut self, s: &'t Stmt<Target>) {
         self.ends |= matches!(s, Stmt::Break { .. } | Stmt::Return);
+        self.continues |= matches!(s, Stmt::Continue { .. });
     }
+}
+
+impl Doings {
+    fn of(s: &Stmt<Target>) -> Doings {
+        let mut doings = Doings::default();
+        visit_statement(s, &mut doings);
+        doings
+    }
+}
+
+/// How the nodes of a loop set what its condition compares.
+struct Steps {
+    place: Target,
+    comparison: Comparison,
+    lead_away: bool,
+    do_other: bool,
+}
+
+impl<'t> Visitor<'t> for Steps {
+    fn expression(&mut self, e: &'t Expr<Target>, _: Sort) {
+        let (Expr::Assign(to, _) | Expr::CompoundAssign(_, to, _) | Expr::Increment(_, to)) = e
+        else {
+            return;
+        };
+        if *to != self.place {
+            return;
+        }
+        match step_of(Some(e)) {
+            Some((_, step)) if leads_away(self.comparison, step) => self.lead_away = true,
+            _ => self.do_other = true,
+        }
+    }
+}
+
+/// Checks a `while` or `do` whose condition compares a local with a constant, and all of whose steps
+/// lead away from that.
+pub(super) fn check_away(
+    condition: &Expr<Target>,
+    body: &Stmt<Target>,
+    at: TokenIndex,
+    walk: &mut Walk<'_, '_>,
+) {
+    let Some((place @ Target::Local(_), comparison, limit)) = limit_of(Some(condition)) else {
+        return;
+    };
+    let mut steps = Steps {
+        place,
+        comparison,
+        lead_away: false,
+        do_other: false,
+    };
+    visit_expression(condition, Sort::Method, &mut steps);
+    visit_statement(body, &mut steps);
+    let is_constant = evaluate(limit, Sort::Method).number().is_some();
+    if is_constant && steps.lead_away && !steps.do_other && !Doings::of(body).ends {
+        walk.findings.add(at, MethodKind::CountsAway);
+    }
+}
+
+/// Checks a `for` whose body always leaves it, so that its third part is never reached.
+pub(super) fn check_single_turn(
+    flow: Flow,
+    update: Option<&Expr<Target>>,
+    body: &Stmt<Target>,
+    at: TokenIndex,
+    walk: &mut Walk<'_, '_>,
+) {
+    if flow.ends.is_some() && update.is_some() && !Doings::of(body).continues {
+        walk.findings.add(at, MethodKind::SingleTurn);
+    }
+}
+
+// The number at which a counter stays that is multiplied, divided or shifted.
+fn stays_at(
+    initial: Option<&Expr<Target>>,
+    update: Option<&Expr<Target>>,
+    body: &Stmt<Target>,
+) -> Option<i64> {
+    let (place, start) = start_of(initial)?;
+    let (operator, to, value) = match update? {
+        Expr::CompoundAssign(operator, to, value) => (*operator, *to, &**value),
+        Expr::Assign(to, value) => match &**value {
+            Expr::Binary(operator, first, second) if referred(first) == Some(*to) => {
+                (*operator, *to, &**second)
+            }
+            _ => return None,
+        },
+        _ => return None,
+    };
+    let is_scaled = !matches!(operator, Operator::Add | Operator::Subtract);
+    let by = evaluate(value, Sort::Method).number()?;
+    let stays = operate(Sort::Method, operator, start, by) == Ok(start);
+    let is_kept = || !Doings::of(body).sets.contains(&place);
+    (is_scaled && to == place && stays && is_kept()).then_some(start)
 }
 
 /// Checks a loop that makes requests: whether what its condition reads can change in its turns.
@@ -104,23 +205,28 @@ pub(super) fn check_counting(
     at: TokenIndex,
     walk: &mut Walk<'_, '_>,
 ) {
-    let Some((counted, step)) = super::loops::step_of(update) else {
+    if let Some(number) = stays_at(initial, update, body) {
+        return walk.findings.add(at, MethodKind::StaysAt(number));
+    }
+    let Some((counted, step)) = step_of(update) else {
         return;
     };
     if let Stmt::Block(parts) = body {
         check_counted_twice(parts, counted, walk);
     }
+    if !Doings::of(body).ends {
+        visit_statement(body, &mut Shared { counted, walk });
+    }
     if step == 0 {
         return walk.findings.add(at, MethodKind::CountsByZero);
     }
-    let limit = super::loops::limit_of(condition);
+    let limit = limit_of(condition);
     let (Some((started, start)), Some((compared, Comparison::NotEqual, limit))) =
-        (super::loops::start_of(initial), limit)
+        (start_of(initial), limit)
     else {
         return;
     };
-    let mut doings = Doings::default();
-    visit_statement(body, &mut doings);
+    let doings = Doings::of(body);
     let is_plain = started == counted && compared == counted && !doings.sets.contains(&counted);
     let Some(limit) = evaluate(limit, Sort::Method).number().filter(|_| is_plain) else {
         return;
@@ -132,12 +238,41 @@ pub(super) fn check_counting(
     }
 }
 
+/// The loops in the body of a `for` that counts a place.
+struct Shared<'a, 'w, 'd> {
+    counted: Target,
+    walk: &'a mut Walk<'w, 'd>,
+}
+
+impl<'t> Visitor<'t> for Shared<'_, '_, '_> {
+    fn statement(&mut self, s: &'t Stmt<Target>) {
+        let Stmt::For {
+            initial, update, ..
+        } = s
+        else {
+            return;
+        };
+        let is_started = matches!(initial, Some(Expr::Assign(to, _)) if *to == self.counted);
+        let counted = step_of(update.as_ref()).map(|(target, _)| target);
+        let at = self.walk.context.places.statement(s).sign;
+        let is_told = self
+            .walk
+            .findings
+            .is_reported(self.walk.context.source.span(at));
+        if is_started && counted == Some(self.counted) && !is_told {
+            self.walk.findings.add(at, MethodKind::SharedCounter);
+        }
+    }
+}
+
 fn check_counted_twice(parts: &[Part<Target>], counted: Target, walk: &mut Walk<'_, '_>) {
     for part in parts {
         let Part::Statement(Stmt::Evaluate(e)) = part else {
             continue;
         };
-        if super::loops::step_of(Some(e)).is_some_and(|(target, _)| target == counted) {
+        let is_step = step_of(Some(e)).is_some_and(|(target, _)| target == counted);
+        let is_start = start_of(Some(e)).is_some_and(|(target, _)| target == counted);
+        if is_step || is_start {
             let at = walk.context.places.sign(e);
             walk.findings.add(at, MethodKind::CountedTwice);
         }

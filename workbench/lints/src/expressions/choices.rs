@@ -8,6 +8,7 @@ use crate::texts::variants::Variants;
 use crate::traits::quoted;
 use edd_syntax::expr::Argument;
 use edd_syntax::reference::Target;
+use std::collections::HashSet;
 
 /// From so many on, the milliseconds of another language are meant.
 const LONG_DELAY: i64 = 1000;
@@ -35,6 +36,13 @@ fn has_gap(words: &[u8]) -> bool {
     is_alone || (last.is_some() && choices.any(<[u8]>::is_empty))
 }
 
+// Whether a list has one choice twice.
+fn has_repeated(words: &[u8]) -> bool {
+    let mut choices = words.split(|byte| *byte == b';').map(<[u8]>::trim_ascii);
+    let mut seen = HashSet::new();
+    choices.any(|choice| !choice.is_empty() && !seen.insert(choice))
+}
+
 /// Checks the choices of a SELECT_FROM_LIST.
 pub(super) fn check_choices(
     arguments: &[Argument<Target>],
@@ -44,14 +52,17 @@ pub(super) fn check_choices(
     let Some(list) = list_of(arguments) else {
         return;
     };
-    let mut variants = Variants::of(list.as_bytes());
+    let variants = || Variants::of(list.as_bytes());
     if count_choices(arguments) == Some(1)
-        && Variants::of(list.as_bytes()).any(|variant| variant.words.contains(&b','))
+        && variants().any(|variant| variant.words.contains(&b','))
     {
         walk.findings.add(at, TextKind::CommaChoices);
     }
-    if variants.any(|variant| has_gap(variant.words)) {
+    if variants().any(|variant| has_gap(variant.words)) {
         walk.findings.add(at, TextKind::EmptyChoice);
+    }
+    if variants().any(|variant| has_repeated(variant.words)) {
+        walk.findings.add(at, TextKind::RepeatedChoice);
     }
 }
 

@@ -1,8 +1,9 @@
 //! Operators that bind otherwise than they look, and operands that settle what an operator gives.
 
 use super::slips::check_named_label;
-use super::stores::{check_listed, without_parentheses};
+use super::stores::{check_listed, check_set_bits, without_parentheses};
 use super::walk::Walk;
+use crate::branches::are_alike;
 use crate::instrument::variable_of;
 use crate::kind::{ConditionKind, VariableKind};
 use crate::range::Range;
@@ -13,6 +14,7 @@ use edd_instructions::Sort;
 use edd_syntax::expr::Expr;
 use edd_syntax::operators::{Comparison, Operator, UnaryOperator};
 use edd_syntax::reference::Target;
+use edd_syntax::types::VarType;
 
 /// `&&` or `||`.
 #[derive(Clone, Copy, PartialEq, Eq)]
@@ -73,24 +75,50 @@ pub(crate) fn referred(e: &Expr<Target>) -> Option<Target> {
     }
 }
 
-// Whether both are the same reference, or the same plain number.
-fn are_same_values(first: &Expr<Target>, second: &Expr<Target>) -> bool {
-    match (without_parentheses(first), without_parentheses(second)) {
-        (Expr::Reference(one), Expr::Reference(other)) => one == other,
-        (Expr::Literal(one), Expr::Literal(other)) => one == other,
-        _ => false,
+// What a reference refers to, or the variable that is the element of a constant number.
+fn place_of(e: &Expr<Target>, walk: &Walk<'_, '_>) -> Option<Target> {
+    match without_parentheses(e) {
+        Expr::Reference(target) => Some(*target),
+        Expr::Indexed(array, index) => walk.context.instrument.element_at(*array, index, walk.sort),
+        _ => None,
     }
 }
 
-// Whether both are the same reference, or the same comparison of references and plain numbers.
-fn are_same(first: &Expr<Target>, second: &Expr<Target>) -> bool {
+// Whether both are the same place.
+fn are_one_place(first: &Expr<Target>, second: &Expr<Target>, walk: &Walk<'_, '_>) -> bool {
+    let place = place_of(first, walk);
+    place.is_some() && place == place_of(second, walk)
+}
+
+// Whether both are the same place, or the same plain number.
+fn are_same_values(first: &Expr<Target>, second: &Expr<Target>, walk: &Walk<'_, '_>) -> bool {
+    match (without_parentheses(first), without_parentheses(second)) {
+        (Expr::Literal(one), Expr::Literal(other)) => one == other,
+        _ => are_one_place(first, second, walk),
+    }
+}
+
+// Whether both are the same place, or the same operator on the same operands.
+fn are_same(first: &Expr<Target>, second: &Expr<Target>, walk: &Walk<'_, '_>) -> bool {
+    let are_operands =
+        |a, b| are_same_values(a, b, walk) || (has_operator(a) && are_same(a, b, walk));
     match (without_parentheses(first), without_parentheses(second)) {
         (Expr::Compare(one, a, b), Expr::Compare(other, c, d)) => {
-            one == other && are_same_values(a, c) && are_same_values(b, d)
+            one == other && are_operands(a, c) && are_operands(b, d)
         }
-        (Expr::Reference(one), Expr::Reference(other)) => one == other,
-        _ => false,
+        (Expr::Binary(one, a, b), Expr::Binary(other, c, d)) => {
+            one == other && are_operands(a, c) && are_operands(b, d)
+        }
+        (Expr::Unary(one, a), Expr::Unary(other, b)) => one == other && are_operands(a, b),
+        _ => are_one_place(first, second, walk),
     }
+}
+
+fn has_operator(e: &Expr<Target>) -> bool {
+    matches!(
+        without_parentheses(e),
+        Expr::Compare(..) | Expr::Binary(..) | Expr::Unary(..)
+    )
 }
 
 /// An operator on bits or a difference, both of whose operands are one reference.
@@ -110,8 +138,29 @@ pub(super) fn check_operands(
             | Operator::Or
             | Operator::Xor
     );
-    if is_settled && are_same(first, second) {
+    if is_settled && are_same(first, second, walk) {
         walk.findings.add(at, ConditionKind::EqualOperands);
+    }
+}
+
+/// A compound assignment of a place to itself, or of what always gives 0.
+pub(super) fn check_compound(
+    operator: Operator,
+    to: Target,
+    value: &Expr<Target>,
+    at: TokenIndex,
+    walk: &mut Walk<'_, '_>,
+) {
+    check_operands(operator, &Expr::Reference(to), value, at, walk);
+    check_set_bits(operator, to, value, at, walk);
+    let number = evaluate(value, walk.sort).number();
+    let is_zero = match operator {
+        Operator::Multiply => number == Some(0),
+        Operator::Remainder => matches!(number, Some(1 | -1)),
+        _ => false,
+    };
+    if is_zero {
+        walk.findings.add(at, ConditionKind::AlwaysZero);
     }
 }
 
@@ -124,19 +173,13 @@ pub(super) fn check_logical(
     walk: &mut Walk<'_, '_>,
 ) {
     let last = last_of(first, sign);
-    if are_same(last, second) {
+    if are_same(last, second, walk) {
         return walk.findings.add(at, ConditionKind::EqualOperands);
     }
-    let bounds = (
-        compared_with(last, walk.sort),
-        compared_with(second, walk.sort),
-    );
-    let (Some((place, one)), Some((same, other))) = bounds else {
+    let bounds = bounds_of_one(last, second, walk.sort);
+    let Some((one, other)) = bounds.or_else(|| bounds_of_two(last, second, walk)) else {
         return;
     };
-    if place != same {
-        return;
-    }
     match sign {
         Logical::And if never_both(one, other) => walk.findings.add(at, ConditionKind::NeverBoth),
         Logical::Or if always_one(one, other) => walk.findings.add(at, ConditionKind::AlwaysOne),
@@ -157,6 +200,38 @@ fn compared_with(e: &Expr<Target>, sort: Sort) -> Option<(Target, Bound)> {
         None => (referred(second)?, turned(*comparison), first),
     };
     Some((target, (comparison, evaluate(other, sort).number()?)))
+}
+
+// What two comparisons of one place with numbers compare it with.
+fn bounds_of_one(
+    first: &Expr<Target>,
+    second: &Expr<Target>,
+    sort: Sort,
+) -> Option<(Bound, Bound)> {
+    let (place, one) = compared_with(first, sort)?;
+    let (same, other) = compared_with(second, sort)?;
+    (place == same).then_some((one, other))
+}
+
+// Two comparisons of the same two places, as comparisons of their difference with 0.
+fn bounds_of_two(
+    first: &Expr<Target>,
+    second: &Expr<Target>,
+    walk: &Walk<'_, '_>,
+) -> Option<(Bound, Bound)> {
+    let (Expr::Compare(one, a, b), Expr::Compare(other, c, d)) =
+        (without_parentheses(first), without_parentheses(second))
+    else {
+        return None;
+    };
+    let other = if are_one_place(a, c, walk) && are_one_place(b, d, walk) {
+        *other
+    } else if are_one_place(a, d, walk) && are_one_place(b, c, walk) {
+        turned(*other)
+    } else {
+        return None;
+    };
+    Some(((*one, 0), (other, 0)))
 }
 
 // The numbers at which one of two comparisons with numbers may change, and those beside them.
@@ -181,7 +256,10 @@ pub(super) fn check_chosen(
     at: TokenIndex,
     walk: &mut Walk<'_, '_>,
 ) {
-    if are_same_values(first, second) {
+    let extents = [first, second].map(|e| walk.context.places.expression(e).extent);
+    let [one, other] = extents;
+    let are_written_alike = are_alike(one, other, walk.context.source);
+    if are_same_values(first, second, walk) || are_written_alike {
         walk.findings.add(at, ConditionKind::EqualChoice);
     }
 }
@@ -252,7 +330,7 @@ pub(crate) fn read_range(variable: u16, walk: &Walk<'_, '_>) -> Option<Range> {
 /// written though one of them is that of the type.
 pub(super) fn check_settled(compared: &Expr<Target>, at: TokenIndex, walk: &mut Walk<'_, '_>) {
     if let Expr::Compare(_, first, second) = compared
-        && are_same(first, second)
+        && are_same(first, second, walk)
     {
         return walk.findings.add(at, ConditionKind::EqualOperands);
     }
@@ -270,7 +348,24 @@ pub(super) fn check_settled(compared: &Expr<Target>, at: TokenIndex, walk: &mut 
         Some(_) if !is_equality && walk.ranged == Some(target) => {}
         Some(gives) => walk.findings.add(at, ConditionKind::Settled(gives, range)),
         None if is_equality => check_listed(variable, number, at, walk),
+        None if walk.ranged != Some(target) => {
+            check_ordered(variable, (comparison, number), at, walk);
+        }
         None => {}
+    }
+}
+
+// An order that no enumerator of a variable has to a number. That all have it may be a careful test.
+fn check_ordered(variable: u16, bound: Bound, at: TokenIndex, walk: &mut Walk<'_, '_>) {
+    let known = walk.context.instrument.variable(variable);
+    let Some(variable) = known.filter(|known| known.kind == Some(VarType::Enumerated)) else {
+        return;
+    };
+    let mut enumerators = variable.enumerators.iter();
+    let has_some = !variable.enumerators.is_empty();
+    if has_some && !enumerators.any(|one| holds(bound.0, *one, bound.1)) {
+        let name = variable.name().to_owned();
+        walk.findings.add(at, VariableKind::NoneMeets(name));
     }
 }
 

@@ -7,6 +7,7 @@ use super::walk::Walk;
 use crate::instrument::variable_of;
 use crate::kind::{ConditionKind, MethodKind};
 use crate::source::TokenIndex;
+use crate::traits::classes_of;
 use edd_constants::{Known, evaluate};
 use edd_instructions::Sort;
 use edd_source::{Confidence, Edit, Fix};
@@ -106,10 +107,59 @@ pub(super) fn check_binary(
         }
         _ => {}
     }
+    check_quotients(operator, [first, second], walk);
     if joins_bits(operator) {
-        check_masked(first, second, at, walk);
-        check_masked(second, first, at, walk);
+        check_masked(first, mask_of(operator, second), at, walk);
+        check_masked(second, mask_of(operator, first), at, walk);
     }
+}
+
+// The bits that a mask has, or those that `& ~` clears.
+fn mask_of(operator: Operator, mask: &Expr<Target>) -> &Expr<Target> {
+    match without_parentheses(mask) {
+        Expr::Unary(UnaryOperator::Complement, inner) if operator == Operator::And => inner,
+        _ => mask,
+    }
+}
+
+// A quotient of two constants that is multiplied: what is behind its point is lost before.
+fn check_quotients(operator: Operator, operands: [&Expr<Target>; 2], walk: &mut Walk<'_, '_>) {
+    let sort = walk.sort;
+    let is_plain = operands
+        .iter()
+        .all(|e| evaluate(e, sort).number().is_some());
+    if operator != Operator::Multiply || is_plain {
+        return;
+    }
+    for e in operands {
+        let e = without_parentheses(e);
+        let Expr::Binary(Operator::Divide, first, second) = e else {
+            continue;
+        };
+        let numbers = evaluate(first, sort)
+            .number()
+            .zip(evaluate(second, sort).number());
+        let Some((a, b)) = numbers else {
+            continue;
+        };
+        let is_cut = a.checked_rem(b).is_some_and(|rest| rest != 0);
+        if let Some(quotient) = a.checked_div(b).filter(|number| is_cut && *number != 0) {
+            let at = walk.context.places.sign(e);
+            walk.findings.add(at, ConditionKind::CutQuotient(quotient));
+        }
+    }
+}
+
+// Whether two plain decimal numbers with ^ between look like a power.
+fn is_power(operator: Operator, [first, second]: [&Expr<Target>; 2], walk: &Walk<'_, '_>) -> bool {
+    let is_decimal = |e: &Expr<Target>| {
+        let word = walk.context.source.word(walk.context.places.sign(e));
+        matches!(e, Expr::Literal(_)) && !word.starts_with("0x") && !word.starts_with("0X")
+    };
+    operator == Operator::Xor
+        && matches!(first, Expr::Literal(2 | 10))
+        && is_decimal(first)
+        && is_decimal(second)
 }
 
 fn is_zero(e: &Expr<Target>) -> bool {
@@ -159,6 +209,9 @@ fn check_constants(
 ) {
     if operator == Operator::Divide && a != 0 && b != 0 && a.unsigned_abs() < b.unsigned_abs() {
         return walk.findings.add(at, ConditionKind::ZeroQuotient);
+    }
+    if is_power(operator, operands, walk) {
+        return walk.findings.add(at, ConditionKind::NoPower(a ^ b));
     }
     if walk.sort == Sort::Attribute || operands.iter().any(|e| is_of_greatest_bit(e)) {
         return;
@@ -228,8 +281,10 @@ pub(super) fn check_changed_bits(
     at: TokenIndex,
     walk: &mut Walk<'_, '_>,
 ) {
-    if operator == Operator::Or {
-        check_named(&Expr::Reference(to), value, at, walk);
+    match operator {
+        Operator::Or | Operator::Xor => check_named(&Expr::Reference(to), value, at, walk),
+        Operator::And => check_masked(&Expr::Reference(to), mask_of(operator, value), at, walk),
+        _ => {}
     }
 }
 
@@ -294,11 +349,36 @@ pub(super) fn check_answer(
     else {
         return;
     };
-    if super::calls::target_of_argument(arguments, 1) == Some(to)
-        && let Some(variable) = variable_of(to)
-    {
-        let name = walk.context.instrument.name_of(variable);
+    let known = variable_of(to).and_then(|number| walk.context.instrument.variable(number));
+    let Some(variable) = known else {
+        return;
+    };
+    // A variable of the host may keep a code.
+    if super::calls::target_of_argument(arguments, 1) == Some(to) {
+        let name = variable.name().to_owned();
         walk.findings.add(at, MethodKind::StoredAnswer(name));
+    } else if !classes_of(variable).contains("LOCAL") {
+        walk.findings.add(at, MethodKind::StoredCode);
+    }
+}
+
+/// An order of the code with which an entry was answered to a number other than 0.
+pub(super) fn check_entered_order(
+    first: &Expr<Target>,
+    second: &Expr<Target>,
+    at: TokenIndex,
+    walk: &mut Walk<'_, '_>,
+) {
+    let is_entry = matches!(
+        without_parentheses(first),
+        Expr::Call {
+            function: Target::Function(Builtin::Ask(RequestKind::GetDevVarValue)),
+            ..
+        }
+    );
+    let number = evaluate(second, walk.sort).number();
+    if is_entry && number.is_some_and(|number| number != 0) {
+        walk.findings.add(at, MethodKind::ComparedAnswer);
     }
 }
 

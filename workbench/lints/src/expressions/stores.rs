@@ -1,6 +1,7 @@
 //! Constants that what they are assigned to does not hold, and numbers of more than 32 bits.
 
 use super::calls::target_of_argument;
+use super::operands::referred;
 use super::slips::check_named;
 use super::walk::Walk;
 use crate::instrument::variable_of;
@@ -10,7 +11,7 @@ use crate::source::TokenIndex;
 use edd_constants::evaluate;
 use edd_instructions::Sort;
 use edd_syntax::expr::Expr;
-use edd_syntax::operators::{Builtin, UnaryOperator};
+use edd_syntax::operators::{Builtin, Operator, RequestKind, UnaryOperator};
 use edd_syntax::reference::Target;
 
 /// The greatest number that a method computes with.
@@ -52,6 +53,12 @@ pub(super) fn check_stored(
     if let Expr::Unary(UnaryOperator::Complement, _) = value {
         return;
     }
+    if let Expr::Conditional(_, first, second) = without_parentheses(value) {
+        check_stored(to, first, at, walk);
+        return check_stored(to, second, at, walk);
+    }
+    check_kept_bits(to, value, at, walk);
+    check_stored_choice(to, value, at, walk);
     let (Some(variable), Some(number)) = (variable_of(to), stored_number(value, walk.sort)) else {
         return;
     };
@@ -63,6 +70,57 @@ pub(super) fn check_stored(
         check_named(&Expr::Reference(to), value, at, walk);
         check_limits(variable, number, at, walk);
     } else if !keeps_bits(range, value, number, walk.sort) {
+        walk.findings
+            .add(at, MethodKind::StoreOutOfRange(number, range));
+    }
+}
+
+// Bits that are set in what a variable holds, and that it does not keep, as in `a = a | 0x100`.
+fn check_kept_bits(to: Target, value: &Expr<Target>, at: TokenIndex, walk: &mut Walk<'_, '_>) {
+    if let Expr::Binary(operator, first, second) = without_parentheses(value)
+        && referred(first) == Some(to)
+    {
+        check_set_bits(*operator, to, second, at, walk);
+    }
+}
+
+// A choice that is stored in a variable of enumerators, of which one of the choices is none.
+fn check_stored_choice(to: Target, value: &Expr<Target>, at: TokenIndex, walk: &mut Walk<'_, '_>) {
+    let Expr::Call {
+        function: Target::Function(Builtin::Ask(RequestKind::SelectFromList)),
+        arguments,
+        ..
+    } = without_parentheses(value)
+    else {
+        return;
+    };
+    let known = variable_of(to).and_then(|number| walk.context.instrument.variable(number));
+    let choices = super::choices::count_choices(arguments);
+    let Some((variable, choices)) = known.zip(choices) else {
+        return;
+    };
+    if let Some(number) = (0..choices).find(|number| variable.lacks(*number)) {
+        let name = variable.name().to_owned();
+        walk.findings.add(at, VariableKind::Unlisted(number, name));
+    }
+}
+
+/// The same of `|=` and `^=`.
+pub(super) fn check_set_bits(
+    operator: Operator,
+    to: Target,
+    value: &Expr<Target>,
+    at: TokenIndex,
+    walk: &mut Walk<'_, '_>,
+) {
+    let range = variable_of(to).and_then(|variable| walk.context.instrument.range(variable));
+    let number = evaluate(value, walk.sort).number();
+    let (Some(range), Some(number)) = (range, number) else {
+        return;
+    };
+    // Of a variable with a sign all of its bits may be written without one.
+    let is_wide = range.width() < number;
+    if matches!(operator, Operator::Or | Operator::Xor) && is_wide {
         walk.findings
             .add(at, MethodKind::StoreOutOfRange(number, range));
     }

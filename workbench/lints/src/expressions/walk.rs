@@ -90,7 +90,10 @@ impl<'w, 'd> Walk<'w, 'd> {
     /// Notes that a place is read.
     pub(crate) fn read(&mut self, target: Target) {
         if let Target::Local(slot) = target {
-            self.reads.insert(slot);
+            // What a place is set to may be computed from itself: that alone is no use of it.
+            if self.assigned != Some(target) {
+                self.reads.insert(slot);
+            }
             let is_known = self.writes.contains(&slot) || self.assigned == Some(target);
             if self.loops == 0 && !is_known {
                 self.early.insert(slot);
@@ -115,11 +118,19 @@ impl<'w, 'd> Walk<'w, 'd> {
         }
     }
 
-    /// Notes that a place is changed from what it was.
-    pub(crate) fn change(&mut self, target: Target) {
+    /// Notes that a place is changed from what it was, and that nothing else looks at what it was.
+    pub(crate) fn count(&mut self, target: Target) {
         let before = self.assigned.replace(target);
         self.read(target);
         self.assigned = before;
         self.write(target);
+    }
+
+    /// Notes that a place is changed from what it was.
+    pub(crate) fn change(&mut self, target: Target) {
+        self.count(target);
+        if let Target::Local(slot) = target {
+            self.reads.insert(slot);
+        }
     }
 }

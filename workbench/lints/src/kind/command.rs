@@ -27,6 +27,8 @@ kinds! {
             "two octets do not hold {number}"
         AmbiguousTransaction AmbiguousTransaction
             "this transaction can't be told from another one: without a number it counts as 0"
+        EqualRequests AmbiguousTransaction
+            "this transaction sends what another one sends: a device can't tell them apart"
         FailingZero FailingZero
             "0 is the code of what went well, and this is no SUCCESS"
         NoResponseCodes EmptyResponseCodes

@@ -30,6 +30,10 @@ kinds! {
             "this is always {gives}: the variable holds {range}"
         SettledCase(label: i64, range: Range) SettledComparison
             "the case {label} is never taken: the variable holds {range}"
+        NoPower(number: i64) MisreadOperators
+            "^ is the exclusive or, and no power: this is {number}"
+        ImpossibleCase(label: i64) SettledComparison
+            "the case {label} is never taken: this never gives it"
         EqualOperands EqualOperands
             "both sides of this sign are the same"
         EqualChoice EqualBranches
@@ -62,6 +66,8 @@ kinds! {
             "this is always 0"
         ZeroQuotient ZeroQuotient
             "this gives 0: a division has no fraction"
+        CutQuotient(number: i64) ZeroQuotient
+            "this gives {number}, which is multiplied: a division has no fraction"
         Overflow(number: i64) OverflowingConstant
             "{number} does not fit in 32 bits"
         DoubleSign DoubleSign
@@ -70,6 +76,8 @@ kinds! {
             "{number} has bits that no enumerator of {variable} names"
         UntestedIndex(variable: String, number: i64) UntestedIndex
             "{variable} may be {number}, and the array has no element of that number"
+        UntestedSum(number: i64) UntestedIndex
+            "this may be {number}, and the array has no element of that number"
         CountedPastElements(number: i64) LoopLeavesArray
             "the loop comes to {number}, and the array has no element of that number"
     }

@@ -31,6 +31,8 @@ kinds! {
             "the menu {menu} hides all of its entries"
         InvalidEntry(item: String) InvalidEntry
             "{item} is not valid under this condition, so it is never shown"
+        NeverValid(item: String) InvalidEntry
+            "{item} is never valid, so it is never shown"
         MisplacedQualifier(qualifier: &'static str, item: String) MisplacedQualifier
             "{qualifier} does nothing for {item}"
         RepeatedQualifier(qualifier: String) RepeatedQualifier

@@ -10,12 +10,18 @@ kinds! {
             "what this comparison gives is not used: = assigns"
         DroppedValue DroppedValue
             "this statement does nothing: its value is not used"
+        DroppedOperator DroppedValue
+            "what this operator gives is not used"
         AssignedCondition AssignedCondition
             "this assigns, and what it assigned is the condition: == compares"
         AssignedSelection AssignedCondition
             "this assigns, and what it assigned selects the case: a second pair of parentheses says so"
         AssignedToItself AssignedToItself
             "this assigns a value to itself"
+        CopiedBack AssignedToItself
+            "this copies back what was copied before: both are the same already"
+        SetAsTested AssignedToItself
+            "the condition says that this has the value already"
         EmptyStatement EmptyBranch
             "nothing is done where this condition holds: a ; stands right after it"
         EmptyBlock EmptyBranch
@@ -42,6 +48,8 @@ kinds! {
             "nothing ends this loop: it has no break, no return and no request"
         NothingChanges EndlessLoop
             "nothing in this loop changes what its condition reads"
+        SingleTurn UnreachableStatement
+            "this loop ends in its first turn, so its third part is never reached"
         NeverRuns DeadLoop
             "this loop never runs"
         NeverBegins(start: i64) DeadLoop
@@ -68,6 +76,10 @@ kinds! {
             "this sets a place to what it counts: one of both is enough"
         StoredAnswer(variable: String) StoredAnswer
             "this replaces what was entered for {variable} by the code of the answer"
+        StoredCode StoredAnswer
+            "this stores the code of the answer, and not what was entered"
+        ComparedAnswer StoredAnswer
+            "this compares the code of the answer, and not what was entered"
         DroppedChoice DroppedChoice
             "what is chosen here makes no difference"
         MissingChoice(number: i64) MissingChoice
@@ -86,6 +98,8 @@ kinds! {
             "{number} is over the variable's MAX_VALUE {greatest}"
         DeadStore DeadStore
             "what is stored here is replaced before anything reads it"
+        ReplacedEntry DeadStore
+            "what is entered here is replaced before anything reads it"
         EmptyThen EmptyThen
             "nothing is done where this condition holds: negate it, and leave out the else"
         EmptyElse EmptyElse
@@ -100,16 +114,22 @@ kinds! {
             "nothing in this loop changes what its condition reads, so only the host ends it"
         CountsByZero UnmovedCounter
             "this loop counts by 0"
+        StaysAt(number: i64) UnmovedCounter
+            "this loop stays at {number}"
         UnrefreshedWait(variable: String) UnrefreshedWait
             "nothing in this loop reads {variable} from the device: a command does"
         CountedTwice CountedTwice
             "the head of this loop counts this as well"
+        SharedCounter CountedTwice
+            "the loop around this one counts the same"
         SkippedLimit(limit: i64) SkippedLimit
             "this loop counts past {limit} and never comes to it"
         OwnAbortMethod OwnAbortMethod
             "this method is its own abort method"
         RepeatedAbortMethod RepeatedAbortMethod
             "this abort method is added already"
+        IdleAbortMethod EmptyMethod
+            "this abort method does nothing but abort"
         LateAbortMethod LateAbortMethod
             "nothing comes behind this that could abort"
         LoopedAbortMethod LoopedAbortMethod

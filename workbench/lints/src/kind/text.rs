@@ -37,6 +37,8 @@ kinds! {
             "this is one choice: semicolons part choices"
         EmptyChoice EmptyChoice
             "a choice of this list has no words"
+        RepeatedChoice RepeatedChoice
+            "a choice of this list is there twice"
         UnknownLint(word: String) UnknownLint
             "no lint has the name {word}"
         MisspelledLint(word: String, near: &'static str) UnknownLint

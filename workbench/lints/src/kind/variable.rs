@@ -36,6 +36,10 @@ kinds! {
             "DEFAULT_VALUE {default} is below MIN_VALUE {least}"
         DefaultOver(default: i64, greatest: i64) DefaultOutsideLimits
             "DEFAULT_VALUE {default} is over MAX_VALUE {greatest}"
+        DefaultApart(over: i64) DefaultOutsideLimits
+            "DEFAULT_VALUE is always {over} over MAX_VALUE"
+        DefaultApartBelow(below: i64) DefaultOutsideLimits
+            "DEFAULT_VALUE is always {below} below MIN_VALUE"
         RepeatedEnumerator(number: i64) RepeatedEnumerator
             "the enumerator {number} is there already"
         NoBit EnumeratorBits
@@ -46,6 +50,8 @@ kinds! {
             "{number} has bits that no enumerator names"
         Unlisted(number: i64, variable: String) UnlistedValue
             "{number} is no enumerator of {variable}"
+        NoneMeets(variable: String) UnlistedValue
+            "no enumerator of {variable} is so"
         UnlistedCase(number: i64, variable: String) UnlistedValue
             "the case {number} is no enumerator of {variable}"
         MeaninglessFormat MeaninglessFormat
@@ -58,8 +64,12 @@ kinds! {
             "{variable} has one enumerator: there is nothing to choose"
         SingleValue(number: i64) SingleValueLimits
             "MIN_VALUE and MAX_VALUE are both {number}: no other value can be entered"
+        SameLimits SingleValueLimits
+            "MIN_VALUE and MAX_VALUE are always the same: no other value can be entered"
         CircularLimits(variable: String) CircularLimits
             "the limits of {variable} depend on {variable} itself"
+        CircularDefault(variable: String) CircularLimits
+            "the DEFAULT_VALUE of {variable} depends on {variable} itself"
         CircularValidity(variable: String) CircularValidity
             "whether {variable} is valid depends on {variable} itself"
         CircularHandling(variable: String) CircularHandling

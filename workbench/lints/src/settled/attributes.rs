@@ -3,7 +3,7 @@
 use super::Ways;
 use crate::context::Context;
 use crate::instrument::variable_of;
-use crate::kind::MenuKind;
+use crate::kind::{ConditionKind, MenuKind};
 use crate::menus::item_shown;
 use crate::values::environment::Environment;
 use crate::visit::{Conditionals, Value, conditionals_of};
@@ -46,8 +46,8 @@ impl<'c, 'd> Ways<'c, 'd, '_> {
                 if let Some(e) = value.expression() {
                     self.follow(e, &mut known.clone());
                 }
-                if let Some(entry) = value.entry().filter(|_| is_under_condition) {
-                    self.check_entry(entry, known);
+                if let Some(entry) = value.entry() {
+                    self.check_entry(entry, is_under_condition, known);
                 }
             }
             Cond::If {
@@ -56,6 +56,7 @@ impl<'c, 'd> Ways<'c, 'd, '_> {
                 otherwise,
             } => {
                 let at = self.context.places.conditional(conditional).word;
+                let is_chained = self.is_chained;
                 self.test_at(at, condition, &mut known.clone());
                 self.is_chained = false;
                 if let Some(inner) = known.clone().refined(condition, true) {
@@ -64,12 +65,22 @@ impl<'c, 'd> Ways<'c, 'd, '_> {
                 self.is_chained = matches!(&**otherwise, [Cond::If { .. }]);
                 if let Some(inner) = known.clone().refined(condition, false) {
                     self.conditionals(otherwise, &inner, true);
+                } else if is_chained && !otherwise.is_empty() {
+                    self.check_last_else(condition, known.sort);
                 }
                 self.is_chained = false;
             }
             Cond::Select { on, arms } => {
-                self.follow(on, &mut known.clone());
+                let values = self.follow(on, &mut known.clone());
+                let is_computed = self.has_computed_labels(on, values, known.sort);
                 for arm in arms {
+                    if let Arm::Case { label, .. } = arm
+                        && is_computed
+                        && !values.holds(*label)
+                    {
+                        let at = self.context.places.arm(arm);
+                        self.findings.add(at, ConditionKind::ImpossibleCase(*label));
+                    }
                     self.arm(on, arm, known);
                 }
             }
@@ -93,20 +104,26 @@ impl<'c, 'd> Ways<'c, 'd, '_> {
         }
     }
 
-    // An entry that is never valid where its conditions hold.
-    fn check_entry(&mut self, entry: &MenuEntry<Target>, known: &Environment<'c, 'd>) {
+    // An entry that is never valid, or not where its conditions hold.
+    fn check_entry(
+        &mut self,
+        entry: &MenuEntry<Target>,
+        is_under_condition: bool,
+        known: &Environment<'c, 'd>,
+    ) {
         let shown = item_shown(entry).and_then(|(item, _)| self.context.instrument.place_of(item));
         let items = self.context.instrument.items;
         let Some(item) = shown.and_then(|place| items.get(place)) else {
             return;
         };
         let fresh = Environment::new(Sort::Attribute, self.context);
-        if may_be_valid(item, known) || !may_be_valid(item, &fresh) {
-            return;
-        }
         let at = self.context.places.entry(entry);
-        let kind = MenuKind::InvalidEntry(item.name().to_owned());
-        self.findings.add(at, kind);
+        let name = || item.name().to_owned();
+        if !may_be_valid(item, &fresh) {
+            self.findings.add(at, MenuKind::NeverValid(name()));
+        } else if is_under_condition && !may_be_valid(item, known) {
+            self.findings.add(at, MenuKind::InvalidEntry(name()));
+        }
     }
 }
 
@@ -136,6 +153,35 @@ fn may_hold(conditional: &Cond<Target, bool>, known: &Environment<'_, '_>) -> bo
     }
 }
 
+// What holds where a menu is shown. Entries that test it again are careful.
+fn where_valid<'c, 'd>(menu: &Item<Target>, known: Environment<'c, 'd>) -> Environment<'c, 'd> {
+    let condition = menu
+        .attributes
+        .iter()
+        .find_map(|attribute| match attribute {
+            Attribute::Validity(
+                _,
+                Cond::If {
+                    condition,
+                    first,
+                    otherwise,
+                },
+            ) => match (&**first, &**otherwise) {
+                ([Cond::Value(true)], [Cond::Value(false)]) => Some((condition, true)),
+                ([Cond::Value(false)], [] | [Cond::Value(true)]) => Some((condition, false)),
+                _ => None,
+            },
+            _ => None,
+        });
+    match condition {
+        Some((condition, truth)) => {
+            let there = known.clone().refined(condition, truth);
+            there.map_or(known, Environment::all_passed)
+        }
+        None => known,
+    }
+}
+
 /// Follows the conditionals of an item's attributes.
 pub(crate) fn check_attributes<'d>(
     item: &Item<Target>,
@@ -149,7 +195,12 @@ pub(crate) fn check_attributes<'d>(
         is_chained: false,
     };
     for attribute in &item.attributes {
-        conditionals_of(attribute, &mut ways);
+        if let Attribute::Items(_, entries) = attribute {
+            let known = where_valid(item, Environment::new(Sort::Attribute, context));
+            ways.conditionals(entries, &known, false);
+        } else {
+            conditionals_of(attribute, &mut ways);
+        }
     }
 }
 

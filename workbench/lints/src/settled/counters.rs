@@ -2,15 +2,15 @@
 
 use crate::bodies::loops::{limit_of, start_of, step_of};
 use crate::range::Range;
-use crate::values::environment::{Storage, storage_of};
-use crate::visit::{Visitor, visit_statement};
+use crate::values::environment::{Environment, Storage, storage_of};
+use crate::visit::{Visitor, visit_parts, visit_statement};
 use edd_arithmetic::holds;
 use edd_constants::evaluate;
 use edd_instructions::Sort;
 use edd_syntax::expr::Expr;
 use edd_syntax::operators::Comparison;
 use edd_syntax::reference::Target;
-use edd_syntax::stmt::Stmt;
+use edd_syntax::stmt::{Part, Stmt};
 
 /// The parts of a `for`.
 pub(super) struct ForLoop<'t> {
@@ -26,6 +26,21 @@ struct Uses {
     sets: bool,
     /// Whether an `if` in it tests the place.
     tests: bool,
+    /// Whether a `continue` may pass over the rest of it.
+    continues: bool,
+    breaks: bool,
+}
+
+impl Uses {
+    fn of(target: Target) -> Uses {
+        Uses {
+            target,
+            sets: false,
+            tests: false,
+            continues: false,
+            breaks: false,
+        }
+    }
 }
 
 fn mentions(e: &Expr<Target>, target: Target) -> bool {
@@ -51,6 +66,8 @@ impl<'t> Visitor<'t> for Uses {
     }
 
     fn statement(&mut self, s: &'t Stmt<Target>) {
+        self.continues |= matches!(s, Stmt::Continue { .. });
+        self.breaks |= matches!(s, Stmt::Break { .. });
         if let Stmt::If(test, _)
         | Stmt::IfElse(test, ..)
         | Stmt::While(test, _)
@@ -79,14 +96,72 @@ pub(super) fn counter_of(looped: &ForLoop<'_>) -> Option<(Storage, Range)> {
     let limit = evaluate(limit, Sort::Method).number()?;
     let is_one = target == compared && target == counted && holds(comparison, start, limit);
     let range = counted_range(start, comparison, limit, step)?;
-    let mut uses = Uses {
-        target,
-        sets: false,
-        tests: false,
-    };
+    let mut uses = Uses::of(target);
     visit_statement(looped.body, &mut uses);
     let is_plain = is_one && !uses.sets && !uses.tests;
     Some((storage_of(target)?, range)).filter(|_| is_plain)
+}
+
+/// What a counter is behind its loop, where no `break` leaves it.
+pub(super) fn reached_behind(looped: &ForLoop<'_>, range: Range) -> Option<i64> {
+    let (target, step) = step_of(looped.update)?;
+    let mut uses = Uses::of(target);
+    visit_statement(looped.body, &mut uses);
+    let last = if step < 0 { range.low } else { range.high };
+    last.checked_add(step).filter(|_| !uses.breaks)
+}
+
+/// The same of a `while` whose counter is known where it begins, and is counted by the last statement
+/// of its body alone.
+pub(super) fn counter_of_while(
+    condition: &Expr<Target>,
+    body: &Stmt<Target>,
+    known: &Environment<'_, '_>,
+) -> Option<(Storage, Range)> {
+    let (target, comparison, limit) = limit_of(Some(condition))?;
+    let Stmt::Block(parts) = body else {
+        return None;
+    };
+    let (Part::Statement(Stmt::Evaluate(last)), rest) = parts.split_last()? else {
+        return None;
+    };
+    let (counted, step) = step_of(Some(last))?;
+    let limit = evaluate(limit, Sort::Method).number()?;
+    let storage = storage_of(target)?;
+    let start = known.get(storage).number()?;
+    let range = counted_range(start, comparison, limit, step)?;
+    let mut uses = Uses::of(target);
+    visit_parts(rest, &mut uses);
+    let is_plain = !uses.sets && !uses.tests && !uses.continues;
+    let is_one = target == counted && holds(comparison, start, limit);
+    (is_plain && is_one).then_some((storage, range))
+}
+
+/// Whether the condition of a `do` does not hold after its first turn, which counts a place that is known
+/// where it begins by its last statement alone.
+pub(super) fn ends_after_first_turn(
+    body: &Stmt<Target>,
+    condition: &Expr<Target>,
+    known: &Environment<'_, '_>,
+) -> bool {
+    let ends = || {
+        let (target, comparison, limit) = limit_of(Some(condition))?;
+        let Stmt::Block(parts) = body else {
+            return None;
+        };
+        let (Part::Statement(Stmt::Evaluate(last)), rest) = parts.split_last()? else {
+            return None;
+        };
+        let (counted, step) = step_of(Some(last))?;
+        let limit = evaluate(limit, Sort::Method).number()?;
+        let start = known.get(storage_of(target)?).number()?;
+        let mut uses = Uses::of(target);
+        visit_parts(rest, &mut uses);
+        let reached = start.checked_add(step)?;
+        let is_plain = target == counted && !uses.sets && !uses.continues;
+        Some(is_plain && !holds(comparison, reached, limit))
+    };
+    ends() == Some(true)
 }
 
 fn counted_range(start: i64, comparison: Comparison, limit: i64, step: i64) -> Option<Range> {

@@ -1,9 +1,9 @@
 //! Indexes that come to numbers of which an array has no element.
 
 use super::Ways;
-use crate::expressions::operands::referred;
 use crate::instrument::Variable;
 use crate::kind::ConditionKind;
+use crate::limits::sum_of;
 use crate::source::TokenIndex;
 use crate::types::number_parts;
 use crate::values::Values;
@@ -63,24 +63,28 @@ pub(super) fn check_index(
     if let Some(number) = values.number().filter(is_missing) {
         return ways.findings.add(at, ConditionKind::MissingElement(number));
     }
-    let Some(storage) = referred(index).and_then(storage_of) else {
+    let sum = sum_of(index, known.sort, &ways.context.instrument);
+    let Some((storage, more)) = sum.and_then(|(target, more)| Some((storage_of(target)?, more)))
+    else {
         return;
     };
-    if ways.counters.get(&storage) == Some(&values) {
-        let numbers = numbers_of(values);
-        if let Some(number) = numbers.and_then(|mut numbers| numbers.find(is_missing)) {
+    let counted = known.get(storage);
+    if ways.counters.get(&storage) == Some(&counted) {
+        let numbers = numbers_of(counted).into_iter().flatten();
+        let mut reached = numbers.map(|number| number.saturating_add(more));
+        if let Some(number) = reached.find(is_missing) {
             ways.findings
                 .add(at, ConditionKind::CountedPastElements(number));
         }
         return;
     }
-    check_variable(ways, storage, at, known, is_missing);
+    check_variable(ways, (storage, more), at, known, is_missing);
 }
 
-// An index that is a variable of which nothing is known but its type.
+// An index that is a variable of which nothing is known but its type, or a sum of it and a constant.
 fn check_variable(
     ways: &mut Ways<'_, '_, '_>,
-    storage: Storage,
+    (storage, more): (Storage, i64),
     at: TokenIndex,
     known: &Environment<'_, '_>,
     is_missing: impl Fn(&i64) -> bool,
@@ -93,8 +97,13 @@ fn check_variable(
     };
     let is_untested = !known.knows(storage);
     let listed = listed_numbers(variable);
-    if let Some(missing) = listed.into_iter().find(is_missing).filter(|_| is_untested) {
-        let kind = ConditionKind::UntestedIndex(variable.name().to_owned(), missing);
+    let mut indexes = listed.into_iter().map(|number| number.saturating_add(more));
+    if let Some(missing) = indexes.find(is_missing).filter(|_| is_untested) {
+        let kind = if more == 0 {
+            ConditionKind::UntestedIndex(variable.name().to_owned(), missing)
+        } else {
+            ConditionKind::UntestedSum(missing)
+        };
         ways.findings.add(at, kind);
     }
 }

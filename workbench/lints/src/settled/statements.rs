@@ -1,15 +1,23 @@
 //! Ways through the body of a method.
 
-use super::counters::{ForLoop, counter_of};
+use super::counters::{
+    ForLoop, counter_of, counter_of_while, ends_after_first_turn, reached_behind,
+};
 use super::{Ways, depends};
 use crate::bodies::flow::is_abort;
 use crate::context::Context;
+use crate::expressions::operands::referred;
 use crate::expressions::stores::without_parentheses;
-use crate::kind::ConditionKind;
-use crate::source::TokenIndex;
-use crate::values::environment::Environment;
+use crate::kind::{ConditionKind, MethodKind};
+use crate::range::Range;
+use crate::source::{TokenIndex, index};
+use crate::values::Values;
+use crate::values::environment::{Environment, Storage, storage_of};
+use crate::values::evaluation::Nobody;
 use crate::visit::{Visitor, visit_parts, visit_statement};
 use crate::warning::Findings;
+use edd_arithmetic::wrapped;
+use edd_constants::evaluate;
 use edd_instructions::Sort;
 use edd_syntax::expr::Expr;
 use edd_syntax::operators::Comparison;
@@ -75,6 +83,7 @@ impl<'c, 'd> Ways<'c, 'd, '_> {
                 self.test_at(at, condition, &mut known);
                 self.is_chained = false;
                 let taken = known.clone().refined(condition, true);
+                self.check_set_as_tested(condition, first, taken.as_ref());
                 let taken = taken.and_then(|inner| self.statement(first, inner));
                 joined(taken, known.passed(without_parentheses(condition)))
             }
@@ -82,14 +91,22 @@ impl<'c, 'd> Ways<'c, 'd, '_> {
                 self.branches(at, condition, [first, otherwise], known)
             }
             Stmt::While(condition, body) => {
+                self.check_begin(at, condition, &known);
+                let counter = counter_of_while(condition, body, &known);
                 self.forget_in(s, &mut known);
                 self.test_at(at, condition, &mut known);
-                if let Some(inner) = known.clone().refined(condition, true) {
+                if let Some(mut inner) = known.clone().refined(condition, true) {
+                    self.open_counter(counter, &mut inner);
                     self.statement(body, inner);
+                    self.close_counter(counter);
                 }
                 Some(known)
             }
             Stmt::Do(body, condition) => {
+                if ends_after_first_turn(body, condition, &known) {
+                    let at = self.context.places.sign(condition);
+                    self.findings.add(at, ConditionKind::SettledHere(false));
+                }
                 self.forget_in(s, &mut known);
                 if let Some(mut behind) = self.statement(body, known.clone()) {
                     self.test_at(at, condition, &mut behind);
@@ -115,6 +132,65 @@ impl<'c, 'd> Ways<'c, 'd, '_> {
         }
     }
 
+    // A loop whose condition does not hold where it begins.
+    fn check_begin(
+        &mut self,
+        at: TokenIndex,
+        condition: &Expr<Target>,
+        known: &Environment<'c, 'd>,
+    ) {
+        let is_told = self.findings.is_reported(self.context.source.span(at))
+            || self.is_reported(condition)
+            || !depends(condition, Sort::Method);
+        let truth = known.clone().evaluate(condition, &mut Nobody).truth();
+        if truth == Some(false) && !is_told {
+            self.findings.add(at, MethodKind::NeverRuns);
+        }
+    }
+
+    // Notes what the counter of a loop comes to in its body.
+    fn open_counter(&mut self, counter: Option<(Storage, Range)>, inner: &mut Environment<'c, 'd>) {
+        if let Some((storage, range)) = counter {
+            inner.set_counter(storage, range);
+            self.counters.insert(storage, inner.get(storage));
+        }
+    }
+
+    fn close_counter(&mut self, counter: Option<(Storage, Range)>) {
+        if let Some((storage, _)) = counter {
+            self.counters.remove(&storage);
+        }
+    }
+
+    // A branch that begins by setting a place to what its condition has compared it with.
+    fn check_set_as_tested(
+        &mut self,
+        condition: &Expr<Target>,
+        first: &Stmt<Target>,
+        taken: Option<&Environment<'c, 'd>>,
+    ) {
+        let Expr::Compare(Comparison::Equal, place, _) = without_parentheses(condition) else {
+            return;
+        };
+        let s = match first {
+            Stmt::Block(parts) => match parts.first() {
+                Some(Part::Statement(s)) => s,
+                _ => return,
+            },
+            _ => first,
+        };
+        let Stmt::Evaluate(e @ Expr::Assign(to, value)) = s else {
+            return;
+        };
+        let known = taken
+            .zip(storage_of(*to).filter(|_| referred(place) == Some(*to)))
+            .and_then(|(taken, storage)| taken.get(storage).number());
+        if known.is_some() && known == evaluate(value, Sort::Method).number() {
+            let at = self.context.places.sign(e);
+            self.findings.add(at, MethodKind::SetAsTested);
+        }
+    }
+
     fn forget_in(&self, s: &Stmt<Target>, known: &mut Environment<'c, 'd>) {
         visit_statement(s, &mut Forgetting { known });
     }
@@ -127,13 +203,19 @@ impl<'c, 'd> Ways<'c, 'd, '_> {
         known: Environment<'c, 'd>,
     ) -> Way<'c, 'd> {
         let mut known = known;
+        let is_chained = self.is_chained;
+        let is_passed = known.reads_passed(condition);
         self.test_at(at, condition, &mut known);
         self.is_chained = false;
         let [first, otherwise] = branches;
         let taken = known.clone().refined(condition, true);
+        self.check_set_as_tested(condition, first, taken.as_ref());
         let taken = taken.and_then(|inner| self.statement(first, inner));
         self.is_chained = matches!(otherwise, Stmt::If(..) | Stmt::IfElse(..));
         let other = known.refined(condition, false);
+        if (is_chained || is_passed) && other.is_none() {
+            self.check_last_else(condition, Sort::Method);
+        }
         let other = other.and_then(|inner| self.statement(otherwise, inner));
         self.is_chained = false;
         joined(taken, other)
@@ -149,6 +231,10 @@ impl<'c, 'd> Ways<'c, 'd, '_> {
         if let Some(e) = looped.initial {
             self.follow(e, &mut known);
         }
+        if let Some(condition) = looped.condition {
+            let at = self.context.places.statement(s).sign;
+            self.check_begin(at, condition, &known);
+        }
         self.forget_in(s, &mut known);
         let mut inner = Some(known.clone());
         if let Some(condition) = looped.condition {
@@ -160,17 +246,20 @@ impl<'c, 'd> Ways<'c, 'd, '_> {
             return known;
         };
         let counter = counter_of(looped);
-        if let Some((storage, range)) = counter {
-            inner.set_counter(storage, range);
-            self.counters.insert(storage, inner.get(storage));
-        }
+        self.open_counter(counter, &mut inner);
         if let Some(mut behind) = self.statement(looped.body, inner)
             && let Some(e) = looped.update
         {
             self.follow(e, &mut behind);
         }
-        if let Some((storage, _)) = counter {
-            self.counters.remove(&storage);
+        self.close_counter(counter);
+        let behind = counter.and_then(|(storage, range)| {
+            let reached = reached_behind(looped, range)?;
+            Some((storage, Values::exactly(reached)))
+        });
+        // A request may have set a variable.
+        if let Some((storage @ Storage::Local(_), reached)) = behind {
+            known.set(storage, reached);
         }
         known
     }
@@ -190,10 +279,15 @@ impl<'c, 'd> Ways<'c, 'd, '_> {
             self.findings
                 .add(at, ConditionKind::SettledSelection(number));
         }
+        let is_computed = self.has_computed_labels(on, values, Sort::Method);
         let mut way: Way<'c, 'd> = None;
         for part in parts {
             match part {
-                Part::CaseLabel { label, .. } => {
+                Part::CaseLabel { at, label } => {
+                    if is_computed && !values.holds(wrapped(Sort::Method, *label)) {
+                        self.findings
+                            .add(index(*at), ConditionKind::ImpossibleCase(*label));
+                    }
                     let entered = known.clone().selected(on, Comparison::Equal, *label);
                     way = joined(way, entered);
                 }

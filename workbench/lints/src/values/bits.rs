@@ -35,6 +35,11 @@ impl Bits {
         }
     }
 
+    /// How many of the last bits are known to be 0.
+    pub(super) fn last_zeros(self) -> u32 {
+        self.zeros.trailing_ones()
+    }
+
     pub(super) fn hold(self, number: i64) -> bool {
         let number = number.cast_unsigned();
         number & self.zeros == 0 && !number & self.ones == 0

@@ -70,6 +70,15 @@ impl<'c, 'd> Environment<'c, 'd> {
         known.unwrap_or_else(|| self.typed(storage))
     }
 
+    /// What an element of an array may hold.
+    pub(crate) fn element(&self, array: Target, index: &Expr<Target>) -> Values {
+        let element = self.context.instrument.element_at(array, index, self.sort);
+        match element.and_then(storage_of) {
+            Some(storage) => self.get(storage),
+            None => Values::any(self.sort),
+        }
+    }
+
     /// Whether more is known of a place than its type says.
     pub(crate) fn knows(&self, storage: Storage) -> bool {
         self.known.contains_key(&storage)
@@ -110,6 +119,12 @@ impl<'c, 'd> Environment<'c, 'd> {
         let compared = [first, second].into_iter().filter_map(|e| referred(e));
         passed.passed.extend(compared.filter_map(storage_of));
         Some(passed)
+    }
+
+    /// The same, where a test of anything that is known is careful.
+    pub(crate) fn all_passed(mut self) -> Environment<'c, 'd> {
+        self.passed.extend(self.known.keys());
+        self
     }
 
     /// Whether an expression reads a place of which something is known so.

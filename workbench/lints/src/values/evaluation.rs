@@ -45,9 +45,9 @@ impl Environment<'_, '_> {
                 Some(storage) => self.get(storage),
                 None => Values::any(self.sort),
             },
-            Expr::Indexed(_, index) => {
+            Expr::Indexed(array, index) => {
                 self.evaluate(index, observer);
-                Values::any(self.sort)
+                self.element(*array, index)
             }
             Expr::Parentheses(inner) => self.evaluate(inner, observer),
             Expr::Unary(operator, inner) => {
@@ -172,6 +172,7 @@ impl Environment<'_, '_> {
                 if let Some(to) = target_of_argument(arguments, 0) {
                     self.store(to, last);
                 }
+                return Values::exactly(0);
             }
             Target::Function(Builtin::IvarValue | Builtin::LvarValue) => return last,
             _ => {}
