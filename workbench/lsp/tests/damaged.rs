@@ -11,9 +11,11 @@
 )]
 
 mod damage;
+mod given;
 
 use damage::{Conversation, Dice, conversations, damaged};
 use edd_lsp::{ErrorCode, Framing, Incoming, Outgoing, Session};
+use given::number;
 use std::sync::mpsc::{Sender, channel};
 use std::thread;
 use std::time::Duration;
@@ -99,11 +101,6 @@ fn try_all(seed: u64, count: u64, sender: &Sender<Came>) {
     for number in 0..count {
         sender.send(tried(seed, number, &all)).expect("a listener");
     }
-}
-
-fn number(name: &str) -> Option<u64> {
-    let given = std::env::var(name).ok()?;
-    Some(given.parse().expect("a number"))
 }
 
 /// 2,000 conversations, or as many as `EDD_CONVERSATIONS` says. They are the same at each run, unless

@@ -11,9 +11,11 @@
 )]
 
 mod client;
+mod given;
 
 use client::{Client, applied, range_of};
 use edd::{Diagnostic, Severity};
+use given::number;
 use proptest::collection::vec;
 use proptest::prelude::*;
 use proptest::sample::{Index, select};
@@ -350,11 +352,6 @@ impl Editing<'_> {
         self.try_fixes();
         self.try_rename(asked);
     }
-}
-
-fn number(name: &str) -> Option<u64> {
-    let given = std::env::var(name).ok()?;
-    Some(given.parse().expect("a number"))
 }
 
 /// 1,000 edits, or as many as `EDD_EDITS` says. They are the same at each run, unless `EDD_SEED`, a

@@ -1,4 +1,4 @@
-//! The counters of `for` loops.
+//! The counters of loops.
 
 use crate::bodies::loops::{limit_of, start_of, step_of};
 use crate::range::Range;
@@ -111,6 +111,18 @@ pub(super) fn reached_behind(looped: &ForLoop<'_>, range: Range) -> Option<i64> 
     last.checked_add(step).filter(|_| !uses.breaks)
 }
 
+// What the last statement of a body counts, by how much, and what is before it.
+fn counted_last(body: &Stmt<Target>) -> Option<(Target, i64, &[Part<Target>])> {
+    let Stmt::Block(parts) = body else {
+        return None;
+    };
+    let (Part::Statement(Stmt::Evaluate(last)), rest) = parts.split_last()? else {
+        return None;
+    };
+    let (counted, step) = step_of(Some(last))?;
+    Some((counted, step, rest))
+}
+
 /// The same of a `while` whose counter is known where it begins, and is counted by the last statement
 /// of its body alone.
 pub(super) fn counter_of_while(
@@ -119,13 +131,7 @@ pub(super) fn counter_of_while(
     known: &Environment<'_, '_>,
 ) -> Option<(Storage, Range)> {
     let (target, comparison, limit) = limit_of(Some(condition))?;
-    let Stmt::Block(parts) = body else {
-        return None;
-    };
-    let (Part::Statement(Stmt::Evaluate(last)), rest) = parts.split_last()? else {
-        return None;
-    };
-    let (counted, step) = step_of(Some(last))?;
+    let (counted, step, rest) = counted_last(body)?;
     let limit = evaluate(limit, Sort::Method).number()?;
     let storage = storage_of(target)?;
     let start = known.get(storage).number()?;
@@ -146,13 +152,7 @@ pub(super) fn ends_after_first_turn(
 ) -> bool {
     let ends = || {
         let (target, comparison, limit) = limit_of(Some(condition))?;
-        let Stmt::Block(parts) = body else {
-            return None;
-        };
-        let (Part::Statement(Stmt::Evaluate(last)), rest) = parts.split_last()? else {
-            return None;
-        };
-        let (counted, step) = step_of(Some(last))?;
+        let (counted, step, rest) = counted_last(body)?;
         let limit = evaluate(limit, Sort::Method).number()?;
         let start = known.get(storage_of(target)?).number()?;
         let mut uses = Uses::of(target);
