@@ -8,7 +8,7 @@ use super::variants::{Variant, Variants};
 use crate::kind::TextKind;
 use crate::source::TokenIndex;
 use crate::warning::Findings;
-use std::collections::HashSet;
+use std::collections::BTreeSet;
 
 /// The first code of a text that breaks each rule.
 #[derive(Default)]
@@ -54,7 +54,7 @@ impl<'r> Wrong<'r> {
 // The languages of a text by themselves. Returns their codes.
 fn check_text<'r>(raw: &'r [u8], at: TokenIndex, findings: &mut Findings<'_>) -> Vec<&'r [u8]> {
     let mut codes = Vec::new();
-    let mut seen = HashSet::new();
+    let mut seen = BTreeSet::new();
     let mut wrong = Wrong::default();
     let mut variants = Variants::of(raw);
     for variant in variants.by_ref() {

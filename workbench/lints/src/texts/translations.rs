@@ -83,15 +83,15 @@ fn is_for_readers(spoken: &Spoken<'_>) -> bool {
 
 /// Warns of texts in one language, where nearly all others have more.
 pub(super) fn check_translations(texts: &[Spoken<'_>], findings: &mut Findings<'_>) {
-    let worded = || {
-        texts
-            .iter()
-            .filter(|spoken| is_for_readers(spoken) && has_word(&spoken.raw))
-    };
-    let all = worded().count();
-    let translated = worded()
-        .filter(|spoken| single_language(&spoken.raw).is_none())
-        .count();
+    let mut all = 0_usize;
+    let mut translated = 0_usize;
+    for spoken in texts {
+        if is_for_readers(spoken) && has_word(&spoken.raw) {
+            let has_more = single_language(&spoken.raw).is_none();
+            all = all.saturating_add(1);
+            translated = translated.saturating_add(usize::from(has_more));
+        }
+    }
     // Three of four are translated.
     if translated < FEWEST || translated.saturating_mul(4) < all.saturating_mul(3) {
         return;
@@ -110,6 +110,9 @@ pub(super) fn check_translations(texts: &[Spoken<'_>], findings: &mut Findings<'
 
 // The name of an item in braces, as other languages replace it.
 fn braced_item(raw: &[u8], context: &Context<'_>) -> Option<String> {
+    if !raw.contains(&b'{') {
+        return None;
+    }
     let mut parts = raw.split(|byte| *byte == b'{');
     parts.next()?;
     let names = parts.filter_map(|part| part.split(|byte| *byte == b'}').next());
@@ -129,8 +132,8 @@ pub(super) fn check_insides(
         if let Some(name) = braced_item(&spoken.raw, context).filter(|_| !has_percent) {
             findings.add(spoken.at, TextKind::BracedItem(name));
         }
-        let escapes = spoken.raw.windows(3);
-        if escapes.into_iter().any(|window| window == br"\\n") {
+        let mut escapes = spoken.raw.windows(3);
+        if spoken.raw.contains(&b'\\') && escapes.any(|window| window == br"\\n") {
             findings.add(spoken.at, TextKind::EscapedEscape);
         }
     }
