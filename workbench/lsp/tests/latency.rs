@@ -23,14 +23,14 @@ const LENGTH: usize = if cfg!(debug_assertions) {
     1_040_000
 };
 
-/// A description of some thousand variables, and its last line.
+/// A description of some thousand variables, fewer than an image has room for, and its last line.
 fn description() -> (String, usize) {
     let mut text = HEAD.to_owned();
     let mut number = 0;
     while text.len() < LENGTH {
         writeln!(
             text,
-            "VARIABLE v{number} {{ LABEL \"|en|Value {number}|de|Wert {number}\"; TYPE INTEGER (2) {{ MIN_VALUE 0; MAX_VALUE 100; }} }}"
+            "VARIABLE v{number} {{ LABEL \"|en|Value of channel {number}|de|Wert des Kanals {number}\"; HELP \"|en|The value that channel {number} measured last, in parts of its span|de|Der Wert, den Kanal {number} zuletzt gemessen hat, in Teilen seiner Spanne\"; TYPE INTEGER (2) {{ MIN_VALUE 0; MAX_VALUE 100; }} }}"
         )
         .expect("a text");
         number += 1;
@@ -89,6 +89,7 @@ fn opened(capabilities: &Value) -> (Session, usize) {
         &json!({"id": 0, "method": "initialize", "params": params}),
     );
     let (text, last) = description();
+    assert!(edd::compile(text.as_bytes()).is_ok(), "a valid text");
     open(&mut session, DESCRIPTION, &text);
     (session, last)
 }
