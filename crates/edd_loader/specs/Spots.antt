@@ -38,10 +38,11 @@ pub record IsFirstBroken {A : Type 0} (keeps : List A → Bool) (first : ℕ →
   pub before : keeps (first n) ≡ true
   pub here : n < count → keeps (first (n + 1)) ≡ false
 
--- the bytes of all names, and those of all strings
+-- the bytes of all names
 abbrev pub name_bytes : List ℕ → List ℕ
 name_bytes b = part (record { start = name_bytes_start b; size = names_length b }) b
 
+-- the bytes of all strings
 abbrev pub string_bytes : List ℕ → List ℕ
 string_bytes b = part (record { start = string_bytes_start b; size = strings_length b }) b
 

@@ -22,6 +22,7 @@ pub use laws::{
 };
 pub use machine::Machine;
 pub use operands::Operands;
+pub use ranges::stored;
 pub use reading::{attribute, attribute_of_device};
 pub use rows::find_body;
 pub use sets::set_fault;
