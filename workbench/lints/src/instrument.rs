@@ -2,6 +2,7 @@
 
 use crate::lists::{enumerators_of, is_total, values_in};
 use crate::range::Range;
+use crate::source::{TokenIndex, index};
 use crate::types::{number_of, number_parts};
 use edd_constants::evaluate;
 use edd_instructions::Sort;
@@ -27,9 +28,11 @@ pub(crate) struct Variable<'i> {
     pub(crate) greatest: Option<i64>,
 }
 
-/// What is known of a command.
+/// What is known of the commands of a number.
 #[derive(Default)]
 struct Command {
+    /// Where the number is first.
+    at: TokenIndex,
     transactions: HashSet<u32>,
     /// Its response codes.
     codes: HashSet<u32>,
@@ -149,12 +152,12 @@ impl Command {
     }
 }
 
-fn command_number(command: &Item<Target>) -> Option<u32> {
+fn command_number(command: &Item<Target>) -> Option<(TokenIndex, u32)> {
     command
         .attributes
         .iter()
         .find_map(|attribute| match attribute {
-            Attribute::Number(_, number) => Some(*number),
+            Attribute::Number(at, number) => Some((index(*at), *number)),
             _ => None,
         })
 }
@@ -187,8 +190,11 @@ impl<'i> Instrument<'i> {
     }
 
     fn add_command(&mut self, command: &Item<Target>) {
-        if let Some(number) = command_number(command) {
-            let known = self.commands.entry(number).or_default();
+        if let Some((at, number)) = command_number(command) {
+            let known = self.commands.entry(number).or_insert_with(|| Command {
+                at,
+                ..Command::default()
+            });
             // Of two commands with one number the one whose transactions all have numbers counts.
             let mut own = Command {
                 are_numbered: true,
@@ -263,6 +269,11 @@ impl<'i> Instrument<'i> {
     /// Whether an array has an element.
     pub(crate) fn has_elements(&self, array: u16) -> bool {
         self.arrays.contains(&array)
+    }
+
+    /// Where the number of a command is first.
+    pub(crate) fn first_command(&self, number: u32) -> Option<TokenIndex> {
+        Some(self.commands.get(&number)?.at)
     }
 
     /// Whether there are commands, of which none has a number.
