@@ -45,8 +45,8 @@ struct Command {
 /// What is known of the items of a description.
 pub(crate) struct Instrument<'i> {
     pub(crate) items: &'i [Item<Target>],
-    /// The index of each item, by kind and number.
-    by_kind: HashMap<u8, Vec<usize>>,
+    /// The index of each item, by the number of its kind and its own.
+    by_kind: Vec<Vec<usize>>,
     variables: Vec<Variable<'i>>,
     elements: HashMap<(u16, u32), u16>,
     /// The arrays with elements.
@@ -167,7 +167,7 @@ impl<'i> Instrument<'i> {
     pub(crate) fn of(items: &'i [Item<Target>], elements: &[Element]) -> Instrument<'i> {
         let mut instrument = Instrument {
             items,
-            by_kind: HashMap::new(),
+            by_kind: Vec::new(),
             variables: Vec::new(),
             elements: elements
                 .iter()
@@ -178,8 +178,7 @@ impl<'i> Instrument<'i> {
             names: items.iter().map(Item::name).collect(),
         };
         for (number, item) in items.iter().enumerate() {
-            let kind = item.kind().number();
-            instrument.by_kind.entry(kind).or_default().push(number);
+            instrument.add_place(item, number);
             match item.sort {
                 ItemKind::Variable => instrument.variables.push(Variable::of(item)),
                 ItemKind::Command => instrument.add_command(item),
@@ -187,6 +186,16 @@ impl<'i> Instrument<'i> {
             }
         }
         instrument
+    }
+
+    fn add_place(&mut self, item: &Item<Target>, place: usize) {
+        let kind = usize::from(item.kind().number());
+        if self.by_kind.len() <= kind {
+            self.by_kind.resize_with(kind.saturating_add(1), Vec::new);
+        }
+        if let Some(places) = self.by_kind.get_mut(kind) {
+            places.push(place);
+        }
     }
 
     fn add_command(&mut self, command: &Item<Target>) {
@@ -210,7 +219,7 @@ impl<'i> Instrument<'i> {
 
     /// The index of an item among all items.
     pub(crate) fn place_of(&self, item: ItemNo) -> Option<usize> {
-        let kind = self.by_kind.get(&item.kind().number())?;
+        let kind = self.by_kind.get(usize::from(item.kind().number()))?;
         kind.get(usize::from(item.index())).copied()
     }
 

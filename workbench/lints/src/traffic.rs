@@ -129,7 +129,7 @@ fn check_written(
             continue;
         };
         let is_plain = !qualifiers.info && !qualifiers.index;
-        let number = carried(item).filter(|number| is_plain && !context.usage.set.contains(number));
+        let number = carried(item).filter(|number| is_plain && !context.usage.set.contains(*number));
         let variable = number.and_then(|number| context.instrument.variable(number));
         if let Some(variable) = variable.filter(|variable| variable.is_read_only) {
             let name = variable.name().to_owned();
@@ -214,19 +214,19 @@ fn may_be_written(variable: &Variable<'_>) -> bool {
 pub(crate) fn check_carried(context: &Context<'_>, findings: &mut Findings<'_>) {
     let usage = &context.usage;
     for (number, variable) in (0u16..).zip(context.instrument.variables()) {
-        let is_carried = usage.requested.contains(&number) || usage.replied.contains(&number);
+        let is_carried = usage.requested.contains(number) || usage.replied.contains(number);
         let classes = classes_of(variable);
-        if is_carried || usage.set.contains(&number) || classes.contains("LOCAL") {
+        if is_carried || usage.set.contains(number) || classes.contains("LOCAL") {
             continue;
         }
         let at = index(variable.item.at);
         let name = || variable.name().to_owned();
-        let is_used = usage.shown.contains(&number) || usage.mentioned.contains(&number);
+        let is_used = usage.shown.contains(number) || usage.mentioned.contains(number);
         if classes.contains("DYNAMIC") && usage.has_read_command && is_used {
             findings.add(at, VariableKind::UnreadDynamic(name()));
         } else if usage.has_write_command
-            && usage.offered.contains(&number)
-            && !usage.mentioned.contains(&number)
+            && usage.offered.contains(number)
+            && !usage.mentioned.contains(number)
             && may_be_written(variable)
         {
             findings.add(at, VariableKind::Ineffective(name()));
