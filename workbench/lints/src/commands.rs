@@ -34,12 +34,7 @@ fn check_codes(
 }
 
 // A number that an earlier command has.
-fn check_number(
-    number: u32,
-    at: TokenIndex,
-    context: &Context<'_>,
-    findings: &mut Findings<'_>,
-) {
+fn check_number(number: u32, at: TokenIndex, context: &Context<'_>, findings: &mut Findings<'_>) {
     let first = context.instrument.first_command(number);
     if let Some(earlier) = first.filter(|first| *first != at) {
         let kind = CommandKind::RepeatedCommand(i64::from(number));

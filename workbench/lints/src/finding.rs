@@ -4,14 +4,14 @@ use crate::abort_methods::check_abort_methods;
 use crate::context::Context;
 use crate::entries::check_entries;
 use crate::instrument::Instrument;
-use crate::items::{check_items, parts_of};
+use crate::items::{PART, check_items, parts_of};
 use crate::levels::Levels;
 use crate::limits::check_circular;
 use crate::menus::check_menus;
 use crate::parallel::Threads;
 use crate::places::Places;
 use crate::remarks::Remarks;
-use crate::source::Source;
+use crate::source::{Source, TokenIndex};
 use crate::texts::check_texts;
 use crate::traffic::check_carried;
 use crate::unused::check_uses;
@@ -39,9 +39,10 @@ const WHOLE: [fn(&Context<'_>, &mut Findings<'_>); 7] = [
     check_abort_methods,
 ];
 
-/// Checks a description in parts. The findings come as if one part was checked behind the other.
-fn check_all<'d>(context: &Context<'d>, threads: Threads) -> Findings<'d> {
-    let parts = parts_of(&context.instrument);
+/// Checks a description in parts of so many tokens. The findings come as if one part was checked
+/// behind the other.
+fn check_all<'d>(context: &Context<'d>, length: TokenIndex, threads: Threads) -> Findings<'d> {
+    let parts = parts_of(&context.instrument, length);
     let count = parts.len().saturating_add(WHOLE.len());
     let mut made = threads.make_parts(count, |number| {
         let mut findings = Findings::new(context.source);
@@ -57,13 +58,15 @@ fn check_all<'d>(context: &Context<'d>, threads: Threads) -> Findings<'d> {
     Findings::joined(context.source, made)
 }
 
-/// Finds what a description says and almost certainly does not mean, by its lines, and on one line
-/// in the order of the lints. `text` and `tokens` are those that it was made of.
-pub fn find(text: &[u8], tokens: &[Token], description: &Checked, levels: &Levels) -> Vec<Warning> {
-    let source = Source { text, tokens };
+fn find_in_parts(
+    source: Source<'_>,
+    description: &Checked,
+    levels: &Levels,
+    length: TokenIndex,
+    threads: Threads,
+) -> Vec<Warning> {
     let items = &**description.items;
     let elements = elements_of(description);
-    let threads = Threads::for_tokens(tokens.len());
     let known = || (Instrument::of(items, &elements), Usage::of(items));
     let (places, (instrument, usage)) = threads.make_both(|| Places::of(source, items), known);
     let context = Context {
@@ -72,8 +75,19 @@ pub fn find(text: &[u8], tokens: &[Token], description: &Checked, levels: &Level
         instrument,
         usage,
     };
-    let mut findings = check_all(&context, threads);
+    let mut findings = check_all(&context, length, threads);
     let remarks = Remarks::of(source);
     remarks.check_names(&mut findings);
     findings.into_warnings(levels, &remarks)
 }
+
+/// Finds what a description says and almost certainly does not mean, by its lines, and on one line
+/// in the order of the lints. `text` and `tokens` are those that it was made of.
+pub fn find(text: &[u8], tokens: &[Token], description: &Checked, levels: &Levels) -> Vec<Warning> {
+    let source = Source { text, tokens };
+    let threads = Threads::for_tokens(tokens.len());
+    find_in_parts(source, description, levels, PART, threads)
+}
+
+#[cfg(test)]
+mod tests;

@@ -29,15 +29,18 @@ pub(crate) struct Part<'c, 'd> {
     methods: u16,
 }
 
-/// How many tokens a part has, if it does not end with a long item.
-const PART: TokenIndex = 4096;
+/// How many tokens a part has where a text is long, if it does not end with a long item.
+pub(crate) const PART: TokenIndex = 4096;
 
-/// The items of a description in parts.
-pub(crate) fn parts_of<'c, 'd>(instrument: &'c Instrument<'d>) -> Vec<Part<'c, 'd>> {
+/// The items of a description in parts of so many tokens.
+pub(crate) fn parts_of<'c, 'd>(
+    instrument: &'c Instrument<'d>,
+    length: TokenIndex,
+) -> Vec<Part<'c, 'd>> {
     let (mut rest, mut others) = (instrument.items, instrument.variables());
     let (mut parts, mut methods) = (Vec::new(), 0_u16);
     while let Some(first) = rest.first() {
-        let end = index(first.at).saturating_add(PART);
+        let end = index(first.at).saturating_add(length);
         let is_behind = |item: &Item<Target>| end <= index(item.at);
         let count = rest.iter().position(is_behind).unwrap_or(rest.len());
         let (items, behind) = rest.split_at(count);
@@ -56,7 +59,11 @@ pub(crate) fn parts_of<'c, 'd>(instrument: &'c Instrument<'d>) -> Vec<Part<'c, '
 }
 
 /// Checks items by themselves: what is found in one depends on no finding in another one.
-pub(crate) fn check_items<'d>(part: &Part<'_, 'd>, context: &Context<'d>, findings: &mut Findings<'d>) {
+pub(crate) fn check_items<'d>(
+    part: &Part<'_, 'd>,
+    context: &Context<'d>,
+    findings: &mut Findings<'d>,
+) {
     let mut variables = part.variables.iter();
     let mut methods = part.methods..;
     for item in part.items {

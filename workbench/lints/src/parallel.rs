@@ -6,7 +6,7 @@ use std::thread::{Builder, Scope, ScopedJoinHandle, scope};
 
 /// How many threads help the one that asks.
 #[derive(Clone, Copy)]
-pub(crate) struct Threads(usize);
+pub(crate) struct Threads(pub(crate) usize);
 
 /// Starts a thread; none where the system starts none, as in a browser.
 fn start<'s, T: Send + 's>(

@@ -129,7 +129,8 @@ fn check_written(
             continue;
         };
         let is_plain = !qualifiers.info && !qualifiers.index;
-        let number = carried(item).filter(|number| is_plain && !context.usage.set.contains(*number));
+        let number =
+            carried(item).filter(|number| is_plain && !context.usage.set.contains(*number));
         let variable = number.and_then(|number| context.instrument.variable(number));
         if let Some(variable) = variable.filter(|variable| variable.is_read_only) {
             let name = variable.name().to_owned();
