@@ -31,8 +31,8 @@ fn number_names(text: &[u8], tokens: &[Token]) -> (Vec<Option<usize>>, usize) {
         .iter()
         .map(|token| {
             let next = names.len();
-            let is_name = token.kind == TokenKind::Name;
-            is_name.then(|| *names.entry(text.get(Span::of(token).range())).or_insert(next))
+            let word = text.get(Span::of(token).range());
+            (token.kind == TokenKind::Name).then(|| *names.entry(word).or_insert(next))
         })
         .collect();
     (numbers, names.len())

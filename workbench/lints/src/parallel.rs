@@ -55,7 +55,7 @@ impl Threads {
                 .collect::<Vec<_>>()
         };
         let mut made = scope(|scope| {
-            let helpers = (0..self.0).map_while(|_| start(scope, &work));
+            let helpers = (0..self.0).map_while(|_| start(scope, work));
             let helpers: Vec<_> = helpers.collect();
             let mut made = work();
             made.extend(helpers.into_iter().flat_map(made_by));

@@ -59,7 +59,7 @@ fn units_in(bytes: &[u8]) -> usize {
 fn line_starts(text: &str) -> Vec<usize> {
     let mut starts = vec![0];
     if !text.contains('\r') {
-        let ends = text.bytes().enumerate().filter(|(_, byte)| *byte == b'\n');
+        let ends = text.match_indices('\n');
         starts.extend(ends.map(|(end, _)| end.saturating_add(1)));
         return starts;
     }

@@ -59,7 +59,7 @@ fn edited(text: &str, edits: &[(Index, Index)]) -> String {
                 std::mem::discriminant(&token.kind) == std::mem::discriminant(&at.kind)
             });
             let alike: Vec<_> = alike.collect();
-            (Span::of(at), Span::of(*of.get::<&Token>(&alike)))
+            (Span::of(at), Span::of(of.get::<&Token>(&alike)))
         })
         .collect();
     edits.sort();
