@@ -1,6 +1,6 @@
 //! What a text declares, but for locals: items, members of collections and elements of arrays.
 
-use crate::spots::Place;
+use crate::spots::{Place, Spot};
 use crate::walk::{Item, Map};
 use edd_lexer::token::{Token, TokenKind};
 use edd_source::tokens::is_sign;
@@ -116,13 +116,10 @@ fn inner_at(
     }
 }
 
-/// The item in which a token is, where the one before it was in this item or before the first one.
-fn item_from(items: &[Item], item: usize, token: usize) -> usize {
-    let next = item.saturating_add(1);
-    match items.get(next) {
-        Some(found) if found.first <= token => next,
-        _ => item,
-    }
+/// The item in which a token is, or the first one.
+fn item_of(items: &[Item], token: usize) -> usize {
+    let behind = items.partition_point(|item| item.first <= token);
+    behind.saturating_sub(1)
 }
 
 impl Declarations {
@@ -134,9 +131,10 @@ impl Declarations {
             inner: Vec::new(),
         };
         found.add_items(words, &map.items);
-        let mut item = 0;
-        for (token, spot) in map.spots.iter().enumerate() {
-            item = item_from(&map.items, item, token);
+        let inner = |spot: &Spot| matches!(spot.place, Place::MemberName | Place::ElementNumber);
+        let spots = map.spots.iter().enumerate();
+        for (token, spot) in spots.filter(|(_, spot)| inner(spot)) {
+            let item = item_of(&map.items, token);
             if let Some((sort, key)) = inner_at(words, &map.items, item, token, spot.place) {
                 found.add_inner(item, key, Declaration { sort, token });
             }

@@ -12,7 +12,8 @@ use edd_report::Report;
 use edd_source::Span;
 use edd_source::tokens::word_of;
 use edd_syntax::symbols::{Keyword, Symbol};
-use std::cell::OnceCell;
+use std::sync::OnceLock;
+use std::thread::{self, ScopedJoinHandle};
 
 /// A version of the text of a description, which may be unfinished or refused.
 ///
@@ -32,11 +33,14 @@ use std::cell::OnceCell;
 pub struct Document {
     path: String,
     text: String,
-    syntax: OnceCell<Syntax>,
-    report: OnceCell<Report>,
-    sheet: OnceCell<Option<Sheet>>,
-    image: OnceCell<Option<Vec<u8>>>,
+    syntax: OnceLock<Syntax>,
+    report: OnceLock<Report>,
+    sheet: OnceLock<Option<Sheet>>,
+    image: OnceLock<Option<Vec<u8>>>,
 }
+
+/// How many bytes take longer to be looked at than a thread to be started.
+const LONG: usize = 32_768;
 
 /// What is past the end of the text.
 const NOWHERE: Spot = Spot {
@@ -57,10 +61,10 @@ impl Document {
         Document {
             path: path.to_owned(),
             text: text.into(),
-            syntax: OnceCell::new(),
-            report: OnceCell::new(),
-            sheet: OnceCell::new(),
-            image: OnceCell::new(),
+            syntax: OnceLock::new(),
+            report: OnceLock::new(),
+            sheet: OnceLock::new(),
+            image: OnceLock::new(),
         }
     }
 
@@ -111,6 +115,21 @@ impl Document {
     pub fn prepare(&self) {
         self.syntax();
         self.sheet();
+    }
+
+    /// Finds out what is wrong with a description, and all that [`prepare`](Document::prepare) does. For a
+    /// long text a second thread does the one while this one does the other.
+    pub fn examine(&self) {
+        if LONG <= self.text.len() {
+            thread::scope(|scope| {
+                let prepared = thread::Builder::new().spawn_scoped(scope, || self.prepare());
+                self.report();
+                // If it failed, or none could be started, this thread tries below.
+                let _ = prepared.map(ScopedJoinHandle::join);
+            });
+        }
+        self.prepare();
+        self.report();
     }
 
     /// The places of the names of the tests, in a file of tests.

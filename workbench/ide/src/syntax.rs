@@ -6,6 +6,7 @@ use crate::lexing::tokens_of;
 use crate::meanings::{Meanings, collection_of, meanings_of};
 use crate::walk::{Map, map_of};
 use edd_lexer::token::{Token, TokenKind};
+use edd_source::Span;
 use edd_source::tokens::word_of;
 use std::collections::HashMap;
 
@@ -24,13 +25,14 @@ pub(crate) struct Syntax {
 
 /// The number of each token that is a name, and how many numbers there are.
 fn number_names(text: &[u8], tokens: &[Token]) -> (Vec<Option<usize>>, usize) {
-    let mut names = HashMap::new();
+    // About one token in four is a name, and most names are there several times.
+    let mut names = HashMap::with_capacity(tokens.len() / 16);
     let numbers = tokens
         .iter()
         .map(|token| {
             let next = names.len();
-            let is_name = token.kind == TokenKind::Name;
-            is_name.then(|| *names.entry(word_of(text, token)).or_insert(next))
+            let word = text.get(Span::of(token).range());
+            (token.kind == TokenKind::Name).then(|| *names.entry(word).or_insert(next))
         })
         .collect();
     (numbers, names.len())

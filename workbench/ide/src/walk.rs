@@ -207,13 +207,13 @@ impl Walk<'_> {
         if level.parentheses != 0 && level.braces != Braces::Body {
             return level.inside;
         }
-        let begins = match self.kind(number) {
+        let begins = || match self.kind(number) {
             Some(TokenKind::Keyword(word)) => level.begins(word),
             _ => false,
         };
         match (level.braces, level.commas) {
             (Braces::Item(_) | Braces::Transaction | Braces::Type, _)
-                if level.is_fresh || begins =>
+                if level.is_fresh || begins() =>
             {
                 Place::Start(level.braces)
             }
@@ -316,8 +316,7 @@ impl Walk<'_> {
     }
 
     fn take_sign(&mut self, number: usize, sign: Symbol) {
-        let is_behind_condition = self.is_word_before(number, Keyword::If)
-            || self.is_word_before(number, Keyword::Select);
+        let before = number.checked_sub(1).and_then(|before| self.kind(before));
         let Some(level) = self.levels.last_mut() else {
             return;
         };
@@ -327,6 +326,8 @@ impl Walk<'_> {
             Symbol::Colon => level.is_fresh = level.braces != Braces::Body,
             Symbol::OpenParenthesis => {
                 if level.parentheses == 0 {
+                    let conditions = [Keyword::If, Keyword::Select].map(TokenKind::Keyword);
+                    let is_behind_condition = before.is_some_and(|it| conditions.contains(&it));
                     level.inside = level.in_parentheses(is_behind_condition);
                 }
                 level.parentheses = level.parentheses.saturating_add(1);
@@ -370,7 +371,7 @@ pub(crate) fn map_of(tokens: &[Token]) -> Map {
         head: None,
         of: None,
         is_in_item: false,
-        spots: Vec::new(),
+        spots: Vec::with_capacity(tokens.len().saturating_add(1)),
         items: Vec::new(),
     };
     for (number, token) in tokens.iter().enumerate() {

@@ -59,7 +59,13 @@ impl<'s> Names<'s> {
 /// Checks the abort methods of a description. One is surely one where a method adds it that no
 /// other method adds, and nothing else names it.
 pub(crate) fn check_abort_methods(context: &Context<'_>, findings: &mut Findings<'_>) {
-    let names = Names::of(context.source);
+    let source = context.source;
+    let adds = |at| source.bytes(at) == Builtin::AddAbortMethod.name().as_bytes();
+    // Most descriptions add none.
+    if !(0..source.tokens.len()).any(adds) {
+        return;
+    }
+    let names = Names::of(source);
     let of_others = || names.adding.iter().filter(|one| one.name != one.method);
     let added: HashSet<_> = of_others().map(|one| one.name).collect();
     let sure: HashSet<_> = of_others()

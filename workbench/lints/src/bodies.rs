@@ -16,6 +16,7 @@ use crate::expressions::walk::Walk;
 use crate::kind::MethodKind;
 use crate::settled::check_body;
 use crate::source::{TokenIndex, index};
+use crate::visit::{Visitor, visit_parts};
 use crate::warning::Findings;
 use aborts::check_abort_methods;
 use choices::check_choices;
@@ -23,7 +24,7 @@ use edd_instructions::Sort;
 use edd_syntax::expr::Expr;
 use edd_syntax::item::{Attribute, Item};
 use edd_syntax::numbers::ItemNo;
-use edd_syntax::operators::Builtin;
+use edd_syntax::operators::{Builtin, RequestKind};
 use edd_syntax::reference::Target;
 use edd_syntax::stmt::{Part, Stmt};
 use locals::check_locals;
@@ -50,6 +51,35 @@ fn check_added(parts: &[Part<Target>], findings: &mut Findings<'_>) {
     }
 }
 
+/// What the calls of a body are, as far as there are checks of such calls.
+#[derive(Default)]
+struct Called {
+    adds_abort_methods: bool,
+    /// Whether an answer says which of some choices or codes came.
+    asks_which: bool,
+}
+
+impl<'t> Visitor<'t> for Called {
+    fn expression(&mut self, e: &'t Expr<Target>, _: Sort) {
+        let Expr::Call {
+            function: Target::Function(function),
+            ..
+        } = e
+        else {
+            return;
+        };
+        self.adds_abort_methods |= *function == Builtin::AddAbortMethod;
+        self.asks_which |= matches!(
+            function,
+            Builtin::Ask(
+                RequestKind::SelectFromList
+                    | RequestKind::SendCommand
+                    | RequestKind::SendCommandTrans
+            )
+        );
+    }
+}
+
 /// Checks the definition of a method.
 pub(crate) fn check_method<'d>(
     method: &Item<Target>,
@@ -63,9 +93,15 @@ pub(crate) fn check_method<'d>(
             // A comment at the end of a body says nothing of what goes on.
             check_parts(parts, index(*at), &mut walk);
             check_locals(parts, &mut walk);
-            check_added(parts, findings);
-            check_abort_methods(own, parts, context, findings);
-            check_choices(parts, context, findings);
+            let mut called = Called::default();
+            visit_parts(parts, &mut called);
+            if called.adds_abort_methods {
+                check_added(parts, findings);
+                check_abort_methods(own, parts, context, findings);
+            }
+            if called.asks_which {
+                check_choices(parts, context, findings);
+            }
             check_body(parts, context, findings);
         }
     }

@@ -1,6 +1,7 @@
 //! Commands: numbers that are there twice, and what their messages carry.
 
 use crate::context::Context;
+use crate::kind::CommandKind;
 use crate::messages::check_messages;
 use crate::repeats::{Numbered, Numbers};
 use crate::source::{TokenIndex, index};
@@ -32,10 +33,18 @@ fn check_codes(
     }
 }
 
-/// Checks a command, whose number is added to those of the others.
+// A number that an earlier command has.
+fn check_number(number: u32, at: TokenIndex, context: &Context<'_>, findings: &mut Findings<'_>) {
+    let first = context.instrument.first_command(number);
+    if let Some(earlier) = first.filter(|first| *first != at) {
+        let kind = CommandKind::RepeatedCommand(i64::from(number));
+        findings.add_beside(at, kind, earlier);
+    }
+}
+
+/// Checks the numbers of a command and what its messages carry.
 pub(crate) fn check_command(
     command: &Item<Target>,
-    numbers: &mut Numbers,
     context: &Context<'_>,
     findings: &mut Findings<'_>,
 ) {
@@ -43,7 +52,7 @@ pub(crate) fn check_command(
     for attribute in &command.attributes {
         let at = index(attribute.at());
         match attribute {
-            Attribute::Number(_, number) => numbers.add(i64::from(*number), at, findings),
+            Attribute::Number(_, number) => check_number(*number, at, context, findings),
             Attribute::Transaction { number, parts, .. } => {
                 check_messages(parts, context, findings);
                 if let Some(number) = number {

@@ -1,36 +1,26 @@
 //! All warnings of a description.
 
 use crate::abort_methods::check_abort_methods;
-use crate::bodies::check_method;
-use crate::branches::check_branches;
-use crate::classes::check_classes;
-use crate::commands::check_command;
-use crate::conditions::check_conditionals_of;
 use crate::context::Context;
 use crate::entries::check_entries;
-use crate::gaps::check_gaps;
 use crate::instrument::Instrument;
+use crate::items::{PART, check_items, parts_of};
 use crate::levels::Levels;
-use crate::limits::{check_circular, check_limits_under_conditions};
-use crate::listings::check_listings;
+use crate::limits::check_circular;
 use crate::menus::check_menus;
+use crate::parallel::Threads;
 use crate::places::Places;
 use crate::remarks::Remarks;
-use crate::repeats::{Numbered, Numbers};
-use crate::settled::check_attributes;
-use crate::source::Source;
+use crate::source::{Source, TokenIndex};
 use crate::texts::check_texts;
-use crate::traffic::{check_carried, check_traffic};
-use crate::traits::{check_label, check_traits};
-use crate::types::check_type;
+use crate::traffic::check_carried;
 use crate::unused::check_uses;
 use crate::usage::Usage;
 use crate::warning::{Findings, Warning};
 use core_std::alloc::Global;
 use edd_lexer::token::Token;
 use edd_syntax::checked::Checked;
-use edd_syntax::item::ItemKind;
-use edd_syntax::numbers::{Element, ItemNo, MethNo};
+use edd_syntax::numbers::Element;
 
 fn elements_of(description: &Checked) -> Vec<Element> {
     // Memory is refused as everywhere in ordinary Rust: the allocation itself ends the program.
@@ -38,62 +28,66 @@ fn elements_of(description: &Checked) -> Vec<Element> {
     elements.map_or_else(|_| Vec::new(), core_std::vec::Vec::into_real)
 }
 
-fn check_items<'d>(context: &Context<'d>, findings: &mut Findings<'d>) {
-    let mut variables = context.instrument.variables().iter();
-    let mut commands = Numbers::new(Numbered::Command);
-    let mut methods = 0u16..;
-    let usage = Usage::of(context.instrument.items);
-    for item in context.instrument.items {
-        check_conditionals_of(item, context, findings);
-        check_branches(item, context, findings);
-        match item.sort {
-            ItemKind::Variable => {
-                if let Some(variable) = variables.next() {
-                    check_type(variable, context, findings);
-                    check_limits_under_conditions(variable, context, findings);
-                    check_traits(variable, context, findings);
-                }
-            }
-            ItemKind::Command => {
-                check_command(item, &mut commands, context, findings);
-                check_traffic(item, &usage, context, findings);
-            }
-            ItemKind::Method => {
-                let own = methods.next().map(|number| ItemNo::Method(MethNo(number)));
-                check_method(item, own, context, findings);
-            }
-            ItemKind::Menu | ItemKind::Collection(_) | ItemKind::Array => {}
+/// What is checked of a description as a whole.
+const WHOLE: [fn(&Context<'_>, &mut Findings<'_>); 7] = [
+    check_carried,
+    check_circular,
+    check_menus,
+    check_entries,
+    check_uses,
+    check_texts,
+    check_abort_methods,
+];
+
+/// Checks a description in parts of so many tokens. The findings come as if one part was checked
+/// behind the other.
+fn check_all<'d>(context: &Context<'d>, length: TokenIndex, threads: Threads) -> Findings<'d> {
+    let parts = parts_of(&context.instrument, length);
+    let count = parts.len().saturating_add(WHOLE.len());
+    let mut made = threads.make_parts(count, |number| {
+        let mut findings = Findings::new(context.source);
+        if let Some(check) = WHOLE.get(number) {
+            check(context, &mut findings);
+        } else if let Some(part) = parts.get(number.saturating_sub(WHOLE.len())) {
+            check_items(part, context, &mut findings);
         }
-        check_classes(item, context, findings);
-        check_gaps(item, context, findings);
-        check_listings(item, context, findings);
-        for attribute in &item.attributes {
-            check_label(attribute, findings);
-        }
-        check_attributes(item, context, findings);
-    }
-    check_carried(&usage, context, findings);
-    check_circular(context, findings);
+        findings
+    });
+    // Some checks of the whole take longer than those of any part, and so were begun first.
+    made.rotate_left(WHOLE.len());
+    Findings::joined(context.source, made)
+}
+
+fn find_in_parts(
+    source: Source<'_>,
+    description: &Checked,
+    levels: &Levels,
+    length: TokenIndex,
+    threads: Threads,
+) -> Vec<Warning> {
+    let items = &**description.items;
+    let elements = elements_of(description);
+    let known = || (Instrument::of(items, &elements), Usage::of(items));
+    let (places, (instrument, usage)) = threads.make_both(|| Places::of(source, items), known);
+    let context = Context {
+        source,
+        places,
+        instrument,
+        usage,
+    };
+    let mut findings = check_all(&context, length, threads);
+    let remarks = Remarks::of(source);
+    remarks.check_names(&mut findings);
+    findings.into_warnings(levels, &remarks)
 }
 
 /// Finds what a description says and almost certainly does not mean, by its lines, and on one line
 /// in the order of the lints. `text` and `tokens` are those that it was made of.
 pub fn find(text: &[u8], tokens: &[Token], description: &Checked, levels: &Levels) -> Vec<Warning> {
     let source = Source { text, tokens };
-    let items = &**description.items;
-    let context = Context {
-        source,
-        places: Places::of(source, items),
-        instrument: Instrument::of(items, &elements_of(description)),
-    };
-    let mut findings = Findings::new(source);
-    check_items(&context, &mut findings);
-    check_menus(&context, &mut findings);
-    check_entries(&context, &mut findings);
-    check_uses(&context, &mut findings);
-    check_texts(&context, &mut findings);
-    check_abort_methods(&context, &mut findings);
-    let remarks = Remarks::of(source);
-    remarks.check_names(&mut findings);
-    findings.into_warnings(levels, &remarks)
+    let threads = Threads::for_tokens(tokens.len());
+    find_in_parts(source, description, levels, PART, threads)
 }
+
+#[cfg(test)]
+mod tests;

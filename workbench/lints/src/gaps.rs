@@ -4,7 +4,7 @@
 use crate::context::Context;
 use crate::expressions::operands::selected_variable;
 use crate::kind::ConditionKind;
-use crate::visit::{Conditionals, Value, Visitor, conditionals_of, visit_item};
+use crate::visit::{Conditionals, Value, Visitor, conditionals_of, visit_conditionals_of};
 use crate::warning::Findings;
 use edd_syntax::cond::{Arm, Cond};
 use edd_syntax::item::{Attribute, Item};
@@ -163,5 +163,5 @@ pub(crate) fn check_gaps<'d>(
             _ => {}
         }
     }
-    visit_item(item, &mut Empty { gaps });
+    visit_conditionals_of(item, &mut Empty { gaps });
 }

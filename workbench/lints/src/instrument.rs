@@ -2,6 +2,7 @@
 
 use crate::lists::{enumerators_of, is_total, values_in};
 use crate::range::Range;
+use crate::source::{TokenIndex, index};
 use crate::types::{number_of, number_parts};
 use edd_constants::evaluate;
 use edd_instructions::Sort;
@@ -27,9 +28,11 @@ pub(crate) struct Variable<'i> {
     pub(crate) greatest: Option<i64>,
 }
 
-/// What is known of a command.
+/// What is known of the commands of a number.
 #[derive(Default)]
 struct Command {
+    /// Where the number is first.
+    at: TokenIndex,
     transactions: HashSet<u32>,
     /// Its response codes.
     codes: HashSet<u32>,
@@ -42,8 +45,8 @@ struct Command {
 /// What is known of the items of a description.
 pub(crate) struct Instrument<'i> {
     pub(crate) items: &'i [Item<Target>],
-    /// The index of each item, by kind and number.
-    by_kind: HashMap<u8, Vec<usize>>,
+    /// The index of each item, by the number of its kind and its own.
+    by_kind: Vec<Vec<usize>>,
     variables: Vec<Variable<'i>>,
     elements: HashMap<(u16, u32), u16>,
     /// The arrays with elements.
@@ -149,12 +152,12 @@ impl Command {
     }
 }
 
-fn command_number(command: &Item<Target>) -> Option<u32> {
+fn command_number(command: &Item<Target>) -> Option<(TokenIndex, u32)> {
     command
         .attributes
         .iter()
         .find_map(|attribute| match attribute {
-            Attribute::Number(_, number) => Some(*number),
+            Attribute::Number(at, number) => Some((index(*at), *number)),
             _ => None,
         })
 }
@@ -164,7 +167,7 @@ impl<'i> Instrument<'i> {
     pub(crate) fn of(items: &'i [Item<Target>], elements: &[Element]) -> Instrument<'i> {
         let mut instrument = Instrument {
             items,
-            by_kind: HashMap::new(),
+            by_kind: Vec::new(),
             variables: Vec::new(),
             elements: elements
                 .iter()
@@ -175,8 +178,7 @@ impl<'i> Instrument<'i> {
             names: items.iter().map(Item::name).collect(),
         };
         for (number, item) in items.iter().enumerate() {
-            let kind = item.kind().number();
-            instrument.by_kind.entry(kind).or_default().push(number);
+            instrument.add_place(item, number);
             match item.sort {
                 ItemKind::Variable => instrument.variables.push(Variable::of(item)),
                 ItemKind::Command => instrument.add_command(item),
@@ -186,9 +188,22 @@ impl<'i> Instrument<'i> {
         instrument
     }
 
+    fn add_place(&mut self, item: &Item<Target>, place: usize) {
+        let kind = usize::from(item.kind().number());
+        if self.by_kind.len() <= kind {
+            self.by_kind.resize_with(kind.saturating_add(1), Vec::new);
+        }
+        if let Some(places) = self.by_kind.get_mut(kind) {
+            places.push(place);
+        }
+    }
+
     fn add_command(&mut self, command: &Item<Target>) {
-        if let Some(number) = command_number(command) {
-            let known = self.commands.entry(number).or_default();
+        if let Some((at, number)) = command_number(command) {
+            let known = self.commands.entry(number).or_insert_with(|| Command {
+                at,
+                ..Command::default()
+            });
             // Of two commands with one number the one whose transactions all have numbers counts.
             let mut own = Command {
                 are_numbered: true,
@@ -204,7 +219,7 @@ impl<'i> Instrument<'i> {
 
     /// The index of an item among all items.
     pub(crate) fn place_of(&self, item: ItemNo) -> Option<usize> {
-        let kind = self.by_kind.get(&item.kind().number())?;
+        let kind = self.by_kind.get(usize::from(item.kind().number()))?;
         kind.get(usize::from(item.index())).copied()
     }
 
@@ -263,6 +278,11 @@ impl<'i> Instrument<'i> {
     /// Whether an array has an element.
     pub(crate) fn has_elements(&self, array: u16) -> bool {
         self.arrays.contains(&array)
+    }
+
+    /// Where the number of a command is first.
+    pub(crate) fn first_command(&self, number: u32) -> Option<TokenIndex> {
+        Some(self.commands.get(&number)?.at)
     }
 
     /// Whether there are commands, of which none has a number.

@@ -271,6 +271,10 @@ fn apart(
     context: &Context<'_>,
 ) -> Option<(TokenIndex, VariableKind, TokenIndex)> {
     let (low, high) = (low?, high?);
+    // A constant is no sum.
+    if low.number().is_some() || high.number().is_some() {
+        return None;
+    }
     let mut over = distances(&low, &high, context).into_iter().flatten();
     let over = over.find(|over| 0 < *over)?;
     Some((low.at, kind(over), high.at))

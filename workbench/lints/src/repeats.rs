@@ -9,7 +9,6 @@ use std::collections::HashMap;
 #[derive(Clone, Copy)]
 pub(crate) enum Numbered {
     Enumerator,
-    Command,
     ResponseCode,
     Transaction,
     Case,
@@ -19,7 +18,6 @@ impl Numbered {
     fn repeated(self, number: i64) -> Kind {
         match self {
             Numbered::Enumerator => VariableKind::RepeatedEnumerator(number).into(),
-            Numbered::Command => CommandKind::RepeatedCommand(number).into(),
             Numbered::ResponseCode => CommandKind::RepeatedResponseCode(number).into(),
             Numbered::Transaction => CommandKind::RepeatedTransaction(number).into(),
             Numbered::Case => ConditionKind::RepeatedCase(number).into(),

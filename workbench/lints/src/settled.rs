@@ -19,7 +19,7 @@ use crate::source::TokenIndex;
 use crate::values::Values;
 use crate::values::environment::{Environment, Storage, storage_of};
 use crate::values::evaluation::{Nobody, Observer};
-use crate::visit::children;
+use crate::visit::has_child;
 use crate::warning::Findings;
 use edd_constants::{Known, evaluate};
 use edd_instructions::Sort;
@@ -96,7 +96,7 @@ impl<'c, 'd> Ways<'c, 'd, '_> {
     // Whether an operator of an expression has a warning: then no other one is told of it.
     fn is_reported(&self, e: &Expr<Target>) -> bool {
         let span = self.context.source.span(self.context.places.sign(e));
-        self.findings.is_reported(span) || children(e).any(|inner| self.is_reported(inner))
+        self.findings.is_reported(span) || has_child(e, |inner| self.is_reported(inner))
     }
 
     /// Follows an expression. Of one that has a warning nothing is known: it may be another one that is meant.

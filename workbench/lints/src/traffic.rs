@@ -8,7 +8,7 @@ use crate::kind::{CommandKind, TextKind, VariableKind};
 use crate::lists::values_of;
 use crate::source::{TokenIndex, index};
 use crate::traits::{classes_of, quoted};
-use crate::usage::{Usage, carried, operation_of};
+use crate::usage::{carried, operation_of};
 use crate::warning::Findings;
 use edd_syntax::cond::Cond;
 use edd_syntax::item::{Attribute, DataItem, Item, ResponseCode, TransactionPart};
@@ -115,7 +115,6 @@ fn check_requests(transactions: &[Transaction<'_>], findings: &mut Findings<'_>)
 // Variables that a WRITE command sets, and that nothing else lets a technician or a method set.
 fn check_written(
     transaction: &Transaction<'_>,
-    usage: &Usage,
     context: &Context<'_>,
     findings: &mut Findings<'_>,
 ) {
@@ -130,7 +129,8 @@ fn check_written(
             continue;
         };
         let is_plain = !qualifiers.info && !qualifiers.index;
-        let number = carried(item).filter(|number| is_plain && !usage.set.contains(number));
+        let number =
+            carried(item).filter(|number| is_plain && !context.usage.set.contains(*number));
         let variable = number.and_then(|number| context.instrument.variable(number));
         if let Some(variable) = variable.filter(|variable| variable.is_read_only) {
             let name = variable.name().to_owned();
@@ -166,7 +166,6 @@ fn check_codes(
 /// Checks what a command reads and writes.
 pub(crate) fn check_traffic(
     command: &Item<Target>,
-    usage: &Usage,
     context: &Context<'_>,
     findings: &mut Findings<'_>,
 ) {
@@ -188,7 +187,7 @@ pub(crate) fn check_traffic(
                 findings.add(index(command.at), CommandKind::WritesNothing);
             }
             for transaction in &transactions {
-                check_written(transaction, usage, context, findings);
+                check_written(transaction, context, findings);
             }
         }
         _ => {}
@@ -213,21 +212,22 @@ fn may_be_written(variable: &Variable<'_>) -> bool {
 }
 
 /// Checks which variables no command carries, though they are such as commands carry.
-pub(crate) fn check_carried(usage: &Usage, context: &Context<'_>, findings: &mut Findings<'_>) {
+pub(crate) fn check_carried(context: &Context<'_>, findings: &mut Findings<'_>) {
+    let usage = &context.usage;
     for (number, variable) in (0u16..).zip(context.instrument.variables()) {
-        let is_carried = usage.requested.contains(&number) || usage.replied.contains(&number);
+        let is_carried = usage.requested.contains(number) || usage.replied.contains(number);
         let classes = classes_of(variable);
-        if is_carried || usage.set.contains(&number) || classes.contains("LOCAL") {
+        if is_carried || usage.set.contains(number) || classes.contains("LOCAL") {
             continue;
         }
         let at = index(variable.item.at);
         let name = || variable.name().to_owned();
-        let is_used = usage.shown.contains(&number) || usage.mentioned.contains(&number);
+        let is_used = usage.shown.contains(number) || usage.mentioned.contains(number);
         if classes.contains("DYNAMIC") && usage.has_read_command && is_used {
             findings.add(at, VariableKind::UnreadDynamic(name()));
         } else if usage.has_write_command
-            && usage.offered.contains(&number)
-            && !usage.mentioned.contains(&number)
+            && usage.offered.contains(number)
+            && !usage.mentioned.contains(number)
             && may_be_written(variable)
         {
             findings.add(at, VariableKind::Ineffective(name()));

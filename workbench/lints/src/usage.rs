@@ -14,23 +14,49 @@ use edd_syntax::operators::{Builtin, Comparison, RequestKind};
 use edd_syntax::reference::Target;
 use edd_syntax::stmt::Stmt;
 use edd_syntax::types::Operation;
-use std::collections::HashSet;
+
+/// Some of the variables of a description, by their numbers.
+#[derive(Default)]
+pub(crate) struct Variables(Vec<bool>);
+
+impl Variables {
+    fn insert(&mut self, variable: u16) {
+        let place = usize::from(variable);
+        if self.0.len() <= place {
+            self.0.resize(place.saturating_add(1), false);
+        }
+        if let Some(is_there) = self.0.get_mut(place) {
+            *is_there = true;
+        }
+    }
+
+    fn extend(&mut self, variables: impl IntoIterator<Item = u16>) {
+        for variable in variables {
+            self.insert(variable);
+        }
+    }
+
+    /// Whether the variable of a number is one of them.
+    pub(crate) fn contains(&self, variable: u16) -> bool {
+        self.0.get(usize::from(variable)).copied() == Some(true)
+    }
+}
 
 /// The variables of a description by what uses them.
 #[derive(Default)]
 pub(crate) struct Usage {
     /// In a REQUEST.
-    pub(crate) requested: HashSet<u16>,
+    pub(crate) requested: Variables,
     /// In a REPLY.
-    pub(crate) replied: HashSet<u16>,
+    pub(crate) replied: Variables,
     /// Entries of menus by which they may be set.
-    pub(crate) offered: HashSet<u16>,
+    pub(crate) offered: Variables,
     /// Entries of menus.
-    pub(crate) shown: HashSet<u16>,
+    pub(crate) shown: Variables,
     /// Set by methods.
-    pub(crate) set: HashSet<u16>,
+    pub(crate) set: Variables,
     /// In an expression, an array or a collection.
-    pub(crate) mentioned: HashSet<u16>,
+    pub(crate) mentioned: Variables,
     pub(crate) has_read_command: bool,
     pub(crate) has_write_command: bool,
 }

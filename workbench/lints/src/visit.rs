@@ -93,6 +93,13 @@ pub(crate) fn conditionals_of<'t>(
     }
 }
 
+/// Visits the conditionals of an item, with all that is in them.
+pub(crate) fn visit_conditionals_of<'t>(item: &'t Item<Target>, visitor: &mut impl Visitor<'t>) {
+    for attribute in &item.attributes {
+        conditionals_of(attribute, &mut Visiting { visitor });
+    }
+}
+
 /// Visits all nodes of an item.
 pub(crate) fn visit_item<'t>(item: &'t Item<Target>, visitor: &mut impl Visitor<'t>) {
     for attribute in &item.attributes {
@@ -157,34 +164,48 @@ pub(crate) fn visit_expression<'t>(
     visitor: &mut impl Visitor<'t>,
 ) {
     visitor.expression(e, sort);
-    for inner in children(e) {
-        visit_expression(inner, sort, visitor);
-    }
+    for_children(e, |inner| visit_expression(inner, sort, visitor));
 }
 
-/// The expressions right inside of one.
-pub(crate) fn children(e: &Expr<Target>) -> impl Iterator<Item = &Expr<Target>> {
-    let (own, arguments): ([Option<&Expr<Target>>; 3], &[Argument<Target>]) = match e {
-        Expr::Literal(_) | Expr::Decimal { .. } | Expr::Reference(_) | Expr::Increment(..) => {
-            ([None; 3], &[])
-        }
+/// Takes the expressions right inside of one.
+pub(crate) fn for_children<'t>(e: &'t Expr<Target>, mut take: impl FnMut(&'t Expr<Target>)) {
+    match e {
+        Expr::Literal(_) | Expr::Decimal { .. } | Expr::Reference(_) | Expr::Increment(..) => {}
         Expr::Indexed(_, inner)
         | Expr::Parentheses(inner)
         | Expr::Unary(_, inner)
         | Expr::Assign(_, inner)
-        | Expr::CompoundAssign(_, _, inner) => ([Some(inner), None, None], &[]),
+        | Expr::CompoundAssign(_, _, inner) => take(inner),
         Expr::Binary(_, first, second)
         | Expr::Compare(_, first, second)
         | Expr::LogicalAnd(first, second)
-        | Expr::LogicalOr(first, second) => ([Some(first), Some(second), None], &[]),
-        Expr::Conditional(test, first, second) => ([Some(test), Some(first), Some(second)], &[]),
-        Expr::Call { arguments, .. } => ([None; 3], arguments),
-    };
-    let values = arguments.iter().filter_map(|argument| match argument {
-        Argument::Value(e) => Some(e),
-        Argument::Text(_) => None,
-    });
-    own.into_iter().flatten().chain(values)
+        | Expr::LogicalOr(first, second) => {
+            take(first);
+            take(second);
+        }
+        Expr::Conditional(test, first, second) => {
+            take(test);
+            take(first);
+            take(second);
+        }
+        Expr::Call { arguments, .. } => {
+            for argument in arguments {
+                if let Argument::Value(e) = argument {
+                    take(e);
+                }
+            }
+        }
+    }
+}
+
+/// Whether an expression right inside of one is such.
+pub(crate) fn has_child<'t>(
+    e: &'t Expr<Target>,
+    mut is_such: impl FnMut(&'t Expr<Target>) -> bool,
+) -> bool {
+    let mut has = false;
+    for_children(e, |inner| has = has || is_such(inner));
+    has
 }
 
 /// Visits what is between braces.

@@ -64,6 +64,17 @@ impl<'s> Findings<'s> {
         }
     }
 
+    /// What was found in parts, one behind the other.
+    pub(crate) fn joined(source: Source<'s>, parts: Vec<Findings<'s>>) -> Findings<'s> {
+        let mut all = Findings::new(source);
+        for part in parts {
+            all.found.extend(part.found);
+            all.starts.extend(part.starts);
+            all.furthest = all.furthest.max(part.furthest);
+        }
+        all
+    }
+
     /// Adds a warning at a token.
     pub(crate) fn add(&mut self, at: TokenIndex, kind: impl Into<Kind>) {
         self.add_span(self.source.span(at), self.source.line(at), kind);

@@ -90,10 +90,12 @@ impl Server {
         open.is_told = true;
         let uri = uri.clone();
         let view = self.view(&uri)?;
-        guarded(|| view.open.document.prepare());
+        let document = &view.open.document;
         if self.client.pulls {
+            guarded(|| document.prepare());
             return Some(Vec::new());
         }
+        guarded(|| document.examine());
         let diagnostics = guarded(|| view.diagnostics()).unwrap_or_else(|| none_of(&uri));
         Some(vec![Outgoing::diagnostics(diagnostics)])
     }

@@ -16,26 +16,86 @@ const HEAD: &str = "MANUFACTURER 1, DEVICE_TYPE 2, DEVICE_REVISION 3, DD_REVISIO
 
 const DESCRIPTION: &str = "file:///t/b.edd";
 
-/// How many bytes the text has at least: in debug builds fewer, as these are some ten times slower.
+/// How many bytes the text has with a blank put in: the most that a description may have. In debug
+/// builds fewer, as these are some ten times slower.
 const LENGTH: usize = if cfg!(debug_assertions) {
     200_000
 } else {
-    1_040_000
+    1_048_576
 };
 
-/// A description of some thousand variables, fewer than an image has room for, and its last line.
+/// The bytes of a group of items.
+const GROUP: usize = 5_650;
+
+/// The variables of a group.
+const VARIABLES: usize = 20;
+
+/// A variable in a line of its own.
+fn variable(number: usize) -> String {
+    format!(
+        "VARIABLE v{number} {{ LABEL \"|en|Channel {number}|de|Kanal {number}\"; HELP \"|en|What channel {number} measured last|de|Der letzte Wert von Kanal {number}\"; HANDLING READ & WRITE; TYPE INTEGER (2) {{ MIN_VALUE 0; MAX_VALUE 100; }} }}\n"
+    )
+}
+
+/// A method that reads four variables and sets the last of them.
+fn method(number: usize, first: usize) -> String {
+    let [second, third, last] = [1, 2, 3].map(|more| first + more);
+    format!(
+        "METHOD m{number} {{
+    LABEL \"|en|Adjust {number}|de|Abgleich {number}\";
+    DEFINITION {{
+        int i;
+        int sum;
+        sum = 0;
+        // Each turn counts.
+        for (i = 0; i < 5; i++) {{
+            if (v{first} > i * 10) {{
+                sum = sum + v{second};
+            }} else {{
+                sum = sum - 1;
+            }}
+        }}
+        if (sum > 50 && v{third} < 90) {{
+            v{last} = sum / 5;
+        }}
+    }}
+}}
+"
+    )
+}
+
+/// A menu of these items.
+fn menu(name: &str, items: impl Iterator<Item = String>) -> String {
+    let items: Vec<_> = items.collect();
+    let items = items.join(", ");
+    format!(
+        "MENU {name} {{\n    LABEL \"|en|Menu {name}|de|Menü {name}\";\n    ITEMS {{ {items} }}\n}}\n"
+    )
+}
+
+/// A description of some thousand variables, each in a line of its own, with methods and menus behind
+/// them, and how many variables it has. It has no warning.
 fn description() -> (String, usize) {
+    let groups = LENGTH / GROUP;
+    let count = groups * VARIABLES;
     let mut text = HEAD.to_owned();
-    let mut number = 0;
-    while text.len() < LENGTH {
-        writeln!(
-            text,
-            "VARIABLE v{number} {{ LABEL \"|en|Value of channel {number}|de|Wert des Kanals {number}\"; HELP \"|en|The value that channel {number} measured last, in parts of its span|de|Der Wert, den Kanal {number} zuletzt gemessen hat, in Teilen seiner Spanne\"; TYPE INTEGER (2) {{ MIN_VALUE 0; MAX_VALUE 100; }} }}"
-        )
-        .expect("a text");
-        number += 1;
+    text.extend((0..count).map(variable));
+    for group in 0..groups {
+        let first = group * VARIABLES;
+        let methods = group * 3..group * 3 + 3;
+        text.extend(
+            methods
+                .clone()
+                .map(|number| method(number, first + number % 3 * 4)),
+        );
+        let shown = (first..first + VARIABLES).map(|number| format!("v{number}"));
+        let entries = shown.chain(methods.map(|number| format!("m{number}")));
+        text.push_str(&menu(&format!("n{group}"), entries));
     }
-    (text, number)
+    text.push_str(&menu("all", (0..groups).map(|group| format!("n{group}"))));
+    let rest = LENGTH - 1 - text.len();
+    writeln!(text, "/* {} */", "-".repeat(rest - 7)).expect("a text");
+    (text, count)
 }
 
 fn send(session: &mut Session, message: &Value) {
@@ -89,7 +149,9 @@ fn opened(capabilities: &Value) -> (Session, usize) {
         &json!({"id": 0, "method": "initialize", "params": params}),
     );
     let (text, last) = description();
-    assert!(edd::compile(text.as_bytes()).is_ok(), "a valid text");
+    assert_eq!(text.len(), LENGTH - 1);
+    let checked = edd::check(text.as_bytes());
+    assert_eq!(checked.diagnostics, [], "a text in which nothing is wrong");
     open(&mut session, DESCRIPTION, &text);
     (session, last)
 }
@@ -98,8 +160,10 @@ fn opened(capabilities: &Value) -> (Session, usize) {
 fn least_times((mut session, last): (Session, usize)) -> (Duration, Duration) {
     let mut least = (Duration::MAX, Duration::MAX);
     for version in 2..7 {
-        let start = json!({"line": last / 2, "character": 23});
-        let change = json!({"range": {"start": start, "end": start}, "text": "x"});
+        // A blank behind VARIABLE, which is taken away again.
+        let (behind, text) = if version % 2 == 0 { (8, " ") } else { (9, "") };
+        let [start, end] = [8, behind].map(|column| json!({"line": last / 2, "character": column}));
+        let change = json!({"range": {"start": start, "end": end}, "text": text});
         let params = json!({
             "textDocument": {"uri": DESCRIPTION, "version": version}, "contentChanges": [change],
         });

@@ -8,7 +8,7 @@ use crate::kind::MethodKind;
 use crate::source::TokenIndex;
 use crate::traits::quoted;
 use crate::values::environment::{Storage, storage_of};
-use crate::visit::children;
+use crate::visit::{for_children, has_child};
 use edd_syntax::expr::{Argument, Expr};
 use edd_syntax::operators::{Builtin, RequestKind};
 use edd_syntax::reference::Target;
@@ -76,9 +76,7 @@ impl<'t> Pending<'t> {
             }
             _ => {}
         }
-        for inner in children(e) {
-            self.read(inner);
-        }
+        for_children(e, |inner| self.read(inner));
     }
 
     // Notes a store, and returns the one that it replaces.
@@ -124,7 +122,7 @@ impl<'t> Pending<'t> {
 
     // Forgets all copies that an expression may change.
     fn change(&mut self, e: &Expr<Target>) {
-        if has_call(e) || !matches!(e, Expr::Assign(..)) || children(e).any(has_assignment) {
+        if has_call(e) || !matches!(e, Expr::Assign(..)) || has_child(e, has_assignment) {
             self.copies.clear();
         }
     }
@@ -135,12 +133,12 @@ fn has_assignment(e: &Expr<Target>) -> bool {
         e,
         Expr::Assign(..) | Expr::CompoundAssign(..) | Expr::Increment(..)
     );
-    is_one || children(e).any(has_assignment)
+    is_one || has_child(e, has_assignment)
 }
 
 /// Whether an expression calls a function.
 pub(super) fn has_call(e: &Expr<Target>) -> bool {
-    matches!(e, Expr::Call { .. }) || children(e).any(has_call)
+    matches!(e, Expr::Call { .. }) || has_child(e, has_call)
 }
 
 /// Checks the stores of a block, one after the other.

@@ -5,17 +5,17 @@ use std::hash::{BuildHasherDefault, Hasher};
 use std::ptr;
 
 /// The address of a node of any type.
-pub(crate) type Address = *const ();
+pub(crate) type Address = usize;
 
 pub(crate) fn of<T>(node: &T) -> Address {
-    ptr::from_ref(node).cast()
+    ptr::from_ref(node).addr()
 }
 
 /// Values by the addresses of nodes of one type, of which no one is inside of another without a box
 /// or a list between.
 pub(crate) struct Addresses<T, V> {
     values: HashMap<Address, V, BuildHasherDefault<AddressHasher>>,
-    nodes: std::marker::PhantomData<*const T>,
+    nodes: std::marker::PhantomData<fn(&T)>,
 }
 
 impl<T, V> Default for Addresses<T, V> {

@@ -6,7 +6,7 @@ use crate::instrument::variable_of;
 use crate::kind::{ConditionKind, MenuKind};
 use crate::menus::item_shown;
 use crate::values::environment::Environment;
-use crate::visit::{Conditionals, Value, conditionals_of};
+use crate::visit::{Conditionals, Value, conditionals_of, for_children};
 use crate::warning::Findings;
 use edd_instructions::Sort;
 use edd_syntax::cond::{Arm, Cond};
@@ -209,7 +209,5 @@ pub(crate) fn variables_read(e: &Expr<Target>, found: &mut Vec<u16>) {
     if let Expr::Reference(target) = e {
         found.extend(variable_of(*target));
     }
-    for inner in crate::visit::children(e) {
-        variables_read(inner, found);
-    }
+    for_children(e, |inner| variables_read(inner, found));
 }

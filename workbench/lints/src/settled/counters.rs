@@ -3,7 +3,7 @@
 use crate::bodies::loops::{limit_of, start_of, step_of};
 use crate::range::Range;
 use crate::values::environment::{Environment, Storage, storage_of};
-use crate::visit::{Visitor, visit_parts, visit_statement};
+use crate::visit::{Visitor, has_child, visit_parts, visit_statement};
 use edd_arithmetic::holds;
 use edd_constants::evaluate;
 use edd_instructions::Sort;
@@ -45,7 +45,7 @@ impl Uses {
 
 fn mentions(e: &Expr<Target>, target: Target) -> bool {
     matches!(e, Expr::Reference(to) if *to == target)
-        || crate::visit::children(e).any(|inner| mentions(inner, target))
+        || has_child(e, |inner| mentions(inner, target))
 }
 
 impl<'t> Visitor<'t> for Uses {
@@ -83,7 +83,7 @@ fn is_plain_test(e: &Expr<Target>, target: Target) -> bool {
     match e {
         Expr::Indexed(..) => false,
         Expr::Reference(to) => *to == target,
-        _ => crate::visit::children(e).any(|inner| is_plain_test(inner, target)),
+        _ => has_child(e, |inner| is_plain_test(inner, target)),
     }
 }
 

@@ -53,13 +53,16 @@ impl<'r> Wrong<'r> {
 
 // The languages of a text by themselves. Returns their codes.
 fn check_text<'r>(raw: &'r [u8], at: TokenIndex, findings: &mut Findings<'_>) -> Vec<&'r [u8]> {
-    let mut codes = Vec::new();
-    let mut seen = BTreeSet::new();
     let mut wrong = Wrong::default();
     let mut variants = Variants::of(raw);
-    for variant in variants.by_ref() {
-        wrong.add(variant, !seen.insert(variant.code));
-        codes.push(variant.code);
+    let all: Vec<_> = variants.by_ref().collect();
+    let mut codes: Vec<_> = all.iter().map(|variant| variant.code).collect();
+    codes.sort_unstable();
+    // Few texts have a language twice: only there it matters which is the first.
+    let has_repeated = codes.windows(2).any(|pair| pair.first() == pair.last());
+    let mut seen = BTreeSet::new();
+    for variant in all {
+        wrong.add(variant, has_repeated && !seen.insert(variant.code));
     }
     if variants.has_stray_bar {
         findings.add(at, TextKind::StrayBar);

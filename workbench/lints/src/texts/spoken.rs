@@ -112,7 +112,8 @@ impl<'s> Gathering<'s> {
         match source.kind(at) {
             Some(TokenKind::Keyword(word)) if begins_section(word) => self.section = Some(word),
             Some(TokenKind::Name) => {
-                self.selects = source.word(at) == RequestKind::SelectFromList.name();
+                let select = RequestKind::SelectFromList.name();
+                self.selects = source.bytes(at) == select.as_bytes();
                 self.lists = false;
             }
             Some(TokenKind::Symbol(Symbol::Comma)) => {

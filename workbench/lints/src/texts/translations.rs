@@ -128,8 +128,8 @@ pub(super) fn check_insides(
     findings: &mut Findings<'_>,
 ) {
     for spoken in texts {
-        let has_percent = spoken.raw.contains(&b'%');
-        if let Some(name) = braced_item(&spoken.raw, context).filter(|_| !has_percent) {
+        let is_plain = |_: &String| !spoken.raw.contains(&b'%');
+        if let Some(name) = braced_item(&spoken.raw, context).filter(is_plain) {
             findings.add(spoken.at, TextKind::BracedItem(name));
         }
         let mut escapes = spoken.raw.windows(3);

@@ -5,12 +5,13 @@ use super::codes::{code_text, is_number, language_of};
 use crate::kind::TextKind;
 use crate::source::TokenIndex;
 use crate::warning::Findings;
-use std::collections::{BTreeMap, BTreeSet};
+use std::collections::BTreeMap;
 
 /// A text of more than one language.
 struct Manifold<'r> {
     at: TokenIndex,
-    languages: BTreeSet<&'r [u8]>,
+    /// Sorted, each once.
+    languages: Vec<&'r [u8]>,
     /// Whether one of its codes is a number.
     has_number: bool,
 }
@@ -24,7 +25,9 @@ pub(super) struct Usual<'r> {
 impl<'r> Usual<'r> {
     /// Adds a text with these codes.
     pub(super) fn add(&mut self, at: TokenIndex, codes: &[&'r [u8]]) {
-        let languages: BTreeSet<_> = codes.iter().map(|code| language_of(code)).collect();
+        let mut languages: Vec<_> = codes.iter().map(|code| language_of(code)).collect();
+        languages.sort_unstable();
+        languages.dedup();
         if languages.len() < 2 {
             return;
         }
@@ -64,7 +67,8 @@ impl<'r> Usual<'r> {
             } else {
                 &lettered
             };
-            for language in usual.iter().filter(|one| !text.languages.contains(**one)) {
+            let is_missing = |one: &&&[u8]| text.languages.binary_search(one).is_err();
+            for language in usual.iter().filter(is_missing) {
                 let code = code_text(language).to_owned();
                 findings.add(text.at, TextKind::MissingLanguage(code));
             }

@@ -5,7 +5,7 @@ use crate::context::Context;
 use crate::expressions::operands::{referred, turned};
 use crate::instrument::variable_of;
 use crate::range::Range;
-use crate::visit::children;
+use crate::visit::has_child;
 use edd_constants::evaluate;
 use edd_instructions::Sort;
 use edd_syntax::expr::Expr;
@@ -135,7 +135,7 @@ impl<'c, 'd> Environment<'c, 'd> {
             }
             _ => false,
         };
-        is_passed || children(e).any(|inner| self.reads_passed(inner))
+        is_passed || has_child(e, |inner| self.reads_passed(inner))
     }
 
     /// Forgets the variables: a host that is asked may change each of them.

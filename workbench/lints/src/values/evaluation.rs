@@ -4,7 +4,7 @@ use super::Values;
 use super::environment::{Environment, Storage, storage_of};
 use crate::expressions::calls::target_of_argument;
 use crate::range::Range;
-use crate::visit::children;
+use crate::visit::for_children;
 use edd_syntax::expr::{Argument, Expr};
 use edd_syntax::operators::{Builtin, IncrementOperator, Operator};
 use edd_syntax::reference::Target;
@@ -183,9 +183,7 @@ impl Environment<'_, '_> {
     /// Forgets all that an expression may change.
     pub(crate) fn forget_changes(&mut self, e: &Expr<Target>) {
         self.forget_change(e);
-        for inner in children(e) {
-            self.forget_changes(inner);
-        }
+        for_children(e, |inner| self.forget_changes(inner));
     }
 
     /// Forgets what an expression may change itself, without those in it.
