@@ -132,7 +132,8 @@ fn push_field(lines: &mut String, page: &Page<'_>, field: &Field, place: usize, 
                 .iter()
                 .fold(0u32, |number, octet| number << 8 | u32::from(*octet));
             for part in parts {
-                let (item, value) = (item_text(page, part), part_text(page, part, number));
+                let item = item_text(page, part, octets.len());
+                let value = part_text(page, part, number);
                 push_line(lines, format_args!("{before}{item} = {value}"));
                 // Further parts of a field stand below its first one.
                 before = " ".repeat(before.len());
@@ -141,11 +142,12 @@ fn push_field(lines: &mut String, page: &Page<'_>, field: &Field, place: usize, 
     }
 }
 
-/// An item as `show` has it, but with its mask in hexadecimal digits.
-fn item_text(page: &Page<'_>, part: &Part) -> String {
+/// An item as `show` has it, but with its mask in two hexadecimal digits for each octet of the field.
+fn item_text(page: &Page<'_>, part: &Part, width: usize) -> String {
     let mut text = page.name(part.variable).to_owned();
     if part.has_mask {
-        let _ = write!(text, "<0x{:02X}>", part.mask);
+        let digits = width.saturating_mul(2);
+        let _ = write!(text, "<0x{:0digits$X}>", part.mask);
     }
     let is_info = part.qualifiers & INFO != 0;
     let is_index = part.qualifiers & INDEX != 0;
