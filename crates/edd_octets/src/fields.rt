@@ -50,7 +50,7 @@ fn union(parts: &[Part]) -> u32
     taken
 }
 
-/// How many octets a field has.
+/// How many octets a field has: as many as the highest bit of its parts asks for.
 pub fn width_of(field: &Field) -> usize
     ensures { result ≡ width_of (field_of field.now) }
 {

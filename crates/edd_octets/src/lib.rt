@@ -16,4 +16,5 @@ pub use encoding::encode;
 pub use fault::OctetsFault;
 pub use fields::{Field, Part, width_of};
 pub use laws::{lengths_are_known, messages_arrive, octets_tell_bits};
+pub use masks::picked;
 pub use messages::{Message, Side, message_fields};

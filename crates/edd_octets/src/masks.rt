@@ -96,7 +96,7 @@ pub fn placed(mask: u32, bits: u32) -> u32
     (u64::from(bits & named_by(mask)) << mask.trailing_zeros()) as u32
 }
 
-/// The named bits, from where the mask has them in a number.
+/// The bits of a variable that a mask names, from where the mask has them in the number of a field.
 pub fn picked(mask: u32, number: u32) -> u32
     ensures { result ≡ picked mask number }
 {
