@@ -3,10 +3,12 @@
 //! The doc comment of a command or an argument is its line of the help. Each struct has
 //! `group(skip)`: the usage in an error would list all arguments of a group.
 
+mod octets;
 mod opening;
 mod running;
 
 use clap::{Args, Parser, Subcommand, ValueEnum};
+pub(crate) use octets::Octets;
 pub(crate) use opening::{Open, Terminal};
 pub(crate) use running::{Play, Run, Try};
 
@@ -46,6 +48,8 @@ pub(crate) enum Command {
     Diff(Diff),
     /// Lays an image open, and says where one that is refused is wrong
     Dump(Dump),
+    /// Shows the messages of a transaction as octets, and what a reply sets
+    Octets(Octets),
     /// Says what a refusal means and how to mend it, and what a lint finds
     Explain(Explain),
     /// Answers an editor by the Language Server Protocol, on standard input and output

@@ -7,6 +7,7 @@ mod explain;
 mod extended_run;
 mod fmt;
 mod lsp;
+mod octets;
 mod open;
 mod proved;
 mod test;
@@ -44,6 +45,7 @@ pub(crate) fn run(
         Command::Fmt(args) => print(output, files, |files, out| fmt::run(args, files, out)),
         Command::Diff(args) => print(output, files, |files, out| diff::run(args, files, out)),
         Command::Dump(args) => print(output, files, |files, out| dump::run(args, files, out)),
+        Command::Octets(args) => octets::run(args, files, output),
         Command::Explain(args) => print(output, files, |_, out| explain::run(args, out)),
         Command::Lsp => print(output, files, |files, out| lsp::run(files, out)),
     }

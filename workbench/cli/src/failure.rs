@@ -5,6 +5,7 @@ use core_std::alloc::AllocError;
 use edd_files::{FileFault, INPUT, NamedFault};
 use edd_loader::LoadFault;
 use edd_run::RunError;
+use edd_transactions::TransactionFault;
 use std::borrow::Cow;
 use std::io;
 use thiserror::Error;
@@ -39,6 +40,14 @@ pub(crate) enum Failure {
     /// One of several images is refused.
     #[error("refused {fault} of {name}")]
     ImageOf { name: String, fault: LoadFault },
+    /// An image is refused, with this number and name.
+    #[error("refused {0}")]
+    Image(String),
+    /// There is no such transaction, or octets are not those of its reply.
+    #[error("refused {0}")]
+    Transaction(TransactionFault),
+    #[error("error: {0} is not the number of a transaction")]
+    NoTransactionNumber(String),
     #[error("error: nothing is refused with the number {0}")]
     NoNumber(String),
     #[error("error: nothing is refused with the name {0}")]
@@ -58,8 +67,15 @@ impl Failure {
     /// The exit status, where the line could be printed.
     pub(crate) fn status(&self) -> u8 {
         match self {
-            Failure::Run(_) | Failure::SourceOf { .. } | Failure::ImageOf { .. } => REFUSED,
-            Failure::NoNumber(_) | Failure::NoName(_) | Failure::NoLint(_) => COMMAND_LINE,
+            Failure::Run(_)
+            | Failure::SourceOf { .. }
+            | Failure::ImageOf { .. }
+            | Failure::Image(_)
+            | Failure::Transaction(_) => REFUSED,
+            Failure::NoTransactionNumber(_)
+            | Failure::NoNumber(_)
+            | Failure::NoName(_)
+            | Failure::NoLint(_) => COMMAND_LINE,
             Failure::File { .. } | Failure::Output(_) => FILE,
             Failure::Printed(status) => *status,
             Failure::Memory => MEMORY,
@@ -102,6 +118,12 @@ impl From<RunError> for Failure {
             },
             refused => Failure::Run(refused),
         }
+    }
+}
+
+impl From<TransactionFault> for Failure {
+    fn from(fault: TransactionFault) -> Failure {
+        Failure::Transaction(fault)
     }
 }
 

@@ -4,8 +4,8 @@ use crate::checking::{Diagnosis, LintLevels};
 use crate::failure::Failure;
 use core_std::alloc::Global;
 use edd_files::Files;
-use edd_helps::{Wrong, explain_script, nearest_method};
-use edd_loader::{LoadFault, load};
+use edd_helps::{Wrong, explain_script, nearest_command, nearest_method};
+use edd_loader::{Image, LoadFault, load};
 use edd_machine::ValuesFault;
 use edd_port::PlayFault;
 use edd_report::Refusal;
@@ -50,20 +50,30 @@ pub(crate) fn explain(
             let refusal = Refusal::new(207, "OUT_OF_RANGE", "");
             explain_slip(Wrong::Answer, refusal, inputs, files)
         }
-        RunError::NoMethod(name) => suggest_method(name, inputs.description, files),
+        RunError::NoMethod(name) => suggest(name, nearest_method, inputs.description, files),
         _ => Ok(()),
     }
 }
 
-/// Prints the method of the description that may be meant.
-fn suggest_method(
+/// Prints the command of the description that may be meant.
+pub(crate) fn suggest_command(
     name: &str,
+    description: Input<'_>,
+    files: &mut impl Files,
+) -> Result<(), Failure> {
+    suggest(name, nearest_command, description, files)
+}
+
+/// Prints the item of the description that may be meant.
+fn suggest(
+    name: &str,
+    nearest: for<'b> fn(&Image<'b>, &str) -> Option<&'b str>,
     description: Input<'_>,
     files: &mut impl Files,
 ) -> Result<(), Failure> {
     let bytes = image_of(description)?;
     let image = load(Global, &bytes).map_err(RunError::from)?;
-    if let Some(near) = nearest_method(&image, name) {
+    if let Some(near) = nearest(&image, name) {
         files.hint(&format!("help: `{near}` may be meant"));
     }
     Ok(())

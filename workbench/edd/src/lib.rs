@@ -35,6 +35,8 @@
 //! | compile, check and lay out a source | [`compile`], [`check()`], [`format()`] |
 //! | load an image, and list what it has | [`Image`] |
 //! | hold device values, and read attributes under them | [`Values`], [`Image::attribute`] |
+//! | make and take the octets of a command's messages | [`Image::encode`], [`Image::decode`] |
+//! | find the command that reads or writes a variable | [`Image::readers`], [`Image::writers`] |
 //! | run a method | [`Session`], [`drive`], [`play`] |
 //! | simulate the device | [`Device`] |
 //! | show menus and edit variables | [`Panel`] |
@@ -62,6 +64,7 @@ mod faults;
 mod format;
 mod image;
 mod memory;
+mod octets;
 mod opened;
 mod panel;
 mod playing;
@@ -81,6 +84,7 @@ pub use faults::{
 };
 pub use format::format;
 pub use image::{Counts, Identification, Image, Item, compile};
+pub use octets::OctetsFault;
 pub use opened::Opened;
 pub use panel::{Command, Field, Happened, Line, Panel, Place, WrongValues};
 pub use playing::{Transcript, play};
@@ -93,6 +97,7 @@ pub use values::Values;
 pub use edd_image::VarKind;
 pub use edd_instructions::{Record, Request};
 pub use edd_loader::Text;
+pub use edd_octets::{Message, Side};
 pub use edd_port::{Ending, Turn};
 pub use edd_syntax::answer::Trap;
 pub use edd_syntax::numbers::{

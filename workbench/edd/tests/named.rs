@@ -29,7 +29,7 @@ const TRIED: [&str; 9] = [
 const ASKING_OF_LEGACY: [&str; 3] = ["help", "label", "words"];
 
 /// Names that such calls share with calls that ask for nothing, which the library uses.
-const SHARED: [&str; 6] = ["counts", "find", "new", "perform", "push", "set"];
+const SHARED: [&str; 7] = ["counts", "decode", "find", "new", "perform", "push", "set"];
 
 /// Whoever uses one more call that asks for something names it, and tries it.
 #[test]

@@ -18,9 +18,9 @@ mod common;
 use common::{IMAGES, image_of, methods};
 use edd::{
     Answer, AnswerFault, Attr, AttrRef, CmdNo, Command, Device, DeviceFault, Drive, EditFault,
-    Happened, Host, Image, ItemNo, LoadFault, MenuNo, MethNo, Panel, PlayFault, ReadFault, Request,
-    Session, SetFault, StartFault, StrNo, Turn, Values, ValuesFault, VarNo, WrongValues, drive,
-    play,
+    Happened, Host, Image, ItemNo, LoadFault, MenuNo, Message, MethNo, OctetsFault, Panel,
+    PlayFault, ReadFault, Request, Session, SetFault, Side, StartFault, StrNo, Turn, Values,
+    ValuesFault, VarNo, WrongValues, drive, play,
 };
 use std::convert::Infallible;
 
@@ -145,6 +145,62 @@ fn attributes_get_values_of_their_image() {
         image.attribute(transaction, &values),
         Err(ReadFault::NoItem)
     );
+}
+
+/// `encode`, `decode`, `readers` and `writers` of `edd_octets` ask for nothing. With values of another
+/// image, or for what is not there, the library refuses as with attributes.
+#[test]
+fn octets_are_those_of_messages_and_values_of_the_image() {
+    let image = image_of(ASKING);
+    let reply = Message {
+        command: CmdNo(0),
+        position: 0,
+        side: Side::Reply,
+    };
+    let (values, others) = (image.values(), others());
+    let wrong = ReadFault::WrongValues;
+    let refused = OctetsFault::Read(wrong);
+    assert_eq!(image.encode(reply, &others), Err(refused));
+    assert_eq!(image.decode(reply, &others, &[0]), Err(refused));
+    assert_eq!(image.readers(VarNo(0), &others), Err(wrong));
+    assert_eq!(image.writers(VarNo(0), &others), Err(wrong));
+
+    let absent = OctetsFault::Read(ReadFault::NoItem);
+    for (command, position) in [(1, 0), (u16::MAX, 0), (0, 1), (0, u16::MAX)] {
+        let message = Message {
+            command: CmdNo(command),
+            position,
+            ..reply
+        };
+        assert_eq!(image.encode(message, &values), Err(absent));
+        assert_eq!(image.decode(message, &values, &[]), Err(absent));
+    }
+    assert_eq!(image.readers(VarNo(0), &values), Ok(vec![reply]));
+    assert_eq!(image.readers(VarNo(u16::MAX), &values), Ok(Vec::new()));
+    assert_eq!(image.writers(VarNo(0), &values), Ok(Vec::new()));
+}
+
+/// What is decoded is a value that `Values` takes, so that a host can set it.
+#[test]
+fn what_is_decoded_is_in_range() {
+    let image = image_of(ASKING);
+    let reply = Message {
+        command: CmdNo(0),
+        position: 0,
+        side: Side::Reply,
+    };
+    for octet in 0..=u8::MAX {
+        let mut values = image.values();
+        for (variable, value) in image.decode(reply, &values, &[octet]).expect("sets") {
+            values.set(variable, value).expect("a value in range");
+        }
+        assert_eq!(image.encode(reply, &values), Ok(vec![octet]));
+    }
+    for octets in [&[][..], &[1, 2], &[0; 300]] {
+        image
+            .decode(reply, &image.values(), octets)
+            .expect_err("one octet");
+    }
 }
 
 /// Whoever asks for values of a device means numbers that are as many as the variables and in their

@@ -5,6 +5,7 @@ mod edits;
 mod grammar;
 mod image;
 mod library;
+mod octets;
 mod rules;
 mod testing;
 mod text;
@@ -12,12 +13,13 @@ mod values;
 
 use crate::Explanation;
 
-pub(crate) const FAMILIES: [&[Explanation]; 9] = [
+pub(crate) const FAMILIES: [&[Explanation]; 10] = [
     text::TABLE,
     grammar::TABLE,
     rules::TABLE,
     image::TABLE,
     values::TABLE,
+    octets::TABLE,
     devices::TABLE,
     edits::TABLE,
     testing::TABLE,

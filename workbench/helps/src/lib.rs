@@ -39,8 +39,8 @@ pub use rules::{
     Description, Foreign, NameHelp, OtherKinds, OtherType, RuleHelp, Unnamed, explain_breach,
 };
 pub use script::{
-    ScriptHelp, ScriptSlip, Wrong, explain_script, explain_script_line, nearest_method,
-    nearest_variable, script_name_before, script_names,
+    ScriptHelp, ScriptSlip, Wrong, explain_script, explain_script_line, nearest_command,
+    nearest_method, nearest_variable, script_name_before, script_names,
 };
 pub use slips::Slip;
 pub use syntax::{Fitting, SyntaxHelp};

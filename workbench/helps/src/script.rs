@@ -6,7 +6,7 @@ mod reasons;
 mod words;
 
 pub use names::{script_name_before, script_names};
-pub use reasons::{ScriptHelp, ScriptSlip, nearest_method, nearest_variable};
+pub use reasons::{ScriptHelp, ScriptSlip, nearest_command, nearest_method, nearest_variable};
 
 use crate::Finding;
 use crate::core::made;

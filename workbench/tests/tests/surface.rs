@@ -22,6 +22,7 @@ use edd_loader::{Image, LoadFault, Text, load};
 use edd_machine::{Machine, ReadFault, Values, ValuesFault, attribute};
 use edd_methods::{MethodCode, lower_method};
 use edd_names::resolve;
+use edd_octets::{Message, OctetsFault, Side, decode, encode, readers, writers};
 use edd_parser::parse;
 use edd_plain_std::alloc::{AllocError, Global};
 use edd_plain_std::string::String as CoreString;
@@ -33,7 +34,7 @@ use edd_port::{
 use edd_strings::{StringFault, Table, choose, key, split};
 use edd_syntax::answer::Answer;
 use edd_syntax::checked::Checked;
-use edd_syntax::numbers::{Attr, AttrRef, ItemNo, MethNo, StrNo, VarNo};
+use edd_syntax::numbers::{Attr, AttrRef, CmdNo, ItemNo, MethNo, StrNo, VarNo};
 use edd_syntax::resolved::Resolved;
 use edd_syntax::unit::Unit;
 use edd_syntax::words::Words;
@@ -112,6 +113,47 @@ fn calls_on_an_image_have_their_form() {
     let _: fn(&mut Session<'_, '_>, &mut Silent, u64) -> Drive = drive;
     let _: fn(Global, &Image<'_>, MethNo, Values, &[Answer], u64) -> Result<Transcript, PlayFault> =
         play;
+}
+
+type Sets = List<(VarNo, i64)>;
+
+#[test]
+fn calls_on_octets_have_their_form() {
+    let _: fn(Global, &Image<'_>, Message, &Values) -> Result<List<u8>, OctetsFault> = encode;
+    let _: fn(Global, &Image<'_>, Message, &Values, &[u8]) -> Result<Sets, OctetsFault> = decode;
+    let _: fn(Global, &Image<'_>, VarNo, &Values) -> Result<List<Message>, ReadFault> = readers;
+    let _: fn(Global, &Image<'_>, VarNo, &Values) -> Result<List<Message>, ReadFault> = writers;
+}
+
+#[test]
+fn octets_are_made_and_taken_apart() {
+    let bytes = image_of(
+        "VARIABLE p { TYPE INTEGER (2); } VARIABLE m { TYPE UNSIGNED_INTEGER; }
+         COMMAND c { NUMBER 1; OPERATION WRITE; TRANSACTION { REPLY { 9 } REQUEST { m <0xF0>, p } } }",
+    );
+    let image = load(Global, &bytes).unwrap();
+    let request = Message {
+        command: CmdNo(0),
+        position: 0,
+        side: Side::Request,
+    };
+    let values = Values::new(Global, &image, &[-2, 0x13]).unwrap();
+    let octets = encode(Global, &image, request, &values).unwrap();
+    assert_eq!(&*octets, [0x30, 0xFF, 0xFE]);
+    let others = Values::new(Global, &image, &[7, 0x45]).unwrap();
+    let sets = decode(Global, &image, request, &others, &octets).unwrap();
+    assert_eq!(&*sets, [(VarNo(1), 0x43), (VarNo(0), -2)]);
+
+    let reply = Message {
+        side: Side::Reply,
+        ..request
+    };
+    let fault = decode(Global, &image, reply, &values, &[8]).err();
+    assert_eq!(fault, Some(OctetsFault::WrongConstant(0)));
+    let of_m = writers(Global, &image, VarNo(1), &values).unwrap();
+    assert_eq!(&*of_m, [request]);
+    let none = readers(Global, &image, VarNo(1), &values).unwrap();
+    assert!(none.is_empty());
 }
 
 #[test]

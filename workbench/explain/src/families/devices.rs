@@ -40,7 +40,8 @@ them for all seconds together.",
         274,
         "NO_COMMAND",
         "A method sent a command of this number. The instrument has no command with this NUMBER,
-and its device has no method for it either.",
+and its device has no method for it either. Of edd octets: the description has no command with
+this name or NUMBER.",
     )
     .right_where("for send_command(43), in the source of the device", "METHOD command_43_0 { DEFINITION { zero = raw_pressure; } }"),
     Explanation::new(
@@ -49,7 +50,7 @@ and its device has no method for it either.",
         "A method sent a transaction of a command. The instrument's command of the first number has
 no transaction of the second, and its device has no method for it either. send_command(3)
 is send_command_trans(3, 0), and a transaction that is written without a number is that
-of the number 0.",
+of the number 0. Of edd octets: the command has no transaction of this number.",
     ),
     Explanation::new(
         276,

@@ -5,7 +5,7 @@ use crate::sentences::sentences;
 use edd_display::type_word;
 use edd_image::VarKind;
 use edd_loader::Image;
-use edd_syntax::numbers::{ItemNo, MethNo, VarNo};
+use edd_syntax::numbers::{CmdNo, ItemNo, MethNo, VarNo};
 use edd_syntax::types::VarType;
 use std::fmt;
 
@@ -157,9 +157,23 @@ pub fn nearest_variable<'b>(image: &Image<'b>, word: &str) -> Option<&'b str> {
 
 /// The method of an image whose name is like one that no method has.
 pub fn nearest_method<'b>(image: &Image<'b>, name: &str) -> Option<&'b str> {
-    let mut nearest = Nearest::to(name);
     let methods = (0..image.counts().methods).map(|number| ItemNo::Method(MethNo(number)));
-    for name in methods.filter_map(|method| image.name(method)) {
+    nearest_of(image, methods, name)
+}
+
+/// The command of an image whose name is like one that no command has.
+pub fn nearest_command<'b>(image: &Image<'b>, name: &str) -> Option<&'b str> {
+    let commands = (0..image.counts().commands).map(|number| ItemNo::Command(CmdNo(number)));
+    nearest_of(image, commands, name)
+}
+
+fn nearest_of<'b>(
+    image: &Image<'b>,
+    items: impl Iterator<Item = ItemNo>,
+    name: &str,
+) -> Option<&'b str> {
+    let mut nearest = Nearest::to(name);
+    for name in items.filter_map(|item| image.name(item)) {
         nearest.look(name);
     }
     nearest.alone()

@@ -9,7 +9,7 @@ const TITLE: &str = "# What each refusal means
 ";
 
 /// What is on the page before the section of a number.
-const PARTS: [(u32, &str); 10] = [
+const PARTS: [(u32, &str); 11] = [
     (1, "## A text that has no tokens\n"),
     (10, "## A text that the grammar has no tree for\n"),
     (20, "## A description that breaks a rule\n"),
@@ -24,6 +24,14 @@ it again.
     ),
     (150, "## Memory that is refused\n"),
     (201, "## Values, answers and scripts\n"),
+    (
+        220,
+        "## Octets that are not those of a message
+
+[OCTETS](OCTETS.md) says which octets a message has. Of several faults the first of this order is
+said, and nothing is set.
+",
+    ),
     (260, "## A call of the library for C\n"),
     (
         270,

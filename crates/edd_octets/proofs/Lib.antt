@@ -1,0 +1,11 @@
+pub mod MaskLaws
+pub mod PartLaws
+pub mod NumberLaws
+pub mod ReceivedLaws
+pub mod ArrivalLaws
+pub mod FieldLaws
+pub mod SizeLaws
+pub mod MessageLaws
+pub mod Arriving
+pub mod Loops
+pub mod Carrying
