@@ -36,6 +36,7 @@
 //! | load an image, and list what it has | [`Image`] |
 //! | hold device values, and read attributes under them | [`Values`], [`Image::attribute`] |
 //! | make and take the octets of a command's messages | [`Image::encode`], [`Image::decode`] |
+//! | show how the octets of a message are divided | [`Image::message_fields`] |
 //! | find the command that reads or writes a variable | [`Image::readers`], [`Image::writers`] |
 //! | run a method | [`Session`], [`drive`], [`play`] |
 //! | simulate the device | [`Device`] |
@@ -84,7 +85,7 @@ pub use faults::{
 };
 pub use format::format;
 pub use image::{Counts, Identification, Image, Item, compile};
-pub use octets::OctetsFault;
+pub use octets::{Carried, MessageField, MessagePart, OctetsFault};
 pub use opened::Opened;
 pub use panel::{Command, Field, Happened, Line, Panel, Place, WrongValues};
 pub use playing::{Transcript, play};

@@ -2,7 +2,7 @@
 
 use crate::memory::{Global, refused};
 use crate::{Image, ReadFault, Values};
-use edd_octets::Message;
+use edd_octets::{Message, picked, width_of};
 use edd_syntax::numbers::{ItemNo, VarNo};
 use std::fmt;
 
@@ -81,6 +81,68 @@ impl fmt::Display for OctetsFault {
 
 impl std::error::Error for OctetsFault {}
 
+/// A field of a message: octets that stand side by side.
+#[derive(Clone, Debug, PartialEq, Eq)]
+pub struct MessageField {
+    /// How many octets it has.
+    pub width: usize,
+    /// What its octets carry.
+    pub carries: Carried,
+}
+
+/// What the octets of a field carry.
+#[derive(Clone, Debug, PartialEq, Eq)]
+pub enum Carried {
+    /// An octet that is always the same.
+    Constant(u8),
+    /// Bits of variables, in the order of the message.
+    Variables(Vec<MessagePart>),
+}
+
+/// Bits of a variable in the octets of a field.
+#[derive(Clone, Copy, Debug, PartialEq, Eq)]
+pub struct MessagePart {
+    /// The variable.
+    pub variable: VarNo,
+    /// Where its bits are in the number that the octets are. An item without a mask has all bits of
+    /// its variable.
+    pub mask: u32,
+    /// Whether a receiver sets the variable. It drops INFO items.
+    pub is_kept: bool,
+}
+
+impl MessagePart {
+    /// The bits of the variable that come with the number that the octets of the field are. Its bit
+    /// 0 is the bit at the lowest place of the mask.
+    pub fn bits_in(self, number: u32) -> u32 {
+        picked(self.mask, number)
+    }
+}
+
+impl MessageField {
+    fn from_core(field: edd_octets::Field) -> MessageField {
+        let width = width_of(&field);
+        let carries = match field {
+            edd_octets::Field::Constant(octet) => Carried::Constant(octet),
+            edd_octets::Field::Variables(parts) => {
+                let parts = parts.into_real().into_iter();
+                Carried::Variables(parts.map(MessagePart::from_core).collect())
+            }
+        };
+        MessageField { width, carries }
+    }
+}
+
+impl MessagePart {
+    fn from_core(part: edd_octets::Part) -> MessagePart {
+        MessagePart {
+            variable: part.variable,
+            mask: part.mask,
+            is_kept: part.is_kept,
+        }
+    }
+}
+
 impl Image {
     /// The octets of a message under the values of the device that sends it. docs/OCTETS.md has the
     /// rules.
@@ -150,6 +212,52 @@ impl Image {
         self.keeps(values)?;
         match edd_octets::decode(Global, &self.reopen(), message, values.core(), octets) {
             Ok(sets) => Ok(sets.into_real()),
+            Err(fault) => Err(OctetsFault::from_core(fault)),
+        }
+    }
+
+    /// How the octets of a message are divided: its fields, in order. Each constant and each variable
+    /// among the items of the message is one [`Carried::Constant`] or one [`MessagePart`], in their
+    /// order.
+    ///
+    /// # Errors
+    ///
+    /// As of [`Image::encode`].
+    ///
+    /// ```
+    /// use edd::{Carried, CmdNo, Message, MessageField, MessagePart, Side, VarNo};
+    ///
+    /// let image = edd::compile(
+    ///     b"MANUFACTURER 1, DEVICE_TYPE 2, DEVICE_REVISION 3, DD_REVISION 4
+    ///       VARIABLE mode { TYPE UNSIGNED_INTEGER; }
+    ///       VARIABLE range { TYPE UNSIGNED_INTEGER; }
+    ///       COMMAND read { NUMBER 1; OPERATION READ;
+    ///           TRANSACTION { REPLY { 7, mode <0xF0>, range <0x0F> (INFO) } } }",
+    /// )?;
+    /// let reply = Message { command: CmdNo(0), position: 0, side: Side::Reply };
+    /// let mode = MessagePart { variable: VarNo(0), mask: 0xF0, is_kept: true };
+    /// let range = MessagePart { variable: VarNo(1), mask: 0x0F, is_kept: false };
+    /// assert_eq!(
+    ///     image.message_fields(reply, &image.values())?,
+    ///     [
+    ///         MessageField { width: 1, carries: Carried::Constant(7) },
+    ///         MessageField { width: 1, carries: Carried::Variables(vec![mode, range]) },
+    ///     ],
+    /// );
+    /// assert_eq!((mode.bits_in(0x5A), range.bits_in(0x5A)), (5, 10));
+    /// # Ok::<(), Box<dyn std::error::Error>>(())
+    /// ```
+    pub fn message_fields(
+        &self,
+        message: Message,
+        values: &Values,
+    ) -> Result<Vec<MessageField>, OctetsFault> {
+        self.keeps(values)?;
+        match edd_octets::message_fields(Global, &self.reopen(), message, values.core()) {
+            Ok(fields) => {
+                let fields = fields.into_real().into_iter();
+                Ok(fields.map(MessageField::from_core).collect())
+            }
             Err(fault) => Err(OctetsFault::from_core(fault)),
         }
     }
@@ -238,7 +346,6 @@ mod tests {
     }
 
     #[test]
-    #[ignore = "the core prints 280 to 283, which are numbers of a panel's refusals"]
     fn faults_print_as_those_of_the_core() {
         for fault in ALL {
             let printed = OctetsFault::from_core(fault).to_string();

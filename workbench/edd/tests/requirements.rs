@@ -147,8 +147,8 @@ fn attributes_get_values_of_their_image() {
     );
 }
 
-/// `encode`, `decode`, `readers` and `writers` of `edd_octets` ask for nothing. With values of another
-/// image, or for what is not there, the library refuses as with attributes.
+/// `encode`, `decode`, `message_fields`, `readers` and `writers` of `edd_octets` ask for nothing. With
+/// values of another image, or for what is not there, the library refuses as with attributes.
 #[test]
 fn octets_are_those_of_messages_and_values_of_the_image() {
     let image = image_of(ASKING);
@@ -162,6 +162,7 @@ fn octets_are_those_of_messages_and_values_of_the_image() {
     let refused = OctetsFault::Read(wrong);
     assert_eq!(image.encode(reply, &others), Err(refused));
     assert_eq!(image.decode(reply, &others, &[0]), Err(refused));
+    assert_eq!(image.message_fields(reply, &others), Err(refused));
     assert_eq!(image.readers(VarNo(0), &others), Err(wrong));
     assert_eq!(image.writers(VarNo(0), &others), Err(wrong));
 
@@ -174,6 +175,7 @@ fn octets_are_those_of_messages_and_values_of_the_image() {
         };
         assert_eq!(image.encode(message, &values), Err(absent));
         assert_eq!(image.decode(message, &values, &[]), Err(absent));
+        assert_eq!(image.message_fields(message, &values), Err(absent));
     }
     assert_eq!(image.readers(VarNo(0), &values), Ok(vec![reply]));
     assert_eq!(image.readers(VarNo(u16::MAX), &values), Ok(Vec::new()));

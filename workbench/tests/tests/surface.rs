@@ -22,7 +22,10 @@ use edd_loader::{Image, LoadFault, Text, load};
 use edd_machine::{Machine, ReadFault, Values, ValuesFault, attribute};
 use edd_methods::{MethodCode, lower_method};
 use edd_names::resolve;
-use edd_octets::{Message, OctetsFault, Side, decode, encode, readers, writers};
+use edd_octets::{
+    Field, Message, OctetsFault, Part, Side, decode, encode, message_fields, picked, readers,
+    width_of, writers,
+};
 use edd_parser::parse;
 use edd_plain_std::alloc::{AllocError, Global};
 use edd_plain_std::string::String as CoreString;
@@ -123,6 +126,10 @@ fn calls_on_octets_have_their_form() {
     let _: fn(Global, &Image<'_>, Message, &Values, &[u8]) -> Result<Sets, OctetsFault> = decode;
     let _: fn(Global, &Image<'_>, VarNo, &Values) -> Result<List<Message>, ReadFault> = readers;
     let _: fn(Global, &Image<'_>, VarNo, &Values) -> Result<List<Message>, ReadFault> = writers;
+    let _: fn(Global, &Image<'_>, Message, &Values) -> Result<List<Field>, OctetsFault> =
+        message_fields;
+    let _: fn(&Field) -> usize = width_of;
+    let _: fn(u32, u32) -> u32 = picked;
 }
 
 #[test]
@@ -140,6 +147,16 @@ fn octets_are_made_and_taken_apart() {
     let values = Values::new(Global, &image, &[-2, 0x13]).unwrap();
     let octets = encode(Global, &image, request, &values).unwrap();
     assert_eq!(&*octets, [0x30, 0xFF, 0xFE]);
+    let fields = message_fields(Global, &image, request, &values).unwrap();
+    let widths: Vec<usize> = fields.iter().map(width_of).collect();
+    assert_eq!(widths, [1, 2]);
+    let m = Part {
+        variable: VarNo(1),
+        mask: 0xF0,
+        is_kept: true,
+    };
+    assert!(matches!(&*fields, [Field::Variables(parts), _] if **parts == [m]));
+    assert_eq!(picked(0xF0, 0x30), 3);
     let others = Values::new(Global, &image, &[7, 0x45]).unwrap();
     let sets = decode(Global, &image, request, &others, &octets).unwrap();
     assert_eq!(&*sets, [(VarNo(1), 0x43), (VarNo(0), -2)]);

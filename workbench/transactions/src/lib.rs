@@ -24,7 +24,7 @@
 //! ```
 
 mod fault;
-mod fields;
+mod items;
 mod lines;
 mod octets;
 mod transaction;
