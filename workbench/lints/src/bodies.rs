@@ -1,24 +1,31 @@
 //! The bodies of methods.
 
 mod aborts;
+mod answers;
 mod cases;
 mod choices;
+mod elements;
 pub(crate) mod flow;
 mod layout;
 mod locals;
 pub(crate) mod loops;
+mod sends;
 mod statements;
 mod stores;
+mod turns;
 mod waits;
 
 use crate::context::Context;
 use crate::expressions::walk::Walk;
 use crate::kind::MethodKind;
+use crate::labels::Labels;
 use crate::settled::check_body;
 use crate::source::{TokenIndex, index};
 use crate::warning::Findings;
 use aborts::check_abort_methods;
+use answers::check_answers;
 use choices::check_choices;
+use elements::check_elements;
 use edd_instructions::Sort;
 use edd_syntax::expr::Expr;
 use edd_syntax::item::{Attribute, Item};
@@ -27,6 +34,7 @@ use edd_syntax::operators::Builtin;
 use edd_syntax::reference::Target;
 use edd_syntax::stmt::{Part, Stmt};
 use locals::check_locals;
+use sends::check_sends;
 use statements::check_parts;
 
 /// How many abort methods there may be.
@@ -54,6 +62,7 @@ fn check_added(parts: &[Part<Target>], findings: &mut Findings<'_>) {
 pub(crate) fn check_method<'d>(
     method: &Item<Target>,
     own: Option<ItemNo>,
+    labels: &Labels,
     context: &Context<'d>,
     findings: &mut Findings<'d>,
 ) {
@@ -66,6 +75,9 @@ pub(crate) fn check_method<'d>(
             check_added(parts, findings);
             check_abort_methods(own, parts, context, findings);
             check_choices(parts, context, findings);
+            check_answers(parts, context, findings);
+            check_sends(parts, context, findings);
+            check_elements(parts, labels, context, findings);
             check_body(parts, context, findings);
         }
     }

@@ -3,17 +3,24 @@
 use crate::abort_methods::check_abort_methods;
 use crate::bodies::check_method;
 use crate::branches::check_branches;
+use crate::claims::check_claims;
 use crate::classes::check_classes;
 use crate::commands::check_command;
 use crate::conditions::check_conditionals_of;
 use crate::context::Context;
+use crate::echoes::check_echoes;
 use crate::entries::check_entries;
+use crate::exchanged::check_exchanged;
 use crate::gaps::check_gaps;
 use crate::instrument::Instrument;
+use crate::labels::Labels;
 use crate::levels::Levels;
 use crate::limits::{check_circular, check_limits_under_conditions};
 use crate::listings::check_listings;
+use crate::lockouts::check_lockouts;
 use crate::menus::check_menus;
+use crate::names::{Names, check_names};
+use crate::offers::check_offers;
 use crate::places::Places;
 use crate::remarks::Remarks;
 use crate::repeats::{Numbered, Numbers};
@@ -23,6 +30,7 @@ use crate::texts::check_texts;
 use crate::traffic::{check_carried, check_traffic};
 use crate::traits::{check_label, check_traits};
 use crate::types::check_type;
+use crate::units::{check_limit_units, check_named_units};
 use crate::unused::check_uses;
 use crate::usage::Usage;
 use crate::warning::{Findings, Warning};
@@ -43,6 +51,8 @@ fn check_items<'d>(context: &Context<'d>, findings: &mut Findings<'d>) {
     let mut commands = Numbers::new(Numbered::Command);
     let mut methods = 0u16..;
     let usage = Usage::of(context.instrument.items);
+    let names = Names::of(context);
+    let labels = Labels::of(context);
     for item in context.instrument.items {
         check_conditionals_of(item, context, findings);
         check_branches(item, context, findings);
@@ -52,6 +62,10 @@ fn check_items<'d>(context: &Context<'d>, findings: &mut Findings<'d>) {
                     check_type(variable, context, findings);
                     check_limits_under_conditions(variable, context, findings);
                     check_traits(variable, context, findings);
+                    check_named_units(variable, findings);
+                    check_limit_units(variable, context, findings);
+                    check_claims(variable, findings);
+                    check_offers(&usage, variable, context, findings);
                 }
             }
             ItemKind::Command => {
@@ -60,7 +74,7 @@ fn check_items<'d>(context: &Context<'d>, findings: &mut Findings<'d>) {
             }
             ItemKind::Method => {
                 let own = methods.next().map(|number| ItemNo::Method(MethNo(number)));
-                check_method(item, own, context, findings);
+                check_method(item, own, &labels, context, findings);
             }
             ItemKind::Menu | ItemKind::Collection(_) | ItemKind::Array => {}
         }
@@ -71,7 +85,11 @@ fn check_items<'d>(context: &Context<'d>, findings: &mut Findings<'d>) {
             check_label(attribute, findings);
         }
         check_attributes(item, context, findings);
+        check_names(item, &names, context, findings);
+        check_exchanged(item, context, findings);
     }
+    check_echoes(context, findings);
+    check_lockouts(&usage, context, findings);
     check_carried(&usage, context, findings);
     check_circular(context, findings);
 }

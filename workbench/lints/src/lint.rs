@@ -39,6 +39,12 @@ lints! {
     UnreadableDynamic
     WideFormat
     UnreadDynamic
+    ConditionalDefault
+    UnreachableEnumerator
+    ContradictingUnit
+    ContradictingRange
+    ContradictingName
+    LockedOut
     RepeatedCommandNumber
     RepeatedResponseCode
     RepeatedTransactionNumber
@@ -52,6 +58,9 @@ lints! {
     AmbiguousTransaction
     FailingZero
     EmptyResponseCodes
+    NarrowMask
+    RepeatedResponseText
+    UnevenEcho
     TrappingExpression
     ConstantCondition
     RepeatedCase
@@ -72,6 +81,10 @@ lints! {
     DoubleSign
     UnnamedBits
     UntestedIndex
+    MixedUnits
+    ExchangedText
+    UnenterableCase
+    UntestedDivisor
     CyclicMenu
     EmptyMenu
     RepeatedEntry
@@ -87,6 +100,7 @@ lints! {
     RepeatedMember
     EmptyList
     EmptyMethod
+    UnreadableValue
     StrayBar
     MissingLanguage
     RepeatedLanguage
@@ -101,6 +115,9 @@ lints! {
     UntranslatedText
     BracedItem
     EscapedEscape
+    UnevenNumbers
+    EscapedPath
+    SwallowedCode
     CommaChoices
     EmptyChoice
     RepeatedChoice
@@ -132,6 +149,12 @@ lints! {
     EmptySwitch
     MisleadingIndentation
     DanglingElse
+    LostValue
+    EarlySave
+    LateCopy
+    StoredElement
+    OtherQuestion
+    ExchangedBranches
     UnreachableStatement
     EndlessLoop
     DeadLoop
@@ -147,6 +170,7 @@ lints! {
     CountedTwice
     SkippedLimit
     LoopLeavesArray
+    MissedEnd
     OwnAbortMethod
     RepeatedAbortMethod
     LateAbortMethod

@@ -2,6 +2,7 @@
 
 mod codes;
 mod comments;
+mod contents;
 mod languages;
 mod signs;
 mod spoken;
@@ -12,6 +13,7 @@ pub(crate) mod variants;
 use crate::context::Context;
 use crate::warning::Findings;
 use comments::check_comments;
+use contents::check_contents;
 use languages::check_languages;
 use signs::check_signs;
 use spoken::spoken_in;
@@ -22,6 +24,7 @@ pub(crate) fn check_texts(context: &Context<'_>, findings: &mut Findings<'_>) {
     let texts = spoken_in(context.source);
     check_languages(&texts, findings);
     check_signs(&texts, findings);
+    check_contents(&texts, findings);
     check_translations(&texts, findings);
     check_insides(&texts, context, findings);
     check_comments(context.source, findings);

@@ -40,7 +40,8 @@ pub(crate) fn quoted(text: &Text) -> Option<&str> {
     }
 }
 
-fn is_spare(text: &str) -> bool {
+/// Whether a text says that what it is for is not used.
+pub(crate) fn is_spare(text: &str) -> bool {
     let text = text.to_lowercase();
     SPARE.iter().any(|word| text.contains(word))
 }

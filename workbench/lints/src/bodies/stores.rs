@@ -1,5 +1,6 @@
 //! Values that are replaced before anything reads them.
 
+use crate::branches::are_alike;
 use crate::expressions::calls::target_of_argument;
 use crate::expressions::operands::referred;
 use crate::expressions::stores::is_itself;
@@ -13,7 +14,7 @@ use edd_syntax::expr::{Argument, Expr};
 use edd_syntax::operators::{Builtin, RequestKind};
 use edd_syntax::reference::Target;
 use edd_syntax::stmt::{Part, Stmt};
-use std::collections::BTreeMap;
+use std::collections::{BTreeMap, BTreeSet};
 
 /// What was stored by the statements before, and not read since, with the places of the stores.
 #[derive(Default)]
@@ -143,14 +144,130 @@ pub(super) fn has_call(e: &Expr<Target>) -> bool {
     matches!(e, Expr::Call { .. }) || children(e).any(has_call)
 }
 
+// Whether a local gets the code of a command.
+fn is_code(to: Target, value: &Expr<Target>) -> bool {
+    let is_command = matches!(
+        value,
+        Expr::Call {
+            function: Target::Function(Builtin::Ask(
+                RequestKind::SendCommand | RequestKind::SendCommandTrans
+            )),
+            ..
+        }
+    );
+    is_command && matches!(to, Target::Local(_))
+}
+
+// Whether a statement is the same as the one before it, as where a command is sent again.
+fn sends_again(e: &Expr<Target>, before: Option<&Expr<Target>>, walk: &Walk<'_, '_>) -> bool {
+    let extent = |e| walk.context.places.expression(e).extent;
+    let is_same = |one| are_alike(extent(one), extent(e), walk.context.source);
+    has_call(e) && before.is_some_and(is_same)
+}
+
+/// What a branch does with places before it does anything else with them.
+#[derive(Default)]
+struct First {
+    reads: BTreeSet<Storage>,
+    sets: BTreeSet<Storage>,
+    /// Whether it may read all variables.
+    reads_all: bool,
+}
+
+impl First {
+    fn of(s: &Stmt<Target>) -> First {
+        let mut first = First::default();
+        first.add(s);
+        first
+    }
+
+    // Only what is surely done is followed; what else may read anything.
+    fn add(&mut self, s: &Stmt<Target>) {
+        match s {
+            Stmt::Evaluate(e) => self.add_expression(e),
+            Stmt::Block(parts) => {
+                for part in parts {
+                    match part {
+                        Part::Statement(s) if !self.reads_all => self.add(s),
+                        _ => self.reads_all = true,
+                    }
+                }
+            }
+            Stmt::IfElse(condition, one, other) => {
+                self.read(condition);
+                let (one, other) = (First::of(one), First::of(other));
+                let reads = one.reads.union(&other.reads);
+                self.reads.extend(reads.filter(|place| !self.sets.contains(place)).copied());
+                let sets = one.sets.intersection(&other.sets);
+                self.sets.extend(sets.filter(|place| !self.reads.contains(place)).copied());
+                self.reads_all |= one.reads_all || other.reads_all;
+            }
+            Stmt::Empty => {}
+            _ => self.reads_all = true,
+        }
+    }
+
+    fn add_expression(&mut self, e: &Expr<Target>) {
+        let Expr::Assign(to, value) = e else {
+            return self.read(e);
+        };
+        self.read(value);
+        if let Some(place) = storage_of(*to).filter(|place| !self.reads.contains(place))
+            && !self.reads_all
+        {
+            self.sets.insert(place);
+        }
+    }
+
+    fn read(&mut self, e: &Expr<Target>) {
+        match e {
+            Expr::Reference(target)
+            | Expr::Increment(_, target)
+            | Expr::CompoundAssign(_, target, _) => {
+                let place = storage_of(*target).filter(|place| !self.sets.contains(place));
+                self.reads.extend(place);
+            }
+            Expr::Indexed(..) | Expr::Call { .. } | Expr::Assign(..) => self.reads_all = true,
+            _ => {}
+        }
+        for inner in children(e) {
+            self.read(inner);
+        }
+    }
+}
+
+// The stores that both branches of an `if` replace before they read them.
+fn check_branches(part: &Part<Target>, pending: &Pending<'_>, walk: &mut Walk<'_, '_>) {
+    let Part::Statement(s @ Stmt::IfElse(..)) = part else {
+        return;
+    };
+    if pending.stores.is_empty() {
+        return;
+    }
+    let first = First::of(s);
+    for (place, stored) in &pending.stores {
+        let kind = match stored {
+            Stored::Value(_) => MethodKind::DeadStore,
+            Stored::Entry(..) => MethodKind::ReplacedEntry,
+        };
+        let (Stored::Value(at) | Stored::Entry(at, _)) = stored;
+        if first.sets.contains(place) && !first.reads.contains(place) {
+            walk.findings.add(*at, kind);
+        }
+    }
+}
+
 /// Checks the stores of a block, one after the other.
 pub(super) fn check_stores(parts: &[Part<Target>], walk: &mut Walk<'_, '_>) {
     let mut pending = Pending::default();
+    let mut last: Option<&Expr<Target>> = None;
     for part in parts {
         let Part::Statement(Stmt::Evaluate(e)) = part else {
+            check_branches(part, &pending, walk);
             pending = Pending::default();
             continue;
         };
+        let before = last.replace(e);
         pending.change(e);
         let at = walk.context.places.sign(e);
         let Expr::Assign(to, value) = e else {
@@ -167,9 +284,10 @@ pub(super) fn check_stores(parts: &[Part<Target>], walk: &mut Walk<'_, '_>) {
             walk.findings.add(at, MethodKind::CopiedBack);
         }
         match pending.store(*to, Stored::Value(at)) {
-            Some(Stored::Value(earlier)) => {
+            Some(Stored::Value(earlier)) if !sends_again(e, before, walk) => {
                 walk.findings.add_beside(earlier, MethodKind::DeadStore, at);
             }
+            Some(Stored::Value(_)) => {}
             Some(Stored::Entry(earlier, _)) => {
                 walk.findings
                     .add_beside(earlier, MethodKind::ReplacedEntry, at);
@@ -177,7 +295,7 @@ pub(super) fn check_stores(parts: &[Part<Target>], walk: &mut Walk<'_, '_>) {
             None => {}
         }
         // A place that is set to itself has a warning of its own, and 0 is where many begin.
-        if has_call(value) || is_itself(*to, value) || matches!(**value, Expr::Literal(0)) {
+        if (has_call(value) && !is_code(*to, value)) || is_itself(*to, value) || matches!(**value, Expr::Literal(0)) {
             pending.forget(*to);
         }
         pending.enter(value, at);

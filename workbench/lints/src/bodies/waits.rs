@@ -19,11 +19,11 @@ use edd_syntax::stmt::{Part, Stmt};
 
 /// What the nodes of a loop do.
 #[derive(Default)]
-struct Doings {
+pub(super) struct Doings {
     reads: Vec<Target>,
-    sets: Vec<Target>,
+    pub(super) sets: Vec<Target>,
     /// Whether a `break`, a `return` or an abort may end it.
-    ends: bool,
+    pub(super) ends: bool,
     asks: bool,
     /// Whether a request may give variables other values.
     refreshes: bool,
@@ -70,10 +70,21 @@ impl<'t> Visitor<'t> for Doings {
 }
 
 impl Doings {
-    fn of(s: &Stmt<Target>) -> Doings {
+    pub(super) fn of(s: &Stmt<Target>) -> Doings {
         let mut doings = Doings::default();
         visit_statement(s, &mut doings);
         doings
+    }
+
+    pub(super) fn of_expression(e: &Expr<Target>) -> Doings {
+        let mut doings = Doings::default();
+        visit_expression(e, Sort::Method, &mut doings);
+        doings
+    }
+
+    /// Whether something is set, asked for or ended.
+    pub(super) fn acts(&self) -> bool {
+        self.ends || self.asks || !self.sets.is_empty()
     }
 }
 
@@ -216,6 +227,15 @@ pub(super) fn check_counting(
     }
     if !Doings::of(body).ends {
         visit_statement(body, &mut Shared { counted, walk });
+    } else if let Stmt::Block(parts) = body {
+        // What leaves the loop does not help where the inner one always counts to its end.
+        for part in parts {
+            if let Part::Statement(s @ Stmt::For { body: inner, .. }) = part
+                && !Doings::of(inner).ends
+            {
+                Shared { counted, walk }.statement(s);
+            }
+        }
     }
     if step == 0 {
         return walk.findings.add(at, MethodKind::CountsByZero);

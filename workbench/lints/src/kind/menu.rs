@@ -39,6 +39,8 @@ kinds! {
             "{qualifier} is there already"
         HiddenQualifiers HiddenQualifier
             "this entry is HIDDEN, so its other qualifiers do nothing"
+        UnreadableEntry(item: String) UnreadableValue
+            "the HANDLING of {item} is WRITE: there is no value to show"
         RepeatedMember(item: String) RepeatedMember
             "{item} is in this list already"
         EmptyList(item: String) EmptyList

@@ -134,6 +134,32 @@ kinds! {
             "nothing comes behind this that could abort"
         LoopedAbortMethod LoopedAbortMethod
             "this adds the abort method again in each turn"
+        ExchangedNumbers(command: i64, transaction: i64) MissingCommand
+            "no command has the number {transaction}: the transaction {transaction} of the command {command} is meant"
+        EveryChoice MissingChoice
+            "this holds for each of the choices"
+        LostEntry(variable: String) LostValue
+            "the reply replaces what was entered for {variable}, and nothing has sent it"
+        LostStore(variable: String) LostValue
+            "the reply replaces what was stored in {variable}, and nothing has sent it"
+        EarlySave EarlySave
+            "this saves before the values are changed"
+        LateCopy(local: String, variable: String) LateCopy
+            "{local} keeps what {variable} was just set to, and not what it was before"
+        OpensSame EndlessLoop
+            "this begins the same turn again: nothing has changed before it"
+        MissedEnd(counter: String, number: i64) MissedEnd
+            "where its condition ends this loop {counter} is {number}"
+        StoredElement StoredElement
+            "this keeps an element where the number of an element is meant"
+        StoredNumber StoredElement
+            "this keeps the number of an element where the element is meant"
+        OtherQuestion(asked: String, set: String) OtherQuestion
+            "this asks for {asked} and sets {set}"
+        FailsOnSuccess ExchangedBranches
+            "this is done where the command has succeeded: 0 is the code of what went well"
+        SucceedsOnFailure ExchangedBranches
+            "this is said where the command has failed: 0 is the code of what went well"
         HidingLocals(local: String) HidingLocal
             "this local hides the local {local} around it"
     }

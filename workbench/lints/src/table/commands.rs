@@ -149,4 +149,46 @@ COMMAND c { NUMBER 1; OPERATION WRITE; TRANSACTION { REQUEST { a (INFO) } } }",
         counterexample: "COMMAND c { NUMBER 1; OPERATION READ; TRANSACTION { } }",
         notes: "",
     },
+    Row {
+        lint: Lint::NarrowMask,
+        name: "narrow-mask",
+        level: Level::Warn,
+        summary: "a mask with too few bits for the enumerators of its variable",
+        details: "a mask of an ENUMERATED variable that has fewer bits than its enumerators need, all masks of the variable in the list together.",
+        example: r#"VARIABLE e { TYPE ENUMERATED { { 0, "off" } { 1, "on" } { 3, "hold" } } }
+COMMAND c { NUMBER 1; OPERATION READ; TRANSACTION { REPLY { e <0x80> } } }"#,
+        counterexample: r#"VARIABLE e { TYPE ENUMERATED { { 0, "off" } { 1, "on" } { 3, "hold" } } }
+COMMAND c { NUMBER 1; OPERATION READ; TRANSACTION { REPLY { e <0xC0> } } }"#,
+        notes: "",
+    },
+    Row {
+        lint: Lint::RepeatedResponseText,
+        name: "repeated-response-text",
+        level: Level::Warn,
+        summary: "two response codes of a command with one class and one text",
+        details: "two response codes of one command with the same class and the same text: another one was copied. Texts such as `Reserved` may be there again.",
+        example: r#"COMMAND c { NUMBER 1; OPERATION READ; TRANSACTION { } RESPONSE_CODES { 3, DATA_ENTRY_ERROR, "Too large"; 4, DATA_ENTRY_ERROR, "Too large" } }"#,
+        counterexample: r#"COMMAND c { NUMBER 1; OPERATION READ; TRANSACTION { } RESPONSE_CODES { 3, DATA_ENTRY_ERROR, "Too large"; 4, DATA_ENTRY_ERROR, "Too small" } }"#,
+        notes: "",
+    },
+    Row {
+        lint: Lint::UnevenEcho,
+        name: "uneven-echo",
+        level: Level::Warn,
+        summary: "a reply that repeats something else than its request has, where all others repeat that",
+        details: "the one transaction of a command whose REPLY begins with the constant of another one's REQUEST, where two at least begin with that of their own; and the one transaction of all WRITE commands whose REPLY has other variables than its REQUEST, where two at least have the same.",
+        example: "VARIABLE a { TYPE INTEGER; }
+COMMAND c { NUMBER 1; OPERATION READ;
+    TRANSACTION 0 { REQUEST { 0 } REPLY { 0, a } }
+    TRANSACTION 1 { REQUEST { 1 } REPLY { 0, a } }
+    TRANSACTION 2 { REQUEST { 2 } REPLY { 2, a } }
+}",
+        counterexample: "VARIABLE a { TYPE INTEGER; }
+COMMAND c { NUMBER 1; OPERATION READ;
+    TRANSACTION 0 { REQUEST { 0 } REPLY { 0, a } }
+    TRANSACTION 1 { REQUEST { 1 } REPLY { 1, a } }
+    TRANSACTION 2 { REQUEST { 2 } REPLY { 2, a } }
+}",
+        notes: "",
+    },
 ];

@@ -247,4 +247,52 @@ VARIABLE v { TYPE INTEGER { MAX_VALUE r[c]; } }
 ARRAY OF VARIABLE r { ELEMENTS { 1, c; } }",
         notes: "Of a variable without enumerators and without both limits nothing is known.",
     },
+    Row {
+        lint: Lint::MixedUnits,
+        name: "mixed-units",
+        level: Level::Warn,
+        summary: "values of two units that are compared, added, stored or limits of each other",
+        details: "two variables whose CONSTANT_UNIT are two known units and that are compared, added or stored in each other, or one of which is a limit of the other one, as they are: nothing converts them.",
+        example: r#"VARIABLE a { CONSTANT_UNIT "m"; TYPE INTEGER; }
+VARIABLE b { CONSTANT_UNIT "mm"; TYPE INTEGER (2) { MAX_VALUE a; } }"#,
+        counterexample: r#"VARIABLE a { CONSTANT_UNIT "m"; TYPE INTEGER; }
+VARIABLE b { CONSTANT_UNIT "mm"; TYPE INTEGER (2) { MAX_VALUE a * 1000; } }"#,
+        notes: "",
+    },
+    Row {
+        lint: Lint::ExchangedText,
+        name: "exchanged-text",
+        level: Level::Warn,
+        summary: "a CASE with the text of another enumerator",
+        details: "a CASE of a SELECT over a variable of enumerators whose text is that of another enumerator.",
+        example: r#"VARIABLE e { TYPE ENUMERATED { { 0, "bar" } { 1, "mbar" } } }
+VARIABLE v { CONSTANT_UNIT SELECT (e) { CASE 0: "bar"; CASE 1: "bar"; } TYPE INTEGER; }"#,
+        counterexample: r#"VARIABLE e { TYPE ENUMERATED { { 0, "bar" } { 1, "mbar" } } }
+VARIABLE v { CONSTANT_UNIT SELECT (e) { CASE 0: "bar"; CASE 1: "mbar"; } TYPE INTEGER; }"#,
+        notes: "",
+    },
+    Row {
+        lint: Lint::UnenterableCase,
+        name: "unenterable-case",
+        level: Level::Warn,
+        summary: "cases over a variable that its limits shift",
+        details: "a label of a SELECT or `switch` without a default, over a variable that can be entered, that is outside of its constant limits, where a number within them has no case: they are counted from another number.",
+        example: r#"VARIABLE c { TYPE INTEGER { MIN_VALUE 1; MAX_VALUE 2; } }
+VARIABLE v { HELP SELECT (c) { CASE 0: "left"; CASE 1: "right"; } TYPE INTEGER; }"#,
+        counterexample: r#"VARIABLE c { TYPE INTEGER { MIN_VALUE 1; MAX_VALUE 2; } }
+VARIABLE v { HELP SELECT (c) { CASE 1: "left"; CASE 2: "right"; } TYPE INTEGER; }"#,
+        notes: "",
+    },
+    Row {
+        lint: Lint::UntestedDivisor,
+        name: "untested-divisor",
+        level: Level::Warn,
+        summary: "a computed divisor that is 0 for what its variable may be set to",
+        details: "a divisor that is computed from one variable, or is one of enumerators, and that is 0 for an enumerator of it or for a number within its constant limits, where no condition tests the variable. So it is of a number of bits by which something can't be shifted.",
+        example: "VARIABLE c { TYPE INTEGER { MIN_VALUE 1; MAX_VALUE 2; } }
+VARIABLE v { TYPE INTEGER { MAX_VALUE 100 / (c - 1); } }",
+        counterexample: "VARIABLE c { TYPE INTEGER { MIN_VALUE 1; MAX_VALUE 2; } }
+VARIABLE v { TYPE INTEGER { MAX_VALUE 100 / (c + 1); } }",
+        notes: "",
+    },
 ];

@@ -201,4 +201,16 @@ MENU m { ITEMS { c } }",
         counterexample: r#"METHOD m { LABEL "Reset"; DEFINITION { /* not yet */ } }"#,
         notes: "",
     },
+    Row {
+        lint: Lint::UnreadableValue,
+        name: "unreadable-value",
+        level: Level::Warn,
+        summary: "a value that is shown or read though its HANDLING is WRITE",
+        details: "an entry with DISPLAY_VALUE or READ_ONLY of a variable with HANDLING WRITE, under no condition, and such a variable in the REPLY of a READ command: nobody may read it.",
+        example: r#"VARIABLE a { LABEL "Key"; HANDLING WRITE; TYPE INTEGER; }
+MENU m { ITEMS { a (DISPLAY_VALUE) } }"#,
+        counterexample: r#"VARIABLE a { LABEL "Key"; HANDLING WRITE; TYPE INTEGER; }
+MENU m { ITEMS { a } }"#,
+        notes: "",
+    },
 ];

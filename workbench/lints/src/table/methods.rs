@@ -310,4 +310,82 @@ METHOD m { DEFINITION {
 } }",
         notes: "",
     },
+    Row {
+        lint: Lint::LostValue,
+        name: "lost-value",
+        level: Level::Warn,
+        summary: "a value that a reply replaces before a command has sent it",
+        details: "what is entered for a variable or stored in it, where the next command that has to do with it sends something else and gets it in its REPLY.",
+        example: r#"VARIABLE a { TYPE INTEGER; }
+COMMAND c { NUMBER 130; OPERATION WRITE; TRANSACTION 0 { REQUEST { 0, a } REPLY { a } } TRANSACTION 1 { REQUEST { 1 } REPLY { a } } }
+METHOD m { DEFINITION { GET_DEV_VAR_VALUE("Limit?", a); send_command_trans(130, 1); } }"#,
+        counterexample: r#"VARIABLE a { TYPE INTEGER; }
+COMMAND c { NUMBER 130; OPERATION WRITE; TRANSACTION 0 { REQUEST { 0, a } REPLY { a } } TRANSACTION 1 { REQUEST { 1 } REPLY { a } } }
+METHOD m { DEFINITION { GET_DEV_VAR_VALUE("Limit?", a); send_command_trans(130, 0); } }"#,
+        notes: "",
+    },
+    Row {
+        lint: Lint::EarlySave,
+        name: "early-save",
+        level: Level::Warn,
+        summary: "a save_values before the values are changed",
+        details: "the last save_values of a body, behind which variables are set and nothing is sent or saved any more.",
+        example: "VARIABLE a { TYPE INTEGER; }
+METHOD m { DEFINITION { save_values(); a = 5; } }",
+        counterexample: "VARIABLE a { TYPE INTEGER; }
+METHOD m { DEFINITION { a = 5; save_values(); } }",
+        notes: "",
+    },
+    Row {
+        lint: Lint::LateCopy,
+        name: "late-copy",
+        level: Level::Warn,
+        summary: "a copy of a variable that was just set to a constant, and is stored back",
+        details: "a local that keeps a variable right after that was set to a constant, and is stored back in it: what the variable was before is lost.",
+        example: "VARIABLE a { TYPE INTEGER; }
+METHOD m { DEFINITION { int before; a = 3; before = a; send_command(1); a = before; send_command(1); } }",
+        counterexample: "VARIABLE a { TYPE INTEGER; }
+METHOD m { DEFINITION { int before; before = a; a = 3; send_command(1); a = before; send_command(1); } }",
+        notes: "",
+    },
+    Row {
+        lint: Lint::StoredElement,
+        name: "stored-element",
+        level: Level::Warn,
+        summary: "an element that is kept where its number is meant, or a number where an element is",
+        details: "an element of an array that is stored in what is an index of that array in the same method; and the index of an element that is stored in what the element was compared with.",
+        example: "VARIABLE a { TYPE INTEGER; }
+VARIABLE c { TYPE INTEGER; }
+ARRAY OF VARIABLE r { ELEMENTS { 1, a; 2, c; } }
+METHOD m { DEFINITION { int i, best = 1; for (i = 1; i <= 2; i++) if (r[i] > r[best]) best = r[i]; c = best; } }",
+        counterexample: "VARIABLE a { TYPE INTEGER; }
+VARIABLE c { TYPE INTEGER; }
+ARRAY OF VARIABLE r { ELEMENTS { 1, a; 2, c; } }
+METHOD m { DEFINITION { int i, best = 1; for (i = 1; i <= 2; i++) if (r[i] > r[best]) best = i; c = best; } }",
+        notes: "",
+    },
+    Row {
+        lint: Lint::OtherQuestion,
+        name: "other-question",
+        level: Level::Warn,
+        summary: "a question for another variable than the one that it sets",
+        details: "a GET_DEV_VAR_VALUE whose question has the LABEL of another variable, which can be entered as well, and no word of the LABEL or the name of its own.",
+        example: r#"VARIABLE a { LABEL "Limit"; TYPE INTEGER; }
+VARIABLE c { LABEL "Channel"; TYPE INTEGER; }
+METHOD m { DEFINITION { GET_DEV_VAR_VALUE("Which channel?", a); send_command(c); } }"#,
+        counterexample: r#"VARIABLE a { LABEL "Limit"; TYPE INTEGER; }
+VARIABLE c { LABEL "Channel"; TYPE INTEGER; }
+METHOD m { DEFINITION { GET_DEV_VAR_VALUE("Which channel?", c); send_command(a); } }"#,
+        notes: "",
+    },
+    Row {
+        lint: Lint::ExchangedBranches,
+        name: "exchanged-branches",
+        level: Level::Warn,
+        summary: "what is said or done of a command where the opposite has come about",
+        details: "an abort alone, or a message that something has failed, where the answer of a command is 0, and a message that it has succeeded where it is not: 0 is the code of what went well.",
+        example: r#"METHOD m { DEFINITION { if (send_command(1)) PUT_MESSAGE("The limit is written"); else PUT_MESSAGE("The device has refused"); } }"#,
+        counterexample: r#"METHOD m { DEFINITION { if (send_command(1) == 0) PUT_MESSAGE("The limit is written"); else PUT_MESSAGE("The device has refused"); } }"#,
+        notes: "",
+    },
 ];

@@ -193,4 +193,42 @@ METHOD m { DEFINITION { PUT_MESSAGE("Level {mm}"); } }"#,
         counterexample: "VARIABLE a { TYPE INTEGER; } // edd: allow unused-item, as it is for later",
         notes: "`edd: allow unknown-lint` on the line before allows it.",
     },
+    Row {
+        lint: Lint::UnevenNumbers,
+        name: "uneven-numbers",
+        level: Level::Warn,
+        summary: "a text with other numbers in one language than in another",
+        details: "a text that has as many numbers in one language as in another, and not the same ones. Texts with units that one language converts are left alone.",
+        example: r#"MENU a { LABEL "|en|Input 2|de|Eingang 1"; ITEMS { "x" } }"#,
+        counterexample: r#"MENU a { LABEL "|en|Input 2|de|Eingang 2"; ITEMS { "x" } }"#,
+        notes: "",
+    },
+    Row {
+        lint: Lint::EscapedPath,
+        name: "escaped-path",
+        level: Level::Warn,
+        summary: "`\\n` or `\\t` where a path has a backslash",
+        details: "`\\n` or `\\t` in a word that two languages have alike, that begins with a drive, or that has the ending of a file: a path is cut there.",
+        example: r#"MENU a { LABEL "|en|See doc\notes|de|Siehe doc\notes"; ITEMS { "x" } }"#,
+        counterexample: r#"MENU a { LABEL "|en|See doc\\notes|de|Siehe doc\\notes"; ITEMS { "x" } }"#,
+        notes: "",
+    },
+    Row {
+        lint: Lint::SwallowedCode,
+        name: "swallowed-code",
+        level: Level::Warn,
+        summary: "a comment in which another one begins behind some code",
+        details: "a comment in which another one begins, where a line before that ends as code does: it was not closed, and what stands there is left out.",
+        example: "METHOD m { DEFINITION { /* read first
+    send_command(1);
+    /* then save */
+    save_values();
+} }",
+        counterexample: "METHOD m { DEFINITION { /* read first */
+    send_command(1);
+    /* then save */
+    save_values();
+} }",
+        notes: "",
+    },
 ];

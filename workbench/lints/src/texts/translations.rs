@@ -6,6 +6,7 @@ use super::spoken::Spoken;
 use super::variants::{Variant, Variants};
 use crate::context::Context;
 use crate::kind::TextKind;
+use crate::units::Unit;
 use crate::warning::Findings;
 use edd_syntax::symbols::Keyword;
 
@@ -50,6 +51,10 @@ const SHARED: [&str; 29] = [
 
 // Whether a text has a word of some letters, and not only a unit, a number or an abbreviation.
 fn has_word(words: &[u8]) -> bool {
+    let is_unit = str::from_utf8(words).is_ok_and(|words| Unit::of(words.trim()).is_some());
+    if is_unit {
+        return false;
+    }
     let mut runs = words.split(|byte| !byte.is_ascii_alphabetic());
     runs.any(|run| {
         let small = run.iter().filter(|byte| byte.is_ascii_lowercase()).count();

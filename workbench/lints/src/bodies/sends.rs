@@ -1,0 +1,383 @@
+//! Values that are lost: a reply replaces them before a command has sent them, or they are saved before they
+//! are changed; and copies that are made too late.
+
+use crate::context::Context;
+use crate::expressions::calls::{number_of_argument, target_of_argument};
+use crate::expressions::operands::referred;
+use crate::instrument::variable_of;
+use crate::kind::MethodKind;
+use crate::source::{TokenIndex, index};
+use crate::traits::classes_of;
+use crate::visit::{Visitor, children, visit_parts, visit_statement};
+use crate::warning::Findings;
+use edd_constants::evaluate;
+use edd_instructions::Sort;
+use edd_syntax::expr::{Argument, Expr};
+use edd_syntax::operators::{Builtin, RequestKind};
+use edd_syntax::reference::Target;
+use edd_syntax::stmt::{Part, Stmt};
+use std::collections::{BTreeMap, HashMap, HashSet};
+
+/// What was put into a variable, and where.
+#[derive(Clone, Copy)]
+enum Put {
+    Entered(TokenIndex),
+    Stored(TokenIndex),
+}
+
+/// A walk through the statements of a block, with what no command has sent so far.
+struct Unsent<'c, 'd, 'f> {
+    context: &'c Context<'d>,
+    findings: &'f mut Findings<'d>,
+    pending: BTreeMap<u16, Put>,
+}
+
+impl Unsent<'_, '_, '_> {
+    fn call(&mut self, at: TokenIndex, function: Builtin, arguments: &[Argument<Target>]) {
+        match function {
+            Builtin::Ask(RequestKind::GetDevVarValue) => {
+                let target = target_of_argument(arguments, 1);
+                if let Some(variable) = target.and_then(variable_of) {
+                    self.put(variable, Put::Entered(at));
+                }
+            }
+            Builtin::Ask(RequestKind::SendCommand | RequestKind::SendCommandTrans) => {
+                self.send(arguments);
+            }
+            Builtin::Ask(
+                RequestKind::PutMessage | RequestKind::Acknowledge | RequestKind::Delay,
+            ) => {}
+            _ => self.pending.clear(),
+        }
+    }
+
+    // Only what may be entered is there to be sent.
+    fn put(&mut self, variable: u16, put: Put) {
+        let known = self.context.instrument.variable(variable);
+        let is_sent = known.is_some_and(|known| {
+            !known.is_read_only && !classes_of(known).contains("LOCAL")
+        });
+        if is_sent {
+            self.pending.insert(variable, put);
+        } else {
+            self.pending.remove(&variable);
+        }
+    }
+
+    fn send(&mut self, arguments: &[Argument<Target>]) {
+        let command = number_of_argument(arguments, 0);
+        let transaction = number_of_argument(arguments, 1);
+        let instrument = &self.context.instrument;
+        let is_known = arguments.len() == 1 || transaction.is_some();
+        let exchange = command.and_then(|command| instrument.exchange(command, transaction));
+        let Some(exchange) = exchange.filter(|_| is_known) else {
+            return self.pending.clear();
+        };
+        self.pending
+            .retain(|variable, _| !exchange.sent.contains(variable));
+        let is_lost = |variable: &u16| exchange.set.contains(variable);
+        for (variable, put) in self.pending.iter().filter(|(one, _)| is_lost(one)) {
+            let name = instrument.name_of(*variable);
+            match put {
+                Put::Entered(at) => self.findings.add(*at, MethodKind::LostEntry(name)),
+                Put::Stored(at) => self.findings.add(*at, MethodKind::LostStore(name)),
+            }
+        }
+        self.pending.retain(|variable, _| !is_lost(variable));
+    }
+
+    // Follows an expression. What it reads has been of use.
+    fn follow(&mut self, e: &Expr<Target>) {
+        for inner in children(e) {
+            let is_argument = matches!(e, Expr::Call { .. }) && referred(inner).is_some();
+            if !is_argument {
+                self.follow(inner);
+            }
+        }
+        match e {
+            Expr::Reference(target) => self.forget(*target),
+            Expr::Indexed(..) => self.pending.clear(),
+            Expr::Assign(to, _) => {
+                if let Some(variable) = variable_of(*to) {
+                    self.put(variable, Put::Stored(self.context.places.sign(e)));
+                }
+            }
+            Expr::CompoundAssign(_, to, _) | Expr::Increment(_, to) => self.forget(*to),
+            Expr::Call {
+                at,
+                function: Target::Function(function),
+                arguments,
+            } => self.call(index(*at), *function, arguments),
+            _ => {}
+        }
+    }
+
+    fn forget(&mut self, target: Target) {
+        if let Some(variable) = variable_of(target) {
+            self.pending.remove(&variable);
+        }
+    }
+
+    // Follows the statements of a block, and forgets all where they do not come one after the other.
+    fn parts(&mut self, parts: &[Part<Target>]) {
+        for part in parts {
+            match part {
+                Part::Declare(declarators) => {
+                    for e in declarators.iter().filter_map(|one| one.value.as_ref()) {
+                        self.follow(e);
+                    }
+                }
+                Part::Statement(Stmt::Evaluate(e)) => self.follow(e),
+                Part::Statement(Stmt::If(condition, branch)) => {
+                    self.follow(condition);
+                    self.branch(branch);
+                }
+                Part::Statement(Stmt::IfElse(condition, first, otherwise)) => {
+                    self.follow(condition);
+                    self.branch(first);
+                    self.branch(otherwise);
+                }
+                Part::Statement(_) | Part::CaseLabel { .. } | Part::DefaultLabel { .. } => {
+                    self.pending.clear();
+                }
+            }
+        }
+    }
+
+    // A branch that may be taken: what it has to do with is not looked at any more.
+    fn branch(&mut self, s: &Stmt<Target>) {
+        if self.pending.is_empty() {
+            return;
+        }
+        let mut named = Named::default();
+        visit_statement(s, &mut named);
+        if named.asks {
+            self.pending.clear();
+        }
+        self.pending
+            .retain(|variable, _| !named.variables.contains(variable));
+    }
+}
+
+/// The variables that statements name, and whether these send or save.
+#[derive(Default)]
+struct Named {
+    variables: HashSet<u16>,
+    asks: bool,
+    stores: bool,
+}
+
+impl<'t> Visitor<'t> for Named {
+    fn expression(&mut self, e: &'t Expr<Target>, _: Sort) {
+        match e {
+            Expr::Reference(target) => self.variables.extend(variable_of(*target)),
+            Expr::Assign(to, _) | Expr::CompoundAssign(_, to, _) | Expr::Increment(_, to) => {
+                self.variables.extend(variable_of(*to));
+                self.stores |= variable_of(*to).is_some();
+            }
+            Expr::Indexed(..) => self.asks = true,
+            Expr::Call {
+                function: Target::Function(function),
+                ..
+            } => {
+                self.asks |= !matches!(
+                    function,
+                    Builtin::Ask(
+                        RequestKind::PutMessage | RequestKind::Acknowledge | RequestKind::Delay
+                    ) | Builtin::Abort
+                        | Builtin::ProcessAbort
+                );
+            }
+            _ => {}
+        }
+    }
+}
+
+/// The blocks of a body.
+struct Blocks<'c, 'd, 'f> {
+    context: &'c Context<'d>,
+    findings: &'f mut Findings<'d>,
+}
+
+impl<'t> Visitor<'t> for Blocks<'_, '_, '_> {
+    fn statement(&mut self, s: &'t Stmt<Target>) {
+        if let Stmt::Block(parts) = s {
+            check_block(parts, self.context, self.findings);
+        }
+    }
+}
+
+fn check_block<'d>(parts: &[Part<Target>], context: &Context<'d>, findings: &mut Findings<'d>) {
+    let mut unsent = Unsent {
+        context,
+        findings,
+        pending: BTreeMap::new(),
+    };
+    unsent.parts(parts);
+}
+
+// Where a part saves, which does nothing else.
+fn saving(part: &Part<Target>) -> Option<TokenIndex> {
+    match part {
+        Part::Statement(Stmt::Evaluate(Expr::Call {
+            at,
+            function: Target::Function(Builtin::Ask(RequestKind::SaveValues)),
+            ..
+        })) => Some(index(*at)),
+        _ => None,
+    }
+}
+
+// Whether a part sets a variable that is kept in the device.
+fn sets_kept(part: &Part<Target>, context: &Context<'_>) -> bool {
+    let Part::Statement(Stmt::Evaluate(
+        Expr::Assign(to, _) | Expr::CompoundAssign(_, to, _) | Expr::Increment(_, to),
+    )) = part
+    else {
+        return false;
+    };
+    let variable = variable_of(*to).and_then(|number| context.instrument.variable(number));
+    variable.is_some_and(|known| !known.is_read_only && !classes_of(known).contains("LOCAL"))
+}
+
+// The last save of a body, behind which it sets variables and neither sends nor saves any more.
+fn check_saves(parts: &[Part<Target>], context: &Context<'_>, findings: &mut Findings<'_>) {
+    let last = parts.iter().rposition(|part| saving(part).is_some());
+    let Some((at, rest)) = last.and_then(|last| {
+        Some((saving(parts.get(last)?)?, parts.get(last.checked_add(1)?..)?))
+    }) else {
+        return;
+    };
+    let mut named = Named::default();
+    visit_parts(rest, &mut named);
+    if !named.asks && rest.iter().any(|part| sets_kept(part, context)) {
+        findings.add(at, MethodKind::EarlySave);
+    }
+}
+
+/// The copies of a body: locals that keep what a variable was just set to, and those that are stored back.
+#[derive(Default)]
+struct Copies {
+    late: HashMap<(u8, u16), TokenIndex>,
+    /// How often each local is set.
+    sets: HashMap<u8, usize>,
+    back: HashSet<(u8, u16)>,
+}
+
+impl<'t> Visitor<'t> for Copies {
+    fn expression(&mut self, e: &'t Expr<Target>, _: Sort) {
+        let Expr::Assign(to, value) = e else {
+            return;
+        };
+        if let Target::Local(slot) = to {
+            let count = self.sets.entry(*slot).or_default();
+            *count = count.saturating_add(1);
+        }
+        if let (Some(variable), Some(Target::Local(slot))) = (variable_of(*to), referred(value)) {
+            self.back.insert((slot, variable));
+        }
+    }
+
+    fn declared(&mut self, place: Target, _: &'t Expr<Target>) {
+        if let Target::Local(slot) = place {
+            let count = self.sets.entry(slot).or_default();
+            *count = count.saturating_add(1);
+        }
+    }
+}
+
+impl Copies {
+    // Notes the copies of a block that are made right behind a store of a constant.
+    fn add_block(&mut self, parts: &[Part<Target>], context: &Context<'_>) {
+        let mut constants: HashSet<u16> = HashSet::new();
+        for part in parts {
+            match part {
+                Part::Statement(Stmt::Evaluate(Expr::Assign(to, value))) => {
+                    let at = start_of_part(part, context);
+                    self.copy(*to, value, at, &constants);
+                    if let Some(variable) = variable_of(*to) {
+                        let is_constant = evaluate(value, Sort::Method).number().is_some();
+                        constants.remove(&variable);
+                        constants.extend(is_constant.then_some(variable));
+                    }
+                }
+                Part::Declare(declarators) => {
+                    for one in declarators {
+                        let at = context.places.declarator(one);
+                        match &one.value {
+                            Some(value) if matches!(value, Expr::Reference(_)) => {
+                                self.copy(one.place, value, at, &constants);
+                            }
+                            _ => {}
+                        }
+                    }
+                }
+                _ => constants.clear(),
+            }
+        }
+    }
+
+    fn copy(&mut self, to: Target, value: &Expr<Target>, at: TokenIndex, set: &HashSet<u16>) {
+        if let (Target::Local(slot), Some(variable)) = (to, referred(value).and_then(variable_of))
+            && set.contains(&variable)
+        {
+            self.late.insert((slot, variable), at);
+        }
+    }
+
+    // The copies that are stored back, of locals that keep nothing else.
+    fn report(self, context: &Context<'_>, findings: &mut Findings<'_>) {
+        let mut all: Vec<_> = self.late.into_iter().collect();
+        all.sort_unstable_by_key(|(_, at)| *at);
+        for ((slot, variable), at) in all {
+            let is_kept = self.sets.get(&slot).copied().unwrap_or(0) == 1;
+            if is_kept && self.back.contains(&(slot, variable)) {
+                let local = context.source.word(at).to_owned();
+                let name = context.instrument.name_of(variable);
+                findings.add(at, MethodKind::LateCopy(local, name));
+            }
+        }
+    }
+}
+
+/// Adds the copies of the blocks of a body.
+struct Gathering<'c, 'd, 's> {
+    context: &'c Context<'d>,
+    copies: &'s mut Copies,
+}
+
+impl<'t> Visitor<'t> for Gathering<'_, '_, '_> {
+    fn statement(&mut self, s: &'t Stmt<Target>) {
+        if let Stmt::Block(parts) = s {
+            self.copies.add_block(parts, self.context);
+        }
+    }
+}
+
+/// Checks what a body sets, sends and saves.
+pub(super) fn check_sends<'d>(
+    parts: &[Part<Target>],
+    context: &Context<'d>,
+    findings: &mut Findings<'d>,
+) {
+    check_block(parts, context, findings);
+    visit_parts(parts, &mut Blocks { context, findings });
+    check_saves(parts, context, findings);
+    let mut copies = Copies::default();
+    copies.add_block(parts, context);
+    let mut gathering = Gathering {
+        context,
+        copies: &mut copies,
+    };
+    visit_parts(parts, &mut gathering);
+    visit_parts(parts, &mut copies);
+    copies.report(context, findings);
+}
+
+// The first token of a statement.
+fn start_of_part(part: &Part<Target>, context: &Context<'_>) -> TokenIndex {
+    match part {
+        Part::Statement(s) => context.places.statement(s).extent.start,
+        _ => 0,
+    }
+}

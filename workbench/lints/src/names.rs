@@ -1,0 +1,238 @@
+//! Names that say the opposite of what they name: labels, members that are exchanged, and commands that
+//! do not carry what they are called after.
+
+use crate::context::Context;
+use crate::exchanges::exchanges_of;
+use crate::instrument::variable_of;
+use crate::kind::VariableKind;
+use crate::source::{TokenIndex, index};
+use crate::texts::variants::Variants;
+use crate::traits::quoted;
+use crate::usage::operation_of;
+use crate::warning::Findings;
+use edd_syntax::cond::Cond;
+use edd_syntax::item::{Attribute, Item, ItemKind};
+use edd_syntax::numbers::{ItemNo, TextAttribute, VarNo};
+use edd_syntax::reference::Target;
+use edd_syntax::types::Operation;
+use std::collections::HashMap;
+
+/// Words of which those of one side say the opposite of those of the other.
+const OPPOSITES: &[[&[&str]; 2]] = &[
+    [
+        &["lower", "low", "min", "minimum", "least", "lowest"],
+        &["upper", "high", "max", "maximum", "greatest", "highest"],
+    ],
+    [&["begin", "start", "first"], &["end", "last"]],
+    [&["left"], &["right"]],
+    [&["input", "inlet"], &["output", "outlet"]],
+    [&["top"], &["bottom"]],
+    [&["front"], &["rear", "back"]],
+    [&["open", "opening"], &["close", "closed", "closing"]],
+    [&["enable", "enabled"], &["disable", "disabled"]],
+    [&["empty"], &["full"]],
+    [&["hot"], &["cold"]],
+];
+
+/// The verbs of commands that read, and of those that write.
+const READS: [&str; 4] = ["read", "get", "rd", "load"];
+const WRITES: [&str; 4] = ["write", "set", "wr", "put"];
+
+fn words_of(text: &str) -> Vec<String> {
+    let parts = text.split(|sign: char| !sign.is_alphabetic());
+    let parts = parts.filter(|part| !part.is_empty());
+    parts.map(str::to_lowercase).collect()
+}
+
+// The word of a side that is among words, where none of the other side is.
+fn side_of(words: &[String], sides: &[&[&'static str]; 2]) -> Option<(usize, &'static str)> {
+    let found = sides.map(|side| side.iter().copied().find(|word| words.iter().any(|own| own == word)));
+    match found {
+        [Some(word), None] => Some((0, word)),
+        [None, Some(word)] => Some((1, word)),
+        _ => None,
+    }
+}
+
+// Two words by which two names say the opposite, where they say nothing alike.
+fn opposite(one: &str, other: &str) -> Option<(&'static str, &'static str)> {
+    let (one, other) = (words_of(one), words_of(other));
+    let pairs = OPPOSITES.iter().filter_map(|sides| {
+        let (first, word) = side_of(&one, sides)?;
+        let (second, against) = side_of(&other, sides)?;
+        Some((first != second, word, against))
+    });
+    let pairs: Vec<_> = pairs.collect();
+    let is_other = !pairs.is_empty() && pairs.iter().all(|(is_other, ..)| *is_other);
+    let (_, word, against) = pairs.first().filter(|_| is_other)?;
+    Some((word, against))
+}
+
+// The English words of a text.
+fn english(text: &str) -> &str {
+    let first = Variants::of(text.as_bytes()).find(|variant| variant.code.starts_with(b"en"));
+    first.map_or("", |one| str::from_utf8(one.words).unwrap_or_default())
+}
+
+fn check_label(item: &Item<Target>, findings: &mut Findings<'_>) {
+    for attribute in &item.attributes {
+        if let Attribute::OneText(at, TextAttribute::Label, Cond::Value(text)) = attribute
+            && let Some(text) = quoted(text)
+            && let Some((word, own)) = opposite(english(text), item.name())
+        {
+            findings.add(index(*at), VariableKind::OppositeLabel(word, own));
+        }
+    }
+}
+
+/// A name of a list, and the item that it stands for.
+struct Named<'t> {
+    at: TokenIndex,
+    name: &'t str,
+    item: &'t str,
+}
+
+fn named_in<'t>(item: &'t Item<Target>, context: &Context<'t>) -> Vec<Named<'t>> {
+    let items = context.instrument.items;
+    let name_of = |target: Target| {
+        let Target::Item(item) = target else {
+            return None;
+        };
+        items.get(context.instrument.place_of(item)?).map(Item::name)
+    };
+    let members = item.attributes.iter().filter_map(|one| match one {
+        Attribute::Members(_, members) => Some(members.iter()),
+        _ => None,
+    });
+    let named = members.flatten().filter_map(|member| {
+        Some(Named {
+            at: index(member.at),
+            name: member.name.as_str(),
+            item: name_of(member.item)?,
+        })
+    });
+    named.collect()
+}
+
+// The stem of a name and the number at its end.
+fn numbered(name: &str) -> Option<(&str, u32)> {
+    let stem = name.trim_end_matches(|sign: char| sign.is_ascii_digit());
+    let number = name.get(stem.len()..)?.parse().ok()?;
+    Some((stem, number))
+}
+
+// Two entries of which each has the number of the other, where all others have their own.
+fn check_numbers(entries: &[(TokenIndex, u32, &str)], findings: &mut Findings<'_>) {
+    let mut wrong = Vec::new();
+    let mut stems = HashMap::new();
+    for (at, own, item) in entries {
+        let Some((stem, number)) = numbered(item) else {
+            return;
+        };
+        stems.insert(stem, ());
+        if number != *own {
+            wrong.push((*at, *own, number, *item));
+        }
+    }
+    if let [(at, own, number, item), (_, other, back, second)] = *wrong
+        && own == back
+        && number == other
+        && stems.len() == 1
+    {
+        let kind = VariableKind::ExchangedMembers(item.to_owned(), second.to_owned());
+        findings.add(at, kind);
+    }
+}
+
+fn check_members<'d>(item: &Item<Target>, context: &Context<'d>, findings: &mut Findings<'_>) {
+    let mut entries = Vec::new();
+    for named in named_in(item, context) {
+        if opposite(named.name, named.item).is_some() {
+            let kind =
+                VariableKind::OppositeMember(named.name.to_owned(), named.item.to_owned());
+            findings.add(named.at, kind);
+        }
+        if let Some((_, number)) = numbered(named.name) {
+            entries.push((named.at, number, named.item));
+        }
+    }
+    check_numbers(&entries, findings);
+}
+
+fn check_elements<'d>(item: &Item<Target>, context: &Context<'d>, findings: &mut Findings<'_>) {
+    for attribute in &item.attributes {
+        if let Attribute::Elements(_, elements) = attribute {
+            let entries = elements.iter().filter_map(|element| {
+                let variable = variable_of(element.variable)?;
+                let name = context.instrument.variable(variable)?.name();
+                Some((index(element.at), element.number, name))
+            });
+            check_numbers(&entries.collect::<Vec<_>>(), findings);
+        }
+    }
+}
+
+// The variable that the name of a command has behind its verb.
+fn called_after<'t>(command: &'t Item<Target>) -> Option<&'t str> {
+    let (verb, rest) = command.name().split_once('_')?;
+    let verbs = match operation_of(command)? {
+        Operation::Read => READS,
+        Operation::Write => WRITES,
+        Operation::Command => return None,
+    };
+    verbs.contains(&verb).then_some(rest)
+}
+
+/// The variables of a description by their names.
+pub(crate) struct Names<'d> {
+    variables: HashMap<&'d str, u16>,
+}
+
+impl<'d> Names<'d> {
+    pub(crate) fn of(context: &Context<'d>) -> Names<'d> {
+        let variables = (0u16..).zip(context.instrument.variables());
+        let variables = variables.map(|(number, variable)| (variable.name(), number));
+        Names {
+            variables: variables.collect(),
+        }
+    }
+
+    // A command that carries others than the variable that its name has.
+    fn check_command(&self, command: &Item<Target>, findings: &mut Findings<'_>) {
+        let Some(name) = called_after(command) else {
+            return;
+        };
+        let Some(variable) = self.variables.get(name) else {
+            return;
+        };
+        let all = exchanges_of(command);
+        let mut carried = all.iter().flat_map(|one| one.sent.iter().chain(&one.received));
+        let has_some = all.iter().any(|one| !one.sent.is_empty() || !one.received.is_empty());
+        if has_some && !carried.any(|one| one == variable) {
+            let kind =
+                VariableKind::OtherVariable(command.name().to_owned(), name.to_owned());
+            findings.add(index(command.at), kind);
+        }
+    }
+}
+
+/// Checks what the names of an item and of what it lists say.
+pub(crate) fn check_names<'d>(
+    item: &Item<Target>,
+    names: &Names<'d>,
+    context: &Context<'d>,
+    findings: &mut Findings<'d>,
+) {
+    match item.sort {
+        ItemKind::Variable => check_label(item, findings),
+        ItemKind::Command => names.check_command(item, findings),
+        ItemKind::Collection(_) => check_members(item, context, findings),
+        ItemKind::Array => check_elements(item, context, findings),
+        ItemKind::Menu | ItemKind::Method => {}
+    }
+}
+
+/// The variable of a number, as a target.
+pub(crate) fn target_of(variable: u16) -> Target {
+    Target::Item(ItemNo::Variable(VarNo(variable)))
+}
