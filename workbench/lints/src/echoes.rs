@@ -14,6 +14,9 @@ use std::collections::HashSet;
 /// How many others have to agree.
 const FEWEST: usize = 2;
 
+/// How many transactions have to reply with what they send, where one does not.
+const FEWEST_REPLIES: usize = 4;
+
 // The one transaction of a command whose reply does not begin with the constant of its request, but with that
 // of another one.
 fn check_selectors(exchanges: &[Exchange], findings: &mut Findings<'_>) {
@@ -64,7 +67,7 @@ pub(crate) fn check_echoes(context: &Context<'_>, findings: &mut Findings<'_>) {
         }
     }
     if let [at] = *written.others
-        && FEWEST <= written.agreeing
+        && FEWEST_REPLIES <= written.agreeing
     {
         findings.add(at, CommandKind::OtherReply);
     }

@@ -115,13 +115,13 @@ lints! {
     UntranslatedText
     BracedItem
     EscapedEscape
-    UnevenNumbers
-    EscapedPath
-    SwallowedCode
     CommaChoices
     EmptyChoice
     RepeatedChoice
     UnknownLint
+    UnevenNumbers
+    EscapedPath
+    SwallowedCode
     UnusedItem
     DroppedComparison
     DroppedValue
@@ -170,11 +170,11 @@ lints! {
     CountedTwice
     SkippedLimit
     LoopLeavesArray
-    MissedEnd
     OwnAbortMethod
     RepeatedAbortMethod
     LateAbortMethod
     LoopedAbortMethod
+    MissedEnd
     LiteralCondition
     UndeclaredCommand
     UnreachedMethod

@@ -176,10 +176,11 @@ impl<'t> Visitor<'t> for Sets {
 // What a variable may be: its enumerators, or the ends of what it holds.
 fn candidates(variable: &Variable<'_>) -> Vec<i64> {
     let mut all: Vec<_> = variable.enumerators.iter().copied().collect();
-    if all.is_empty() {
-        all.extend(variable.range.iter().flat_map(|range| [0, range.low, range.high]));
-    }
     all.sort_unstable();
+    if all.is_empty() {
+        let ends = variable.range.iter().flat_map(|range| [0, range.high, range.low]);
+        all.extend(ends);
+    }
     all
 }
 

@@ -38,7 +38,7 @@ enum Dimension {
     Share,
 }
 
-/// A unit with its signs and names. The first one is what it is called in messages.
+/// A unit with its signs and names.
 struct Row {
     dimension: Dimension,
     names: &'static [&'static str],
@@ -106,29 +106,33 @@ const UNITS: &[Row] = &[
     row(Dimension::Share, &["%", "percent", "Prozent"]),
 ];
 
-/// A unit, by its place in the table.
-#[derive(Clone, Copy, PartialEq, Eq)]
-pub(crate) struct Unit(usize);
+/// A unit, by its place in the table, and how it is written.
+#[derive(Clone, Copy)]
+pub(crate) struct Unit {
+    row: usize,
+    name: &'static str,
+}
+
+// A unit has several names.
+impl PartialEq for Unit {
+    fn eq(&self, other: &Unit) -> bool {
+        self.row == other.row
+    }
+}
 
 impl Unit {
     /// The unit that a text is.
     pub(crate) fn of(text: &str) -> Option<Unit> {
-        let has_name = |row: &Row| row.names.contains(&text);
-        UNITS.iter().position(has_name).map(Unit)
-    }
-
-    fn row(self) -> Option<&'static Row> {
-        UNITS.get(self.0)
-    }
-
-    fn name(self) -> &'static str {
-        let names = self.row().map_or(&[][..], |row| row.names);
-        names.first().copied().unwrap_or_default()
+        let mut rows = UNITS.iter().enumerate();
+        rows.find_map(|(row, known)| {
+            let name = known.names.iter().copied().find(|name| *name == text)?;
+            Some(Unit { row, name })
+        })
     }
 
     // Whether both are units of the same, as mm and m are.
     fn is_comparable(self, other: Unit) -> bool {
-        let dimension = |unit: Unit| unit.row().map(|row| row.dimension);
+        let dimension = |unit: Unit| UNITS.get(unit.row).map(|row| row.dimension);
         dimension(self) == dimension(other)
     }
 }
@@ -210,7 +214,7 @@ pub(crate) fn check_named_units(variable: &Variable<'_>, findings: &mut Findings
                 !units.contains(unit) && units.iter().any(|own| own.is_comparable(*unit))
             });
             if let Some((other, own)) = other.zip(units.first()) {
-                let kind = VariableKind::NamedUnit(other.name(), own.name());
+                let kind = VariableKind::NamedUnit(other.name, own.name);
                 findings.add(index(*at), kind);
             }
         }
@@ -235,7 +239,7 @@ pub(crate) fn check_two_units(
     };
     let units = unit_of_target(first, walk).zip(unit_of_target(second, walk));
     if let Some((one, other)) = units.filter(|(one, other)| one != other) {
-        let kind = ConditionKind::TwoUnits(one.name(), other.name());
+        let kind = ConditionKind::TwoUnits(one.name, other.name);
         walk.findings.add(at, kind);
     }
 }
@@ -255,7 +259,7 @@ pub(crate) fn check_limit_units(
             unit_of(context.instrument.variable(variable_of(target)?)?)
         });
         if let Some(other) = others.into_iter().find(|other| *other != own) {
-            let kind = ConditionKind::TwoUnits(own.name(), other.name());
+            let kind = ConditionKind::TwoUnits(own.name, other.name);
             findings.add(part.at, kind);
         }
     }

@@ -20,7 +20,7 @@ pub(super) const ROWS: &[Row] = &[
         name: "endless-loop",
         level: Level::Warn,
         summary: "a loop that nothing ends",
-        details: "a loop whose condition always holds, with no `break` of its own, no `return`, no `abort` and no request in it. A loop that makes requests can be ended by the host, which may answer with an abort. The same is a loop in which nothing sets what its condition reads: it never runs, or never ends.",
+        details: "a loop whose condition always holds, with no `break` of its own, no `return`, no `abort` and no request in it. A loop that makes requests can be ended by the host, which may answer with an abort. The same is a loop in which nothing sets what its condition reads: it never runs, or never ends. So it is of a `while` that a `continue` begins again before anything in it has been set or asked for.",
         example: "VARIABLE a { TYPE INTEGER; }
 METHOD m { DEFINITION { while (1) a = a + 1; } }",
         counterexample: "METHOD m { DEFINITION { int i; while (1) { i = i + 1; if (i > 9) break; } } }",
@@ -149,7 +149,7 @@ METHOD m { DEFINITION { do { DELAY(1, "Wait"); send_command(1); } while (e != 3)
         name: "counted-twice",
         level: Level::Warn,
         summary: "a for whose body counts its counter too",
-        details: "a statement right in the body of a `for`, under no condition, that counts what the head of the `for` counts or sets it to a constant; and a `for` in the body that counts the same, where nothing leaves the loop.",
+        details: "a statement right in the body of a `for`, under no condition, that counts what the head of the `for` counts or sets it to a constant; and a `for` in the body that counts the same, where nothing leaves the loop, or the inner one.",
         example: "METHOD m { DEFINITION { int i; for (i = 0; i < 4; i++) { send_command(i); i++; } } }",
         counterexample: "METHOD m { DEFINITION { int i; for (i = 0; i < 4; i++) { send_command(i); if (i == 2) i++; } } }",
         notes: "",

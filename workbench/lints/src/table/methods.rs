@@ -84,7 +84,7 @@ METHOD m { DEFINITION { v = 255; } }",
         name: "missing-command",
         level: Level::Warn,
         summary: "a command over 127, or below 0, that the description does not have",
-        details: "a constant number of a command that is over 127 or negative, in a description with commands of which none has it. Numbers up to 127 may be those that every device of the protocol has ([`undeclared-command`](#off-unless-denied) asks for them).",
+        details: "a constant number of a command that is over 127 or negative, in a description with commands of which none has it. Numbers up to 127 may be those that every device of the protocol has ([`undeclared-command`](#off-unless-denied) asks for them), unless a command has the number of the transaction, and a transaction that of the command: both are exchanged.",
         example: "COMMAND c { NUMBER 130; OPERATION READ; TRANSACTION { } }
 METHOD m { DEFINITION { send_command(131); } }",
         counterexample: "COMMAND c { NUMBER 130; OPERATION READ; TRANSACTION { } }
@@ -163,7 +163,7 @@ METHOD m { DEFINITION { int code; code = GET_DEV_VAR_VALUE("Limit?", a); if (cod
         name: "missing-choice",
         level: Level::Warn,
         summary: "a choice that the list of a SELECT_FROM_LIST does not have",
-        details: "what a SELECT_FROM_LIST, or a local that keeps answers of such alone, is compared with by `==`, `!=`, `>=` or `>`, or a label of a `switch` over it, that is no choice: they are counted from 0. What is joined by `&&` or `||` may test a range, and has none for an order.",
+        details: "what a SELECT_FROM_LIST, or a local that keeps answers of such alone, is compared with by `==`, `!=`, `>=` or `>`, or a label of a `switch` over it, that is no choice: they are counted from 0. What is joined by `&&` or `||` may test a range, and has none for an order. So it is of an order that each choice has to the number.",
         example: r#"METHOD m { DEFINITION { if (SELECT_FROM_LIST("Go?", "Yes;No") == 2) abort(); } }"#,
         counterexample: r#"METHOD m { DEFINITION { if (SELECT_FROM_LIST("Go?", "Yes;No") == 1) abort(); } }"#,
         notes: "",
@@ -227,12 +227,12 @@ METHOD m { DEFINITION { a = 100; send_command(1); } }",
         name: "dead-store",
         level: Level::Warn,
         summary: "a value that is replaced before anything reads it",
-        details: "a value that is stored by a statement, and replaced by one after it in the same block, with other assignments between at most, none of which reads it. So it is of what a technician has entered, also where another question asks for the same variable.",
+        details: "a value that is stored by a statement, and replaced by one after it in the same block, with other assignments between at most, none of which reads it. So it is of what a technician has entered, also where another question asks for the same variable; of a value that both branches of an `if` replace; and of the code of a command that a local keeps, where that of another command replaces it.",
         example: "VARIABLE a { TYPE INTEGER; }
 METHOD m { DEFINITION { a = 5; a = 6; send_command(1); } }",
         counterexample: "VARIABLE a { TYPE INTEGER; }
 METHOD m { DEFINITION { a = 5; send_command(1); a = 6; send_command(1); } }",
-        notes: "The value of a declaration is left alone, and so are 0 and that of a request.",
+        notes: "The value of a declaration is left alone, and so are 0 and that of any other request. A command that is sent again in the next statement may be a second try.",
     },
     Row {
         lint: Lint::EmptyThen,

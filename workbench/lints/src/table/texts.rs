@@ -80,10 +80,10 @@ pub(super) const ROWS: &[Row] = &[
         name: "joined-texts",
         level: Level::Warn,
         summary: "two texts of a list without a comma between: they are one",
-        details: "two strings of a list that are one text, where a comma between would make them two, and which meet in what looks like one word: an enumerator, a member or an element without help, and entries of a menu.",
+        details: "two strings of a list that are one text, where a comma between would make them two, and which meet in what looks like one word: an enumerator, a member or an element without help, and entries of a menu. So it is of two strings of a LABEL, a HELP, a message or a response code between which a sentence goes on without a blank.",
         example: r#"VARIABLE a { TYPE ENUMERATED { { 1, "on" "off" } } }"#,
         counterexample: r#"VARIABLE a { TYPE ENUMERATED { { 1, "on ", "off" } } }"#,
-        notes: r#"`"on " "off"`, `"|en|on" "|de|ein"` and the strings of a HELP or a message have no warning."#,
+        notes: r#"`"on " "off"`, and `"|en|on" "|de|ein"` have no warning."#,
     },
     Row {
         lint: Lint::BidirectionalText,

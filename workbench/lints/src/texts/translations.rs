@@ -51,10 +51,6 @@ const SHARED: [&str; 29] = [
 
 // Whether a text has a word of some letters, and not only a unit, a number or an abbreviation.
 fn has_word(words: &[u8]) -> bool {
-    let is_unit = str::from_utf8(words).is_ok_and(|words| Unit::of(words.trim()).is_some());
-    if is_unit {
-        return false;
-    }
     let mut runs = words.split(|byte| !byte.is_ascii_alphabetic());
     runs.any(|run| {
         let small = run.iter().filter(|byte| byte.is_ascii_lowercase()).count();
@@ -62,6 +58,11 @@ fn has_word(words: &[u8]) -> bool {
         let mut shared = SHARED.iter();
         is_word && !shared.any(|shared| shared.as_bytes().eq_ignore_ascii_case(run))
     })
+}
+
+// Whether a text is the sign or the name of a unit.
+fn is_unit(words: &[u8]) -> bool {
+    str::from_utf8(words).is_ok_and(|words| Unit::of(words.trim()).is_some())
 }
 
 // What a text has, where it is in one language.
@@ -91,7 +92,7 @@ pub(super) fn check_translations(texts: &[Spoken<'_>], findings: &mut Findings<'
     let mut all = 0_usize;
     let mut translated = 0_usize;
     for spoken in texts {
-        if is_for_readers(spoken) && has_word(&spoken.raw) {
+        if is_for_readers(spoken) && has_word(&spoken.raw) && !is_unit(&spoken.raw) {
             let has_more = single_language(&spoken.raw).is_none();
             all = all.saturating_add(1);
             translated = translated.saturating_add(usize::from(has_more));
@@ -106,7 +107,8 @@ pub(super) fn check_translations(texts: &[Spoken<'_>], findings: &mut Findings<'
             continue;
         };
         let says_language = spoken.raw.starts_with(b"|");
-        if has_word(words) && (says_language || is_for_readers(spoken)) {
+        let is_told = says_language || (is_for_readers(spoken) && !is_unit(words));
+        if has_word(words) && is_told {
             let code = code_text(code).to_owned();
             findings.add(spoken.at, TextKind::Untranslated(code));
         }
