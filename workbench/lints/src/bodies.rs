@@ -9,6 +9,8 @@ pub(crate) mod flow;
 mod layout;
 mod locals;
 pub(crate) mod loops;
+mod repeats;
+mod selections;
 mod sends;
 mod statements;
 mod stores;
@@ -34,6 +36,8 @@ use edd_syntax::operators::Builtin;
 use edd_syntax::reference::Target;
 use edd_syntax::stmt::{Part, Stmt};
 use locals::check_locals;
+use repeats::check_repeats;
+use selections::check_selections;
 use sends::check_sends;
 use statements::check_parts;
 
@@ -77,6 +81,8 @@ pub(crate) fn check_method<'d>(
             check_choices(parts, context, findings);
             check_answers(parts, context, findings);
             check_sends(parts, context, findings);
+            check_selections(parts, context, findings);
+            check_repeats(parts, context, findings);
             check_elements(parts, labels, context, findings);
             check_body(parts, context, findings);
         }

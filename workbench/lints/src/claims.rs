@@ -146,6 +146,40 @@ pub(crate) fn wrong_claim(text: &str, variable: &Variable<'_>) -> Option<Variabl
     })
 }
 
+/// Names of seconds and minutes, with how many seconds each has.
+const TIMES: [(&str, i64); 10] = [
+    ("seconds", 1),
+    ("second", 1),
+    ("sec", 1),
+    ("s", 1),
+    ("sekunden", 1),
+    ("sekunde", 1),
+    ("minutes", 60),
+    ("minute", 60),
+    ("min", 60),
+    ("minuten", 60),
+];
+
+/// How many seconds a text names, where it names one time.
+pub(crate) fn seconds_in(text: &str) -> Option<i64> {
+    let first = Variants::of(text.as_bytes()).next()?;
+    let words = str::from_utf8(first.words).ok()?.to_lowercase();
+    let words: Vec<_> = words
+        .split(|sign: char| !sign.is_alphanumeric())
+        .filter(|word| !word.is_empty())
+        .collect();
+    let mut found = words.windows(2).filter_map(|pair| {
+        let [number, unit] = pair else {
+            return None;
+        };
+        let number: i64 = number.parse().ok()?;
+        let (_, seconds) = TIMES.iter().find(|(name, _)| name == unit)?;
+        number.checked_mul(*seconds)
+    });
+    let seconds = found.next()?;
+    found.next().is_none().then_some(seconds)
+}
+
 /// Checks what the LABEL and the HELP of a variable say of its limits.
 pub(crate) fn check_claims(variable: &Variable<'_>, findings: &mut Findings<'_>) {
     for attribute in &variable.item.attributes {

@@ -14,15 +14,15 @@ use edd_syntax::item::{Attribute, Item};
 use edd_syntax::reference::Target;
 use std::collections::HashMap;
 
-// The words of a text in its first language, as they are compared.
-fn words_of(text: &str) -> String {
+/// The words of a text in its first language, as they are compared.
+pub(crate) fn words_of(text: &str) -> String {
     let first = Variants::of(text.as_bytes()).next();
     let words = first.map_or("", |one| str::from_utf8(one.words).unwrap_or_default());
     words.trim().to_owned()
 }
 
-// The enumerators of a variable by their texts, and their texts by their numbers.
-fn texts_of(variable: &Variable<'_>) -> (HashMap<String, i64>, HashMap<i64, String>) {
+/// The enumerators of a variable by their texts, and their texts by their numbers.
+pub(crate) fn texts_of(variable: &Variable<'_>) -> (HashMap<String, i64>, HashMap<i64, String>) {
     let mut by_text = HashMap::new();
     let mut by_number = HashMap::new();
     for listed in enumerators_of(variable.parts()) {

@@ -11,6 +11,7 @@ use crate::context::Context;
 use crate::echoes::check_echoes;
 use crate::entries::check_entries;
 use crate::exchanged::check_exchanged;
+use crate::families::check_families;
 use crate::gaps::check_gaps;
 use crate::instrument::Instrument;
 use crate::labels::Labels;
@@ -20,7 +21,7 @@ use crate::listings::check_listings;
 use crate::lockouts::check_lockouts;
 use crate::menus::check_menus;
 use crate::names::{Names, check_names};
-use crate::offers::check_offers;
+use crate::offers::{check_offers, check_set_back};
 use crate::places::Places;
 use crate::remarks::Remarks;
 use crate::repeats::{Numbered, Numbers};
@@ -66,6 +67,7 @@ fn check_items<'d>(context: &Context<'d>, findings: &mut Findings<'d>) {
                     check_limit_units(variable, context, findings);
                     check_claims(variable, findings);
                     check_offers(&usage, variable, context, findings);
+                    check_set_back(variable, context, findings);
                 }
             }
             ItemKind::Command => {
@@ -90,6 +92,7 @@ fn check_items<'d>(context: &Context<'d>, findings: &mut Findings<'d>) {
     }
     check_echoes(context, findings);
     check_lockouts(&usage, context, findings);
+    check_families(context, findings);
     check_carried(&usage, context, findings);
     check_circular(context, findings);
 }

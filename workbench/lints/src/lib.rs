@@ -19,6 +19,7 @@ mod enumerators;
 mod exchanged;
 mod exchanges;
 mod expressions;
+mod families;
 mod finding;
 mod formats;
 mod gaps;

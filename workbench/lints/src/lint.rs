@@ -61,6 +61,7 @@ lints! {
     NarrowMask
     RepeatedResponseText
     UnevenEcho
+    OppositeClass
     TrappingExpression
     ConstantCondition
     RepeatedCase
@@ -101,6 +102,7 @@ lints! {
     EmptyList
     EmptyMethod
     UnreadableValue
+    LeftOverName
     StrayBar
     MissingLanguage
     RepeatedLanguage
@@ -155,6 +157,7 @@ lints! {
     StoredElement
     OtherQuestion
     ExchangedBranches
+    ComparedCopy
     UnreachableStatement
     EndlessLoop
     DeadLoop
@@ -175,6 +178,8 @@ lints! {
     LateAbortMethod
     LoopedAbortMethod
     MissedEnd
+    RestartedSum
+    RepeatedTurns
     LiteralCondition
     UndeclaredCommand
     UnreachedMethod

@@ -3,25 +3,29 @@
 
 use crate::context::Context;
 use crate::exchanges::exchanges_of;
-use crate::instrument::variable_of;
-use crate::kind::VariableKind;
+use crate::instrument::{Variable, variable_of};
+use crate::kind::{CommandKind, NumberRole, VariableKind};
+use crate::limits::sum_of;
+use crate::lists::enumerators_of;
 use crate::source::{TokenIndex, index};
 use crate::texts::variants::Variants;
 use crate::traits::quoted;
+use crate::types::number_parts;
 use crate::usage::operation_of;
 use crate::warning::Findings;
+use edd_instructions::Sort;
 use edd_syntax::cond::Cond;
 use edd_syntax::item::{Attribute, Item, ItemKind};
-use edd_syntax::numbers::{ItemNo, TextAttribute, VarNo};
+use edd_syntax::numbers::{ItemNo, NumberOption, TextAttribute, VarNo};
 use edd_syntax::reference::Target;
 use edd_syntax::types::Operation;
-use std::collections::HashMap;
+use std::collections::{HashMap, HashSet};
 
 /// Words of which those of one side say the opposite of those of the other.
 const OPPOSITES: &[[&[&str]; 2]] = &[
     [
-        &["lower", "low", "min", "minimum", "least", "lowest"],
-        &["upper", "high", "max", "maximum", "greatest", "highest"],
+        &["lower", "low", "lo", "min", "minimum", "least", "lowest"],
+        &["upper", "high", "hi", "max", "maximum", "greatest", "highest"],
     ],
     [&["begin", "start", "first"], &["end", "last"]],
     [&["left"], &["right"]],
@@ -85,6 +89,38 @@ fn check_label(item: &Item<Target>, findings: &mut Findings<'_>) {
     }
 }
 
+// A MIN_VALUE of the lower one of two that is the upper one, or a MAX_VALUE of the upper one that is the lower
+// one, by their names.
+fn check_ends(variable: &Variable<'_>, context: &Context<'_>, findings: &mut Findings<'_>) {
+    let own = words_of(variable.name());
+    let ends = OPPOSITES.iter().take(2);
+    let Some((sides, (side, _))) = ends
+        .filter_map(|sides| Some((sides, side_of(&own, sides)?)))
+        .next()
+    else {
+        return;
+    };
+    for part in number_parts(variable.parts()) {
+        let is_wrong_end = matches!(
+            (side, part.which),
+            (0, NumberOption::MinValue) | (1, NumberOption::MaxValue)
+        );
+        let Cond::Value(e) = part.value else {
+            continue;
+        };
+        let sum = sum_of(e, Sort::Attribute, &context.instrument);
+        let other = sum.and_then(|(target, _)| context.instrument.variable(variable_of(target)?));
+        let Some(other) = other.filter(|_| is_wrong_end) else {
+            continue;
+        };
+        let words = words_of(other.name());
+        if side_of(&words, sides).is_some_and(|(against, _)| against != side) {
+            let kind = VariableKind::OppositeLimit(NumberRole::Option(part.which), other.name().to_owned());
+            findings.add(part.at, kind);
+        }
+    }
+}
+
 /// A name of a list, and the item that it stands for.
 struct Named<'t> {
     at: TokenIndex,
@@ -114,11 +150,26 @@ fn named_in<'t>(item: &'t Item<Target>, context: &Context<'t>) -> Vec<Named<'t>>
     named.collect()
 }
 
-// The stem of a name and the number at its end.
-fn numbered(name: &str) -> Option<(&str, u32)> {
+/// The stem of a name and the number at its end.
+pub(crate) fn numbered(name: &str) -> Option<(&str, u32)> {
     let stem = name.trim_end_matches(|sign: char| sign.is_ascii_digit());
-    let number = name.get(stem.len()..)?.parse().ok()?;
-    Some((stem, number))
+    let digits = name.get(stem.len()..)?;
+    let is_plain = digits == "0" || !digits.starts_with('0');
+    Some((stem, digits.parse().ok()?)).filter(|_| is_plain)
+}
+
+/// Checks enumerators with numbers in their texts: two that have each other's, where all others have their own.
+fn check_enumerators(variable: &Variable<'_>, findings: &mut Findings<'_>) {
+    let mut entries = Vec::new();
+    for listed in enumerators_of(variable.parts()) {
+        let number = u32::try_from(listed.value.value).ok();
+        let text = quoted(&listed.value.text).map(english).unwrap_or_default();
+        let Some(number) = number.filter(|_| numbered(text).is_some()) else {
+            return;
+        };
+        entries.push((index(listed.value.at), number, text));
+    }
+    check_numbers(&entries, findings);
 }
 
 // Two entries of which each has the number of the other, where all others have their own.
@@ -186,14 +237,51 @@ fn called_after<'t>(command: &'t Item<Target>) -> Option<&'t str> {
 /// The variables of a description by their names.
 pub(crate) struct Names<'d> {
     variables: HashMap<&'d str, u16>,
+    /// Those after which a command is called that writes.
+    written: HashSet<u16>,
 }
 
 impl<'d> Names<'d> {
     pub(crate) fn of(context: &Context<'d>) -> Names<'d> {
         let variables = (0u16..).zip(context.instrument.variables());
         let variables = variables.map(|(number, variable)| (variable.name(), number));
+        let variables: HashMap<_, _> = variables.collect();
+        let items = context.instrument.items.iter();
+        let written = items
+            .filter(|item| operation_of(item) == Some(Operation::Write))
+            .filter_map(|item| variables.get(called_after(item)?).copied());
         Names {
-            variables: variables.collect(),
+            written: written.collect(),
+            variables,
+        }
+    }
+
+    // A command whose verb says the opposite of its OPERATION.
+    fn check_verb(command: &Item<Target>, findings: &mut Findings<'_>) {
+        let verb = command.name().split('_').next().unwrap_or_default();
+        let (operation, other) = match operation_of(command) {
+            Some(Operation::Read) if verb == "write" => ("READ", "write"),
+            Some(Operation::Write) if verb == "read" => ("WRITE", "read"),
+            _ => return,
+        };
+        let at = command.attributes.iter().find_map(|one| match one {
+            Attribute::Operation(at, _) => Some(index(*at)),
+            _ => None,
+        });
+        if let Some(at) = at {
+            findings.add(at, VariableKind::OppositeOperation(operation, other));
+        }
+    }
+
+    // A command that replies with what another command is called after, and not with what it sends itself.
+    fn check_reply(&self, command: &Item<Target>, own: u16, findings: &mut Findings<'_>) {
+        for exchange in exchanges_of(command) {
+            let mut received = exchange.received.iter();
+            let is_other = exchange.sent.contains(&own) && !exchange.received.contains(&own);
+            let other = received.find(|one| self.written.contains(one) && !exchange.sent.contains(one));
+            if other.is_some() && is_other && exchange.received.len() == 1 {
+                findings.add(exchange.at, CommandKind::OtherReply);
+            }
         }
     }
 
@@ -213,6 +301,7 @@ impl<'d> Names<'d> {
                 VariableKind::OtherVariable(command.name().to_owned(), name.to_owned());
             findings.add(index(command.at), kind);
         }
+        self.check_reply(command, *variable, findings);
     }
 }
 
@@ -224,8 +313,18 @@ pub(crate) fn check_names<'d>(
     findings: &mut Findings<'d>,
 ) {
     match item.sort {
-        ItemKind::Variable => check_label(item, findings),
-        ItemKind::Command => names.check_command(item, findings),
+        ItemKind::Variable => {
+            check_label(item, findings);
+            let variable = names.variables.get(item.name()).copied();
+            if let Some(variable) = variable.and_then(|one| context.instrument.variable(one)) {
+                check_ends(variable, context, findings);
+                check_enumerators(variable, findings);
+            }
+        }
+        ItemKind::Command => {
+            Names::check_verb(item, findings);
+            names.check_command(item, findings);
+        }
         ItemKind::Collection(_) => check_members(item, context, findings),
         ItemKind::Array => check_elements(item, context, findings),
         ItemKind::Menu | ItemKind::Method => {}

@@ -4,6 +4,7 @@
 use crate::context::Context;
 use crate::instrument::Variable;
 use crate::kind::VariableKind;
+use crate::limits::sum_of;
 use crate::lists::values_in;
 use crate::names::target_of;
 use crate::settled::variables_read;
@@ -11,6 +12,7 @@ use crate::source::index;
 use crate::types::{NumberPart, number_of, number_parts};
 use crate::usage::Usage;
 use crate::values::Values;
+use crate::values::evaluation::Nobody;
 use crate::values::environment::{Environment, Storage};
 use crate::visit::{Visitor, visit_conditional};
 use crate::warning::Findings;
@@ -125,6 +127,54 @@ fn with_defaults<'c, 'd>(read: &HashSet<u16>, context: &'c Context<'d>) -> Envir
         }
     }
     known
+}
+
+// What an option gives where all that it reads has its default.
+fn number_with_defaults(part: &NumberPart<'_>, context: &Context<'_>) -> Option<i64> {
+    let Cond::Value(e) = part.value else {
+        return None;
+    };
+    if part.number().is_some() {
+        return part.number();
+    }
+    // What is computed of several values may be meant for others than their defaults.
+    sum_of(e, Sort::Attribute, &context.instrument)?;
+    let mut read = Read::default();
+    visit_conditional(part.value, &mut read);
+    let read: HashSet<u16> = read.variables.into_iter().collect();
+    with_defaults(&read, context).evaluate(e, &mut Nobody).number()
+}
+
+/// Checks the default of a variable with its limits, where all that these read has its default.
+pub(crate) fn check_set_back(
+    variable: &Variable<'_>,
+    context: &Context<'_>,
+    findings: &mut Findings<'_>,
+) {
+    let part = |which| number_parts(variable.parts()).find(|part| part.which == which);
+    let Some(default) = part(NumberOption::DefaultValue) else {
+        return;
+    };
+    let Some(number) = number_with_defaults(&default, context) else {
+        return;
+    };
+    for which in [NumberOption::MinValue, NumberOption::MaxValue] {
+        let Some(limit) = part(which) else {
+            continue;
+        };
+        // Of two constants, and of what is known whatever holds, it is told elsewhere.
+        let is_plain = limit.number().is_some() && default.number().is_some();
+        let is_told = findings.is_reported(findings.source.span(default.at));
+        let Some(end) = number_with_defaults(&limit, context).filter(|_| !is_plain && !is_told) else {
+            continue;
+        };
+        let kind = match which {
+            NumberOption::MinValue if number < end => VariableKind::DefaultBelow(number, end),
+            NumberOption::MaxValue if end < number => VariableKind::DefaultOver(number, end),
+            _ => continue,
+        };
+        findings.add_beside(default.at, kind, limit.at);
+    }
 }
 
 // A default that is offered in some branches and not in others, also where all has its default.

@@ -7,6 +7,7 @@ use crate::instrument::Variable;
 use crate::kind::{CommandKind, TextKind, VariableKind};
 use crate::lists::values_of;
 use crate::source::{TokenIndex, index};
+use crate::texts::variants::Variants;
 use crate::traits::{classes_of, is_spare, quoted};
 use crate::usage::{Usage, carried, operation_of};
 use crate::warning::Findings;
@@ -162,6 +163,38 @@ fn check_written(
     }
 }
 
+/// What the text of a code says where something went wrong, and where nothing did.
+const ERRORS: [&str; 16] = [
+    "error", "failed", "failure", "refused", "rejected", "too large", "too small", "too high", "too low",
+    "locked", "busy", "invalid", "not allowed", "denied", "overflow", "protected",
+];
+const SUCCESSES: [&str; 5] = ["ok", "success", "done", "accepted", "no error"];
+
+// A class that says the opposite of what its text says.
+fn opposite_class(code: &ResponseCode) -> Option<CommandKind> {
+    let text = quoted(&code.text)?;
+    let first = Variants::of(text.as_bytes()).next()?;
+    let words = str::from_utf8(first.words).ok()?.trim().to_lowercase();
+    let found = |all: &[&'static str]| all.iter().copied().find(|word| words.contains(word));
+    let is_denied = ["no ", "not ", "without", "un"].iter().any(|word| words.contains(word));
+    match code.class {
+        ResponseClass::Success => {
+            let error = found(&ERRORS).filter(|error| error.contains("not ") || !is_denied);
+            error.map(CommandKind::OppositeClass)
+        }
+        ResponseClass::DataEntryError
+        | ResponseClass::ModeError
+        | ResponseClass::ProcessError
+        | ResponseClass::MiscError
+            if code.number != 0 =>
+        {
+            let success = SUCCESSES.iter().copied().find(|word| words == *word);
+            success.map(CommandKind::SuccessfulError)
+        }
+        _ => None,
+    }
+}
+
 fn check_codes(
     at: TokenIndex,
     codes: &[ResponseCode],
@@ -174,6 +207,9 @@ fn check_codes(
     let mut before = None;
     let mut texts = HashMap::new();
     for (code, at) in codes.iter().zip(code_places(at, codes, context)) {
+        if let Some(kind) = opposite_class(code) {
+            findings.add(at, kind);
+        }
         if code.number == 0 && code.class != ResponseClass::Success {
             findings.add(at, CommandKind::FailingZero);
         }

@@ -130,8 +130,12 @@ impl Unit {
         })
     }
 
-    // Whether both are units of the same, as mm and m are.
-    fn is_comparable(self, other: Unit) -> bool {
+    pub(crate) fn name(self) -> &'static str {
+        self.name
+    }
+
+    /// Whether both are units of the same, as mm and m are.
+    pub(crate) fn is_comparable(self, other: Unit) -> bool {
         let dimension = |unit: Unit| UNITS.get(unit.row).map(|row| row.dimension);
         dimension(self) == dimension(other)
     }

@@ -3,6 +3,7 @@
 
 use super::choices::Answers;
 use super::flow::is_abort;
+use super::waits::Doings;
 use crate::context::Context;
 use crate::expressions::operands::referred;
 use crate::expressions::stores::without_parentheses;
@@ -197,8 +198,43 @@ impl Judged<'_, '_, '_> {
     }
 }
 
+impl Judged<'_, '_, '_> {
+    // A `switch` over the answer of a command whose case 0 is an abort alone.
+    fn check_cases(&mut self, on: &Expr<Target>, parts: &[Part<Target>]) {
+        if !self.is_answer(on) {
+            return;
+        }
+        let zero = parts
+            .iter()
+            .position(|part| matches!(part, Part::CaseLabel { label: 0, .. }));
+        let next = zero.and_then(|zero| parts.get(zero.saturating_add(1)));
+        if let Some(Part::Statement(s @ Stmt::Evaluate(e))) = next
+            && is_abort(e)
+        {
+            let at = self.context.places.statement(s).extent.start;
+            self.findings.add(at, MethodKind::FailsOnSuccess);
+        }
+    }
+
+    // A loop that only a failure ends.
+    fn check_loop(&mut self, condition: &Expr<Target>, body: &Stmt<Target>) {
+        let goes_on = self.holds_on_success(condition) == Some(true);
+        if goes_on && !Doings::of(body).ends {
+            let at = self.context.places.sign(without_parentheses(condition));
+            self.findings.add(at, MethodKind::LoopsOnSuccess);
+        }
+    }
+}
+
 impl<'t> Visitor<'t> for Judged<'_, '_, '_> {
     fn statement(&mut self, s: &'t Stmt<Target>) {
+        match s {
+            Stmt::Switch(on, parts) => self.check_cases(on, parts),
+            Stmt::While(condition, body) | Stmt::Do(body, condition) => {
+                self.check_loop(condition, body);
+            }
+            _ => {}
+        }
         let (condition, first, second) = match s {
             Stmt::If(condition, first) => (condition, Some(&**first), None),
             Stmt::IfElse(condition, first, second) => (condition, Some(&**first), Some(&**second)),

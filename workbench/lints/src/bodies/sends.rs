@@ -164,7 +164,7 @@ impl Unsent<'_, '_, '_> {
 struct Named {
     variables: HashSet<u16>,
     asks: bool,
-    stores: bool,
+    set: HashSet<u16>,
 }
 
 impl<'t> Visitor<'t> for Named {
@@ -173,7 +173,7 @@ impl<'t> Visitor<'t> for Named {
             Expr::Reference(target) => self.variables.extend(variable_of(*target)),
             Expr::Assign(to, _) | Expr::CompoundAssign(_, to, _) | Expr::Increment(_, to) => {
                 self.variables.extend(variable_of(*to));
-                self.stores |= variable_of(*to).is_some();
+                self.set.extend(variable_of(*to));
             }
             Expr::Indexed(..) => self.asks = true,
             Expr::Call {
@@ -228,18 +228,6 @@ fn saving(part: &Part<Target>) -> Option<TokenIndex> {
     }
 }
 
-// Whether a part sets a variable that is kept in the device.
-fn sets_kept(part: &Part<Target>, context: &Context<'_>) -> bool {
-    let Part::Statement(Stmt::Evaluate(
-        Expr::Assign(to, _) | Expr::CompoundAssign(_, to, _) | Expr::Increment(_, to),
-    )) = part
-    else {
-        return false;
-    };
-    let variable = variable_of(*to).and_then(|number| context.instrument.variable(number));
-    variable.is_some_and(|known| !known.is_read_only && !classes_of(known).contains("LOCAL"))
-}
-
 // The last save of a body, behind which it sets variables and neither sends nor saves any more.
 fn check_saves(parts: &[Part<Target>], context: &Context<'_>, findings: &mut Findings<'_>) {
     let last = parts.iter().rposition(|part| saving(part).is_some());
@@ -250,7 +238,11 @@ fn check_saves(parts: &[Part<Target>], context: &Context<'_>, findings: &mut Fin
     };
     let mut named = Named::default();
     visit_parts(rest, &mut named);
-    if !named.asks && rest.iter().any(|part| sets_kept(part, context)) {
+    let is_kept = |number: &u16| {
+        let variable = context.instrument.variable(*number);
+        variable.is_some_and(|known| !known.is_read_only && !classes_of(known).contains("LOCAL"))
+    };
+    if !named.asks && named.set.iter().any(is_kept) {
         findings.add(at, MethodKind::EarlySave);
     }
 }

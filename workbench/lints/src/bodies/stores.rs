@@ -3,7 +3,7 @@
 use crate::branches::are_alike;
 use crate::expressions::calls::target_of_argument;
 use crate::expressions::operands::referred;
-use crate::expressions::stores::is_itself;
+use crate::expressions::stores::{is_itself, without_parentheses};
 use crate::expressions::walk::Walk;
 use crate::kind::MethodKind;
 use crate::source::TokenIndex;
@@ -13,7 +13,7 @@ use crate::visit::children;
 use edd_syntax::expr::{Argument, Expr};
 use edd_syntax::operators::{Builtin, RequestKind};
 use edd_syntax::reference::Target;
-use edd_syntax::stmt::{Part, Stmt};
+use edd_syntax::stmt::{Declarator, Part, Stmt};
 use std::collections::{BTreeMap, BTreeSet};
 
 /// What was stored by the statements before, and not read since, with the places of the stores.
@@ -125,7 +125,8 @@ impl<'t> Pending<'t> {
 
     // Forgets all copies that an expression may change.
     fn change(&mut self, e: &Expr<Target>) {
-        if has_call(e) || !matches!(e, Expr::Assign(..)) || children(e).any(has_assignment) {
+        let is_plain = matches!(e, Expr::Assign(..) | Expr::Reference(_));
+        if has_call(e) || !is_plain || children(e).any(has_assignment) {
             self.copies.clear();
         }
     }
@@ -172,6 +173,7 @@ struct First {
     sets: BTreeSet<Storage>,
     /// Whether it may read all variables.
     reads_all: bool,
+    has_statement: bool,
 }
 
 impl First {
@@ -195,16 +197,67 @@ impl First {
             }
             Stmt::IfElse(condition, one, other) => {
                 self.read(condition);
-                let (one, other) = (First::of(one), First::of(other));
-                let reads = one.reads.union(&other.reads);
-                self.reads.extend(reads.filter(|place| !self.sets.contains(place)).copied());
-                let sets = one.sets.intersection(&other.sets);
-                self.sets.extend(sets.filter(|place| !self.reads.contains(place)).copied());
-                self.reads_all |= one.reads_all || other.reads_all;
+                self.add_joined(First::of(one).joined(First::of(other)));
             }
+            Stmt::Switch(on, parts) => self.add_switch(on, parts),
             Stmt::Empty => {}
             _ => self.reads_all = true,
         }
+    }
+
+    // A `switch` with a default, each of whose cases ends with a `break` or as the last one.
+    fn add_switch(&mut self, on: &Expr<Target>, parts: &[Part<Target>]) {
+        self.read(on);
+        let mut has_default = false;
+        let mut cases: Vec<First> = Vec::new();
+        let mut is_open = false;
+        for part in parts {
+            match part {
+                Part::CaseLabel { .. } | Part::DefaultLabel { .. } => {
+                    has_default |= matches!(part, Part::DefaultLabel { .. });
+                    if !is_open {
+                        cases.push(First::default());
+                    }
+                    is_open = true;
+                }
+                Part::Statement(Stmt::Break { .. }) => is_open = false,
+                Part::Statement(s) if is_open => {
+                    if let Some(last) = cases.last_mut() {
+                        last.add(s);
+                        last.has_statement = true;
+                    }
+                }
+                _ => self.reads_all = true,
+            }
+            // Statements that go on with the next case are not followed.
+            let falls = matches!(part, Part::CaseLabel { .. } | Part::DefaultLabel { .. })
+                && cases.last().is_some_and(|last| last.has_statement);
+            self.reads_all |= falls;
+        }
+        let Some(first) = cases.pop().filter(|_| has_default) else {
+            self.reads_all = true;
+            return;
+        };
+        let all = cases.into_iter().fold(first, First::joined);
+        self.add_joined(all);
+    }
+
+    // What one of two branches does.
+    fn joined(self, other: First) -> First {
+        First {
+            reads: self.reads.union(&other.reads).copied().collect(),
+            sets: self.sets.intersection(&other.sets).copied().collect(),
+            reads_all: self.reads_all || other.reads_all,
+            has_statement: true,
+        }
+    }
+
+    fn add_joined(&mut self, all: First) {
+        let reads = all.reads.iter().filter(|place| !self.sets.contains(place));
+        self.reads.extend(reads.copied().collect::<Vec<_>>());
+        let sets = all.sets.iter().filter(|place| !self.reads.contains(place));
+        self.sets.extend(sets.copied().collect::<Vec<_>>());
+        self.reads_all |= all.reads_all;
     }
 
     fn add_expression(&mut self, e: &Expr<Target>) {
@@ -238,7 +291,7 @@ impl First {
 
 // The stores that both branches of an `if` replace before they read them.
 fn check_branches(part: &Part<Target>, pending: &Pending<'_>, walk: &mut Walk<'_, '_>) {
-    let Part::Statement(s @ Stmt::IfElse(..)) = part else {
+    let Part::Statement(s @ (Stmt::IfElse(..) | Stmt::Switch(..))) = part else {
         return;
     };
     if pending.stores.is_empty() {
@@ -246,13 +299,46 @@ fn check_branches(part: &Part<Target>, pending: &Pending<'_>, walk: &mut Walk<'_
     }
     let first = First::of(s);
     for (place, stored) in &pending.stores {
-        let kind = match stored {
-            Stored::Value(_) => MethodKind::DeadStore,
-            Stored::Entry(..) => MethodKind::ReplacedEntry,
+        let kind = match (stored, s) {
+            (Stored::Value(_), _) => MethodKind::DeadStore,
+            (Stored::Entry(..), Stmt::IfElse(..)) => MethodKind::ReplacedEntry,
+            // Some cases of what is entered may be replaced by the nearest one that is allowed.
+            (Stored::Entry(..), _) => continue,
         };
         let (Stored::Value(at) | Stored::Entry(at, _)) = stored;
         if first.sets.contains(place) && !first.reads.contains(place) {
             walk.findings.add(*at, kind);
+        }
+    }
+}
+
+// A comparison of a place with what was copied from it, where neither was set since.
+fn check_copy(condition: &Expr<Target>, pending: &Pending<'_>, walk: &mut Walk<'_, '_>) {
+    let e = without_parentheses(condition);
+    let Expr::Compare(_, first, second) = e else {
+        return;
+    };
+    let places = referred(first)
+        .and_then(storage_of)
+        .zip(referred(second).and_then(storage_of));
+    let is_copy = |one: &Storage, other: Storage| {
+        pending.copies.get(one) == Some(&(other, pending.sets_of(other)))
+    };
+    if let Some((one, other)) = places
+        && (is_copy(&one, other) || is_copy(&other, one))
+    {
+        walk.findings
+            .add(walk.context.places.sign(e), MethodKind::ComparedCopy);
+    }
+}
+
+// The values of declared locals that are copies.
+fn declare<'t>(declarators: &'t [Declarator<Target>], pending: &mut Pending<'t>) {
+    for one in declarators {
+        if let Some(value) = &one.value {
+            pending.read(value);
+            pending.change(value);
+            pending.copy(one.place, value);
         }
     }
 }
@@ -263,6 +349,14 @@ pub(super) fn check_stores(parts: &[Part<Target>], walk: &mut Walk<'_, '_>) {
     let mut last: Option<&Expr<Target>> = None;
     for part in parts {
         let Part::Statement(Stmt::Evaluate(e)) = part else {
+            if let Part::Declare(declarators) = part {
+                pending.stores.clear();
+                declare(declarators, &mut pending);
+                continue;
+            }
+            if let Part::Statement(Stmt::If(condition, _) | Stmt::IfElse(condition, ..)) = part {
+                check_copy(condition, &pending, walk);
+            }
             check_branches(part, &pending, walk);
             pending = Pending::default();
             continue;

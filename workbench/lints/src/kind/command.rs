@@ -43,10 +43,14 @@ kinds! {
             "this READ gets {variable}, and its HANDLING is WRITE"
         RepeatedCodeText(number: u32) RepeatedResponseText
             "the response code {number} has the same class and text"
+        OppositeClass(text: &'static str) OppositeClass
+            "this class is that of what went well, and the text says {text}"
+        SuccessfulError(text: &'static str) OppositeClass
+            "this class is that of an error, and the text says {text}"
         OtherEcho(echo: u32, selector: u32) UnevenEcho
             "the reply begins with {echo} and the request with {selector}: in the others both are the same"
         OtherReply UnevenEcho
-            "the reply has none of what the request sends: in the others both have the same"
+            "the reply has none of what the request sends, and something else: others have the same in both"
         UnorderedResponseCode(number: u32) UnorderedResponseCodes
             "{number} is smaller than the response code before it"
     }

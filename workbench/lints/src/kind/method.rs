@@ -158,6 +158,18 @@ kinds! {
             "this asks for {asked} and sets {set}"
         FailsOnSuccess ExchangedBranches
             "this is done where the command has succeeded: 0 is the code of what went well"
+        LoopsOnSuccess ExchangedBranches
+            "this loop goes on as long as the command succeeds: 0 is the code of what went well"
+        RestartedSum RestartedSum
+            "this is 0 again in each turn before something is added"
+        RepeatedTurns RepeatedTurns
+            "each turn of this loop does the same: nothing in it depends on its counter"
+        NamedDelay(named: i64, seconds: i64) ContradictingRange
+            "this says {named} seconds, and the delay is {seconds}"
+        ExchangedChoice(choice: String) ExchangedText
+            "the choice is {choice}, which is another enumerator"
+        ComparedCopy ComparedCopy
+            "both sides are the same: one was copied from the other, and nothing has changed since"
         SucceedsOnFailure ExchangedBranches
             "this is said where the command has failed: 0 is the code of what went well"
         HidingLocals(local: String) HidingLocal

@@ -90,12 +90,18 @@ kinds! {
             "{number} can be chosen only where {variable} is {number} already"
         NamedUnit(named: &'static str, own: &'static str) ContradictingUnit
             "this names the unit {named}, and the CONSTANT_UNIT is {own}"
+        OtherUnit(own: &'static str, usual: &'static str) ContradictingUnit
+            "this is in {own}, and the variables of the same name are in {usual}"
         NamedRange(low: i64, high: i64, least: i64, greatest: i64) ContradictingRange
             "this says {low} to {high}, and the limits are {least} to {greatest}"
         NamedDefault(named: i64, default: i64) ContradictingRange
             "this says that {named} is the default, and the DEFAULT_VALUE is {default}"
         OppositeLabel(word: &'static str, other: &'static str) ContradictingName
             "this says {word}, and the name says {other}"
+        OppositeLimit(limit: NumberRole, other: String) ContradictingName
+            "this {limit} is {other}, which its name puts at the other end"
+        OppositeOperation(operation: &'static str, verb: &'static str) ContradictingName
+            "this says {operation}, and the name of the command says {verb}"
         OppositeMember(member: String, item: String) ContradictingName
             "{member} names {item}: the other one may be meant"
         ExchangedMembers(one: String, other: String) ContradictingName

@@ -306,7 +306,7 @@ impl<'c, 'd> Ways<'c, 'd, '_> {
         self.close_counter(counter);
         let behind = counter.and_then(|(storage, range)| {
             let reached = reached_behind(looped, range)?;
-            Some((storage, Values::exactly(reached)))
+            Some((storage, Values::within(reached)))
         });
         // A request may have set a variable.
         if let Some((storage @ Storage::Local(_), reached)) = behind {

@@ -191,4 +191,14 @@ COMMAND c { NUMBER 1; OPERATION READ;
 }",
         notes: "",
     },
+    Row {
+        lint: Lint::OppositeClass,
+        name: "opposite-class",
+        level: Level::Warn,
+        summary: "a response code whose text says the opposite of its class",
+        details: "a response code of class SUCCESS whose text says that something went wrong, as `Value too large`, and one of the class of an error whose text is `OK`, `Done` or another word for what went well.",
+        example: r#"COMMAND c { NUMBER 1; OPERATION READ; TRANSACTION { } RESPONSE_CODES { 0, SUCCESS, "OK"; 3, SUCCESS, "Value too large" } }"#,
+        counterexample: r#"COMMAND c { NUMBER 1; OPERATION READ; TRANSACTION { } RESPONSE_CODES { 0, SUCCESS, "OK"; 3, DATA_ENTRY_ERROR, "Value too large" } }"#,
+        notes: "",
+    },
 ];

@@ -264,7 +264,7 @@ VARIABLE b { CONSTANT_UNIT "mm"; TYPE INTEGER (2) { MAX_VALUE a * 1000; } }"#,
         name: "exchanged-text",
         level: Level::Warn,
         summary: "a CASE with the text of another enumerator",
-        details: "a CASE of a SELECT over a variable of enumerators whose text is that of another enumerator.",
+        details: "a CASE of a SELECT over a variable of enumerators whose text is that of another enumerator, and a choice of a SELECT_FROM_LIST that sets such a variable to another enumerator than the one with the text of the choice.",
         example: r#"VARIABLE e { TYPE ENUMERATED { { 0, "bar" } { 1, "mbar" } } }
 VARIABLE v { CONSTANT_UNIT SELECT (e) { CASE 0: "bar"; CASE 1: "bar"; } TYPE INTEGER; }"#,
         counterexample: r#"VARIABLE e { TYPE ENUMERATED { { 0, "bar" } { 1, "mbar" } } }

@@ -235,4 +235,30 @@ METHOD n { DEFINITION { save_values(); } }",
         counterexample: "METHOD m { DEFINITION { int n = 10; while (n-- > 0) { if (send_command(1) == 0) break; } if (n < 0) abort(); } }",
         notes: "",
     },
+    Row {
+        lint: Lint::RestartedSum,
+        name: "restarted-sum",
+        level: Level::Warn,
+        summary: "a sum that each turn of a loop begins again",
+        details: "a local that the body of a loop declares or sets to 0 first, and to which it adds something once: it is what is added, and no sum.",
+        example: "VARIABLE a { TYPE INTEGER; }
+METHOD m { DEFINITION { int i; for (i = 0; i < 4; i++) { int sum = 0; send_command(i); sum += a; if (sum > 100) abort(); } } }",
+        counterexample: "VARIABLE a { TYPE INTEGER; }
+METHOD m { DEFINITION { int i, sum = 0; for (i = 0; i < 4; i++) { send_command(i); sum += a; if (sum > 100) abort(); } } }",
+        notes: "",
+    },
+    Row {
+        lint: Lint::RepeatedTurns,
+        name: "repeated-turns",
+        level: Level::Warn,
+        summary: "a `for` whose turns all do the same",
+        details: "a `for` whose body reads an element of an array and has nothing to do with the counter, adds nothing up, asks for nothing and does not leave it: another counter is meant in it.",
+        example: "VARIABLE v { TYPE INTEGER; }
+ARRAY OF VARIABLE r { ELEMENTS { 1, v; 2, v; } }
+METHOD m { DEFINITION { int i = 1, j, high = 0; for (j = 1; j <= 2; j++) if (r[i] > 5) high = 1; if (high) send_command(1); } }",
+        counterexample: "VARIABLE v { TYPE INTEGER; }
+ARRAY OF VARIABLE r { ELEMENTS { 1, v; 2, v; } }
+METHOD m { DEFINITION { int j, high = 0; for (j = 1; j <= 2; j++) if (r[j] > 5) high = 1; if (high) send_command(1); } }",
+        notes: "",
+    },
 ];

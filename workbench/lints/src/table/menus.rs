@@ -213,4 +213,26 @@ MENU m { ITEMS { a (DISPLAY_VALUE) } }"#,
 MENU m { ITEMS { a } }"#,
         notes: "",
     },
+    Row {
+        lint: Lint::LeftOverName,
+        name: "left-over-name",
+        level: Level::Warn,
+        summary: "a name or a number that is left over from the item that was copied",
+        details: "in an item with a number at the end of its name, as `alarm_2`, the name of another item with the number of a sibling, as `input_1`, where there is one with its own and the siblings name theirs; and a LABEL with the number of a sibling, which has the same LABEL.",
+        example: "VARIABLE input_1 { TYPE INTEGER; }
+VARIABLE input_2 { TYPE INTEGER; }
+VARIABLE input_3 { TYPE INTEGER; }
+VARIABLE alarm_1 { TYPE INTEGER { MAX_VALUE input_1; } }
+VARIABLE alarm_2 { TYPE INTEGER { MAX_VALUE input_1; } }
+VARIABLE alarm_3 { TYPE INTEGER { MAX_VALUE input_3; } }
+MENU m { ITEMS { input_2, alarm_1, alarm_2, alarm_3 } }",
+        counterexample: "VARIABLE input_1 { TYPE INTEGER; }
+VARIABLE input_2 { TYPE INTEGER; }
+VARIABLE input_3 { TYPE INTEGER; }
+VARIABLE alarm_1 { TYPE INTEGER { MAX_VALUE input_1; } }
+VARIABLE alarm_2 { TYPE INTEGER { MAX_VALUE input_2; } }
+VARIABLE alarm_3 { TYPE INTEGER { MAX_VALUE input_3; } }
+MENU m { ITEMS { input_2, alarm_1, alarm_2, alarm_3 } }",
+        notes: "",
+    },
 ];

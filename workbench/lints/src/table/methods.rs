@@ -388,4 +388,16 @@ METHOD m { DEFINITION { GET_DEV_VAR_VALUE("Which channel?", c); send_command(a);
         counterexample: r#"METHOD m { DEFINITION { if (send_command(1) == 0) PUT_MESSAGE("The limit is written"); else PUT_MESSAGE("The device has refused"); } }"#,
         notes: "",
     },
+    Row {
+        lint: Lint::ComparedCopy,
+        name: "compared-copy",
+        level: Level::Warn,
+        summary: "a comparison of a value with its copy",
+        details: "an `if` that compares a variable or a local with what was copied from it by the statements right before: both are the same.",
+        example: "VARIABLE a { TYPE INTEGER; }
+METHOD m { DEFINITION { int old = a; if (a != old) send_command(1); } }",
+        counterexample: "VARIABLE a { TYPE INTEGER; }
+METHOD m { DEFINITION { int old = a; send_command(1); if (a != old) send_command(2); } }",
+        notes: "",
+    },
 ];

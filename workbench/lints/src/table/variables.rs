@@ -223,7 +223,7 @@ VARIABLE a { TYPE ENUMERATED { DEFAULT_VALUE 0; { 0, "short" } IF (e == 1) { { 2
         name: "contradicting-range",
         level: Level::Warn,
         summary: "a text that names other limits, or another default, than the type has",
-        details: "a LABEL, HELP or question of a GET_DEV_VAR_VALUE that names a range, as `0 to 63`, beyond the constant limits of the variable, or that is another range and nothing else; and one that names another default than DEFAULT_VALUE. Numbers that differ by a power of ten may be those that are shown.",
+        details: "a LABEL, HELP or question of a GET_DEV_VAR_VALUE that names a range, as `0 to 63`, beyond the constant limits of the variable, or that is another range and nothing else; and one that names another default than DEFAULT_VALUE. So it is of the text of a DELAY that names another time than the delay has. Numbers that differ by a power of ten may be those that are shown.",
         example: r#"VARIABLE a { HELP "0 to 63"; TYPE INTEGER { MIN_VALUE 0; MAX_VALUE 15; } }"#,
         counterexample: r#"VARIABLE a { HELP "0 to 15"; TYPE INTEGER { MIN_VALUE 0; MAX_VALUE 15; } }"#,
         notes: "",
