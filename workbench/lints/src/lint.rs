@@ -122,6 +122,7 @@ lints! {
     RepeatedChoice
     UnknownLint
     UnevenNumbers
+    ExchangedLanguages
     EscapedPath
     SwallowedCode
     UnusedItem
@@ -180,6 +181,7 @@ lints! {
     MissedEnd
     RestartedSum
     RepeatedTurns
+    UnevenAverage
     LiteralCondition
     UndeclaredCommand
     UnreachedMethod

@@ -3,6 +3,7 @@
 mod codes;
 mod comments;
 mod contents;
+mod exchanged;
 mod languages;
 mod signs;
 mod spoken;
@@ -14,6 +15,7 @@ use crate::context::Context;
 use crate::warning::Findings;
 use comments::check_comments;
 use contents::check_contents;
+use exchanged::check_exchanged;
 use languages::check_languages;
 use signs::check_signs;
 use spoken::spoken_in;
@@ -25,6 +27,7 @@ pub(crate) fn check_texts(context: &Context<'_>, findings: &mut Findings<'_>) {
     check_languages(&texts, findings);
     check_signs(&texts, findings);
     check_contents(&texts, findings);
+    check_exchanged(&texts, findings);
     check_translations(&texts, findings);
     check_insides(&texts, context, findings);
     check_comments(context.source, findings);

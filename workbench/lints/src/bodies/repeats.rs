@@ -1,18 +1,19 @@
 //! Loops whose turns all do the same, or begin again what they are to add up.
 
-use super::loops::step_of;
+use super::loops::{limit_of, start_of, step_of};
 use super::waits::Doings;
 use crate::context::Context;
+use crate::expressions::operands::referred;
 use crate::expressions::stores::without_parentheses;
 use crate::kind::MethodKind;
 use crate::source::TokenIndex;
 use crate::values::environment::{Storage, storage_of};
-use crate::visit::{Visitor, visit_parts, visit_statement};
+use crate::visit::{Visitor, children, visit_parts, visit_statement};
 use crate::warning::Findings;
 use edd_constants::evaluate;
 use edd_instructions::Sort;
 use edd_syntax::expr::Expr;
-use edd_syntax::operators::Operator;
+use edd_syntax::operators::{Comparison, Operator};
 use edd_syntax::reference::Target;
 use edd_syntax::stmt::{Part, Stmt};
 use std::collections::{BTreeMap, BTreeSet};
@@ -158,6 +159,157 @@ impl Loops<'_, '_, '_> {
     }
 }
 
+impl Loops<'_, '_, '_> {
+    // A store right in the body of a `for` that reads an element by the counter, and that nothing in the loop reads.
+    fn check_replaced(&mut self, update: Option<&Expr<Target>>, body: &Stmt<Target>) {
+        let Some(counter) = step_of(update).and_then(|(counter, _)| storage_of(counter)) else {
+            return;
+        };
+        let single = std::slice::from_ref(body);
+        let statements: Vec<&Stmt<Target>> = match body {
+            Stmt::Block(parts) => parts
+                .iter()
+                .filter_map(|part| match part {
+                    Part::Statement(s) => Some(s),
+                    _ => None,
+                })
+                .collect(),
+            _ => single.iter().collect(),
+        };
+        let stores = statements.into_iter().filter_map(|s| match s {
+            Stmt::Evaluate(e @ Expr::Assign(to, value)) => Some((e, storage_of(*to)?, value)),
+            _ => None,
+        });
+        let mut uses = None;
+        for (e, place, value) in stores {
+            let is_element = match without_parentheses(value) {
+                Expr::Indexed(_, index) => mentions(index, counter),
+                _ => false,
+            };
+            if !is_element || !matches!(place, Storage::Local(_)) {
+                continue;
+            }
+            let (uses, doings) =
+                uses.get_or_insert_with(|| (uses_of(body, self.context), Doings::of(body)));
+            if !uses.reads.contains(&place) && !doings.asks() && !doings.ends {
+                let at = self.context.places.sign(e);
+                self.findings.add(at, MethodKind::ReplacedInTurns);
+            }
+        }
+    }
+
+    // The sums of a block that a `for` adds up, and that are divided behind it.
+    fn check_averages(&mut self, parts: &[Part<Target>]) {
+        let mut sums: BTreeMap<Storage, i64> = BTreeMap::new();
+        for part in parts {
+            let Part::Statement(s) = part else {
+                continue;
+            };
+            if let Stmt::For {
+                initial,
+                condition,
+                update,
+                body,
+            } = s
+            {
+                let turns = turns_of([initial, condition, update].map(Option::as_ref));
+                sums.clear();
+                if let Some(turns) = turns.filter(|_| !breaks(body)) {
+                    sums.extend(added_in(body).into_iter().map(|place| (place, turns)));
+                }
+                continue;
+            }
+            if let Stmt::Evaluate(e) = s
+                && !sums.is_empty()
+            {
+                self.check_division(e, &sums);
+            }
+        }
+    }
+
+    fn check_division(&mut self, e: &Expr<Target>, sums: &BTreeMap<Storage, i64>) {
+        let (first, second) = match e {
+            Expr::Binary(Operator::Divide, first, second) => {
+                (referred(first), evaluate(second, Sort::Method).number())
+            }
+            Expr::CompoundAssign(Operator::Divide, to, by) => {
+                (Some(*to), evaluate(by, Sort::Method).number())
+            }
+            _ => (None, None),
+        };
+        let turns = first.and_then(storage_of).and_then(|place| sums.get(&place));
+        if let (Some(turns), Some(divisor)) = (turns, second)
+            && divisor.abs_diff(*turns) == 1
+        {
+            let at = self.context.places.sign(e);
+            self.findings
+                .add(at, MethodKind::UnevenAverage(*turns, divisor));
+        }
+        for inner in children(e) {
+            self.check_division(inner, sums);
+        }
+    }
+}
+
+fn mentions(e: &Expr<Target>, place: Storage) -> bool {
+    matches!(e, Expr::Reference(to) if storage_of(*to) == Some(place))
+        || children(e).any(|inner| mentions(inner, place))
+}
+
+// How many turns a `for` has that counts by one from a constant to another one.
+fn turns_of(head: [Option<&Expr<Target>>; 3]) -> Option<i64> {
+    let [initial, condition, update] = head;
+    let (started, start) = start_of(initial)?;
+    let (compared, comparison, limit) = limit_of(condition)?;
+    let (counted, step) = step_of(update)?;
+    let limit = evaluate(limit, Sort::Method).number()?;
+    let turns = match (comparison, step) {
+        (Comparison::Less, 1) => limit.checked_sub(start)?,
+        (Comparison::LessOrEqual, 1) => limit.checked_sub(start)?.checked_add(1)?,
+        (Comparison::Greater, -1) => start.checked_sub(limit)?,
+        (Comparison::GreaterOrEqual, -1) => start.checked_sub(limit)?.checked_add(1)?,
+        _ => return None,
+    };
+    let is_one = started == compared && compared == counted;
+    (is_one && 1 < turns).then_some(turns)
+}
+
+/// Whether a `break` or a `continue` of a loop may leave out some of its turns.
+struct Breaks(bool);
+
+impl<'t> Visitor<'t> for Breaks {
+    fn statement(&mut self, s: &'t Stmt<Target>) {
+        self.0 |= matches!(s, Stmt::Break { .. } | Stmt::Continue { .. });
+    }
+}
+
+fn breaks(body: &Stmt<Target>) -> bool {
+    let mut breaks = Breaks(false);
+    visit_statement(body, &mut breaks);
+    breaks.0
+}
+
+// The locals to which each turn adds something.
+fn added_in(body: &Stmt<Target>) -> Vec<Storage> {
+    let single = std::slice::from_ref(body);
+    let parts: &[Part<Target>] = match body {
+        Stmt::Block(parts) => parts,
+        _ => &[],
+    };
+    let inner = parts.iter().filter_map(|part| match part {
+        Part::Statement(s) => Some(s),
+        _ => None,
+    });
+    let added = inner.chain(single).filter_map(|s| match s {
+        Stmt::Evaluate(Expr::CompoundAssign(Operator::Add, to, value)) => {
+            let is_constant = evaluate(value, Sort::Method).number().is_some();
+            storage_of(*to).filter(|_| !is_constant)
+        }
+        _ => None,
+    });
+    added.filter(|place| matches!(place, Storage::Local(_))).collect()
+}
+
 impl<'t> Visitor<'t> for Loops<'_, '_, '_> {
     fn statement(&mut self, s: &'t Stmt<Target>) {
         match s {
@@ -165,7 +317,9 @@ impl<'t> Visitor<'t> for Loops<'_, '_, '_> {
             Stmt::For { update, body, .. } => {
                 self.check_restarted(body);
                 self.check_repeated(update.as_ref(), s, body);
+                self.check_replaced(update.as_ref(), body);
             }
+            Stmt::Block(parts) => self.check_averages(parts),
             _ => {}
         }
     }
@@ -177,5 +331,7 @@ pub(super) fn check_repeats<'d>(
     context: &Context<'d>,
     findings: &mut Findings<'d>,
 ) {
-    visit_parts(parts, &mut Loops { context, findings });
+    let mut loops = Loops { context, findings };
+    loops.check_averages(parts);
+    visit_parts(parts, &mut loops);
 }

@@ -251,16 +251,31 @@ fn check_saves(parts: &[Part<Target>], context: &Context<'_>, findings: &mut Fin
 #[derive(Default)]
 struct Copies {
     late: HashMap<(u8, u16), TokenIndex>,
-    /// How often each local is set.
+    /// How often each local is set, and read.
     sets: HashMap<u8, usize>,
+    reads: HashMap<u8, usize>,
     back: HashSet<(u8, u16)>,
+    /// What each local keeps of a variable, and where it is stored.
+    kept: HashMap<u8, (u16, String)>,
+    stored: HashMap<u8, (u16, TokenIndex)>,
+    /// The variables that are set to constants.
+    constants: HashSet<u16>,
 }
 
 impl<'t> Visitor<'t> for Copies {
     fn expression(&mut self, e: &'t Expr<Target>, _: Sort) {
+        if let Expr::Reference(Target::Local(slot)) = e {
+            let count = self.reads.entry(*slot).or_default();
+            *count = count.saturating_add(1);
+        }
         let Expr::Assign(to, value) = e else {
             return;
         };
+        if let Some(variable) = variable_of(*to)
+            && evaluate(value, Sort::Method).number().is_some()
+        {
+            self.constants.insert(variable);
+        }
         if let Target::Local(slot) = to {
             let count = self.sets.entry(*slot).or_default();
             *count = count.saturating_add(1);
@@ -286,6 +301,7 @@ impl Copies {
             match part {
                 Part::Statement(Stmt::Evaluate(Expr::Assign(to, value))) => {
                     let at = start_of_part(part, context);
+                    self.note(*to, value, at, context.source.word(at));
                     self.copy(*to, value, at, &constants);
                     if let Some(variable) = variable_of(*to) {
                         let is_constant = evaluate(value, Sort::Method).number().is_some();
@@ -298,6 +314,7 @@ impl Copies {
                         let at = context.places.declarator(one);
                         match &one.value {
                             Some(value) if matches!(value, Expr::Reference(_)) => {
+                                self.note(one.place, value, at, context.source.word(at));
                                 self.copy(one.place, value, at, &constants);
                             }
                             _ => {}
@@ -314,6 +331,40 @@ impl Copies {
             && set.contains(&variable)
         {
             self.late.insert((slot, variable), at);
+        }
+    }
+
+    // A local that keeps a variable, which is set to a constant, and that is stored in another one alone.
+    fn report_elsewhere(&self, context: &Context<'_>, findings: &mut Findings<'_>) {
+        let mut all: Vec<_> = self.stored.iter().collect();
+        all.sort_unstable_by_key(|(_, (_, at))| *at);
+        for (slot, (to, at)) in all {
+            let count = |counts: &HashMap<u8, usize>| counts.get(slot).copied().unwrap_or(0);
+            let is_single = count(&self.sets) == 1 && count(&self.reads) == 1;
+            let Some((from, local)) = self.kept.get(slot).filter(|_| is_single) else {
+                continue;
+            };
+            if from != to && self.constants.contains(from) {
+                let name = context.instrument.name_of(*from);
+                findings.add(*at, MethodKind::RestoredElsewhere(local.clone(), name));
+            }
+        }
+    }
+
+    // Notes what an assignment keeps in a local, or stores of one.
+    fn note(&mut self, to: Target, value: &Expr<Target>, at: TokenIndex, name: &str) {
+        match (to, referred(value)) {
+            (Target::Local(slot), Some(from)) => {
+                if let Some(variable) = variable_of(from) {
+                    self.kept.insert(slot, (variable, name.to_owned()));
+                }
+            }
+            (_, Some(Target::Local(slot))) => {
+                if let Some(variable) = variable_of(to) {
+                    self.stored.insert(slot, (variable, at));
+                }
+            }
+            _ => {}
         }
     }
 
@@ -363,6 +414,7 @@ pub(super) fn check_sends<'d>(
     };
     visit_parts(parts, &mut gathering);
     visit_parts(parts, &mut copies);
+    copies.report_elsewhere(context, findings);
     copies.report(context, findings);
 }
 

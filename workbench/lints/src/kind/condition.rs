@@ -44,6 +44,8 @@ kinds! {
             "one value is in {one} and the other in {other}, and nothing converts them"
         ExchangedText(other: i64) ExchangedText
             "this is the text of the enumerator {other}"
+        OtherSelection(other: String) ExchangedText
+            "these are the texts of the enumerators of {other}, and not of what is selected on"
         ShiftedCases(label: i64, missing: i64) UnenterableCase
             "the limits keep {label} from being entered, and {missing} has no case"
         UntestedDivisor(variable: String, number: i64) UntestedDivisor

@@ -168,6 +168,16 @@ kinds! {
             "this says {named} seconds, and the delay is {seconds}"
         ExchangedChoice(choice: String) ExchangedText
             "the choice is {choice}, which is another enumerator"
+        ReplacedInTurns DeadStore
+            "each turn of this loop replaces what the one before has stored, and nothing reads it"
+        UnevenAverage(turns: i64, divisor: i64) UnevenAverage
+            "the loop before adds up {turns} values, and this divides by {divisor}"
+        RestoredElsewhere(local: String, variable: String) LateCopy
+            "{local} keeps {variable}, which was set since, and is stored in another variable"
+        StoreAtMost(greatest: i64) StoreOutsideLimits
+            "this is never below the variable's MAX_VALUE {greatest}"
+        StoreAtLeast(least: i64) StoreOutsideLimits
+            "this is never over the variable's MIN_VALUE {least}"
         ComparedCopy ComparedCopy
             "both sides are the same: one was copied from the other, and nothing has changed since"
         SucceedsOnFailure ExchangedBranches

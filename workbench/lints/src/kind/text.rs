@@ -29,6 +29,10 @@ kinds! {
             "this text is empty"
         UnevenNumbers(first: String, code: String, other: String, second: String) UnevenNumbers
             "this text has {first} in {code}, but {other} in {second}"
+        ExchangedLanguages ExchangedLanguages
+            "the languages of this text are exchanged"
+        SameSentence UntranslatedText
+            "this sentence is the same in two languages"
         EscapedPath EscapedPath
             "this begins a new line or a tab: two backslashes show one"
         SwallowedCode SwallowedCode

@@ -254,11 +254,25 @@ METHOD m { DEFINITION { int i, sum = 0; for (i = 0; i < 4; i++) { send_command(i
         summary: "a `for` whose turns all do the same",
         details: "a `for` whose body reads an element of an array and has nothing to do with the counter, adds nothing up, asks for nothing and does not leave it: another counter is meant in it.",
         example: "VARIABLE v { TYPE INTEGER; }
-ARRAY OF VARIABLE r { ELEMENTS { 1, v; 2, v; } }
+VARIABLE w { TYPE INTEGER; }
+ARRAY OF VARIABLE r { ELEMENTS { 1, v; 2, w; } }
 METHOD m { DEFINITION { int i = 1, j, high = 0; for (j = 1; j <= 2; j++) if (r[i] > 5) high = 1; if (high) send_command(1); } }",
         counterexample: "VARIABLE v { TYPE INTEGER; }
-ARRAY OF VARIABLE r { ELEMENTS { 1, v; 2, v; } }
+VARIABLE w { TYPE INTEGER; }
+ARRAY OF VARIABLE r { ELEMENTS { 1, v; 2, w; } }
 METHOD m { DEFINITION { int j, high = 0; for (j = 1; j <= 2; j++) if (r[j] > 5) high = 1; if (high) send_command(1); } }",
+        notes: "",
+    },
+    Row {
+        lint: Lint::UnevenAverage,
+        name: "uneven-average",
+        level: Level::Warn,
+        summary: "a mean whose divisor is one beside how many values were added",
+        details: "a sum that a `for` with a constant number of turns adds up in each of them, and that is divided behind it by one more or one less.",
+        example: "VARIABLE a { TYPE INTEGER; }
+METHOD m { DEFINITION { int i, sum = 0; for (i = 0; i < 5; i++) { send_command(1); sum += a; } a = sum / 4; } }",
+        counterexample: "VARIABLE a { TYPE INTEGER; }
+METHOD m { DEFINITION { int i, sum = 0; for (i = 0; i < 5; i++) { send_command(1); sum += a; } a = sum / 5; } }",
         notes: "",
     },
 ];
