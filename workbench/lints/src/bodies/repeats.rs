@@ -89,8 +89,8 @@ fn uses_of(s: &Stmt<Target>, context: &Context<'_>) -> Uses {
     gathering.uses
 }
 
-// The places that a turn sets to 0 before it does anything else with them.
-fn restarted(parts: &[Part<Target>]) -> Vec<Storage> {
+// The places that a turn sets to 0 before it does anything else with them, and whether a statement does so.
+fn restarted(parts: &[Part<Target>]) -> Vec<(Storage, bool)> {
     let mut all = Vec::new();
     for part in parts {
         match part {
@@ -98,12 +98,12 @@ fn restarted(parts: &[Part<Target>]) -> Vec<Storage> {
                 let zeros = declarators.iter().filter(|one| {
                     one.value.as_ref().is_none_or(|e| matches!(e, Expr::Literal(0)))
                 });
-                all.extend(zeros.filter_map(|one| storage_of(one.place)));
+                all.extend(zeros.filter_map(|one| Some((storage_of(one.place)?, false))));
             }
             Part::Statement(Stmt::Evaluate(Expr::Assign(to, value)))
                 if matches!(**value, Expr::Literal(0)) =>
             {
-                all.extend(storage_of(*to));
+                all.extend(storage_of(*to).map(|place| (place, true)));
             }
             _ => break,
         }
@@ -128,10 +128,10 @@ impl Loops<'_, '_, '_> {
             return;
         }
         let uses = uses_of(body, self.context);
-        for place in restarted {
+        for (place, is_statement) in restarted {
             let sets = uses.sets.get(&place).copied().unwrap_or(0);
             let is_local = matches!(place, Storage::Local(_));
-            let is_once = sets <= 2 && uses.loops == 0;
+            let is_once = sets == 1_usize.saturating_add(usize::from(is_statement)) && uses.loops == 0;
             if let Some(at) = uses.adds.get(&place).filter(|_| is_local && is_once) {
                 self.findings.add(*at, MethodKind::RestartedSum);
             }
