@@ -13,6 +13,7 @@ mod repeats;
 mod selections;
 mod sends;
 mod statements;
+mod states;
 mod stores;
 mod turns;
 mod waits;
@@ -40,6 +41,7 @@ use repeats::check_repeats;
 use selections::check_selections;
 use sends::check_sends;
 use statements::check_parts;
+use states::check_states;
 
 /// How many abort methods there may be.
 const MOST_ABORT_METHODS: usize = 8;
@@ -82,6 +84,7 @@ pub(crate) fn check_method<'d>(
             check_answers(parts, context, findings);
             check_sends(parts, context, findings);
             check_selections(parts, context, findings);
+            check_states(method, parts, context, findings);
             check_repeats(parts, context, findings);
             check_elements(parts, labels, context, findings);
             check_body(parts, context, findings);

@@ -45,6 +45,7 @@ lints! {
     ContradictingRange
     ContradictingName
     LockedOut
+    UnitOfBits
     RepeatedCommandNumber
     RepeatedResponseCode
     RepeatedTransactionNumber
@@ -123,6 +124,7 @@ lints! {
     UnknownLint
     UnevenNumbers
     ExchangedLanguages
+    OppositeTranslation
     EscapedPath
     SwallowedCode
     UnusedItem
@@ -159,6 +161,7 @@ lints! {
     OtherQuestion
     ExchangedBranches
     ComparedCopy
+    OppositeState
     UnreachableStatement
     EndlessLoop
     DeadLoop

@@ -291,6 +291,10 @@ pub(crate) fn check_carried(usage: &Usage, context: &Context<'_>, findings: &mut
     for (number, variable) in (0u16..).zip(context.instrument.variables()) {
         let is_carried = usage.requested.contains(&number) || usage.replied.contains(&number);
         let classes = classes_of(variable);
+        if classes.contains("CONSTANT") && usage.set.contains(&number) {
+            let at = index(variable.item.at);
+            findings.add(at, VariableKind::SetConstant(variable.name().to_owned()));
+        }
         if is_carried || usage.set.contains(&number) || classes.contains("LOCAL") {
             continue;
         }

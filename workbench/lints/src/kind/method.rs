@@ -178,6 +178,8 @@ kinds! {
             "this is never below the variable's MAX_VALUE {greatest}"
         StoreAtLeast(least: i64) StoreOutsideLimits
             "this is never over the variable's MIN_VALUE {least}"
+        OppositeState(says: String, state: String) OppositeState
+            "the method says {says}, and this sets {state}"
         ComparedCopy ComparedCopy
             "both sides are the same: one was copied from the other, and nothing has changed since"
         SucceedsOnFailure ExchangedBranches

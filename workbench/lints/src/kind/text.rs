@@ -31,6 +31,8 @@ kinds! {
             "this text has {first} in {code}, but {other} in {second}"
         ExchangedLanguages ExchangedLanguages
             "the languages of this text are exchanged"
+        OppositeTranslation OppositeTranslation
+            "one language of this text says the opposite of the other"
         SameSentence UntranslatedText
             "this sentence is the same in two languages"
         EscapedPath EscapedPath

@@ -92,6 +92,10 @@ kinds! {
             "this names the unit {named}, and the CONSTANT_UNIT is {own}"
         OtherUnit(own: &'static str, usual: &'static str) ContradictingUnit
             "this is in {own}, and the variables of the same name are in {usual}"
+        UnitOfBits UnitOfBits
+            "bits have no unit"
+        SetConstant(variable: String) ConflictingClasses
+            "{variable} is CONSTANT, and a method sets it"
         NamedRange(low: i64, high: i64, least: i64, greatest: i64) ContradictingRange
             "this says {low} to {high}, and the limits are {least} to {greatest}"
         NamedDefault(named: i64, default: i64) ContradictingRange

@@ -400,4 +400,16 @@ METHOD m { DEFINITION { int old = a; if (a != old) send_command(1); } }",
 METHOD m { DEFINITION { int old = a; send_command(1); if (a != old) send_command(2); } }",
         notes: "",
     },
+    Row {
+        lint: Lint::OppositeState,
+        name: "opposite-state",
+        level: Level::Warn,
+        summary: "a method whose name says the opposite of what it sets",
+        details: "a method whose name or LABEL has a word such as `on`, `start` or `open`, and that sets a variable of enumerators to one alone whose text says the opposite, as `off`, `stop` or `closed`.",
+        example: r#"VARIABLE a { TYPE ENUMERATED { { 0, "Off" } { 1, "On" } } }
+METHOD switch_on { DEFINITION { a = 0; send_command(1); } }"#,
+        counterexample: r#"VARIABLE a { TYPE ENUMERATED { { 0, "Off" } { 1, "On" } } }
+METHOD switch_on { DEFINITION { a = 1; send_command(1); } }"#,
+        notes: "",
+    },
 ];
