@@ -4,8 +4,7 @@ use crate::context::Context;
 use crate::expressions::operands::selected_variable;
 use crate::instrument::Variable;
 use crate::kind::ConditionKind;
-use crate::lists::enumerators_of;
-use crate::texts::variants::Variants;
+use crate::texts::variants::first_words;
 use crate::traits::quoted;
 use crate::visit::{Conditionals, Value, conditionals_of};
 use crate::warning::Findings;
@@ -14,36 +13,52 @@ use edd_syntax::item::{Attribute, Item};
 use edd_syntax::reference::Target;
 use std::collections::HashMap;
 
-/// The words of a text in its first language, as they are compared.
-pub(crate) fn words_of(text: &str) -> String {
-    let first = Variants::of(text.as_bytes()).next();
-    let words = first.map_or("", |one| str::from_utf8(one.words).unwrap_or_default());
-    words.trim().to_owned()
+/// How many variables with one text are looked at.
+const MOST: usize = 8;
+
+/// The variables by the texts of their enumerators.
+pub(crate) struct States<'d> {
+    by_text: HashMap<&'d str, Vec<u16>>,
 }
 
-/// The enumerators of a variable by their texts, and their texts by their numbers.
-pub(crate) fn texts_of(variable: &Variable<'_>) -> (HashMap<String, i64>, HashMap<i64, String>) {
-    let mut by_text = HashMap::new();
-    let mut by_number = HashMap::new();
-    for listed in enumerators_of(variable.parts()) {
-        let text = quoted(&listed.value.text).map(words_of).unwrap_or_default();
-        if !text.is_empty() {
-            by_number.insert(listed.value.value, text.clone());
-            by_text.insert(text, listed.value.value);
+impl<'d> States<'d> {
+    pub(crate) fn of(context: &Context<'d>) -> States<'d> {
+        let mut by_text: HashMap<&str, Vec<u16>> = HashMap::new();
+        for variable in context.instrument.variables() {
+            for text in variable.by_text.keys() {
+                let known = by_text.entry(text).or_default();
+                if known.len() < MOST {
+                    known.push(variable.number);
+                }
+            }
         }
+        States { by_text }
     }
-    (by_text, by_number)
+
+    // The one variable that has all of these texts, of which there are some.
+    fn named_by(&self, texts: &[&str]) -> Option<u16> {
+        let (first, rest) = texts.split_first()?;
+        let mut found = self.by_text.get(first)?.iter().copied().filter(|one| {
+            let has = |text: &&str| {
+                self.by_text.get(*text).is_some_and(|known| known.contains(one))
+            };
+            rest.iter().all(has)
+        });
+        let one = found.next()?;
+        (!rest.is_empty() && found.next().is_none()).then_some(one)
+    }
 }
 
 /// The conditionals of an attribute.
 struct Texts<'c, 'd, 'f> {
+    states: &'c States<'d>,
     context: &'c Context<'d>,
     findings: &'f mut Findings<'d>,
 }
 
 impl Texts<'_, '_, '_> {
     fn check_arms<V: Value>(&mut self, arms: &[Arm<Target, V>], variable: &Variable<'_>) {
-        let (by_text, by_number) = texts_of(variable);
+        let mut texts = Vec::new();
         for arm in arms {
             let Arm::Case { label, body } = arm else {
                 continue;
@@ -51,15 +66,26 @@ impl Texts<'_, '_, '_> {
             let [Cond::Value(value)] = &**body else {
                 continue;
             };
-            let Some(text) = value.text().and_then(quoted).map(words_of) else {
+            let Some(text) = value.text().and_then(quoted).map(first_words) else {
                 continue;
             };
-            let other = by_text.get(&text).filter(|other| *other != label);
-            let has_own = by_number.get(label).is_some_and(|own| *own != text);
+            texts.push(text);
+            let other = variable.by_text.get(text).filter(|other| *other != label);
+            let has_own = variable.texts.get(label).is_some_and(|own| *own != text);
             if let Some(other) = other.filter(|_| has_own) {
                 let at = self.context.places.arm(arm);
                 self.findings.add(at, ConditionKind::ExchangedText(*other));
             }
+        }
+        // All texts may be those of another variable that is meant to be selected on.
+        texts.sort_unstable();
+        texts.dedup();
+        let is_own = texts.iter().any(|text| variable.by_text.contains_key(text));
+        let named = self.states.named_by(&texts).filter(|_| !is_own);
+        if let (Some(other), Some(first)) = (named, arms.first()) {
+            let at = self.context.places.arm(first);
+            let name = self.context.instrument.name_of(other);
+            self.findings.add(at, ConditionKind::OtherSelection(name));
         }
     }
 
@@ -79,6 +105,10 @@ impl Texts<'_, '_, '_> {
                     if let Some(variable) = known.filter(|one| !one.enumerators.is_empty()) {
                         self.check_arms(arms, variable);
                     }
+                    for arm in arms {
+                        let (Arm::Case { body, .. } | Arm::Default { body, .. }) = arm;
+                        self.check(body);
+                    }
                 }
             }
         }
@@ -94,12 +124,18 @@ impl<'t> Conditionals<'t> for Texts<'_, '_, '_> {
 /// Checks the texts of an item that follow a variable of enumerators.
 pub(crate) fn check_exchanged<'d>(
     item: &Item<Target>,
+    states: &States<'d>,
     context: &Context<'d>,
     findings: &mut Findings<'d>,
 ) {
     for attribute in &item.attributes {
         if let Attribute::OneText(..) = attribute {
-            conditionals_of(attribute, &mut Texts { context, findings });
+            let mut texts = Texts {
+                states,
+                context,
+                findings,
+            };
+            conditionals_of(attribute, &mut texts);
         }
     }
 }

@@ -10,7 +10,7 @@ use crate::conditions::check_conditionals_of;
 use crate::context::Context;
 use crate::echoes::check_echoes;
 use crate::entries::check_entries;
-use crate::exchanged::check_exchanged;
+use crate::exchanged::{States, check_exchanged};
 use crate::families::check_families;
 use crate::gaps::check_gaps;
 use crate::instrument::Instrument;
@@ -54,6 +54,7 @@ fn check_items<'d>(context: &Context<'d>, findings: &mut Findings<'d>) {
     let usage = Usage::of(context.instrument.items);
     let names = Names::of(context);
     let labels = Labels::of(context);
+    let states = States::of(context);
     for item in context.instrument.items {
         check_conditionals_of(item, context, findings);
         check_branches(item, context, findings);
@@ -88,7 +89,7 @@ fn check_items<'d>(context: &Context<'d>, findings: &mut Findings<'d>) {
         }
         check_attributes(item, context, findings);
         check_names(item, &names, context, findings);
-        check_exchanged(item, context, findings);
+        check_exchanged(item, &states, context, findings);
     }
     check_echoes(context, findings);
     check_lockouts(&usage, context, findings);

@@ -3,12 +3,14 @@
 use crate::lists::{enumerators_of, is_total, values_in};
 use crate::exchanges::{Exchange, exchanges_of};
 use crate::range::Range;
+use crate::texts::variants::first_words;
+use crate::traits::quoted;
 use crate::types::{number_of, number_parts};
 use edd_constants::evaluate;
 use edd_instructions::Sort;
 use edd_syntax::cond::Cond;
 use edd_syntax::expr::Expr;
-use edd_syntax::item::{Attribute, Item, ItemKind, TypePart, TypeWord};
+use edd_syntax::item::{Attribute, Enumerator, Item, ItemKind, TypePart, TypeWord};
 use edd_syntax::numbers::{Element, ItemNo, NumberOption, VarNo};
 use edd_syntax::reference::Target;
 use edd_syntax::types::{Handling, VarType};
@@ -22,6 +24,9 @@ pub(crate) struct Variable<'i> {
     pub(crate) range: Option<Range>,
     /// The enumerators of all branches.
     pub(crate) enumerators: HashSet<i64>,
+    /// The enumerators by what their texts say in their first language, and the other way round.
+    pub(crate) by_text: HashMap<&'i str, i64>,
+    pub(crate) texts: HashMap<i64, &'i str>,
     /// Whether HANDLING is READ, under no condition.
     pub(crate) is_read_only: bool,
     /// Whether it is WRITE so.
@@ -78,6 +83,8 @@ impl<'i> Variable<'i> {
             kind: None,
             range: None,
             enumerators: HashSet::new(),
+            by_text: HashMap::new(),
+            texts: HashMap::new(),
             is_read_only: false,
             is_write_only: false,
             least: None,
@@ -104,6 +111,9 @@ impl<'i> Variable<'i> {
                     variable.range = Some(Range::of(*kind, *size));
                     let listed = enumerators_of(parts);
                     variable.enumerators = listed.iter().map(|one| one.value.value).collect();
+                    for one in listed {
+                        variable.add_text(one.value);
+                    }
                 }
                 Attribute::Handling(_, Cond::Value(handling)) => {
                     variable.is_read_only = *handling == Handling::Read;
@@ -113,6 +123,14 @@ impl<'i> Variable<'i> {
             }
         }
         variable
+    }
+
+    fn add_text(&mut self, enumerator: &'i Enumerator) {
+        let text = quoted(&enumerator.text).map(first_words).unwrap_or_default();
+        if !text.is_empty() {
+            self.by_text.insert(text, enumerator.value);
+            self.texts.insert(enumerator.value, text);
+        }
     }
 
     pub(crate) fn name(&self) -> &'i str {

@@ -19,7 +19,7 @@ use edd_instructions::Sort;
 use edd_syntax::cond::{Arm, Cond};
 use edd_syntax::expr::Expr;
 use edd_syntax::item::{Attribute, Item, ItemKind, MenuEntry};
-use edd_syntax::numbers::{ItemNo, NumberOption};
+use edd_syntax::numbers::{CollNo, ItemNo, NumberOption};
 use edd_syntax::operators::{Builtin, Comparison, RequestKind};
 use edd_syntax::reference::Target;
 use std::collections::{HashMap, HashSet};
@@ -37,6 +37,8 @@ struct Change {
 struct Changes<'c, 'd> {
     context: &'c Context<'d>,
     all: HashMap<u16, Vec<Change>>,
+    /// The collections that are entries: their members can be changed wherever they are.
+    collections: HashSet<u16>,
 }
 
 impl<'c, 'd> Changes<'c, 'd> {
@@ -101,12 +103,8 @@ impl<'c, 'd> Changes<'c, 'd> {
             ItemNo::Variable(variable) if !qualifiers.read_only && !qualifiers.hidden => {
                 self.add(variable.0, at, false, known);
             }
-            ItemNo::Collection(_) => {
-                let place = self.context.instrument.place_of(item);
-                let shown = place.and_then(|place| self.context.instrument.items.get(place));
-                for member in shown.into_iter().flat_map(members_of) {
-                    self.add(member, at, false, known);
-                }
+            ItemNo::Collection(number) => {
+                self.collections.insert(number.0);
             }
             _ => {}
         }
@@ -204,9 +202,18 @@ pub(crate) fn check_lockouts(usage: &Usage, context: &Context<'_>, findings: &mu
     let mut changes = Changes {
         context,
         all: HashMap::new(),
+        collections: HashSet::new(),
     };
     for item in context.instrument.items {
         changes.add_item(item);
+    }
+    for number in &changes.collections {
+        let item = ItemNo::Collection(CollNo(*number));
+        let place = context.instrument.place_of(item);
+        let shown = place.and_then(|place| context.instrument.items.get(place));
+        for member in shown.into_iter().flat_map(members_of) {
+            changes.all.remove(&member);
+        }
     }
     let mut all: Vec<_> = changes.all.into_iter().collect();
     all.sort_unstable_by_key(|(variable, _)| *variable);

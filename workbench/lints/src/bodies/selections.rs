@@ -1,7 +1,6 @@
 //! Choices that set a variable of enumerators to another one than the choice is called.
 
 use crate::context::Context;
-use crate::exchanged::{texts_of, words_of};
 use crate::expressions::stores::without_parentheses;
 use crate::instrument::variable_of;
 use crate::kind::MethodKind;
@@ -48,10 +47,9 @@ impl Selections<'_, '_, '_> {
         let Some(variable) = known else {
             return;
         };
-        let (by_text, by_number) = texts_of(variable);
-        let is_other = by_text.get(choice).is_some_and(|own| *own != number);
-        if is_other && by_number.contains_key(&number) {
-            let kind = MethodKind::ExchangedChoice(words_of(choice));
+        let is_other = variable.by_text.get(choice).is_some_and(|own| *own != number);
+        if is_other && variable.texts.contains_key(&number) {
+            let kind = MethodKind::ExchangedChoice(choice.to_owned());
             self.findings.add(at, kind);
         }
     }

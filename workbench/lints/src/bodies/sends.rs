@@ -18,6 +18,9 @@ use edd_syntax::reference::Target;
 use edd_syntax::stmt::{Part, Stmt};
 use std::collections::{BTreeMap, HashMap, HashSet};
 
+/// Of how many variables it is known at most that they are not sent.
+const MOST_PENDING: usize = 64;
+
 /// What was put into a variable, and where.
 #[derive(Clone, Copy)]
 enum Put {
@@ -57,7 +60,8 @@ impl Unsent<'_, '_, '_> {
         let is_sent = known.is_some_and(|known| {
             !known.is_read_only && !classes_of(known).contains("LOCAL")
         });
-        if is_sent {
+        let has_room = self.pending.len() < MOST_PENDING || self.pending.contains_key(&variable);
+        if is_sent && has_room {
             self.pending.insert(variable, put);
         } else {
             self.pending.remove(&variable);

@@ -1,7 +1,6 @@
 //! Methods whose names say the opposite of what they set.
 
 use crate::context::Context;
-use crate::exchanged::texts_of;
 use crate::expressions::calls::target_of_argument;
 use crate::instrument::variable_of;
 use crate::kind::MethodKind;
@@ -112,13 +111,12 @@ pub(super) fn check_states(
         let (Some(variable), Some((number, Some(e)))) = (known, set) else {
             continue;
         };
-        let (_, by_number) = texts_of(variable);
-        let Some(state) = by_number.get(&number) else {
+        let Some(state) = variable.texts.get(&number) else {
             continue;
         };
         if let Some(says) = opposed(&words, state) {
             let at: TokenIndex = context.places.sign(e);
-            let kind = MethodKind::OppositeState(says.to_owned(), state.clone());
+            let kind = MethodKind::OppositeState(says.to_owned(), (*state).to_owned());
             findings.add(at, kind);
         }
     }

@@ -168,6 +168,9 @@ fn results_of(
         return None;
     }
     let variable = ways.context.instrument.variable(number)?;
+    if MOST_RESULTS < variable.enumerators.len() {
+        return None;
+    }
     let listed = listed_numbers(variable);
     if MOST_RESULTS < listed.len() {
         return None;

@@ -7,6 +7,9 @@ use edd_syntax::operators::RequestKind;
 use edd_syntax::symbols::{Keyword, Symbol};
 use std::borrow::Cow;
 
+/// How much of a sentence is looked at where another string goes on with it.
+const LONGEST_SENTENCE: usize = 256;
+
 /// A text: strings that follow each other are one.
 pub(crate) struct Spoken<'s> {
     /// Its first string.
@@ -85,6 +88,8 @@ fn meets(before: &[u8], behind: &[u8]) -> bool {
 // Whether a string goes on with a sentence of the strings before it, and a blank is missing between. A
 // single word may be what a macro stands for, and addresses have no blanks.
 fn runs_on(before: &[u8], behind: &[u8], is_choices: bool) -> bool {
+    let start = before.len().saturating_sub(LONGEST_SENTENCE);
+    let before = before.get(start..).unwrap_or_default();
     let sentence = before.rsplit(|byte| *byte == b'|').next();
     let sentence = sentence.unwrap_or_default();
     let last_word = sentence.rsplit(|byte| *byte == b' ').next();
