@@ -17,7 +17,14 @@ use edd_syntax::types::VarType;
 const BETWEEN: [&str; 8] = [" to ", " bis ", "...", "..", "-", "–", " - ", " – "];
 
 /// Words before a default.
-const DEFAULTS: [&str; 6] = ["default ", "default: ", "default is ", "standard ", "vorgabe ", "vorgabe: "];
+const DEFAULTS: [&str; 6] = [
+    "default ",
+    "default: ",
+    "default is ",
+    "standard ",
+    "vorgabe ",
+    "vorgabe: ",
+];
 
 /// A range that a text names.
 struct Named {
@@ -34,9 +41,14 @@ fn number_first(text: &str) -> Option<(i64, &str)> {
     let (digits, rest) = unsigned.split_at_checked(digits.unwrap_or(unsigned.len()))?;
     let number: i64 = digits.parse().ok()?;
     let mut next = rest.chars();
-    let is_cut = matches!(next.next(), Some('.' | ',')) && next.next().is_some_and(|sign| sign.is_ascii_digit());
+    let is_cut = matches!(next.next(), Some('.' | ','))
+        && next.next().is_some_and(|sign| sign.is_ascii_digit());
     let is_negative = unsigned.len() < text.len();
-    let number = if is_negative { number.checked_neg()? } else { number };
+    let number = if is_negative {
+        number.checked_neg()?
+    } else {
+        number
+    };
     (!is_cut).then_some((number, rest))
 }
 
@@ -44,7 +56,9 @@ fn number_first(text: &str) -> Option<(i64, &str)> {
 fn ends_range(rest: &str, unit: Option<Unit>) -> bool {
     let rest = rest.trim_start();
     let end = rest.find([' ', '.', ',', ';', ')', ']', '?']);
-    let (word, behind) = rest.split_at_checked(end.unwrap_or(rest.len())).unwrap_or((rest, ""));
+    let (word, behind) = rest
+        .split_at_checked(end.unwrap_or(rest.len()))
+        .unwrap_or((rest, ""));
     let is_own = word.is_empty() || unit.is_some() && Unit::of(word) == unit;
     is_own && !behind.starts_with(' ')
 }
@@ -74,7 +88,11 @@ fn range_in(text: &str, unit: Option<Unit>) -> Option<Named> {
                 }
                 passed = text.len().saturating_sub(behind.len());
                 let is_alone = at == 0 && ends_text(behind, unit);
-                found = Some(Named { low, high, is_alone });
+                found = Some(Named {
+                    low,
+                    high,
+                    is_alone,
+                });
             }
         }
         before = sign;
@@ -183,8 +201,11 @@ pub(crate) fn seconds_in(text: &str) -> Option<i64> {
 /// Checks what the LABEL and the HELP of a variable say of its limits.
 pub(crate) fn check_claims(variable: &Variable<'_>, findings: &mut Findings<'_>) {
     for attribute in &variable.item.attributes {
-        if let Attribute::OneText(at, TextAttribute::Label | TextAttribute::Help, text) = attribute {
-            let mut texts = values_in(text).into_iter().filter_map(|one| quoted(one.value));
+        if let Attribute::OneText(at, TextAttribute::Label | TextAttribute::Help, text) = attribute
+        {
+            let mut texts = values_in(text)
+                .into_iter()
+                .filter_map(|one| quoted(one.value));
             if let Some(kind) = texts.find_map(|text| wrong_claim(text, variable)) {
                 findings.add(index(*at), kind);
             }

@@ -3,8 +3,8 @@
 use crate::context::Context;
 use crate::expressions::operands::{check_label, selected_variable};
 use crate::expressions::walk::Walk;
-use crate::gaps::{Cases, check_shifted};
 use crate::expressions::{Test, check_condition, check_expression};
+use crate::gaps::{Cases, check_shifted};
 use crate::repeats::{Numbered, Numbers};
 use crate::visit::{Conditionals, Value, conditionals_of};
 use crate::warning::Findings;

@@ -20,8 +20,14 @@ const FEWEST_REPLIES: usize = 4;
 // The one transaction of a command whose reply does not begin with the constant of its request, but with that
 // of another one.
 fn check_selectors(exchanges: &[Exchange], findings: &mut Findings<'_>) {
-    let pairs = || exchanges.iter().filter_map(|one| Some((one, one.selector?, one.echo?)));
-    let agreeing = pairs().filter(|(_, selector, echo)| selector == echo).count();
+    let pairs = || {
+        exchanges
+            .iter()
+            .filter_map(|one| Some((one, one.selector?, one.echo?)))
+    };
+    let agreeing = pairs()
+        .filter(|(_, selector, echo)| selector == echo)
+        .count();
     let selectors: HashSet<_> = pairs().map(|(_, selector, _)| selector).collect();
     let mut others = pairs().filter(|(_, selector, echo)| selector != echo);
     let (Some((one, selector, echo)), None) = (others.next(), others.next()) else {

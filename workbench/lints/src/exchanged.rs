@@ -40,7 +40,9 @@ impl<'d> States<'d> {
         let (first, rest) = texts.split_first()?;
         let mut found = self.by_text.get(first)?.iter().copied().filter(|one| {
             let has = |text: &&str| {
-                self.by_text.get(*text).is_some_and(|known| known.contains(one))
+                self.by_text
+                    .get(*text)
+                    .is_some_and(|known| known.contains(one))
             };
             rest.iter().all(has)
         });

@@ -11,6 +11,10 @@ pub(crate) mod walk;
 use crate::kind::{ConditionKind, MethodKind};
 use crate::source::TokenIndex;
 use crate::units::check_two_units;
+use bindings::{
+    check_added_state, check_added_truth, check_negated_mask, check_negated_number,
+    check_shifted_sum,
+};
 use calls::check_call;
 use choices::{check_choices, check_delay};
 use edd_arithmetic::trap_of;
@@ -20,10 +24,6 @@ use edd_syntax::expr::{Argument, Expr};
 use edd_syntax::numbers::ItemNo;
 use edd_syntax::operators::{Builtin, Comparison, Operator, RequestKind};
 use edd_syntax::reference::Target;
-use bindings::{
-    check_added_state, check_added_truth, check_negated_mask, check_negated_number,
-    check_shifted_sum,
-};
 use operands::{
     Logical, check_bits, check_chosen, check_compared, check_compound, check_logical,
     check_operands, check_settled, ranged_place, referred,
@@ -110,7 +110,8 @@ fn check_comparison(e: &Expr<Target>, at: TokenIndex, is_statement: bool, walk: 
     if is_statement {
         walk.findings.add(at, MethodKind::DroppedComparison);
     }
-    let is_misread = check_compared(first, second, at, walk) || check_added_state(first, second, at, walk);
+    let is_misread =
+        check_compared(first, second, at, walk) || check_added_state(first, second, at, walk);
     if let Some(place) = referred(first) {
         check_two_units(place, second, at, walk);
     }

@@ -37,7 +37,7 @@ struct Families<'d> {
     members: BTreeMap<&'d str, Vec<Member<'d>>>,
 }
 
-fn label_of<'d>(item: &'d Item<Target>) -> Option<(TokenIndex, &'d str)> {
+fn label_of(item: &Item<Target>) -> Option<(TokenIndex, &str)> {
     item.attributes.iter().find_map(|one| match one {
         Attribute::OneText(at, TextAttribute::Label, Cond::Value(text)) => {
             let first = Variants::of(quoted(text)?.as_bytes()).next()?;
@@ -89,7 +89,12 @@ impl<'d> Families<'d> {
                 continue;
             };
             if other != stem && self.names.contains(&(other, number)) {
-                member.named.entry(other).or_default().entry(number).or_insert(at);
+                member
+                    .named
+                    .entry(other)
+                    .or_default()
+                    .entry(number)
+                    .or_insert(at);
             }
         }
         self.members.entry(stem).or_default().push(member);
@@ -99,11 +104,12 @@ impl<'d> Families<'d> {
         for members in self.members.values() {
             // Which of each family the members name that have the same number.
             let mut agreeing: HashMap<&str, usize> = HashMap::new();
-            for (stem, numbers) in members.iter().flat_map(|member| {
-                let own = member.number;
-                member.named.iter().filter(move |(_, numbers)| numbers.contains_key(&own))
-            }) {
-                let _ = numbers;
+            let agreed = members.iter().flat_map(|member| {
+                let has_own = |numbers: &Numbers| numbers.contains_key(&member.number);
+                let named = member.named.iter();
+                named.filter_map(move |(stem, numbers)| has_own(numbers).then_some(*stem))
+            });
+            for stem in agreed {
                 let count = agreeing.entry(stem).or_default();
                 *count = count.saturating_add(1);
             }

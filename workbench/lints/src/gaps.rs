@@ -136,7 +136,8 @@ pub(crate) fn check_shifted(
     findings: &mut Findings<'_>,
 ) {
     let variable = number.and_then(|number| context.instrument.variable(number));
-    let Some(variable) = variable.filter(|one| one.enumerators.is_empty() && !one.is_read_only) else {
+    let Some(variable) = variable.filter(|one| one.enumerators.is_empty() && !one.is_read_only)
+    else {
         return;
     };
     let (Some(least), Some(greatest)) = (variable.least, variable.greatest) else {

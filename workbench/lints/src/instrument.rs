@@ -1,7 +1,7 @@
 //! What is known of the items of a description.
 
-use crate::lists::{enumerators_of, is_total, values_in};
 use crate::exchanges::{Exchange, exchanges_of};
+use crate::lists::{enumerators_of, is_total, values_in};
 use crate::range::Range;
 use crate::texts::variants::first_words;
 use crate::traits::quoted;
@@ -126,7 +126,9 @@ impl<'i> Variable<'i> {
     }
 
     fn add_text(&mut self, enumerator: &'i Enumerator) {
-        let text = quoted(&enumerator.text).map(first_words).unwrap_or_default();
+        let text = quoted(&enumerator.text)
+            .map(first_words)
+            .unwrap_or_default();
         if !text.is_empty() {
             self.by_text.insert(text, enumerator.value);
             self.texts.insert(enumerator.value, text);

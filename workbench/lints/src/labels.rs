@@ -2,7 +2,7 @@
 
 use crate::context::Context;
 use crate::instrument::Variable;
-use crate::texts::variants::Variants;
+use crate::texts::variants::first_words;
 use crate::traits::quoted;
 use edd_syntax::cond::Cond;
 use edd_syntax::item::Attribute;
@@ -29,12 +29,11 @@ pub(crate) struct Labels {
 // The label of a variable in its first language.
 fn label_of(variable: &Variable<'_>) -> Option<String> {
     let attributes = variable.item.attributes.iter();
-    let label = attributes.filter_map(|one| match one {
+    let mut label = attributes.filter_map(|one| match one {
         Attribute::OneText(_, TextAttribute::Label, Cond::Value(text)) => quoted(text),
         _ => None,
     });
-    let first = label.last().and_then(|text| Variants::of(text.as_bytes()).next())?;
-    Some(str::from_utf8(first.words).ok()?.trim().to_lowercase())
+    Some(first_words(label.next()?).to_lowercase())
 }
 
 fn words_of(text: &str) -> Vec<String> {

@@ -138,7 +138,9 @@ fn members_of(item: &Item<Target>) -> impl Iterator<Item = u16> {
         Attribute::Members(_, members) => Some(members.iter()),
         _ => None,
     });
-    members.flatten().filter_map(|member| variable_of(member.item))
+    members
+        .flatten()
+        .filter_map(|member| variable_of(member.item))
 }
 
 /// The variables that a method sets.
@@ -176,7 +178,10 @@ fn candidates(variable: &Variable<'_>) -> Vec<i64> {
     let mut all: Vec<_> = variable.enumerators.iter().copied().collect();
     all.sort_unstable();
     if all.is_empty() {
-        let ends = variable.range.iter().flat_map(|range| [0, range.high, range.low]);
+        let ends = variable
+            .range
+            .iter()
+            .flat_map(|range| [0, range.high, range.low]);
         all.extend(ends);
     }
     all
@@ -221,7 +226,8 @@ pub(crate) fn check_lockouts(usage: &Usage, context: &Context<'_>, findings: &mu
         let Some(variable) = context.instrument.variable(number) else {
             continue;
         };
-        let is_sent_back = usage.replied.contains(&number) || classes_of(variable).contains("DYNAMIC");
+        let is_sent_back =
+            usage.replied.contains(&number) || classes_of(variable).contains("DYNAMIC");
         // What can't be entered is changed by methods alone.
         let mut places = places;
         places.retain(|place| place.is_by_method || !variable.is_read_only);

@@ -89,7 +89,10 @@ fn check_widths(
     findings: &mut Findings<'_>,
 ) {
     let mut masks: BTreeMap<(u16, usize), Masked> = BTreeMap::new();
-    for item in listed.iter().filter_map(|one| Some((one.list, Carrying::of(one.value)?))) {
+    for item in listed
+        .iter()
+        .filter_map(|one| Some((one.list, Carrying::of(one.value)?)))
+    {
         let (list, item) = item;
         let known = masks.entry((item.variable, list)).or_insert(Masked {
             at: item.at,

@@ -25,7 +25,9 @@ use std::collections::{HashMap, HashSet};
 const OPPOSITES: &[[&[&str]; 2]] = &[
     [
         &["lower", "low", "lo", "min", "minimum", "least", "lowest"],
-        &["upper", "high", "hi", "max", "maximum", "greatest", "highest"],
+        &[
+            "upper", "high", "hi", "max", "maximum", "greatest", "highest",
+        ],
     ],
     [&["begin", "start", "first"], &["end", "last"]],
     [&["left"], &["right"]],
@@ -50,7 +52,11 @@ fn words_of(text: &str) -> Vec<String> {
 
 // The word of a side that is among words, where none of the other side is.
 fn side_of(words: &[String], sides: &[&[&'static str]; 2]) -> Option<(usize, &'static str)> {
-    let found = sides.map(|side| side.iter().copied().find(|word| words.iter().any(|own| own == word)));
+    let found = sides.map(|side| {
+        side.iter()
+            .copied()
+            .find(|word| words.iter().any(|own| own == word))
+    });
     match found {
         [Some(word), None] => Some((0, word)),
         [None, Some(word)] => Some((1, word)),
@@ -115,7 +121,10 @@ fn check_ends(variable: &Variable<'_>, context: &Context<'_>, findings: &mut Fin
         };
         let words = words_of(other.name());
         if side_of(&words, sides).is_some_and(|(against, _)| against != side) {
-            let kind = VariableKind::OppositeLimit(NumberRole::Option(part.which), other.name().to_owned());
+            let kind = VariableKind::OppositeLimit(
+                NumberRole::Option(part.which),
+                other.name().to_owned(),
+            );
             findings.add(part.at, kind);
         }
     }
@@ -134,7 +143,9 @@ fn named_in<'t>(item: &'t Item<Target>, context: &Context<'t>) -> Vec<Named<'t>>
         let Target::Item(item) = target else {
             return None;
         };
-        items.get(context.instrument.place_of(item)?).map(Item::name)
+        items
+            .get(context.instrument.place_of(item)?)
+            .map(Item::name)
     };
     let members = item.attributes.iter().filter_map(|one| match one {
         Attribute::Members(_, members) => Some(members.iter()),
@@ -199,8 +210,7 @@ fn check_members<'d>(item: &Item<Target>, context: &Context<'d>, findings: &mut 
     let mut entries = Vec::new();
     for named in named_in(item, context) {
         if opposite(named.name, named.item).is_some() {
-            let kind =
-                VariableKind::OppositeMember(named.name.to_owned(), named.item.to_owned());
+            let kind = VariableKind::OppositeMember(named.name.to_owned(), named.item.to_owned());
             findings.add(named.at, kind);
         }
         if let Some((_, number)) = numbered(named.name) {
@@ -224,7 +234,7 @@ fn check_elements<'d>(item: &Item<Target>, context: &Context<'d>, findings: &mut
 }
 
 // The variable that the name of a command has behind its verb.
-fn called_after<'t>(command: &'t Item<Target>) -> Option<&'t str> {
+fn called_after(command: &Item<Target>) -> Option<&str> {
     let (verb, rest) = command.name().split_once('_')?;
     let verbs = match operation_of(command)? {
         Operation::Read => READS,
@@ -278,7 +288,8 @@ impl<'d> Names<'d> {
         for exchange in exchanges_of(command) {
             let mut received = exchange.received.iter();
             let is_other = exchange.sent.contains(&own) && !exchange.received.contains(&own);
-            let other = received.find(|one| self.written.contains(one) && !exchange.sent.contains(one));
+            let other =
+                received.find(|one| self.written.contains(one) && !exchange.sent.contains(one));
             if other.is_some() && is_other && exchange.received.len() == 1 {
                 findings.add(exchange.at, CommandKind::OtherReply);
             }
@@ -294,11 +305,14 @@ impl<'d> Names<'d> {
             return;
         };
         let all = exchanges_of(command);
-        let mut carried = all.iter().flat_map(|one| one.sent.iter().chain(&one.received));
-        let has_some = all.iter().any(|one| !one.sent.is_empty() || !one.received.is_empty());
+        let mut carried = all
+            .iter()
+            .flat_map(|one| one.sent.iter().chain(&one.received));
+        let has_some = all
+            .iter()
+            .any(|one| !one.sent.is_empty() || !one.received.is_empty());
         if has_some && !carried.any(|one| one == variable) {
-            let kind =
-                VariableKind::OtherVariable(command.name().to_owned(), name.to_owned());
+            let kind = VariableKind::OtherVariable(command.name().to_owned(), name.to_owned());
             findings.add(index(command.at), kind);
         }
         self.check_reply(command, *variable, findings);

@@ -12,8 +12,8 @@ use crate::source::index;
 use crate::types::{NumberPart, number_of, number_parts};
 use crate::usage::Usage;
 use crate::values::Values;
-use crate::values::evaluation::Nobody;
 use crate::values::environment::{Environment, Storage};
+use crate::values::evaluation::Nobody;
 use crate::visit::{Visitor, visit_conditional};
 use crate::warning::Findings;
 use edd_instructions::Sort;
@@ -142,7 +142,9 @@ fn number_with_defaults(part: &NumberPart<'_>, context: &Context<'_>) -> Option<
     let mut read = Read::default();
     visit_conditional(part.value, &mut read);
     let read: HashSet<u16> = read.variables.into_iter().collect();
-    with_defaults(&read, context).evaluate(e, &mut Nobody).number()
+    with_defaults(&read, context)
+        .evaluate(e, &mut Nobody)
+        .number()
 }
 
 /// Checks the default of a variable with its limits, where all that these read has its default.
@@ -165,7 +167,8 @@ pub(crate) fn check_set_back(
         // Of two constants, and of what is known whatever holds, it is told elsewhere.
         let is_plain = limit.number().is_some() && default.number().is_some();
         let is_told = findings.is_reported(findings.source.span(default.at));
-        let Some(end) = number_with_defaults(&limit, context).filter(|_| !is_plain && !is_told) else {
+        let Some(end) = number_with_defaults(&limit, context).filter(|_| !is_plain && !is_told)
+        else {
             continue;
         };
         let kind = match which {
@@ -194,7 +197,9 @@ fn check_default(variable: &Variable<'_>, context: &Context<'_>, findings: &mut 
         return;
     };
     let is_offered = |how: Offered, known: &Environment<'_, '_>| {
-        elements.clone().any(|element| how.by(element, number, known))
+        elements
+            .clone()
+            .any(|element| how.by(element, number, known))
     };
     let known = Environment::new(Sort::Attribute, context);
     let there = with_defaults(&read_by(elements.clone()), context);
@@ -271,7 +276,10 @@ fn check_reached(
     let default = default_of(variable).and_then(|part| part.number());
     let mut reached: HashSet<i64> = default.into_iter().collect();
     for (one, there) in &places.all {
-        let mut others = variable.enumerators.iter().filter(|other| **other != one.value);
+        let mut others = variable
+            .enumerators
+            .iter()
+            .filter(|other| **other != one.value);
         if others.any(|other| there.holds(*other)) {
             reached.insert(one.value);
         }

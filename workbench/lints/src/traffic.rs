@@ -114,11 +114,7 @@ fn check_requests(transactions: &[Transaction<'_>], findings: &mut Findings<'_>)
 }
 
 // A reply of a READ of which nothing is kept, and variables in it that nobody may read.
-fn check_kept(
-    transaction: &Transaction<'_>,
-    context: &Context<'_>,
-    findings: &mut Findings<'_>,
-) {
+fn check_kept(transaction: &Transaction<'_>, context: &Context<'_>, findings: &mut Findings<'_>) {
     let mut is_info = has_variable(&transaction.reply);
     for item in &transaction.reply {
         let DataItem::Variable { at, qualifiers, .. } = item else {
@@ -165,8 +161,22 @@ fn check_written(
 
 /// What the text of a code says where something went wrong, and where nothing did.
 const ERRORS: [&str; 16] = [
-    "error", "failed", "failure", "refused", "rejected", "too large", "too small", "too high", "too low",
-    "locked", "busy", "invalid", "not allowed", "denied", "overflow", "protected",
+    "error",
+    "failed",
+    "failure",
+    "refused",
+    "rejected",
+    "too large",
+    "too small",
+    "too high",
+    "too low",
+    "locked",
+    "busy",
+    "invalid",
+    "not allowed",
+    "denied",
+    "overflow",
+    "protected",
 ];
 const SUCCESSES: [&str; 5] = ["ok", "success", "done", "accepted", "no error"];
 
@@ -176,7 +186,9 @@ fn opposite_class(code: &ResponseCode) -> Option<CommandKind> {
     let first = Variants::of(text.as_bytes()).next()?;
     let words = str::from_utf8(first.words).ok()?.trim().to_lowercase();
     let found = |all: &[&'static str]| all.iter().copied().find(|word| words.contains(word));
-    let is_denied = ["no ", "not ", "without", "un"].iter().any(|word| words.contains(word));
+    let is_denied = ["no ", "not ", "without", "un"]
+        .iter()
+        .any(|word| words.contains(word));
     match code.class {
         ResponseClass::Success => {
             let error = found(&ERRORS).filter(|error| error.contains("not ") || !is_denied);

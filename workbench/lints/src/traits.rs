@@ -171,7 +171,9 @@ fn check_unit(variable: &Variable<'_>, findings: &mut Findings<'_>) {
     }
     for attribute in &variable.item.attributes {
         if let Attribute::OneText(at, TextAttribute::ConstantUnit, unit) = attribute {
-            let mut units = values_in(unit).into_iter().filter_map(|one| quoted(one.value));
+            let mut units = values_in(unit)
+                .into_iter()
+                .filter_map(|one| quoted(one.value));
             if units.any(|unit| !unit.trim().is_empty()) {
                 findings.add(index(*at), VariableKind::UnitOfBits);
             }

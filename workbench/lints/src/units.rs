@@ -50,21 +50,48 @@ const fn row(dimension: Dimension, names: &'static [&'static str]) -> Row {
 
 const UNITS: &[Row] = &[
     row(Dimension::Length, &["µm", "um", "micrometres"]),
-    row(Dimension::Length, &["mm", "millimetres", "millimeters", "Millimetern", "Millimeter"]),
-    row(Dimension::Length, &["cm", "centimetres", "centimeters", "Zentimetern", "Zentimeter"]),
+    row(
+        Dimension::Length,
+        &[
+            "mm",
+            "millimetres",
+            "millimeters",
+            "Millimetern",
+            "Millimeter",
+        ],
+    ),
+    row(
+        Dimension::Length,
+        &[
+            "cm",
+            "centimetres",
+            "centimeters",
+            "Zentimetern",
+            "Zentimeter",
+        ],
+    ),
     row(Dimension::Length, &["dm", "decimetres", "Dezimetern"]),
     row(Dimension::Length, &["m", "metres", "meters", "Metern"]),
-    row(Dimension::Length, &["km", "kilometres", "kilometers", "Kilometern"]),
+    row(
+        Dimension::Length,
+        &["km", "kilometres", "kilometers", "Kilometern"],
+    ),
     row(Dimension::Length, &["in", "inch", "inches", "Zoll"]),
     row(Dimension::Length, &["ft", "feet"]),
-    row(Dimension::Time, &["µs", "us", "microseconds", "Mikrosekunden"]),
+    row(
+        Dimension::Time,
+        &["µs", "us", "microseconds", "Mikrosekunden"],
+    ),
     row(Dimension::Time, &["ms", "milliseconds", "Millisekunden"]),
     row(Dimension::Time, &["s", "sec", "seconds", "Sekunden"]),
     row(Dimension::Time, &["min", "minutes", "Minuten"]),
     row(Dimension::Time, &["h", "hours", "Stunden"]),
     row(Dimension::Time, &["d", "days", "Tage", "Tagen"]),
     row(Dimension::Pressure, &["Pa", "pascal", "Pascal"]),
-    row(Dimension::Pressure, &["hPa", "mbar", "millibar", "Millibar"]),
+    row(
+        Dimension::Pressure,
+        &["hPa", "mbar", "millibar", "Millibar"],
+    ),
     row(Dimension::Pressure, &["kPa", "kilopascal", "Kilopascal"]),
     row(Dimension::Pressure, &["bar"]),
     row(Dimension::Pressure, &["MPa", "megapascal"]),
@@ -91,8 +118,14 @@ const UNITS: &[Row] = &[
     row(Dimension::Mass, &["g", "grams", "Gramm"]),
     row(Dimension::Mass, &["kg", "kilograms", "Kilogramm"]),
     row(Dimension::Mass, &["t", "tonnes", "Tonnen"]),
-    row(Dimension::Volume, &["ml", "millilitres", "milliliters", "Millilitern"]),
-    row(Dimension::Volume, &["l", "L", "litres", "liters", "Litern", "Liter"]),
+    row(
+        Dimension::Volume,
+        &["ml", "millilitres", "milliliters", "Millilitern"],
+    ),
+    row(
+        Dimension::Volume,
+        &["l", "L", "litres", "liters", "Litern", "Liter"],
+    ),
     row(Dimension::Volume, &["hl", "hectolitres", "Hektolitern"]),
     row(Dimension::Volume, &["m3", "m³"]),
     row(Dimension::Flow, &["l/s"]),
@@ -141,7 +174,7 @@ impl Unit {
     }
 }
 
-fn words_of<'t>(variant: &'t [u8]) -> &'t str {
+fn words_of(variant: &[u8]) -> &str {
     str::from_utf8(variant).unwrap_or_default()
 }
 
@@ -202,18 +235,18 @@ pub(crate) fn check_named_units(variable: &Variable<'_>, findings: &mut Findings
         return;
     };
     for attribute in &variable.item.attributes {
-        let (at, text, named) = match attribute {
-            Attribute::OneText(at, TextAttribute::Label, text) => {
-                (at, text, named_by_label as fn(&str) -> Option<Unit>)
-            }
-            Attribute::OneText(at, TextAttribute::Help, text) => {
-                (at, text, named_by_help as fn(&str) -> Option<Unit>)
-            }
-            _ => continue,
+        let Attribute::OneText(at, which, text) = attribute else {
+            continue;
+        };
+        let named: fn(&str) -> Option<Unit> = match which {
+            TextAttribute::Label => named_by_label,
+            TextAttribute::Help => named_by_help,
+            TextAttribute::ConstantUnit => continue,
         };
         for listed in values_in(text) {
             let text = quoted(listed.value).unwrap_or_default();
-            let mut all = Variants::of(text.as_bytes()).filter_map(|one| named(words_of(one.words)));
+            let mut all =
+                Variants::of(text.as_bytes()).filter_map(|one| named(words_of(one.words)));
             let other = all.find(|unit| {
                 !units.contains(unit) && units.iter().any(|own| own.is_comparable(*unit))
             });

@@ -186,7 +186,9 @@ impl Judged<'_, '_, '_> {
         // An abort alone, where nothing is done elsewhere.
         let aborted = on_success.and_then(|branch| aborts_alone(branch, self.context));
         let kind = match (success, failure) {
-            (Some((Tone::Failure, at)), other) if other.is_none_or(|(tone, _)| tone != Tone::Failure) => {
+            (Some((Tone::Failure, at)), other)
+                if other.is_none_or(|(tone, _)| tone != Tone::Failure) =>
+            {
                 Some((at, MethodKind::FailsOnSuccess))
             }
             (None, Some((Tone::Success, at))) => Some((at, MethodKind::SucceedsOnFailure)),

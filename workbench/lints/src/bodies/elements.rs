@@ -58,7 +58,8 @@ impl Elements<'_, '_, '_> {
             (None, Some((_, index))) => Some((index, first)),
             _ => None,
         };
-        let Some((counter, kept)) = pair.and_then(|(index, kept)| Some((referred(index)?, referred(kept)?)))
+        let Some((counter, kept)) =
+            pair.and_then(|(index, kept)| Some((referred(index)?, referred(kept)?)))
         else {
             return;
         };
@@ -106,8 +107,7 @@ impl Elements<'_, '_, '_> {
         let other = self.labels.named_in(words, own);
         let other = other.and_then(|number| self.context.instrument.variable(number));
         if let Some(other) = other.filter(|other| is_entered(own) && is_entered(other)) {
-            let kind =
-                MethodKind::OtherQuestion(other.name().to_owned(), own.name().to_owned());
+            let kind = MethodKind::OtherQuestion(other.name().to_owned(), own.name().to_owned());
             self.findings.add(at, kind);
         }
     }

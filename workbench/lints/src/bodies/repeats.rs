@@ -59,7 +59,8 @@ impl<'t> Visitor<'t> for Gathering<'_, '_> {
                 self.set(*to);
                 self.uses.has_sum = true;
                 let is_constant = evaluate(value, Sort::Method).number().is_some();
-                if *operator == Operator::Add && !is_constant
+                if *operator == Operator::Add
+                    && !is_constant
                     && let Some(place) = storage_of(*to)
                 {
                     self.uses.adds.insert(place, self.context.places.sign(e));
@@ -96,7 +97,9 @@ fn restarted(parts: &[Part<Target>]) -> Vec<(Storage, bool)> {
         match part {
             Part::Declare(declarators) => {
                 let zeros = declarators.iter().filter(|one| {
-                    one.value.as_ref().is_none_or(|e| matches!(e, Expr::Literal(0)))
+                    one.value
+                        .as_ref()
+                        .is_none_or(|e| matches!(e, Expr::Literal(0)))
                 });
                 all.extend(zeros.filter_map(|one| Some((storage_of(one.place)?, false))));
             }
@@ -131,7 +134,8 @@ impl Loops<'_, '_, '_> {
         for (place, is_statement) in restarted {
             let sets = uses.sets.get(&place).copied().unwrap_or(0);
             let is_local = matches!(place, Storage::Local(_));
-            let is_once = sets == 1_usize.saturating_add(usize::from(is_statement)) && uses.loops == 0;
+            let is_once =
+                sets == 1_usize.saturating_add(usize::from(is_statement)) && uses.loops == 0;
             if let Some(at) = uses.adds.get(&place).filter(|_| is_local && is_once) {
                 self.findings.add(*at, MethodKind::RestartedSum);
             }
@@ -139,7 +143,12 @@ impl Loops<'_, '_, '_> {
     }
 
     // A `for` whose body reads elements, asks for nothing, adds nothing up and has nothing to do with the counter.
-    fn check_repeated(&mut self, update: Option<&Expr<Target>>, s: &Stmt<Target>, body: &Stmt<Target>) {
+    fn check_repeated(
+        &mut self,
+        update: Option<&Expr<Target>>,
+        s: &Stmt<Target>,
+        body: &Stmt<Target>,
+    ) {
         let counter = step_of(update).and_then(|(counter, _)| storage_of(counter));
         let Some(counter @ Storage::Local(_)) = counter else {
             return;
@@ -237,7 +246,9 @@ impl Loops<'_, '_, '_> {
             }
             _ => (None, None),
         };
-        let turns = first.and_then(storage_of).and_then(|place| sums.get(&place));
+        let turns = first
+            .and_then(storage_of)
+            .and_then(|place| sums.get(&place));
         if let (Some(turns), Some(divisor)) = (turns, second)
             && divisor.abs_diff(*turns) == 1
         {
@@ -307,7 +318,9 @@ fn added_in(body: &Stmt<Target>) -> Vec<Storage> {
         }
         _ => None,
     });
-    added.filter(|place| matches!(place, Storage::Local(_))).collect()
+    added
+        .filter(|place| matches!(place, Storage::Local(_)))
+        .collect()
 }
 
 impl<'t> Visitor<'t> for Loops<'_, '_, '_> {

@@ -47,7 +47,10 @@ impl Selections<'_, '_, '_> {
         let Some(variable) = known else {
             return;
         };
-        let is_other = variable.by_text.get(choice).is_some_and(|own| *own != number);
+        let is_other = variable
+            .by_text
+            .get(choice)
+            .is_some_and(|own| *own != number);
         if is_other && variable.texts.contains_key(&number) {
             let kind = MethodKind::ExchangedChoice(choice.to_owned());
             self.findings.add(at, kind);

@@ -57,9 +57,8 @@ impl Unsent<'_, '_, '_> {
     // Only what may be entered is there to be sent.
     fn put(&mut self, variable: u16, put: Put) {
         let known = self.context.instrument.variable(variable);
-        let is_sent = known.is_some_and(|known| {
-            !known.is_read_only && !classes_of(known).contains("LOCAL")
-        });
+        let is_sent =
+            known.is_some_and(|known| !known.is_read_only && !classes_of(known).contains("LOCAL"));
         let has_room = self.pending.len() < MOST_PENDING || self.pending.contains_key(&variable);
         if is_sent && has_room {
             self.pending.insert(variable, put);
@@ -236,7 +235,10 @@ fn saving(part: &Part<Target>) -> Option<TokenIndex> {
 fn check_saves(parts: &[Part<Target>], context: &Context<'_>, findings: &mut Findings<'_>) {
     let last = parts.iter().rposition(|part| saving(part).is_some());
     let Some((at, rest)) = last.and_then(|last| {
-        Some((saving(parts.get(last)?)?, parts.get(last.checked_add(1)?..)?))
+        Some((
+            saving(parts.get(last)?)?,
+            parts.get(last.checked_add(1)?..)?,
+        ))
     }) else {
         return;
     };

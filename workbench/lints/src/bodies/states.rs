@@ -50,11 +50,14 @@ fn named(method: &Item<Target>) -> Vec<String> {
     words
 }
 
+/// A number that a variable is set to, by an assignment.
+type Set<'c> = (i64, &'c Expr<Target>);
+
 /// What a body sets variables to, where these are constants.
 #[derive(Default)]
 struct Sets<'c> {
     /// The first number of each variable, with its place; nothing where there are others.
-    numbers: BTreeMap<u16, Option<(i64, Option<&'c Expr<Target>>)>>,
+    numbers: BTreeMap<u16, Option<Set<'c>>>,
 }
 
 impl<'t> Visitor<'t> for Sets<'t> {
@@ -71,7 +74,7 @@ impl<'t> Visitor<'t> for Sets<'t> {
         let Some(variable) = to.and_then(variable_of) else {
             return;
         };
-        let new = number.map(|number| (number, Some(e)));
+        let new = number.map(|number| (number, e));
         let known = self.numbers.entry(variable).or_insert(new);
         if known.map(|(number, _)| number) != number {
             *known = None;
@@ -108,7 +111,7 @@ pub(super) fn check_states(
     visit_parts(parts, &mut sets);
     for (variable, set) in sets.numbers {
         let known = context.instrument.variable(variable);
-        let (Some(variable), Some((number, Some(e)))) = (known, set) else {
+        let (Some(variable), Some((number, e))) = (known, set) else {
             continue;
         };
         let Some(state) = variable.texts.get(&number) else {

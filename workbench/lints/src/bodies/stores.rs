@@ -389,7 +389,10 @@ pub(super) fn check_stores(parts: &[Part<Target>], walk: &mut Walk<'_, '_>) {
             None => {}
         }
         // A place that is set to itself has a warning of its own, and 0 is where many begin.
-        if (has_call(value) && !is_code(*to, value)) || is_itself(*to, value) || matches!(**value, Expr::Literal(0)) {
+        if (has_call(value) && !is_code(*to, value))
+            || is_itself(*to, value)
+            || matches!(**value, Expr::Literal(0))
+        {
             pending.forget(*to);
         }
         pending.enter(value, at);

@@ -131,6 +131,7 @@ pub(super) fn check_end(s: &Stmt<Target>, next: Option<&Part<Target>>, walk: &mu
     if doings.ends && !doings.sets.contains(&end.counter) {
         let at = walk.context.places.sign(without_parentheses(test));
         let name = walk.name_of(end.counter, test);
-        walk.findings.add(at, MethodKind::MissedEnd(name, end.number));
+        walk.findings
+            .add(at, MethodKind::MissedEnd(name, end.number));
     }
 }

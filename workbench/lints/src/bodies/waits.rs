@@ -55,7 +55,8 @@ impl<'t> Visitor<'t> for Doings {
                             let number = |place| number_of_argument(arguments, place);
                             self.sent.push((number(0), number(1), arguments.len()));
                         }
-                        RequestKind::PutMessage | RequestKind::Acknowledge | RequestKind::Delay => {}
+                        RequestKind::PutMessage | RequestKind::Acknowledge | RequestKind::Delay => {
+                        }
                         _ => self.refreshes = true,
                     }
                 }

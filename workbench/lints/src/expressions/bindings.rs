@@ -50,7 +50,10 @@ pub(super) fn check_shifted_sum(
 }
 
 fn kind_of(e: &Expr<Target>, walk: &Walk<'_, '_>) -> Option<VarType> {
-    let variable = walk.context.instrument.variable(variable_of(referred(e)?)?)?;
+    let variable = walk
+        .context
+        .instrument
+        .variable(variable_of(referred(e)?)?)?;
     variable.kind
 }
 
@@ -62,9 +65,8 @@ pub(super) fn check_added_state(
     at: TokenIndex,
     walk: &mut Walk<'_, '_>,
 ) -> bool {
-    let is_state = |e: &Expr<Target>, walk: &Walk<'_, '_>| {
-        kind_of(e, walk) == Some(VarType::Enumerated)
-    };
+    let is_state =
+        |e: &Expr<Target>, walk: &Walk<'_, '_>| kind_of(e, walk) == Some(VarType::Enumerated);
     let Expr::Binary(operator, amount, state) = first else {
         return false;
     };
@@ -80,7 +82,8 @@ pub(super) fn check_added_state(
 
 /// A `? :` over a sum of something and a truth, as in `a + (b == 1) ? 5 : 0`.
 pub(super) fn check_added_truth(test: &Expr<Target>, walk: &mut Walk<'_, '_>) {
-    let Expr::Binary(Operator::Add | Operator::Subtract | Operator::Multiply, _, last) = test else {
+    let Expr::Binary(Operator::Add | Operator::Subtract | Operator::Multiply, _, last) = test
+    else {
         return;
     };
     let is_truth = matches!(
@@ -117,7 +120,10 @@ pub(super) fn check_negated_mask(
     let is_negated = match without_parentheses(second) {
         Expr::Unary(UnaryOperator::Not, inner) => {
             !matches!(without_parentheses(inner), Expr::Literal(_))
-                && !matches!(without_parentheses(inner), Expr::Compare(Comparison::Equal, ..))
+                && !matches!(
+                    without_parentheses(inner),
+                    Expr::Compare(Comparison::Equal, ..)
+                )
         }
         _ => false,
     };

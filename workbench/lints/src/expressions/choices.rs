@@ -83,7 +83,8 @@ pub(super) fn check_delay(arguments: &[Argument<Target>], at: TokenIndex, walk: 
             };
             let named = text.and_then(seconds_in).filter(|named| *named != seconds);
             if let Some(named) = named {
-                walk.findings.add(at, MethodKind::NamedDelay(named, seconds));
+                walk.findings
+                    .add(at, MethodKind::NamedDelay(named, seconds));
             }
         }
         None => {}

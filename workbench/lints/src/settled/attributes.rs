@@ -153,7 +153,10 @@ fn may_hold(conditional: &Cond<Target, bool>, known: &Environment<'_, '_>) -> bo
 }
 
 /// What holds where a menu is shown. Entries that test it again are careful.
-pub(crate) fn where_valid<'c, 'd>(menu: &Item<Target>, known: Environment<'c, 'd>) -> Environment<'c, 'd> {
+pub(crate) fn where_valid<'c, 'd>(
+    menu: &Item<Target>,
+    known: Environment<'c, 'd>,
+) -> Environment<'c, 'd> {
     let condition = menu
         .attributes
         .iter()

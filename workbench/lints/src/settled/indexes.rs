@@ -120,7 +120,10 @@ fn check_computed(
         numbers.find(|number| values.holds(*number) && is_missing(number))
     } else {
         let results = results_of(ways, index, known).unwrap_or_default();
-        results.into_iter().map(|(_, number)| number).find(is_missing)
+        results
+            .into_iter()
+            .map(|(_, number)| number)
+            .find(is_missing)
     };
     if let Some(missing) = missing {
         ways.findings.add(at, ConditionKind::UntestedSum(missing));

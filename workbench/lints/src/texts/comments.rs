@@ -58,8 +58,12 @@ fn has_nested(bytes: &[u8]) -> bool {
 
 // Whether what a comment has before another one begins ends as code does.
 fn ends_as_code(text: &[u8]) -> bool {
-    let lines = text.split(|byte| *byte == b'\n').map(<[u8]>::trim_ascii_end);
-    lines.into_iter().any(|line| matches!(line, [.., b';' | b'{' | b'}']))
+    let lines = text
+        .split(|byte| *byte == b'\n')
+        .map(<[u8]>::trim_ascii_end);
+    lines
+        .into_iter()
+        .any(|line| matches!(line, [.., b';' | b'{' | b'}']))
 }
 
 // How long the comment, the mark or the blank is that comes first, and whether another comment begins in it
@@ -71,7 +75,10 @@ fn first_of(rest: &[u8]) -> (usize, bool) {
             let inner = close.and_then(|close| inner.get(..close)).unwrap_or(inner);
             let again = inner.windows(2).position(|pair| pair == b"/*");
             let before = again.and_then(|again| inner.get(..again));
-            (inner.len().saturating_add(4), before.is_some_and(ends_as_code))
+            (
+                inner.len().saturating_add(4),
+                before.is_some_and(ends_as_code),
+            )
         }
         [b'/', b'/', ..] | [b'#', ..] => {
             let line = rest.iter().position(|byte| *byte == b'\n');

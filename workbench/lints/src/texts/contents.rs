@@ -8,7 +8,9 @@ use crate::warning::Findings;
 use std::collections::HashSet;
 
 /// Units in which one language has other numbers than another.
-const CONVERTED: [&str; 8] = ["°F", "inch", "psi", "feet", "gallon", " am", " pm", "o'clock"];
+const CONVERTED: [&str; 8] = [
+    "°F", "inch", "psi", "feet", "gallon", " am", " pm", "o'clock",
+];
 
 /// How many letters a part of a path has at least.
 const SHORTEST: usize = 2;
@@ -45,7 +47,9 @@ fn text_of(one: Variant<'_>, other: Variant<'_>) -> String {
     let others = numbers_in(other.words);
     let own = numbers_in(one.words).into_iter();
     let own = own.filter(|number| !others.contains(number));
-    let own: Vec<_> = own.filter_map(|number| str::from_utf8(number).ok()).collect();
+    let own: Vec<_> = own
+        .filter_map(|number| str::from_utf8(number).ok())
+        .collect();
     own.join(", ")
 }
 

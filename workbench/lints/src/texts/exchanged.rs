@@ -8,13 +8,14 @@ use std::collections::HashMap;
 
 /// Words of German sentences that English ones have not.
 const GERMAN: [&str; 16] = [
-    "der", "das", "und", "ist", "nicht", "bitte", "wird", "oder", "eine", "einen", "wurde", "sind", "zum", "zur",
-    "kein", "keine",
+    "der", "das", "und", "ist", "nicht", "bitte", "wird", "oder", "eine", "einen", "wurde", "sind",
+    "zum", "zur", "kein", "keine",
 ];
 
 /// Words of English sentences that German ones have not.
 const ENGLISH: [&str; 14] = [
-    "the", "and", "is", "not", "please", "of", "or", "to", "are", "was", "with", "for", "no", "does",
+    "the", "and", "is", "not", "please", "of", "or", "to", "are", "was", "with", "for", "no",
+    "does",
 ];
 
 /// How many words a sentence has that is translated.
@@ -56,7 +57,10 @@ fn has_umlaut(text: &str) -> bool {
 fn looks_exchanged(pair: &Pair<'_>) -> bool {
     let has = |text: &str, all: &[&str]| words_of(text).any(|word| all.contains(&word));
     let is_turned = |first: &str, second: &str| {
-        has(first, &GERMAN) && !has(first, &ENGLISH) && has(second, &ENGLISH) && !has(second, &GERMAN)
+        has(first, &GERMAN)
+            && !has(first, &ENGLISH)
+            && has(second, &ENGLISH)
+            && !has(second, &GERMAN)
     };
     let by_letters = has_umlaut(pair.english)
         && !has_umlaut(pair.german)

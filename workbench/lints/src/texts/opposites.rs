@@ -18,27 +18,62 @@ const ALL: &[Sides] = &[
     },
     Sides {
         english: [&["on"], &["off"]],
-        german: [&["ein", "an", "einschalten", "eingeschaltet"], &["aus", "ausschalten", "ausgeschaltet"]],
+        german: [
+            &["ein", "an", "einschalten", "eingeschaltet"],
+            &["aus", "ausschalten", "ausgeschaltet"],
+        ],
     },
     Sides {
         english: [&["upper"], &["lower"]],
-        german: [&["obere", "oberer", "oberes", "oben", "obergrenze"], &["untere", "unterer", "unteres", "unten", "untergrenze"]],
+        german: [
+            &["obere", "oberer", "oberes", "oben", "obergrenze"],
+            &["untere", "unterer", "unteres", "unten", "untergrenze"],
+        ],
     },
     Sides {
-        english: [&["maximum", "max", "maximal"], &["minimum", "min", "minimal"]],
-        german: [&["maximum", "max", "maximal", "maximaler", "größter", "größte"], &["minimum", "min", "minimal", "minimaler", "kleinster", "kleinste"]],
+        english: [
+            &["maximum", "max", "maximal"],
+            &["minimum", "min", "minimal"],
+        ],
+        german: [
+            &[
+                "maximum",
+                "max",
+                "maximal",
+                "maximaler",
+                "größter",
+                "größte",
+            ],
+            &[
+                "minimum",
+                "min",
+                "minimal",
+                "minimaler",
+                "kleinster",
+                "kleinste",
+            ],
+        ],
     },
     Sides {
         english: [&["high", "highest"], &["low", "lowest"]],
-        german: [&["hoch", "hohe", "hoher", "höchster"], &["niedrig", "niedrige", "niedriger", "tief", "tiefer"]],
+        german: [
+            &["hoch", "hohe", "hoher", "höchster"],
+            &["niedrig", "niedrige", "niedriger", "tief", "tiefer"],
+        ],
     },
     Sides {
         english: [&["left"], &["right"]],
-        german: [&["links", "linker", "linkes", "linke"], &["rechts", "rechter", "rechtes", "rechte"]],
+        german: [
+            &["links", "linker", "linkes", "linke"],
+            &["rechts", "rechter", "rechtes", "rechte"],
+        ],
     },
     Sides {
         english: [&["input", "inlet"], &["output", "outlet"]],
-        german: [&["eingang", "einlass", "einlauf"], &["ausgang", "auslass", "auslauf"]],
+        german: [
+            &["eingang", "einlass", "einlauf"],
+            &["ausgang", "auslass", "auslauf"],
+        ],
     },
     Sides {
         english: [&["begin", "start"], &["end", "stop"]],
@@ -46,7 +81,10 @@ const ALL: &[Sides] = &[
     },
     Sides {
         english: [&["open", "opened"], &["closed", "shut", "close"]],
-        german: [&["offen", "öffnen", "geöffnet"], &["geschlossen", "schließen", "zu"]],
+        german: [
+            &["offen", "öffnen", "geöffnet"],
+            &["geschlossen", "schließen", "zu"],
+        ],
     },
     Sides {
         english: [&["full"], &["empty"]],
@@ -58,7 +96,10 @@ const ALL: &[Sides] = &[
     },
     Sides {
         english: [&["first"], &["last"]],
-        german: [&["erster", "erste", "erstes"], &["letzter", "letzte", "letztes"]],
+        german: [
+            &["erster", "erste", "erstes"],
+            &["letzter", "letzte", "letztes"],
+        ],
     },
     Sides {
         english: [&["fast", "faster"], &["slow", "slower"]],
