@@ -13,7 +13,7 @@ use crate::entries::check_entries;
 use crate::exchanged::{States, check_exchanged};
 use crate::families::check_families;
 use crate::gaps::check_gaps;
-use crate::instrument::Instrument;
+use crate::instrument::{Instrument, Variable};
 use crate::labels::Labels;
 use crate::levels::Levels;
 use crate::limits::{check_circular, check_limits_under_conditions};
@@ -47,6 +47,22 @@ fn elements_of(description: &Checked) -> Vec<Element> {
     elements.map_or_else(|_| Vec::new(), core_std::vec::Vec::into_real)
 }
 
+fn check_variable(
+    variable: &Variable<'_>,
+    usage: &Usage,
+    context: &Context<'_>,
+    findings: &mut Findings<'_>,
+) {
+    check_type(variable, context, findings);
+    check_limits_under_conditions(variable, context, findings);
+    check_traits(variable, context, findings);
+    check_named_units(variable, findings);
+    check_limit_units(variable, context, findings);
+    check_claims(variable, findings);
+    check_offers(usage, variable, context, findings);
+    check_set_back(variable, context, findings);
+}
+
 fn check_items<'d>(context: &Context<'d>, findings: &mut Findings<'d>) {
     let mut variables = context.instrument.variables().iter();
     let mut commands = Numbers::new(Numbered::Command);
@@ -61,14 +77,7 @@ fn check_items<'d>(context: &Context<'d>, findings: &mut Findings<'d>) {
         match item.sort {
             ItemKind::Variable => {
                 if let Some(variable) = variables.next() {
-                    check_type(variable, context, findings);
-                    check_limits_under_conditions(variable, context, findings);
-                    check_traits(variable, context, findings);
-                    check_named_units(variable, findings);
-                    check_limit_units(variable, context, findings);
-                    check_claims(variable, findings);
-                    check_offers(&usage, variable, context, findings);
-                    check_set_back(variable, context, findings);
+                    check_variable(variable, &usage, context, findings);
                 }
             }
             ItemKind::Command => {

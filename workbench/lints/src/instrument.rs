@@ -90,16 +90,7 @@ impl<'i> Variable<'i> {
             least: None,
             greatest: None,
         };
-        for part in number_parts(variable.parts()).filter(|part| is_total(part.value)) {
-            let values = values_in(part.value);
-            let numbers: Option<Vec<_>> = values.iter().map(|one| number_of(one.value)).collect();
-            let numbers = numbers.into_iter().flatten();
-            match part.which {
-                NumberOption::MinValue => variable.least = numbers.min(),
-                NumberOption::MaxValue => variable.greatest = numbers.max(),
-                NumberOption::DefaultValue => {}
-            }
-        }
+        variable.add_limits();
         for attribute in &item.attributes {
             match attribute {
                 Attribute::TypeOf {
@@ -123,6 +114,19 @@ impl<'i> Variable<'i> {
             }
         }
         variable
+    }
+
+    fn add_limits(&mut self) {
+        for part in number_parts(self.parts()).filter(|part| is_total(part.value)) {
+            let values = values_in(part.value);
+            let numbers: Option<Vec<_>> = values.iter().map(|one| number_of(one.value)).collect();
+            let numbers = numbers.into_iter().flatten();
+            match part.which {
+                NumberOption::MinValue => self.least = numbers.min(),
+                NumberOption::MaxValue => self.greatest = numbers.max(),
+                NumberOption::DefaultValue => {}
+            }
+        }
     }
 
     fn add_text(&mut self, enumerator: &'i Enumerator) {

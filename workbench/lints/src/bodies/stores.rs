@@ -343,22 +343,26 @@ fn declare<'t>(declarators: &'t [Declarator<Target>], pending: &mut Pending<'t>)
     }
 }
 
+// A part that is no expression: what is stored before it is not followed any more.
+fn pass<'t>(part: &'t Part<Target>, pending: &mut Pending<'t>, walk: &mut Walk<'_, '_>) {
+    if let Part::Declare(declarators) = part {
+        pending.stores.clear();
+        return declare(declarators, pending);
+    }
+    if let Part::Statement(Stmt::If(condition, _) | Stmt::IfElse(condition, ..)) = part {
+        check_copy(condition, pending, walk);
+    }
+    check_branches(part, pending, walk);
+    *pending = Pending::default();
+}
+
 /// Checks the stores of a block, one after the other.
 pub(super) fn check_stores(parts: &[Part<Target>], walk: &mut Walk<'_, '_>) {
     let mut pending = Pending::default();
     let mut last: Option<&Expr<Target>> = None;
     for part in parts {
         let Part::Statement(Stmt::Evaluate(e)) = part else {
-            if let Part::Declare(declarators) = part {
-                pending.stores.clear();
-                declare(declarators, &mut pending);
-                continue;
-            }
-            if let Part::Statement(Stmt::If(condition, _) | Stmt::IfElse(condition, ..)) = part {
-                check_copy(condition, &pending, walk);
-            }
-            check_branches(part, &pending, walk);
-            pending = Pending::default();
+            pass(part, &mut pending, walk);
             continue;
         };
         let before = last.replace(e);
@@ -377,16 +381,16 @@ pub(super) fn check_stores(parts: &[Part<Target>], walk: &mut Walk<'_, '_>) {
         if pending.copy(*to, value) {
             walk.findings.add(at, MethodKind::CopiedBack);
         }
-        match pending.store(*to, Stored::Value(at)) {
-            Some(Stored::Value(earlier)) if !sends_again(e, before, walk) => {
-                walk.findings.add_beside(earlier, MethodKind::DeadStore, at);
+        let replaced = match pending.store(*to, Stored::Value(at)) {
+            Some(Stored::Value(earlier)) => {
+                let is_again = sends_again(e, before, walk);
+                (!is_again).then_some((earlier, MethodKind::DeadStore))
             }
-            Some(Stored::Value(_)) => {}
-            Some(Stored::Entry(earlier, _)) => {
-                walk.findings
-                    .add_beside(earlier, MethodKind::ReplacedEntry, at);
-            }
-            None => {}
+            Some(Stored::Entry(earlier, _)) => Some((earlier, MethodKind::ReplacedEntry)),
+            None => None,
+        };
+        if let Some((earlier, kind)) = replaced {
+            walk.findings.add_beside(earlier, kind, at);
         }
         // A place that is set to itself has a warning of its own, and 0 is where many begin.
         if (has_call(value) && !is_code(*to, value))

@@ -236,6 +236,24 @@ pub(super) fn check_wait(
     }
 }
 
+// The loops in the body of a `for` that count the same. What leaves the loop does not help where an inner
+// one right in the body always counts to its end.
+fn check_shared(body: &Stmt<Target>, counted: Target, walk: &mut Walk<'_, '_>) {
+    if !Doings::of(body).ends {
+        return visit_statement(body, &mut Shared { counted, walk });
+    }
+    let Stmt::Block(parts) = body else {
+        return;
+    };
+    for part in parts {
+        if let Part::Statement(s @ Stmt::For { body: inner, .. }) = part
+            && !Doings::of(inner).ends
+        {
+            Shared { counted, walk }.statement(s);
+        }
+    }
+}
+
 /// Checks the head of a `for` that counts a local: whether its body counts it too, and whether it
 /// comes to its limit.
 pub(super) fn check_counting(
@@ -253,18 +271,7 @@ pub(super) fn check_counting(
     if let Stmt::Block(parts) = body {
         check_counted_twice(parts, counted, walk);
     }
-    if !Doings::of(body).ends {
-        visit_statement(body, &mut Shared { counted, walk });
-    } else if let Stmt::Block(parts) = body {
-        // What leaves the loop does not help where the inner one always counts to its end.
-        for part in parts {
-            if let Part::Statement(s @ Stmt::For { body: inner, .. }) = part
-                && !Doings::of(inner).ends
-            {
-                Shared { counted, walk }.statement(s);
-            }
-        }
-    }
+    check_shared(body, counted, walk);
     if step == 0 {
         return walk.findings.add(at, MethodKind::CountsByZero);
     }
