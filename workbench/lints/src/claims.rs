@@ -7,7 +7,7 @@ use crate::source::index;
 use crate::texts::variants::Variants;
 use crate::traits::quoted;
 use crate::types::number_parts;
-use crate::units::{Unit, unit_of};
+use crate::units::Unit;
 use crate::warning::Findings;
 use edd_syntax::item::Attribute;
 use edd_syntax::numbers::{NumberOption, TextAttribute};
@@ -25,6 +25,9 @@ const DEFAULTS: [&str; 6] = [
     "vorgabe ",
     "vorgabe: ",
 ];
+
+/// What a text with one of them has, whether it begins with a capital or not.
+const HINTS: [&str; 3] = ["efault", "tandard", "orgabe"];
 
 /// A range that a text names.
 struct Named {
@@ -138,6 +141,9 @@ fn check_range(text: &str, variable: &Variable<'_>, unit: Option<Unit>) -> Optio
 }
 
 fn check_default(text: &str, variable: &Variable<'_>) -> Option<VariableKind> {
+    if !HINTS.iter().any(|hint| text.contains(hint)) {
+        return None;
+    }
     let default = constant(variable, NumberOption::DefaultValue)?;
     let text = text.to_lowercase();
     let named = DEFAULTS.iter().find_map(|word| {
@@ -157,7 +163,7 @@ pub(crate) fn wrong_claim(text: &str, variable: &Variable<'_>) -> Option<Variabl
     if !is_number || !text.contains(|sign: char| sign.is_ascii_digit()) {
         return None;
     }
-    let unit = unit_of(variable);
+    let unit = variable.unit;
     Variants::of(text.as_bytes()).find_map(|variant| {
         let words = str::from_utf8(variant.words).ok()?;
         check_range(words, variable, unit).or_else(|| check_default(words, variable))

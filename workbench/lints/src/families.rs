@@ -8,7 +8,7 @@ use crate::names::numbered;
 use crate::source::{TokenIndex, index};
 use crate::texts::variants::Variants;
 use crate::traits::quoted;
-use crate::units::{Unit, unit_of};
+use crate::units::Unit;
 use crate::warning::Findings;
 use edd_lexer::token::TokenKind;
 use edd_syntax::cond::Cond;
@@ -190,7 +190,7 @@ pub(crate) fn check_families<'d>(context: &Context<'d>, findings: &mut Findings<
     Families::of(context).check(context, findings);
     let mut units: BTreeMap<&str, Vec<(TokenIndex, Unit)>> = BTreeMap::new();
     for variable in context.instrument.variables() {
-        let place = numbered(variable.name()).zip(unit_of(variable));
+        let place = numbered(variable.name()).zip(variable.unit);
         if let Some(((stem, _), unit)) = place {
             units.entry(stem).or_default().push((at_of(variable), unit));
         }

@@ -6,6 +6,7 @@ use crate::range::Range;
 use crate::texts::variants::first_words;
 use crate::traits::quoted;
 use crate::types::{number_of, number_parts};
+use crate::units::{Unit, unit_of};
 use edd_constants::evaluate;
 use edd_instructions::Sort;
 use edd_syntax::cond::Cond;
@@ -27,6 +28,8 @@ pub(crate) struct Variable<'i> {
     /// The enumerators by what their texts say in their first language, and the other way round.
     pub(crate) by_text: HashMap<&'i str, i64>,
     pub(crate) texts: HashMap<i64, &'i str>,
+    /// Its unit, where it always is the same one.
+    pub(crate) unit: Option<Unit>,
     /// Whether HANDLING is READ, under no condition.
     pub(crate) is_read_only: bool,
     /// Whether it is WRITE so.
@@ -85,12 +88,14 @@ impl<'i> Variable<'i> {
             enumerators: HashSet::new(),
             by_text: HashMap::new(),
             texts: HashMap::new(),
+            unit: None,
             is_read_only: false,
             is_write_only: false,
             least: None,
             greatest: None,
         };
         variable.add_limits();
+        variable.unit = unit_of(&variable);
         for attribute in &item.attributes {
             match attribute {
                 Attribute::TypeOf {

@@ -66,7 +66,14 @@ fn side_of(words: &[String], sides: &[&[&'static str]; 2]) -> Option<(usize, &'s
 
 // Two words by which two names say the opposite, where they say nothing alike.
 fn opposite(one: &str, other: &str) -> Option<(&'static str, &'static str)> {
-    let (one, other) = (words_of(one), words_of(other));
+    let other = words_of(other);
+    if !OPPOSITES
+        .iter()
+        .any(|sides| side_of(&other, sides).is_some())
+    {
+        return None;
+    }
+    let one = words_of(one);
     let pairs = OPPOSITES.iter().filter_map(|sides| {
         let (first, word) = side_of(&one, sides)?;
         let (second, against) = side_of(&other, sides)?;

@@ -261,7 +261,7 @@ pub(crate) fn check_named_units(variable: &Variable<'_>, findings: &mut Findings
 // The unit of what a reference refers to.
 fn unit_of_target(target: Target, walk: &Walk<'_, '_>) -> Option<Unit> {
     let variable = walk.context.instrument.variable(variable_of(target)?)?;
-    unit_of(variable)
+    variable.unit
 }
 
 /// Checks two plain values that are compared, added, or stored in each other.
@@ -287,13 +287,13 @@ pub(crate) fn check_limit_units(
     context: &Context<'_>,
     findings: &mut Findings<'_>,
 ) {
-    let Some(own) = unit_of(variable) else {
+    let Some(own) = variable.unit else {
         return;
     };
     for part in number_parts(variable.parts()) {
         let others = values_in(part.value).into_iter().filter_map(|listed| {
             let (target, _) = sum_of(listed.value, Sort::Attribute, &context.instrument)?;
-            unit_of(context.instrument.variable(variable_of(target)?)?)
+            context.instrument.variable(variable_of(target)?)?.unit
         });
         if let Some(other) = others.into_iter().find(|other| *other != own) {
             let kind = ConditionKind::TwoUnits(own.name, other.name);

@@ -29,7 +29,7 @@ fn is_converted(raw: &[u8]) -> bool {
 
 // A number of the first language and one of another, where these have as many and not the same.
 fn uneven_numbers(raw: &[u8]) -> Option<(Variant<'_>, Variant<'_>)> {
-    if !raw.iter().any(u8::is_ascii_digit) || is_converted(raw) {
+    if !raw.iter().any(u8::is_ascii_digit) {
         return None;
     }
     let mut variants = Variants::of(raw);
@@ -39,7 +39,7 @@ fn uneven_numbers(raw: &[u8]) -> Option<(Variant<'_>, Variant<'_>)> {
         let others = numbers_in(other.words);
         others.len() == numbers.len() && others != numbers
     })?;
-    Some((first, other))
+    (!is_converted(raw)).then_some((first, other))
 }
 
 // The numbers of one of two variants that the other one lacks, as text.

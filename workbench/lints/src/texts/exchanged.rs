@@ -50,7 +50,8 @@ fn words_of(text: &str) -> impl Iterator<Item = &str> + Clone {
 }
 
 fn has_umlaut(text: &str) -> bool {
-    text.contains(['ä', 'ö', 'ü', 'ß', 'Ä', 'Ö', 'Ü'])
+    // All of them begin with this byte.
+    text.as_bytes().contains(&0xC3) && text.contains(['ä', 'ö', 'ü', 'ß', 'Ä', 'Ö', 'Ü'])
 }
 
 // Whether the words of a pair show that its languages are exchanged.

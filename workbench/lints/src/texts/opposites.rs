@@ -114,15 +114,23 @@ const ALL: &[Sides] = &[
 /// How many words a text has at most of which two that say the opposite tell enough.
 const LONGEST: usize = 4;
 
-fn words_of(text: &str) -> Vec<String> {
+fn words_of(text: &str) -> impl Iterator<Item = &str> + Clone {
     let words = text.split(|sign: char| !sign.is_alphabetic());
-    let words = words.filter(|word| !word.is_empty());
-    words.map(str::to_lowercase).collect()
+    words.filter(|word| !word.is_empty())
+}
+
+// Whether two words are the same but for capitals.
+fn is_word(word: &str, other: &str) -> bool {
+    word.len() == other.len()
+        && (word.eq_ignore_ascii_case(other) || (!word.is_ascii() && word.to_lowercase() == other))
 }
 
 // The side of which some words are, where none is of the other side.
-fn side_of(words: &[String], sides: [&[&str]; 2]) -> Option<usize> {
-    let has = sides.map(|side| words.iter().any(|word| side.contains(&word.as_str())));
+fn side_of(text: &str, sides: [&[&str]; 2]) -> Option<usize> {
+    let has = sides.map(|side| {
+        let mut words = words_of(text);
+        words.any(|word| side.iter().any(|other| is_word(word, other)))
+    });
     match has {
         [true, false] => Some(0),
         [false, true] => Some(1),
@@ -132,13 +140,13 @@ fn side_of(words: &[String], sides: [&[&str]; 2]) -> Option<usize> {
 
 // Whether two texts say the opposite, and nothing alike.
 fn are_opposite(english: &str, german: &str) -> bool {
-    let (english, german) = (words_of(english), words_of(german));
-    if LONGEST < english.len() || LONGEST < german.len() {
+    let is_long = |text| words_of(text).nth(LONGEST).is_some();
+    if is_long(english) || is_long(german) {
         return false;
     }
     let compared = ALL.iter().filter_map(|sides| {
-        let one = side_of(&english, sides.english)?;
-        let other = side_of(&german, sides.german)?;
+        let one = side_of(english, sides.english)?;
+        let other = side_of(german, sides.german)?;
         Some(one != other)
     });
     let mut compared = compared.peekable();
