@@ -12,7 +12,7 @@ use Rattle.edd_image.specs.declared.parts.Counts.{Counts}
 use Rattle.edd_image.specs.Contents.{Contents}
 use Rattle.edd_instructions.specs.Agreement.{name_numbered, place_of_item}
 use Rattle.edd_loader.specs.Lookups.{IsFirstNamed}
-use Rattle.edd_script.specs.Named.{is_named, first_named, variable_named}
+use Rattle.edd_script.specs.Named.{is_named, first_named, variable_named, variables_in}
 
 -- the variable of a number
 abbrev numbered : ℕ → ItemNo
@@ -36,42 +36,42 @@ behind counts (items.Variable n) other = absurd (other n refl)
 behind counts _ other = omega arith
 
 module _ (c : Contents) (name : Name) where
-  named : (k : ℕ) → name_numbered c (numbered k) ≡ Some name → is_named c name k ≡ true
+  named : (k : ℕ) → name_numbered c (numbered k) ≡ Some name → is_named (variables_in c) name k ≡ true
   named k e = ap (is_it name) e ∙ (bytes_eq-Decides name name).1 refl
 
-  unnamed : (k : ℕ) → (name_numbered c (numbered k) ≡ Some name → ⊥) → is_named c name k ≡ false
-  unnamed k other = elim (cases_Bool (is_named c name k)) [
+  unnamed : (k : ℕ) → (name_numbered c (numbered k) ≡ Some name → ⊥) → is_named (variables_in c) name k ≡ false
+  unnamed k other = elim (cases_Bool (is_named (variables_in c) name k)) [
     | inl is ↦ absurd (other (its_name name (name_numbered c (numbered k)) is))
     | inr not ↦ not
   ]
 
-  here : (count number : ℕ) → is_named c name number ≡ true
-      → first_named c name (suc count) number ≡ Some (record { 0 = number })
+  here : (count number : ℕ) → is_named (variables_in c) name number ≡ true
+      → first_named (variables_in c) name (suc count) number ≡ Some (record { 0 = number })
   here count number is = ap (λ b. elim b as (λ _. Option VarNo) [
     | true ↦ Some (record { 0 = number })
-    | false ↦ first_named c name count (suc number)
+    | false ↦ first_named (variables_in c) name count (suc number)
   ]) is
 
-  later : (count number : ℕ) → is_named c name number ≡ false
-      → first_named c name (suc count) number ≡ first_named c name count (suc number)
+  later : (count number : ℕ) → is_named (variables_in c) name number ≡ false
+      → first_named (variables_in c) name (suc count) number ≡ first_named (variables_in c) name count (suc number)
   later count number other = ap (λ b. elim b as (λ _. Option VarNo) [
     | true ↦ Some (record { 0 = number })
-    | false ↦ first_named c name count (suc number)
+    | false ↦ first_named (variables_in c) name count (suc number)
   ]) other
 
   none_named : (count number : ℕ)
-      → ((k : ℕ) → number ≤ k → k < number + count → is_named c name k ≡ false)
-      → first_named c name count number ≡ None
+      → ((k : ℕ) → number ≤ k → k < number + count → is_named (variables_in c) name k ≡ false)
+      → first_named (variables_in c) name count number ≡ None
   none_named zero number other = refl
   none_named (suc count) number other = later count number (other number (omega arith) (omega arith))
       ∙ none_named count (suc number) (λ k from below. other k (omega (arith, from)) (omega (arith, below)))
 
-  one_named : (count number k : ℕ) → number ≤ k → k < number + count → is_named c name k ≡ true
-      → ((j : ℕ) → number ≤ j → j < k → is_named c name j ≡ false)
-      → first_named c name count number ≡ Some (record { 0 = k })
+  one_named : (count number k : ℕ) → number ≤ k → k < number + count → is_named (variables_in c) name k ≡ true
+      → ((j : ℕ) → number ≤ j → j < k → is_named (variables_in c) name j ≡ false)
+      → first_named (variables_in c) name count number ≡ Some (record { 0 = k })
   one_named zero number k from below is other = absurd (omega (arith, from, below))
   one_named (suc count) number k from below is other = elim (cases_eq number k) [
-    | inl same ↦ here count number (ap (is_named c name) same ∙ is)
+    | inl same ↦ here count number (ap (is_named (variables_in c) name) same ∙ is)
         ∙ ap (λ (n : ℕ). Some (record { 0 = n })) same
     | inr past ↦
         let next : suc number ≤ k = omega (arith, from, past) in
@@ -81,7 +81,7 @@ module _ (c : Contents) (name : Name) where
   ]
 
   pub variable_found : (n : VarNo) → name_numbered c (items.Variable n) ≡ Some name
-      → IsFirstNamed c name (items.Variable n) → Some n ≡ variable_named c name
+      → IsFirstNamed c name (items.Variable n) → Some n ≡ variable_named (variables_in c) name
   variable_found n is first =
       let below : n.0 < c.counts.variables = ltb-true n.0 c.counts.variables
       (there (nat_lt n.0 c.counts.variables) _ name is) in
@@ -89,12 +89,12 @@ module _ (c : Contents) (name : Name) where
       (λ j from small. unnamed j (λ too. omega (arith, small, first (numbered j) too))))
 
   pub none_found : ((item : ItemNo) → name_numbered c item ≡ Some name → ⊥)
-      → None ≡ variable_named c name
+      → None ≡ variable_named (variables_in c) name
   none_found none = sym (none_named c.counts.variables 0
       (λ k from below. unnamed k (none (numbered k))))
 
   pub other_found : (item : ItemNo) → ((n : VarNo) → item ≡ items.Variable n → ⊥)
-      → IsFirstNamed c name item → None ≡ variable_named c name
+      → IsFirstNamed c name item → None ≡ variable_named (variables_in c) name
   other_found item other first = sym (none_named c.counts.variables 0
       (λ k from below. unnamed k (λ is. omega (
         arith,

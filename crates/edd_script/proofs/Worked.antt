@@ -8,7 +8,7 @@ use Rattle.edd_image.specs.Contents.{Contents}
 use Rattle.edd_script.specs.Lines.{lines}
 use Rattle.edd_script.specs.Words.{words}
 use Rattle.edd_script.specs.Numbers.{decimal_of}
-use Rattle.edd_script.specs.Named.{variable_named}
+use Rattle.edd_script.specs.Named.{variable_named, variables_in}
 use Rattle.edd_script.specs.Scripts.{script_of, given_by, answering}
 
 abbrev ended : List ℕ → List ℕ
@@ -77,17 +77,17 @@ image = record {
   string_bytes = [];
 }
 
-second : variable_named image (codes "yz") ≡ Some (record { 0 = 1 })
+second : variable_named (variables_in image) (codes "yz") ≡ Some (record { 0 = 1 })
 second = refl
 
-a_command : variable_named image (codes "c") ≡ None
+a_command : variable_named (variables_in image) (codes "c") ≡ None
 a_command = refl
 
 abbrev script : List ℕ
 script = ended (codes "set x 1") ++ (ended (codes "answer 7 yz=5 x=6")
     ++ (ended [] ++ (ended (codes "set x 3") ++ codes "abort")))
 
-read : script_of image script ≡ Ok (record {
+read : script_of (variables_in image) script ≡ Ok (record {
   values = pos 3 ∷ pos 0 ∷ [];
   answers = Go (pos 7) (record { variable = record { 0 = 1 }; value = pos 5 }
       ∷ record { variable = record { 0 = 0 }; value = pos 6 } ∷ []) ∷ Abort ∷ [];
@@ -95,15 +95,15 @@ read : script_of image script ≡ Ok (record {
 unfolding is_utf8 chars lib.Utf8.encode
 read = refl
 
-set : given_by image script ≡ Ok (Some (pos 3) ∷ None ∷ [])
+set : given_by (variables_in image) script ≡ Ok (Some (pos 3) ∷ None ∷ [])
 unfolding is_utf8 chars lib.Utf8.encode
 set = refl
 
-answered : answering image 1 (lines script) ≡ 2 ∷ 5 ∷ []
+answered : answering (variables_in image) 1 (lines script) ≡ 2 ∷ 5 ∷ []
 unfolding is_utf8 chars lib.Utf8.encode
 answered = refl
 
 -- the third line has a word too many
-refused : script_of image (ended (codes "abort") ++ (ended [] ++ codes "abort 1")) ≡ Err 3
+refused : script_of (variables_in image) (ended (codes "abort") ++ (ended [] ++ codes "abort 1")) ≡ Err 3
 unfolding is_utf8 chars lib.Utf8.encode
 refused = refl

@@ -6,11 +6,10 @@ use Rattle.edd_syntax.specs.declared.numbers.VarNo.{VarNo}
 use Rattle.edd_syntax.specs.Text.{Name}
 use Rattle.edd_syntax.specs.Answers.{Change, Answer, Go, Abort, answer_of}
 use Rattle.edd_image.specs.Front.{◌>>=◌}
-use Rattle.edd_image.specs.Contents.{Contents}
 use Rattle.edd_cases.specs.Ends.{without_end}
 use Rattle.edd_script.specs.declared.said.Line as code
 use Rattle.edd_script.specs.declared.said.Line.TheVariants as written
-use Rattle.edd_script.specs.Named.{variable_named}
+use Rattle.edd_script.specs.Named.{VariableNames, variable_named}
 use Rattle.edd_script.specs.Numbers.{decimal_of}
 use Rattle.edd_script.specs.Words.{words}
 
@@ -21,30 +20,30 @@ pub data Line : Type 0 where
   Blank : Line
 
 -- the variable of this name and the number that the word is
-abbrev pub setting_of : Contents → Name → (value : List ℕ) → Option Change
-setting_of c name value = variable_named c name >>= λ variable.
+abbrev pub setting_of : VariableNames → Name → (value : List ℕ) → Option Change
+setting_of names name value = variable_named names name >>= λ variable.
     option_map (λ number. record { variable = variable; value = number }) (decimal_of 64 value)
 
 -- `NAME=N`: the first `=` parts the two
-abbrev pub pair_of : Contents → (word : List ℕ) → Option Change
-pair_of c word = if nat_lt (position_or_len (λ b. b == 61) word) (length word)
-    then setting_of c (before_first (λ b. b == 61) word) (after_first (λ b. b == 61) word) else None
+abbrev pub pair_of : VariableNames → (word : List ℕ) → Option Change
+pair_of names word = if nat_lt (position_or_len (λ b. b == 61) word) (length word)
+    then setting_of names (before_first (λ b. b == 61) word) (after_first (λ b. b == 61) word) else None
 
 -- each word is such a setting
-abbrev pub pairs_of : Contents → (words : List (List ℕ)) → Option (List Change)
-pairs_of c [] = Some []
-pairs_of c (word ∷ rest) = pair_of c word >>= λ set. option_map (λ sets. set ∷ sets) (pairs_of c rest)
+abbrev pub pairs_of : VariableNames → (words : List (List ℕ)) → Option (List Change)
+pairs_of names [] = Some []
+pairs_of names (word ∷ rest) = pair_of names word >>= λ set. option_map (λ sets. set ∷ sets) (pairs_of names rest)
 
 -- behind `set`: `NAME N`
-abbrev pub said_set : Contents → (words : List (List ℕ)) → Option Line
-said_set c (name ∷ value ∷ []) = option_map Set (setting_of c name value)
-said_set c _ = None
+abbrev pub said_set : VariableNames → (words : List (List ℕ)) → Option Line
+said_set names (name ∷ value ∷ []) = option_map Set (setting_of names name value)
+said_set names _ = None
 
 -- behind `answer`: `CODE NAME=N ..`
-abbrev pub said_answer : Contents → (words : List (List ℕ)) → Option Line
-said_answer c [] = None
-said_answer c (code ∷ rest) = decimal_of 32 code >>= λ number.
-    option_map (λ sets. Answered (Go number sets)) (pairs_of c rest)
+abbrev pub said_answer : VariableNames → (words : List (List ℕ)) → Option Line
+said_answer names [] = None
+said_answer names (code ∷ rest) = decimal_of 32 code >>= λ number.
+    option_map (λ sets. Answered (Go number sets)) (pairs_of names rest)
 
 -- behind `abort`: nothing
 abbrev pub said_abort : (words : List (List ℕ)) → Option Line
@@ -52,11 +51,11 @@ said_abort [] = Some (Answered Abort)
 said_abort (word ∷ rest) = None
 
 -- what the words of a line say
-abbrev pub said_by : Contents → (words : List (List ℕ)) → Option Line
-said_by c [] = Some Blank
-said_by c (word ∷ rest) =
-    if bytes_eq word (codes "set") then said_set c rest
-    else if bytes_eq word (codes "answer") then said_answer c rest
+abbrev pub said_by : VariableNames → (words : List (List ℕ)) → Option Line
+said_by names [] = Some Blank
+said_by names (word ∷ rest) =
+    if bytes_eq word (codes "set") then said_set names rest
+    else if bytes_eq word (codes "answer") then said_answer names rest
     else if bytes_eq word (codes "abort") then said_abort rest
     else None
 
@@ -65,8 +64,8 @@ abbrev pub text_in : (line : List ℕ) → Option (List ℕ)
 text_in line = if is_utf8 line then Some (without_end line) else None
 
 -- what a line says, if it can be read
-abbrev pub line_of : Contents → (line : List ℕ) → Option Line
-line_of c line = text_in line >>= λ text. said_by c (words text)
+abbrev pub line_of : VariableNames → (line : List ℕ) → Option Line
+line_of names line = text_in line >>= λ text. said_by names (words text)
 
 -- ---- lines in the code
 

@@ -1,11 +1,11 @@
 -- What a script says.
 use Rattle.std.specs.Prelude.{ℕ, suc, ℤ, pos, Bool, true, false, List, [], ◌∷◌, map, replicate, slice_set, filter_map, Option, Some, None, Result, Ok, Err, if◌then◌else◌}
 use Rattle.edd_syntax.specs.Answers.{Change, Answer, answer_of, values_set}
-use Rattle.edd_image.specs.Contents.{Contents}
 use Rattle.edd_script.specs.declared.script.Script as code
 use Rattle.edd_script.specs.declared.script.ScriptFault.{ScriptFault}
 use Rattle.edd_script.specs.declared.script.ScriptFault.TheVariants as fault
 use Rattle.edd_script.specs.Lines.{lines}
+use Rattle.edd_script.specs.Named.{VariableNames}
 use Rattle.edd_script.specs.Said.{Line, Set, Answered, line_of}
 
 -- f of what was read
@@ -14,16 +14,16 @@ mapped f (Ok read) = Ok (f read)
 mapped f (Err line) = Err line
 
 -- what the lines say, from this line number on; or the number of the first that can't be read
-abbrev pub read_from : Contents → (number : ℕ) → (lines : List (List ℕ)) → Result (List Line) ℕ
-read_from c number [] = Ok []
-read_from c number (line ∷ rest) = elim (line_of c line) [
+abbrev pub read_from : VariableNames → (number : ℕ) → (lines : List (List ℕ)) → Result (List Line) ℕ
+read_from names number [] = Ok []
+read_from names number (line ∷ rest) = elim (line_of names line) [
   | None ↦ Err number
-  | Some said ↦ mapped (λ more. said ∷ more) (read_from c (suc number) rest)
+  | Some said ↦ mapped (λ more. said ∷ more) (read_from names (suc number) rest)
 ]
 
 -- what a text says line by line, from line 1 on
-abbrev pub lines_read : Contents → (text : List ℕ) → Result (List Line) ℕ
-lines_read c text = read_from c 1 (lines text)
+abbrev pub lines_read : VariableNames → (text : List ℕ) → Result (List Line) ℕ
+lines_read names text = read_from names 1 (lines text)
 
 -- what a line sets
 abbrev set_in : Line → Option Change
@@ -49,11 +49,11 @@ pub record Said : Type 0 where
   pub answers : List Answer
 
 -- of each variable the value that is set last, 0 where none is, and the answers in order
-abbrev pub script_of : Contents → (text : List ℕ) → Result Said ℕ
-script_of c text = mapped (λ said. record {
-  values = values_set (replicate c.counts.variables (pos 0)) (sets_in said);
+abbrev pub script_of : VariableNames → (text : List ℕ) → Result Said ℕ
+script_of names text = mapped (λ said. record {
+  values = values_set (replicate names.count (pos 0)) (sets_in said);
   answers = answers_in said;
-}) (lines_read c text)
+}) (lines_read names text)
 
 -- the values after the sets, in their order, where a value may be missing
 abbrev pub given_set : List (Option ℤ) → List Change → List (Option ℤ)
@@ -61,9 +61,9 @@ given_set given [] = given
 given_set given (set ∷ rest) = given_set (slice_set given set.variable.0 (Some set.value)) rest
 
 -- what a script sets: of each variable the value that is set last, if one is
-abbrev pub given_by : Contents → (text : List ℕ) → Result (List (Option ℤ)) ℕ
-given_by c text = mapped (λ said. given_set (replicate c.counts.variables None) (sets_in said))
-    (lines_read c text)
+abbrev pub given_by : VariableNames → (text : List ℕ) → Result (List (Option ℤ)) ℕ
+given_by names text = mapped (λ said. given_set (replicate names.count None) (sets_in said))
+    (lines_read names text)
 
 -- whether a line answers a request
 abbrev is_answer : Option Line → Bool
@@ -71,10 +71,10 @@ is_answer (Some (Answered answer)) = true
 is_answer _ = false
 
 -- the numbers of the lines that answer, from this number on; unreadable lines are passed over
-abbrev pub answering : Contents → (number : ℕ) → (lines : List (List ℕ)) → List ℕ
-answering c number [] = []
-answering c number (line ∷ rest) = if is_answer (line_of c line)
-    then number ∷ answering c (suc number) rest else answering c (suc number) rest
+abbrev pub answering : VariableNames → (number : ℕ) → (lines : List (List ℕ)) → List ℕ
+answering names number [] = []
+answering names number (line ∷ rest) = if is_answer (line_of names line)
+    then number ∷ answering names (suc number) rest else answering names (suc number) rest
 
 -- ---- scripts in the code
 

@@ -2,7 +2,7 @@
 
 ghost use Rattle.std.specs.Prelude.{◌≡◌, IfOk, map, option_map};
 ghost use Rattle.edd_image.specs.Contents.{contents_in};
-ghost use Rattle.edd_script.specs.Named.{variable_named};
+ghost use Rattle.edd_script.specs.Named.{variable_named, variables_in};
 ghost use Rattle.edd_script.specs.Words.{words};
 ghost use Rattle.edd_script.specs.Said as said;
 ghost use Rattle.edd_script.specs.Said.{change_of, seen};
@@ -25,7 +25,7 @@ pub enum Line {
 
 /// The first variable of a name.
 pub fn variable(image: &Image<'_>, name: &str) -> Option<VarNo>
-    ensures { result ≡ variable_named (contents_in image.now) name.now }
+    ensures { result ≡ variable_named (variables_in (contents_in image.now)) name.now }
 {
     match image.find(name)? {
         ItemNo::Variable(number) => Some(number),
@@ -35,7 +35,7 @@ pub fn variable(image: &Image<'_>, name: &str) -> Option<VarNo>
 
 // The variable of a name and the number of a word.
 fn setting(image: &Image<'_>, name: &str, value: &str) -> Option<(VarNo, i64)>
-    ensures { option_map change_of result ≡ said.setting_of (contents_in image.now) name.now
+    ensures { option_map change_of result ≡ said.setting_of (variables_in (contents_in image.now)) name.now
         value.now }
 {
     let variable = variable(image, name)?;
@@ -45,7 +45,7 @@ fn setting(image: &Image<'_>, name: &str, value: &str) -> Option<(VarNo, i64)>
 
 // `NAME=N`
 fn pair(image: &Image<'_>, word: &str) -> Option<(VarNo, i64)>
-    ensures { option_map change_of result ≡ said.pair_of (contents_in image.now) word.now }
+    ensures { option_map change_of result ≡ said.pair_of (variables_in (contents_in image.now)) word.now }
 {
     let (name, value) = word.split_once('=')?;
     setting(image, name, value)
@@ -58,7 +58,7 @@ fn pairs(
     text: &str,
 ) -> Result<Option<Vec<(VarNo, i64)>>, AllocError>
     ensures { IfOk result (λ sets. option_map (λ sets. map change_of sets.items) sets
-        ≡ said.pairs_of (contents_in image.now) (words text.now)) }
+        ≡ said.pairs_of (variables_in (contents_in image.now)) (words text.now)) }
 {
     let mut sets = Vec::new(alloc);
     let mut rest = text;
@@ -74,7 +74,7 @@ fn pairs(
 
 // Behind `set`: `NAME N`
 fn set_of(image: &Image<'_>, text: &str) -> Option<Line>
-    ensures { option_map seen result ≡ said.said_set (contents_in image.now) (words text.now) }
+    ensures { option_map seen result ≡ said.said_set (variables_in (contents_in image.now)) (words text.now) }
 {
     let (name, behind) = first_word(text)?;
     let (value, rest) = first_word(behind)?;
@@ -89,7 +89,7 @@ fn set_of(image: &Image<'_>, text: &str) -> Option<Line>
 
 // Behind `answer`: `CODE NAME=N ..`
 fn answer_of(alloc: Global, image: &Image<'_>, text: &str) -> Result<Option<Line>, AllocError>
-    ensures { IfOk result (λ line. option_map seen line ≡ said.said_answer (contents_in image.now)
+    ensures { IfOk result (λ line. option_map seen line ≡ said.said_answer (variables_in (contents_in image.now))
         (words text.now)) }
 {
     let Some((word, rest)) = first_word(text) else {
@@ -116,7 +116,7 @@ fn abort_of(text: &str) -> Option<Line>
 
 // What the words of a text say.
 fn said_by(alloc: Global, image: &Image<'_>, text: &str) -> Result<Option<Line>, AllocError>
-    ensures { IfOk result (λ line. option_map seen line ≡ said.said_by (contents_in image.now)
+    ensures { IfOk result (λ line. option_map seen line ≡ said.said_by (variables_in (contents_in image.now))
         (words text.now)) }
 {
     let Some((word, rest)) = first_word(text) else {
@@ -150,7 +150,7 @@ pub fn parse_line(
     image: &Image<'_>,
     bytes: &[u8],
 ) -> Result<Option<Line>, AllocError>
-    ensures { IfOk result (λ line. option_map seen line ≡ said.line_of (contents_in image.now)
+    ensures { IfOk result (λ line. option_map seen line ≡ said.line_of (variables_in (contents_in image.now))
         bytes.now) }
 {
     match text_of(bytes) {

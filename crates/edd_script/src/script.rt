@@ -4,6 +4,7 @@ ghost use Rattle.std.specs.Prelude.{◌≡◌, ◌++◌, ◌∷◌, [], IfErr, I
 ghost use Rattle.edd_syntax.specs.Answers.{answer_of, values_set};
 ghost use Rattle.edd_image.specs.Contents.{contents_in};
 ghost use Rattle.edd_script.specs.Lines.{lines};
+ghost use Rattle.edd_script.specs.Named.{variables_in};
 ghost use Rattle.edd_script.specs.Said.{seen};
 ghost use Rattle.edd_script.specs.Scripts.{answering, answers_in, given_by, given_set, line_in, said_in, script_of, sets_in};
 
@@ -91,10 +92,10 @@ impl Script {
 
 /// Reads a script for an image, by whose names it sets variables.
 pub fn parse(alloc: Global, image: &Image<'_>, script: &[u8]) -> Result<Script, ScriptFault>
-    ensures sound { IfOk result (λ made. script_of (contents_in image.now) script.now
+    ensures sound { IfOk result (λ made. script_of (variables_in (contents_in image.now)) script.now
         ≡ Ok (said_in made)) }
     ensures refused { IfErr result (λ fault. IfSome (line_in fault) (λ line.
-        script_of (contents_in image.now) script.now ≡ Err line)) }
+        script_of (variables_in (contents_in image.now)) script.now ≡ Err line)) }
 {
     let mut made = Script::new(alloc, image)?;
     let mut before: usize = 0;
@@ -118,7 +119,7 @@ pub fn answer_line(
     script: &[u8],
     number: usize,
 ) -> Result<Option<usize>, AllocError>
-    ensures { IfOk result (λ line. line ≡ slice_get (answering (contents_in image.now) 1
+    ensures { IfOk result (λ line. line ≡ slice_get (answering (variables_in (contents_in image.now)) 1
         (lines script.now)) number) }
 {
     let mut left = number;
@@ -165,10 +166,10 @@ pub fn parse_sets(
     image: &Image<'_>,
     script: &[u8],
 ) -> Result<Vec<Option<i64>>, ScriptFault>
-    ensures sound { IfOk result (λ given. given_by (contents_in image.now) script.now
+    ensures sound { IfOk result (λ given. given_by (variables_in (contents_in image.now)) script.now
         ≡ Ok given.items) }
     ensures refused { IfErr result (λ fault. IfSome (line_in fault) (λ line.
-        given_by (contents_in image.now) script.now ≡ Err line)) }
+        given_by (variables_in (contents_in image.now)) script.now ≡ Err line)) }
 {
     let mut given = none_given(alloc, image)?;
     let mut before: usize = 0;

@@ -1,6 +1,7 @@
 use Rattle.std.proofs.Common.{◌≡◌, ◌+◌, ◌≤◌, map, length}
 use Rattle.edd_syntax.specs.Answers.{answer_of}
 use Rattle.edd_image.specs.Contents.{contents_in}
+use Rattle.edd_script.specs.Named.{variables_in}
 use Rattle.edd_script.specs.Lines.{lines}
 use Rattle.edd_script.specs.Scripts.{mapped, read_from, script_of}
 use Rattle.edd_script.proofs.Turns.{onward}
@@ -10,8 +11,8 @@ use Rattle.edd_script.proofs.script.parse.Given as goal
 abbrev pub invariant-loop-bytes : goal.invariant-loop-bytes
 invariant-loop-bytes l = (l.before + length l.rest ≤ length l.script)
     × (mapped (onward l.made.values.items (map answer_of l.made.answers.items))
-    (read_from (contents_in l.image) (l.before + 1) (lines l.rest))
-    ≡ script_of (contents_in l.image) l.script)
+    (read_from (variables_in (contents_in l.image)) (l.before + 1) (lines l.rest))
+    ≡ script_of (variables_in (contents_in l.image)) l.script)
 
 abbrev pub decreases-loop-bytes : goal.decreases-loop-bytes
 decreases-loop-bytes l = length l.rest
