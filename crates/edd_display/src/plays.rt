@@ -1,11 +1,12 @@
 //! The lines of a method's run: its requests, how it ends, and the values that it leaves.
 
-ghost use Rattle.std.specs.Prelude.{◌≡◌, ◌++◌, ◌∷◌, [], OnOk, string_bytes};
+ghost use Rattle.std.specs.Prelude.{◌≡◌, ◌++◌, ◌∷◌, [], IfErr, OnOk, false, string_bytes};
 ghost use Rattle.std.specs.Io.KnownBytes.{Appends};
 ghost use Rattle.std.specs.List.{flat_map, range_with_len};
 ghost use Rattle.edd_syntax.specs.declared.numbers.ItemNo.TheVariants as items;
 ghost use Rattle.edd_image.specs.Contents.{contents_in};
 ghost use Rattle.edd_display.specs.Played as played;
+ghost use Rattle.edd_display.specs.Shown.{blames_values};
 ghost use Rattle.edd_display.specs.Words.{name_of};
 
 use crate::fault::ShowFault;
@@ -67,8 +68,9 @@ fn print_request<W: Write>(
     request: Request,
     out: &mut W,
 ) -> Result<(), ShowFault>
-    ensures { OnOk result (Appends (W.contents out.old) (W.contents out.new)
+    ensures sound { OnOk result (Appends (W.contents out.old) (W.contents out.new)
         (played.request_line (contents_in page.now.image.now) page.now.language.now request)) }
+    ensures refused { IfErr result (λ fault. blames_values fault ≡ false) }
 {
     let mut line = String::from_str(alloc, "ask ")?;
     line.push_str(request.kind().name())?;
@@ -82,9 +84,10 @@ fn print_requests<W: Write>(
     requests: &[Request],
     out: &mut W,
 ) -> Result<(), ShowFault>
-    ensures { OnOk result (Appends (W.contents out.old) (W.contents out.new)
+    ensures sound { OnOk result (Appends (W.contents out.old) (W.contents out.new)
         (flat_map (played.request_line (contents_in page.now.image.now) page.now.language.now)
         requests.now)) }
+    ensures refused { IfErr result (λ fault. blames_values fault ≡ false) }
 {
     for request in requests {
         print_request(alloc, page, *request, out)?;
@@ -93,8 +96,9 @@ fn print_requests<W: Write>(
 }
 
 fn print_end<W: Write>(alloc: Global, ending: Ending, out: &mut W) -> Result<(), ShowFault>
-    ensures { OnOk result (Appends (W.contents out.old) (W.contents out.new)
+    ensures sound { OnOk result (Appends (W.contents out.old) (W.contents out.new)
         (played.ending_shown ending ++ 10 ∷ [])) }
+    ensures refused { IfErr result (λ fault. blames_values fault ≡ false) }
 {
     match ending {
         Ending::Ended => print(alloc, out, "end ended"),
@@ -116,8 +120,9 @@ fn print_value<W: Write>(
     number: u16,
     out: &mut W,
 ) -> Result<(), ShowFault>
-    ensures { OnOk result (Appends (W.contents out.old) (W.contents out.new)
+    ensures sound { OnOk result (Appends (W.contents out.old) (W.contents out.new)
         (played.value_line (contents_in page.now.image.now) values.now.numbers.items number)) }
+    ensures refused { IfErr result (λ fault. blames_values fault ≡ false) }
 {
     let variable = VarNo(number);
     let Some(value) = values.get(variable) else {
@@ -134,9 +139,10 @@ fn print_values<W: Write>(
     values: &Values,
     out: &mut W,
 ) -> Result<(), ShowFault>
-    ensures { OnOk result (Appends (W.contents out.old) (W.contents out.new)
+    ensures sound { OnOk result (Appends (W.contents out.old) (W.contents out.new)
         (flat_map (played.value_line (contents_in page.now.image.now) values.now.numbers.items)
         (range_with_len 0 (contents_in page.now.image.now).counts.variables))) }
+    ensures refused { IfErr result (λ fault. blames_values fault ≡ false) }
 {
     for number in 0..page.counts().variables {
         print_value(alloc, page, values, number, out)?;
@@ -154,8 +160,9 @@ pub fn show_play<W: Write>(
     language: &str,
     out: &mut W,
 ) -> Result<(), ShowFault>
-    ensures { OnOk result (Appends (W.contents out.old) (W.contents out.new)
+    ensures sound { OnOk result (Appends (W.contents out.old) (W.contents out.new)
         (played.played_text (contents_in image.now) language.now play.now)) }
+    ensures refused { IfErr result (λ fault. blames_values fault ≡ false) }
 {
     let page = Page { image, language };
     print_requests(alloc, &page, &play.requests, out)?;

@@ -1,6 +1,8 @@
 -- What the names of a command line stand for.
-use Rattle.std.specs.Prelude.{ℕ, List, codes, ◌++◌, if◌then◌else◌}
+use Rattle.std.specs.Prelude.{ℕ, List, Option, Some, None, codes, ◌++◌, if◌then◌else◌}
 use Rattle.std.specs.Str.{bytes_eq}
+use Rattle.edd_files.specs.declared.named.NamedFault.{NamedFault}
+use Rattle.edd_files.specs.declared.named.NamedFault.TheVariants as named_fault
 
 -- the file that a name is read from: `-` is the standard input
 abbrev pub input_name : List ℕ → List ℕ
@@ -21,3 +23,8 @@ record_word = codes "--record"
 -- the option for a record and its file in one word
 abbrev pub record_word_of : (name : List ℕ) → List ℕ
 record_word_of name = codes "--record=" ++ name
+
+-- the name of the file that failed; out of memory is no file's fault
+abbrev pub file_named : NamedFault → Option (List ℕ)
+file_named (named_fault.File name fault) = Some name.now
+file_named named_fault.Memory = None

@@ -1,7 +1,7 @@
 //! The image of a source, saved.
 
-ghost use Rattle.std.specs.Prelude.{◌≡◌, IfOk, OnErr, OnOk, option_map};
-ghost use Rattle.edd_files.specs.Names.{output_name};
+ghost use Rattle.std.specs.Prelude.{◌≡◌, ◌⊎◌, IfErr, IfOk, IfSome, OnErr, OnOk, option_map};
+ghost use Rattle.edd_files.specs.Names.{file_named, output_name};
 ghost use Rattle.edd_files.specs.Saves.{IsImageSaving, IsTold, SavesOne, image_saving, with_saving};
 
 use crate::files::{FileFault, Files};
@@ -37,6 +37,7 @@ fn save_bytes<'a, F: Files>(
 ) -> Result<(), NamedFault<'a>>
     ensures saved { OnOk result (F.account files.new
         ≡ option_map (with_saving (image_saving image.now bytes.now)) (F.account files.old)) }
+    ensures refused { IfErr result (λ fault. IfSome (file_named fault) (λ file. file ≡ image.now)) }
     ensures kept { OnErr result (F.account files.new ≡ F.account files.old) }
 {
     files
@@ -56,6 +57,8 @@ pub fn save_image<'a, F: Files>(
         (F.account files.old) (F.account files.new) }
     ensures told { IfOk result (IsTold (F.account files.old) (F.account files.new) source.now
         image.now) }
+    ensures refused { IfErr result (λ fault. IfSome (file_named fault)
+        (λ file. (file ≡ source.now) ⊎ (file ≡ image.now))) }
 {
     let text = read(alloc, files, source)?;
     let bytes = match compile(alloc, &text) {

@@ -1,8 +1,8 @@
 //! The bytes of the files that the program reads.
 
-ghost use Rattle.std.specs.Prelude.{◌≡◌, IfOk, List, OnOk, map, option_map, ℕ};
+ghost use Rattle.std.specs.Prelude.{◌≡◌, IfErr, IfOk, IfSome, List, OnOk, Some, map, option_map, ℕ};
 ghost use Rattle.std.specs.List.{All, Contains};
-ghost use Rattle.edd_files.specs.Names.{input_name};
+ghost use Rattle.edd_files.specs.Names.{file_named, input_name};
 ghost use Rattle.edd_files.specs.Saves.{Gave, GaveScript, IsRead};
 
 use crate::files::{FileFault, Files, read_all};
@@ -56,6 +56,7 @@ pub fn read<'a, F: Files>(
 ) -> Result<Vec<u8>, NamedFault<'a>>
     ensures sound { IfOk result
         (λ bytes. Gave (F.account files.old) (input_name name.now) bytes.items) }
+    ensures refused { IfErr result (λ fault. IfSome (file_named fault) (λ file. file ≡ name.now)) }
     ensures kept { F.account files.new ≡ F.account files.old }
 {
     read_bytes(alloc, files, name).map_err(|fault| of_file(name, fault))
@@ -103,6 +104,8 @@ pub fn read_script<'a, F: Files>(
 ) -> Result<Vec<u8>, NamedFault<'a>>
     ensures sound { IfOk result (λ bytes. GaveScript (F.account files.old)
         (option_map (λ name. name.now) name.entry) bytes.items) }
+    ensures refused { IfErr result (λ fault. IfSome (file_named fault) (λ file. option_map
+        (λ name. name.now) name.entry ≡ Some file)) }
     ensures kept { F.account files.new ≡ F.account files.old }
 {
     match name {

@@ -1,2 +1,3 @@
+pub mod ReasonLaws
 pub mod RunLaws
 pub mod StatusLaws

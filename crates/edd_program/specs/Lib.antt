@@ -1,4 +1,5 @@
 pub mod Done
+pub mod Reasons
 pub mod Refusals
 pub mod Runs
 pub mod Saved

@@ -1,11 +1,11 @@
 //! What the program does to make an image of a source.
 
-ghost use Rattle.std.specs.Prelude.{◌≡◌, IfErr, IfOk, OnOk, is_some};
+ghost use Rattle.std.specs.Prelude.{◌≡◌, ◌⊎◌, IfErr, IfOk, OnOk, true};
 ghost use Rattle.edd_compiler.specs.Images.{IsImageOf};
 ghost use Rattle.edd_files.specs.Saves.{IsImageSaving, SavesOne};
 ghost use Rattle.edd_program.specs.Done.{IsCompiled};
-ghost use Rattle.edd_program.specs.Refusals.{TellsRefusal, TellsRefusalOf, refusal_in};
-ghost use Rattle.edd_program.specs.Statuses.{StopsBy, is_refusal};
+ghost use Rattle.edd_program.specs.Refusals.{TellsRefusal, TellsRefusalOf, is_of_text};
+ghost use Rattle.edd_program.specs.Statuses.{IsRefusedWith, StopsBy};
 
 use crate::stop::Stop;
 use edd_compiler::{Fault, compile};
@@ -15,7 +15,7 @@ use std::alloc::Global;
 use std::io::Write;
 
 /// Writes the image of a source, and prints its length.
-#[tactic(auto, using(crate::proofs::StatusLaws::no_refusal))]
+#[tactic(auto, using(crate::proofs::StatusLaws::of_file, crate::proofs::StatusLaws::printed))]
 pub fn write_image<'a, F: Files, W: Write>(
     alloc: Global,
     source: &'a str,
@@ -28,7 +28,8 @@ pub fn write_image<'a, F: Files, W: Write>(
     ensures done { OnOk result (IsCompiled source.now image.now (F.account files.old)
         (F.account files.new) (W.contents out.old) (W.contents out.new)) }
     ensures refused { IfErr result (TellsRefusalOf (F.account files.old) source.now) }
-    ensures stopped { IfErr result (StopsBy ⊥ (F.account files.old) source.now (W.contents out.old)
+    ensures stopped { IfErr result (StopsBy (IsRefusedWith (F.account files.old) source.now) (λ _. ⊥)
+        (λ file. (file ≡ source.now) ⊎ (file ≡ image.now)) (W.contents out.old)
         (W.contents out.new)) }
 {
     match save_image(alloc, source, image, files)? {
@@ -41,7 +42,7 @@ pub fn write_image<'a, F: Files, W: Write>(
 pub fn image_of_source<'a>(alloc: Global, text: &[u8]) -> Result<Vec<u8>, Stop<'a>>
     ensures sound { IfOk result (λ bytes. IsImageOf text.now bytes.items) }
     ensures refused { IfErr result (TellsRefusal text.now) }
-    ensures only { IfErr result (λ stop. is_refusal stop ≡ is_some (refusal_in stop)) }
+    ensures only { IfErr result (λ stop. is_of_text stop ≡ true) }
 {
     match compile(alloc, text) {
         Ok(bytes) => Ok(bytes),

@@ -1,6 +1,7 @@
 //! The line that helps where a source is shown as an image.
 
-ghost use Rattle.std.specs.Prelude.{◌≡◌};
+ghost use Rattle.std.specs.Prelude.{◌≡◌, ℕ, List};
+ghost use Rattle.edd_program.specs.Reasons.{Blames, BlamesNoRun};
 
 use crate::stop::Stop;
 use edd_files::Files;
@@ -15,7 +16,11 @@ fn is_text(bytes: &[u8]) -> bool {
 
 /// Why an image of this name is not shown. Where the image is a text, the refusal has the line for
 /// `hint`.
-pub fn with_hint<'a>(alloc: Global, stop: Stop<'a>, name: &str, bytes: &[u8]) -> Stop<'a> {
+#[tactic(auto, using(crate::proofs::ReasonLaws::magic_blamed))]
+pub fn with_hint<'a>(alloc: Global, stop: Stop<'a>, name: &str, bytes: &[u8]) -> Stop<'a>
+    ensures kept { (script : List ℕ) → Blames bytes.now script BlamesNoRun stop.entry
+        → Blames bytes.now script BlamesNoRun result }
+{
     if !matches!(stop, Stop::NotLoaded(LoadFault::Magic)) || !is_text(bytes) {
         return stop;
     }

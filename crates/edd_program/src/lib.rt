@@ -4,13 +4,14 @@
 //! anything.
 #![tactic(auto)]
 
-ghost use Rattle.std.specs.Prelude.{◌≡◌, ◌≢◌, ◌≤◌, IfSome, true};
+ghost use Rattle.std.specs.Prelude.{◌≡◌, ◌≢◌, ◌≤◌, IfSome, false, true};
 ghost use Rattle.std.specs.Io.KnownBytes.{Appends};
 ghost use Rattle.edd_files.specs.Saves.{SavesOne};
+ghost use Rattle.edd_program.specs.declared.stop.Stop.TheVariants.{Output};
 ghost use Rattle.edd_program.specs.Done.{Does};
-ghost use Rattle.edd_program.specs.Refusals.{refusal_in};
+ghost use Rattle.edd_program.specs.Refusals.{file_in, is_failure, refusal_in};
 ghost use Rattle.edd_program.specs.Saved.{MaySave};
-ghost use Rattle.edd_program.specs.Statuses.{Refuses, is_refusal, refusal_line};
+ghost use Rattle.edd_program.specs.Statuses.{Fails, Refuses, file_line, is_refusal, refusal_line};
 
 mod compiling;
 mod hints;
@@ -45,7 +46,7 @@ pub struct Ended {
 }
 
 /// Does what a request asks for, and prints to `out`, in pieces: a line is one or more of them.
-#[tactic(auto, using(crate::proofs::StatusLaws::refuses))]
+#[tactic(auto, using(crate::proofs::StatusLaws::refuses, crate::proofs::StatusLaws::fails))]
 pub fn run<F: Files, W: Write>(
     alloc: Global,
     request: Request<'_>,
@@ -59,6 +60,8 @@ pub fn run<F: Files, W: Write>(
     ensures done { result.status ≡ 0 → Does request.entry (F.account files.old)
         (F.account files.new) (W.contents out.old) (W.contents out.new) }
     ensures refused { result.status ≡ 1 → Refuses request.entry (F.account files.old)
+        (W.contents out.old) (W.contents out.new) }
+    ensures file { result.status ≡ 3 → result.is_written ≡ true → Fails request.entry
         (W.contents out.old) (W.contents out.new) }
 {
     match requests::answer(alloc, request, files, out) {
@@ -78,6 +81,10 @@ fn stopped<F: Files, W: Write>(alloc: Global, stop: &Stop<'_>, files: &mut F, ou
     ensures refused { result.status ≡ 1 → is_refusal stop.now ≡ true }
     ensures told { result.status ≡ 1 → IfSome (refusal_in stop.now)
         (λ words. Appends (W.contents out.old) (W.contents out.new) (refusal_line words)) }
+    ensures file { result.status ≡ 3 → result.is_written ≡ true
+        → (is_failure stop.now ≡ true) × (stop.now ≢ Output)
+        × IfSome (file_in stop.now) (λ name. Appends (W.contents out.old) (W.contents out.new)
+        (file_line name)) }
     ensures kept { F.account files.new ≡ F.account files.old }
 {
     match report(alloc, stop, out) {
@@ -100,6 +107,7 @@ fn stopped<F: Files, W: Write>(alloc: Global, stop: &Stop<'_>, files: &mut F, ou
 fn no_memory<W: Write>(out: &mut W) -> Ended
     ensures stopped { 3 ≤ result.status }
     ensures status { result.status ≤ 4 }
+    ensures written { result.status ≡ 3 → result.is_written ≡ false }
 {
     match out.write_all(b"no memory\n") {
         Ok(()) => Ended {

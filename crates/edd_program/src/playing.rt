@@ -1,9 +1,11 @@
 //! What the program does to run a method of a source or an image.
 
-ghost use Rattle.std.specs.Prelude.{◌≡◌, IfErr, IfOk, None, OnOk, Some};
-ghost use Rattle.edd_program.specs.Refusals.{refusal_in};
+ghost use Rattle.std.specs.Prelude.{◌≡◌, IfErr, IfOk, OnOk, Some};
+ghost use Rattle.edd_program.specs.declared.request.Request.TheVariants.{Play, Try};
+ghost use Rattle.edd_program.specs.declared.stop.Stop.TheVariants.{NoMethod};
+ghost use Rattle.edd_program.specs.Reasons.{Blames, BlamesRun, BlamesUnder, IsNoMethod};
 ghost use Rattle.edd_program.specs.Runs.{IsMethodNamed, IsPlayed, IsRun, OfImage, OfSource};
-ghost use Rattle.edd_program.specs.Statuses.{IsRefusedBehind, StopsBy};
+ghost use Rattle.edd_program.specs.Statuses.{Stops};
 
 use crate::compiling::image_of_source;
 use crate::request::Run;
@@ -21,7 +23,7 @@ use std::io::Write;
 // The method of this name.
 fn method_named<'a>(image: &Image<'_>, name: &'a str) -> Result<MethNo, Stop<'a>>
     ensures sound { IfOk result (IsMethodNamed image.now name.now) }
-    ensures stopped { IfErr result (λ stop. refusal_in stop ≡ None) }
+    ensures refused { IfErr result (λ stop. (stop ≡ NoMethod name.entry) × IsNoMethod image.now name.now) }
 {
     match image.find(name) {
         Some(ItemNo::Method(number)) => Ok(number),
@@ -30,7 +32,7 @@ fn method_named<'a>(image: &Image<'_>, name: &'a str) -> Result<MethNo, Stop<'a>
 }
 
 // What the method does under the script.
-#[tactic(auto, using(crate::proofs::RunLaws::run_under))]
+#[tactic(auto, using(crate::proofs::RunLaws::run_under, crate::proofs::ReasonLaws::script_blamed, crate::proofs::ReasonLaws::values_blamed, crate::proofs::ReasonLaws::method_blamed, crate::proofs::ReasonLaws::play_blamed))]
 fn played<'a>(
     alloc: Global,
     image: &Image<'_>,
@@ -39,7 +41,8 @@ fn played<'a>(
     steps: u64,
 ) -> Result<Transcript, Stop<'a>>
     ensures sound { IfOk result (IsRun image.now script.now method.now steps) }
-    ensures stopped { IfErr result (λ stop. refusal_in stop ≡ None) }
+    ensures stopped { IfErr result (BlamesUnder image.now script.now
+        (BlamesRun image.now script.now method.now steps)) }
 {
     let said = edd_script::parse(alloc, image, script)?;
     let number = method_named(image, method)?;
@@ -48,7 +51,7 @@ fn played<'a>(
 }
 
 // Runs a method of what may be an image under a script, and prints what it did.
-#[tactic(auto, using(crate::proofs::RunLaws::played_under))]
+#[tactic(auto, using(crate::proofs::RunLaws::played_under, crate::proofs::ReasonLaws::bytes_blamed, crate::proofs::ReasonLaws::image_blamed, crate::proofs::ReasonLaws::run_blamed))]
 fn play_bytes<'a, W: Write>(
     alloc: Global,
     bytes: &[u8],
@@ -60,7 +63,8 @@ fn play_bytes<'a, W: Write>(
 ) -> Result<(), Stop<'a>>
     ensures played { OnOk result (IsPlayed bytes.now script.now method.now language.now steps
         (W.contents out.old) (W.contents out.new)) }
-    ensures stopped { IfErr result (λ stop. refusal_in stop ≡ None) }
+    ensures stopped { IfErr result (Blames bytes.now script.now
+        (BlamesRun bytes.now script.now method.now steps)) }
 {
     let image = load(alloc, bytes)?;
     let transcript = played(alloc, &image, script, method, steps)?;
@@ -69,6 +73,7 @@ fn play_bytes<'a, W: Write>(
 }
 
 /// Runs a method of an image.
+#[tactic(auto, using(crate::proofs::StatusLaws::failed, crate::proofs::StatusLaws::plays_behind))]
 pub fn play_image<'a, F: Files, W: Write>(
     alloc: Global,
     image: &'a str,
@@ -80,6 +85,8 @@ pub fn play_image<'a, F: Files, W: Write>(
         (Some run.entry.script.now) (λ bytes script.
         IsPlayed bytes script run.entry.method.now run.entry.language.now run.entry.steps
         (W.contents out.old) (W.contents out.new))) }
+    ensures stopped { IfErr result (Stops (Play image.entry run.entry) (F.account files.old)
+        (W.contents out.old) (W.contents out.new)) }
     ensures kept { F.account files.new ≡ F.account files.old }
 {
     let Run {
@@ -94,7 +101,7 @@ pub fn play_image<'a, F: Files, W: Write>(
 }
 
 /// Compiles a source, and runs a method of it.
-#[tactic(auto, using(crate::proofs::StatusLaws::no_refusal, crate::proofs::StatusLaws::source_alone, crate::proofs::StatusLaws::told_of_file, crate::proofs::StatusLaws::others))]
+#[tactic(auto, using(crate::proofs::StatusLaws::failed, crate::proofs::StatusLaws::of_text, crate::proofs::StatusLaws::told_of_file, crate::proofs::StatusLaws::tries_behind))]
 pub fn try_source<'a, F: Files, W: Write>(
     alloc: Global,
     source: &'a str,
@@ -106,8 +113,8 @@ pub fn try_source<'a, F: Files, W: Write>(
         (Some run.entry.script.now) (λ bytes script.
         IsPlayed bytes script run.entry.method.now run.entry.language.now run.entry.steps
         (W.contents out.old) (W.contents out.new))) }
-    ensures stopped { IfErr result (StopsBy (IsRefusedBehind (F.account files.old) source.now)
-        (F.account files.old) source.now (W.contents out.old) (W.contents out.new)) }
+    ensures stopped { IfErr result (Stops (Try source.entry run.entry) (F.account files.old)
+        (W.contents out.old) (W.contents out.new)) }
     ensures kept { F.account files.new ≡ F.account files.old }
 {
     let Run {

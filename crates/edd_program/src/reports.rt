@@ -2,8 +2,9 @@
 
 ghost use Rattle.std.specs.Prelude.{◌≡◌, ◌≢◌, ◌≤◌, IfSome, OnOk, true};
 ghost use Rattle.std.specs.Io.KnownBytes.{Appends};
-ghost use Rattle.edd_program.specs.Refusals.{refusal_in};
-ghost use Rattle.edd_program.specs.Statuses.{is_refusal, refusal_line};
+ghost use Rattle.edd_program.specs.declared.stop.Stop.TheVariants.{Output};
+ghost use Rattle.edd_program.specs.Refusals.{file_in, is_failure, refusal_in};
+ghost use Rattle.edd_program.specs.Statuses.{file_line, is_refusal, refusal_line};
 
 use crate::stop::Stop;
 use edd_display::{ShowFault, print};
@@ -35,6 +36,9 @@ fn refused<W: Write, T: Display>(alloc: Global, fault: &T, out: &mut W) -> Resul
 pub fn report<W: Write>(alloc: Global, stop: &Stop<'_>, out: &mut W) -> Result<(), ShowFault>
     ensures told { OnOk result (IfSome (refusal_in stop.now)
         (λ words. Appends (W.contents out.old) (W.contents out.new) (refusal_line words))) }
+    ensures file { OnOk result (IfSome (file_in stop.now)
+        (λ name. Appends (W.contents out.old) (W.contents out.new) (file_line name))) }
+    ensures output { OnOk result (stop.now ≢ Output) }
 {
     match stop {
         Stop::File(name) => print(alloc, out, format_args!("file {name}")),
@@ -56,6 +60,7 @@ pub fn status(stop: &Stop<'_>) -> u8
     ensures status { result ≤ 4 }
     ensures words { result ≢ 2 }
     ensures refused { result ≡ 1 → is_refusal stop.now ≡ true }
+    ensures file { result ≡ 3 → is_failure stop.now ≡ true }
 {
     match stop {
         Stop::NotCompiled(_)

@@ -1,9 +1,10 @@
 //! What the program does to show a source or an image.
 
-ghost use Rattle.std.specs.Prelude.{◌≡◌, IfErr, None, OnOk, option_map};
-ghost use Rattle.edd_program.specs.Refusals.{refusal_in};
+ghost use Rattle.std.specs.Prelude.{◌≡◌, IfErr, OnOk, option_map};
+ghost use Rattle.edd_program.specs.declared.request.Request.TheVariants.{Show, View};
+ghost use Rattle.edd_program.specs.Reasons.{Blames, BlamesNoRun, BlamesUnder};
 ghost use Rattle.edd_program.specs.Runs.{IsShown, OfImage, OfSource};
-ghost use Rattle.edd_program.specs.Statuses.{IsRefusedBehind, StopsBy};
+ghost use Rattle.edd_program.specs.Statuses.{Stops};
 
 use crate::compiling::image_of_source;
 use crate::hints::with_hint;
@@ -18,7 +19,7 @@ use std::alloc::Global;
 use std::io::Write;
 
 // Shows an image under a script.
-#[tactic(auto, using(crate::proofs::RunLaws::shown_under))]
+#[tactic(auto, using(crate::proofs::RunLaws::shown_under, crate::proofs::ReasonLaws::script_blamed, crate::proofs::ReasonLaws::values_blamed, crate::proofs::ReasonLaws::lines_blamed))]
 fn show_under<'a, W: Write>(
     alloc: Global,
     image: &Image<'_>,
@@ -28,7 +29,7 @@ fn show_under<'a, W: Write>(
 ) -> Result<(), Stop<'a>>
     ensures shown { OnOk result (IsShown image.now script.now language.now (W.contents out.old)
         (W.contents out.new)) }
-    ensures stopped { IfErr result (λ stop. refusal_in stop ≡ None) }
+    ensures stopped { IfErr result (BlamesUnder image.now script.now BlamesNoRun) }
 {
     let said = edd_script::parse(alloc, image, script)?;
     let values = Values::new(alloc, image, &said.values)?;
@@ -37,6 +38,7 @@ fn show_under<'a, W: Write>(
 }
 
 // Shows what may be an image, under a script.
+#[tactic(auto, using(crate::proofs::ReasonLaws::bytes_blamed, crate::proofs::ReasonLaws::image_blamed))]
 fn show_bytes<'a, W: Write>(
     alloc: Global,
     bytes: &[u8],
@@ -46,14 +48,14 @@ fn show_bytes<'a, W: Write>(
 ) -> Result<(), Stop<'a>>
     ensures shown { OnOk result (IsShown bytes.now script.now language.now (W.contents out.old)
         (W.contents out.new)) }
-    ensures stopped { IfErr result (λ stop. refusal_in stop ≡ None) }
+    ensures stopped { IfErr result (Blames bytes.now script.now BlamesNoRun) }
 {
     let image = load(alloc, bytes)?;
     show_under(alloc, &image, script, language, out)
 }
 
 /// Compiles a source, and shows its image.
-#[tactic(auto, using(crate::proofs::StatusLaws::no_refusal, crate::proofs::StatusLaws::source_alone, crate::proofs::StatusLaws::told_of_file, crate::proofs::StatusLaws::others))]
+#[tactic(auto, using(crate::proofs::StatusLaws::failed, crate::proofs::StatusLaws::of_text, crate::proofs::StatusLaws::told_of_file, crate::proofs::StatusLaws::views_behind))]
 pub fn view_source<'a, F: Files, W: Write>(
     alloc: Global,
     showing: Showing<'a>,
@@ -64,9 +66,8 @@ pub fn view_source<'a, F: Files, W: Write>(
         (option_map (λ name. name.now) showing.entry.script) (λ bytes script.
         IsShown bytes script showing.entry.language.now (W.contents out.old)
         (W.contents out.new))) }
-    ensures stopped { IfErr result (StopsBy (IsRefusedBehind (F.account files.old)
-        showing.entry.file.now) (F.account files.old) showing.entry.file.now (W.contents out.old)
-        (W.contents out.new)) }
+    ensures stopped { IfErr result (Stops (View showing.entry) (F.account files.old)
+        (W.contents out.old) (W.contents out.new)) }
     ensures kept { F.account files.new ≡ F.account files.old }
 {
     let taken = take(alloc, showing.file, showing.script, files)?;
@@ -75,6 +76,7 @@ pub fn view_source<'a, F: Files, W: Write>(
 }
 
 /// Shows an image.
+#[tactic(auto, using(crate::proofs::StatusLaws::failed, crate::proofs::StatusLaws::shows_behind))]
 pub fn show_image<'a, F: Files, W: Write>(
     alloc: Global,
     showing: Showing<'a>,
@@ -85,6 +87,8 @@ pub fn show_image<'a, F: Files, W: Write>(
         (option_map (λ name. name.now) showing.entry.script) (λ bytes script.
         IsShown bytes script showing.entry.language.now (W.contents out.old)
         (W.contents out.new))) }
+    ensures stopped { IfErr result (Stops (Show showing.entry) (F.account files.old)
+        (W.contents out.old) (W.contents out.new)) }
     ensures kept { F.account files.new ≡ F.account files.old }
 {
     let taken = take(alloc, showing.file, showing.script, files)?;

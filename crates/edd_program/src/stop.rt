@@ -29,10 +29,10 @@ pub enum Stop<'a> {
 }
 
 impl<'a> From<NamedFault<'a>> for Stop<'a> {
-    ghost use Rattle.std.specs.Prelude.{◌≡◌, false};
-    ghost use Rattle.edd_program.specs.Statuses.{is_refusal};
+    ghost use Rattle.std.specs.Prelude.{◌≡◌};
+    ghost use Rattle.edd_program.specs.Reasons.{of_named};
 
-    ghost from_gives = { λ _ stop. is_refusal stop ≡ false };
+    ghost from_gives = { λ fault stop. stop ≡ of_named fault };
 
     fn from(fault: NamedFault<'a>) -> Self {
         match fault {
@@ -43,10 +43,10 @@ impl<'a> From<NamedFault<'a>> for Stop<'a> {
 }
 
 impl From<LoadFault> for Stop<'_> {
-    ghost use Rattle.std.specs.Prelude.{◌≡◌, None};
-    ghost use Rattle.edd_program.specs.Refusals.{refusal_in};
+    ghost use Rattle.std.specs.Prelude.{◌≡◌};
+    ghost use Rattle.edd_program.specs.Reasons.{of_load};
 
-    ghost from_gives = { λ _ stop. refusal_in stop ≡ None };
+    ghost from_gives = { λ fault stop. stop ≡ of_load fault };
 
     fn from(fault: LoadFault) -> Self {
         match fault {
@@ -57,10 +57,10 @@ impl From<LoadFault> for Stop<'_> {
 }
 
 impl From<ScriptFault> for Stop<'_> {
-    ghost use Rattle.std.specs.Prelude.{◌≡◌, None};
-    ghost use Rattle.edd_program.specs.Refusals.{refusal_in};
+    ghost use Rattle.std.specs.Prelude.{◌≡◌};
+    ghost use Rattle.edd_program.specs.Reasons.{of_script};
 
-    ghost from_gives = { λ _ stop. refusal_in stop ≡ None };
+    ghost from_gives = { λ fault stop. stop ≡ of_script fault };
 
     fn from(fault: ScriptFault) -> Self {
         match fault {
@@ -71,10 +71,10 @@ impl From<ScriptFault> for Stop<'_> {
 }
 
 impl From<ValuesFault> for Stop<'_> {
-    ghost use Rattle.std.specs.Prelude.{◌≡◌, None};
-    ghost use Rattle.edd_program.specs.Refusals.{refusal_in};
+    ghost use Rattle.std.specs.Prelude.{◌≡◌};
+    ghost use Rattle.edd_program.specs.Reasons.{of_values};
 
-    ghost from_gives = { λ _ stop. refusal_in stop ≡ None };
+    ghost from_gives = { λ fault stop. stop ≡ of_values fault };
 
     fn from(fault: ValuesFault) -> Self {
         match fault {
@@ -85,10 +85,10 @@ impl From<ValuesFault> for Stop<'_> {
 }
 
 impl From<PlayFault> for Stop<'_> {
-    ghost use Rattle.std.specs.Prelude.{◌≡◌, None};
-    ghost use Rattle.edd_program.specs.Refusals.{refusal_in};
+    ghost use Rattle.std.specs.Prelude.{◌≡◌};
+    ghost use Rattle.edd_program.specs.Reasons.{of_play};
 
-    ghost from_gives = { λ _ stop. refusal_in stop ≡ None };
+    ghost from_gives = { λ fault stop. stop ≡ of_play fault };
 
     fn from(fault: PlayFault) -> Self {
         match fault {
@@ -99,13 +99,10 @@ impl From<PlayFault> for Stop<'_> {
 }
 
 impl From<ShowFault> for Stop<'_> {
-    ghost use Rattle.std.specs.Prelude.{◌≡◌, None};
-    ghost use Rattle.edd_display.specs.Shown.{blames_values};
-    ghost use Rattle.edd_program.specs.Refusals.{refusal_in};
-    ghost use Rattle.edd_program.specs.Statuses.{is_refusal};
+    ghost use Rattle.std.specs.Prelude.{◌≡◌};
+    ghost use Rattle.edd_program.specs.Reasons.{of_show};
 
-    ghost from_gives = { λ fault stop. (refusal_in stop ≡ None)
-        × (is_refusal stop ≡ blames_values fault) };
+    ghost from_gives = { λ fault stop. stop ≡ of_show fault };
 
     fn from(fault: ShowFault) -> Self {
         match fault {
