@@ -94,8 +94,18 @@ def can_install():
     return os.geteuid() == 0 and shutil.which("apt-get") is not None
 
 
+def is_let(packages):
+    """Whether these may be installed: a user at a terminal is asked; where there is no terminal, as in a container, nobody is."""
+    if not (sys.stdin and sys.stdin.isatty() and sys.stderr.isatty()):
+        return True
+    print(f"edd: install {' '.join(packages)} by apt-get? [y/N] ", end="", file=sys.stderr, flush=True)
+    return sys.stdin.readline().strip().lower() in ("y", "yes")
+
+
 def install(packages):
-    """Installs these of Debian's packages, as root."""
+    """Installs these of Debian's packages, as root, where the user lets it."""
+    if not is_let(packages):
+        raise Missing("nothing was installed; as root on Debian: " + apt_get(packages))
     say("installing " + " ".join(packages))
     update_lists()
     # Another apt-get of the machine ends some time.

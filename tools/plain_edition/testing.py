@@ -5,7 +5,7 @@ import re
 import shutil
 
 from . import core, packages, repository
-from .trials import alike, bare, calls_for_c, disk, elsewhere, example, fuzzing, images, lists, player, refusals, runs, score, workbench
+from .trials import alike, asking, bare, calls_for_c, disk, elsewhere, example, fuzzing, images, lists, player, refusals, runs, score, workbench
 
 PROFILE = "checked"
 MADE = os.path.join(repository.WORKBENCH, "target", PROFILE)
@@ -81,6 +81,7 @@ def steps_here(made, program):
     return [
         ("stored runs", runs.stored, made, MADE_OF_CORE),
         ("lists and promises", lists.checked),
+        ("installations", asking.asked),
         ("tables", player.played, MADE, ["rows", "pages", "calls", "images"]),
         ("rows by the program", player.by_program, MADE, program),
         ("refused memory", refusals.of_program, program),
