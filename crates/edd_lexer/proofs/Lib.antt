@@ -19,3 +19,4 @@ pub mod Loop
 pub mod Answered
 pub mod Keeping
 pub mod ByteTables
+pub mod LineCounts

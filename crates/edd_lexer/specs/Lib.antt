@@ -10,5 +10,6 @@ pub mod Reading
 pub mod Kept
 pub mod Views
 pub mod Parts
+pub mod Places
 pub mod Worked
 pub mod Words

@@ -1,10 +1,11 @@
 //! Bytes by what they may stand for, and runs of them.
 
-ghost use Rattle.std.specs.Prelude.{◌≡◌, ◌<◌, ◌≤◌, ◌==◌, ◌||◌, drop, length};
+ghost use Rattle.std.specs.Prelude.{◌≡◌, ◌<◌, ◌≤◌, ◌==◌, ◌||◌, ◌+◌, ◌∷◌, [], drop, length};
 ghost use Rattle.std.specs.Char.{is_ascii_digit, is_ascii_hexdigit};
 ghost use Rattle.edd_syntax.specs.Names as names;
 ghost use Rattle.edd_lexer.specs.Bytes as bytes;
 ghost use Rattle.edd_lexer.specs.Bytes.{begins, behind};
+ghost use Rattle.edd_lexer.specs.Places.{lines_in};
 ghost use Rattle.edd_lexer.specs.Reading as reading;
 ghost use Rattle.edd_lexer.specs.Strings.{quote};
 ghost use Rattle.edd_lexer.specs.Tokens as tokens;
@@ -163,7 +164,10 @@ pub fn begins_digit(text: &[u8]) -> bool
 }
 
 /// One more line where this byte ends one. A text within the limit has fewer lines than would fit.
-pub fn lines_after(lines: u32, b: u8) -> u32 {
+pub fn lines_after(lines: u32, b: u8) -> u32
+    requires { lines < 4294967295 }
+    ensures { result + lines_in [] ≡ lines + lines_in (b ∷ []) }
+{
     if b == b'\n' {
         lines.wrapping_add(1)
     } else {

@@ -1,15 +1,19 @@
 //! Comments and marks.
 
-ghost use Rattle.std.specs.Prelude.{◌≡◌};
+ghost use Rattle.std.specs.Prelude.{◌≡◌, ◌≤◌, IfSome, length};
 ghost use Rattle.edd_lexer.specs.Gaps as gaps;
 ghost use Rattle.edd_lexer.specs.Parts.{close_of};
+ghost use Rattle.edd_lexer.specs.Places.{Ends};
 
 use crate::bytes::{begins_digit, behind_line_blanks, is_blank, lines_after, next_is};
 
 /// What comes after the `*/` that closes the comment whose opening is before this text, if it
 /// has one, and how many lines end before that.
+#[tactic(auto, using(crate::proofs::LineCounts::close_here, crate::proofs::LineCounts::line_taken))]
 pub fn behind_close(body: &[u8]) -> Option<(u32, &[u8])>
-    ensures { close_of result ≡ gaps.behind_close body.now }
+    requires { length body.now ≤ 1048576 }
+    ensures sound { close_of result ≡ gaps.behind_close body.now }
+    ensures lines { IfSome result (λ e. Ends body.now e.0 e.1.now) }
 {
     let mut rest = body;
     let mut lines = 0;

@@ -2,6 +2,7 @@
 
 ghost use Rattle.std.specs.Prelude.{◌≡◌, ◌<◌, ◌≤◌, ◌-◌, drop, length, IfOk, IfErr, IfSome, MatchResult, ◌⊎◌, List, true, false, Some, map, ◌∷◌, ◌==◌, ◌||◌};
 ghost use Rattle.std.specs.Char.{is_ascii_digit};
+ghost use Rattle.std.specs.List.{AllByRecursion};
 ghost use Rattle.edd_syntax.specs.Names as names;
 ghost use Rattle.edd_lexer.specs.Bytes as bytes;
 ghost use Rattle.edd_lexer.specs.Bytes.{begins};
@@ -15,6 +16,7 @@ ghost use Rattle.edd_lexer.specs.Reading as reading;
 ghost use Rattle.edd_lexer.specs.Reading.{tokens_of};
 ghost use Rattle.edd_lexer.specs.Views.{lexeme_of, fault_of, Answers};
 ghost use Rattle.edd_lexer.specs.Parts.{step_of, Leads, Gives};
+ghost use Rattle.edd_lexer.specs.Places.{Counts, CountsOrNone, IsOnItsLine};
 
 use crate::bytes::{
     begins_digit, begins_longer, begins_name, behind_byte, behind_byte_order_mark, behind_line,
@@ -44,8 +46,9 @@ enum Step<'a> {
 // A word, unless it is too long.
 #[tactic(auto, unfolding(crate::specs::Reading::word_at), using(crate::proofs::Runs::runs))]
 fn word_at(text: &[u8]) -> Step
-    requires { begins names.begins_name text.now ≡ true }
-    ensures { step_of text.now result ≡ reading.word_at text.now }
+    requires here { begins names.begins_name text.now ≡ true }
+    ensures read { step_of text.now result ≡ reading.word_at text.now }
+    ensures counts { CountsOrNone text.now result }
 {
     let rest = behind_name(behind_byte(text));
     let length = text.len() - rest.len();
@@ -56,7 +59,8 @@ fn word_at(text: &[u8]) -> Step
 }
 
 fn number_step(text: &[u8]) -> Step
-    ensures { step_of text.now result ≡ reading.number_at text.now }
+    ensures read { step_of text.now result ≡ reading.number_at text.now }
+    ensures counts { CountsOrNone text.now result }
 {
     match number_at(text) {
         Number::Integer(n, rest) => Step::Token(TokenKind::Integer(n), 0, rest),
@@ -66,10 +70,13 @@ fn number_step(text: &[u8]) -> Step
 }
 
 // A string, with its opening quote.
-#[tactic(auto, unfolding(crate::specs::Reading::string_at))]
+#[tactic(auto, unfolding(crate::specs::Reading::string_at), using(crate::proofs::LineCounts::string_ends))]
 fn string_at(text: &[u8]) -> Step
-    requires { 0 < length text.now }
-    ensures { step_of text.now result ≡ reading.string_at (drop 1 text.now) }
+    requires here { 0 < length text.now }
+    requires small { length text.now ≤ 1048576 }
+    requires no_blank { begins bytes.is_blank text.now ≡ false }
+    ensures read { step_of text.now result ≡ reading.string_at (drop 1 text.now) }
+    ensures counts { CountsOrNone text.now result }
 {
     match string_end(&text[1..]) {
         Some(end) if end.good => Step::Token(TokenKind::String, end.lines, end.rest),
@@ -79,10 +86,14 @@ fn string_at(text: &[u8]) -> Step
 }
 
 // A block comment, with its slash.
-#[tactic(auto, unfolding(crate::specs::Reading::block_comment_at))]
+#[tactic(auto, unfolding(crate::specs::Reading::block_comment_at), using(crate::proofs::LineCounts::comment_ends))]
 fn block_comment_at(text: &[u8]) -> Step
-    requires { 2 ≤ length text.now }
-    ensures { step_of text.now result ≡ reading.block_comment_at (drop 2 text.now) }
+    requires here { 2 ≤ length text.now }
+    requires small { length text.now ≤ 1048576 }
+    requires no_blank { begins bytes.is_blank text.now ≡ false }
+    requires star { reading.next_is 42 (drop 1 text.now) ≡ true }
+    ensures read { step_of text.now result ≡ reading.block_comment_at (drop 2 text.now) }
+    ensures counts { CountsOrNone text.now result }
 {
     match behind_close(&text[2..]) {
         Some((lines, rest)) => Step::Gap(false, lines, rest),
@@ -93,8 +104,11 @@ fn block_comment_at(text: &[u8]) -> Step
 // A comment or a sign, with its slash.
 #[tactic(auto, unfolding(crate::specs::Reading::slash_at))]
 fn slash_at(text: &[u8]) -> Step
-    requires { 0 < length text.now }
-    ensures { step_of text.now result ≡ reading.slash_at (drop 1 text.now) }
+    requires here { 0 < length text.now }
+    requires small { length text.now ≤ 1048576 }
+    requires no_blank { begins bytes.is_blank text.now ≡ false }
+    ensures read { step_of text.now result ≡ reading.slash_at (drop 1 text.now) }
+    ensures counts { CountsOrNone text.now result }
 {
     let rest = &text[1..];
     if next_is(b'/', rest) {
@@ -110,8 +124,10 @@ fn slash_at(text: &[u8]) -> Step
 // A mark or a directive, with its `#`.
 #[tactic(auto, unfolding(crate::specs::Reading::hash_at))]
 fn hash_at(fresh: bool, text: &[u8]) -> Step
-    requires { 0 < length text.now }
-    ensures { step_of text.now result ≡ reading.hash_at fresh (drop 1 text.now) }
+    requires here { 0 < length text.now }
+    requires no_blank { begins bytes.is_blank text.now ≡ false }
+    ensures read { step_of text.now result ≡ reading.hash_at fresh (drop 1 text.now) }
+    ensures counts { CountsOrNone text.now result }
 {
     if !fresh {
         return Step::Wrong(Fault::BadCharacter);
@@ -125,7 +141,8 @@ fn hash_at(fresh: bool, text: &[u8]) -> Step
 }
 
 fn symbol_step<'a>(text: &[u8], first: u8, rest: &'a [u8]) -> Step<'a>
-    ensures { step_of text.now result ≡ reading.symbol_at first rest.now }
+    ensures read { step_of text.now result ≡ reading.symbol_at first rest.now }
+    ensures counts { CountsOrNone text.now result }
 {
     match symbol_at(first, rest) {
         Some((symbol, behind)) => Step::Token(TokenKind::Symbol(symbol), 0, behind),
@@ -149,7 +166,9 @@ fn longer_step(fresh: bool, text: &[u8]) -> Step
     requires no_name { begins names.begins_name text.now ≡ false }
     requires longer { begins (λ b. is_ascii_digit b || b == 46 || b == quote || b == 47 || b == 35)
         text.now ≡ true }
-    ensures { step_of text.now result ≡ reading.step_at fresh text.now }
+    requires small { length text.now ≤ 1048576 }
+    ensures read { step_of text.now result ≡ reading.step_at fresh text.now }
+    ensures counts { CountsOrNone text.now result }
 {
     let [first, rest @ ..] = text else {
         return Step::Wrong(Fault::BadCharacter);
@@ -169,8 +188,10 @@ fn longer_step(fresh: bool, text: &[u8]) -> Step
 // What begins at a place where there is no blank.
 #[tactic(auto, unfolding(crate::specs::Reading::step_at))]
 fn step_here(fresh: bool, text: &[u8]) -> Step
-    requires { begins bytes.is_blank text.now ≡ false }
-    ensures { step_of text.now result ≡ reading.step_at fresh text.now }
+    requires here { begins bytes.is_blank text.now ≡ false }
+    requires small { length text.now ≤ 1048576 }
+    ensures read { step_of text.now result ≡ reading.step_at fresh text.now }
+    ensures counts { CountsOrNone text.now result }
 {
     let [first, rest @ ..] = text else {
         return Step::Wrong(Fault::BadCharacter);
@@ -190,11 +211,13 @@ fn step_here(fresh: bool, text: &[u8]) -> Step
 }
 
 // The same, with the fact that what comes after it is an end of what is here.
-#[tactic(auto, using(crate::proofs::Loop::step_leads))]
+#[tactic(auto, using(crate::proofs::Loop::step_leads, crate::proofs::LineCounts::counted))]
 fn next_step(fresh: bool, text: &[u8]) -> Step
-    requires { begins bytes.is_blank text.now ≡ false }
+    requires here { begins bytes.is_blank text.now ≡ false }
+    requires small { length text.now ≤ 1048576 }
     ensures read { step_of text.now result ≡ reading.step_at fresh text.now }
     ensures leads { Leads text.now (step_of text.now result) }
+    ensures counts { Counts text.now result }
 {
     step_here(fresh, text)
 }
@@ -231,10 +254,11 @@ fn offset(total: u32, left: u32) -> u32
 }
 
 // The tokens of a text that is short enough and in UTF-8, or its first fault.
-#[tactic(auto, using(crate::proofs::Loop::loop_starts))]
+#[tactic(auto, using(crate::proofs::Loop::loop_starts, crate::proofs::LineCounts::start_lines))]
 fn tokens(alloc: Global, text: &[u8]) -> Result<Vec<Token>, LexFault>
     requires { length text.now ≤ 1048576 }
-    ensures { Gives text.now result (tokens_of text.now) }
+    ensures sound { Gives text.now result (tokens_of text.now) }
+    ensures lines { IfOk result (λ list. AllByRecursion (IsOnItsLine text.now) list.items) }
 {
     let mut tokens = Vec::with_capacity(alloc, text.len() / 16)?;
     let mut rest = behind_byte_order_mark(text);
@@ -274,7 +298,8 @@ fn tokens(alloc: Global, text: &[u8]) -> Result<Vec<Token>, LexFault>
 
 // The tokens of a text, or its fault.
 fn read(alloc: Global, text: &[u8]) -> Result<Vec<Token>, LexFault>
-    ensures { Answers text.now result }
+    ensures sound { Answers text.now result }
+    ensures lines { IfOk result (λ list. AllByRecursion (IsOnItsLine text.now) list.items) }
 {
     if text.len() > 1_048_576 {
         return Err(LexFault::TooLong);
@@ -301,6 +326,7 @@ pub fn lex(alloc: Global, text: &[u8]) -> Result<Vec<Token>, LexFault>
         (λ e. e ≡ Memory) }
     ensures only_fault { (fault : kinds.Fault) → LexicalFault text.now fault
         → MatchResult result (λ _. ⊥) (λ e. (e ≡ Memory) ⊎ (fault_of e ≡ Some fault)) }
+    ensures lines { IfOk result (λ list. AllByRecursion (IsOnItsLine text.now) list.items) }
 {
     read(alloc, text)
 }

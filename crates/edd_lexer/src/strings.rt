@@ -1,11 +1,12 @@
 //! The ends of strings.
 
-ghost use Rattle.std.specs.Prelude.{◌≡◌, ◌≤◌, ◌==◌, ◌||◌, Bool, true, not, length};
+ghost use Rattle.std.specs.Prelude.{◌≡◌, ◌≤◌, ◌==◌, ◌||◌, Bool, true, IfSome, not, length};
 ghost use Rattle.edd_syntax.specs.Words as words;
 ghost use Rattle.edd_lexer.specs.Bytes as bytes;
 ghost use Rattle.edd_lexer.specs.Strings.{quote};
 ghost use Rattle.edd_lexer.specs.Reading as reading;
 ghost use Rattle.edd_lexer.specs.Parts.{end_of};
+ghost use Rattle.edd_lexer.specs.Places.{Ends, lines_in};
 
 use crate::bytes::lines_after;
 
@@ -44,6 +45,7 @@ fn is_plain(b: u8) -> bool
 // What comes after the bytes that are only text of a string: the end of the string is the same.
 #[tactic(auto, unfolding(crate::specs::Reading::string_end))]
 fn behind_plain(text: &[u8]) -> &[u8]
+    ensures lines { lines_in result.now ≡ lines_in text.now }
     ensures same_end { (good : Bool) → reading.string_end good result.now
         ≡ reading.string_end good text.now }
     ensures shorter { length result.now ≤ length text.now }
@@ -61,7 +63,9 @@ fn behind_plain(text: &[u8]) -> &[u8]
 /// The end of the string whose opening quote is before this text, if it has one.
 #[tactic(auto, unfolding(crate::specs::Reading::string_end))]
 pub fn string_end(inside: &[u8]) -> Option<StringEnd>
-    ensures { end_of result ≡ reading.string_end true inside.now }
+    requires { length inside.now ≤ 1048576 }
+    ensures sound { end_of result ≡ reading.string_end true inside.now }
+    ensures lines { IfSome result (λ end. Ends inside.now end.lines end.rest.now) }
 {
     let mut rest = inside;
     let mut good = true;

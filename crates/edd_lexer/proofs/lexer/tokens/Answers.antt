@@ -5,10 +5,11 @@ use Rattle.edd_lexer.specs.Faults.{Fault}
 use Rattle.edd_lexer.specs.Reading.{tokens_of}
 use Rattle.edd_lexer.specs.Views.{lexeme_of}
 use Rattle.edd_lexer.proofs.Loop.{on_blank, behind_first, on_wrong, on_gap, on_token, at_end, end_of_end}
+use Rattle.edd_lexer.proofs.LineCounts.{all_placed, blank_line, few_so_far, line_is, line_on}
 use Rattle.edd_lexer.proofs.lexer.tokens.Goals as goal
 
-pub returns-in-Wrong : goal.returns-in-Wrong
-returns-in-Wrong c =
+pub returns-in-Wrong-clause-sound : goal.returns-in-Wrong-clause-sound
+returns-in-Wrong-clause-sound c =
     let text = c.args.text.now in
     let stops = on_wrong (map (lexeme_of text) c.loop-rest.tokens.items) (length text)
     c.loop-rest.fresh c.loop-rest.rest.now c.in-Wrong.fault
@@ -28,6 +29,9 @@ loop-rest-preserved-in-Gap c =
       is_end = end_of_end text here c.in-Gap.behind.now c.loop-rest.invariant.is_end
           c.loop-rest.invariant.within c.in-Gap.ensures.leads;
       read = sym same ∙ c.loop-rest.invariant.read;
+      line = line_on text here c.in-Gap.behind.now c.loop-rest.line c.in-Gap.lines
+          c.loop-rest.invariant.line c.in-Gap.ensures.counts c.requires;
+      placed = c.loop-rest.invariant.placed;
     }
 
 pub loop-rest-preserved : goal.loop-rest-preserved
@@ -44,10 +48,16 @@ loop-rest-preserved c =
           c.in-Token.ensures.leads;
       read = rw (c.in_ok-push-in-Token.ensures.items, map_push, c.offset-in-Token.ensures, c.offset.ensures)
           (sym same ∙ c.loop-rest.invariant.read);
+      line = line_on text here behind c.loop-rest.line c.in-Token.lines c.loop-rest.invariant.line
+          c.in-Token.ensures.counts c.requires;
+      placed = rw c.in_ok-push-in-Token.ensures.items
+          (all_placed text c.loop-rest.tokens.items _ c.loop-rest.invariant.placed
+          (rw c.offset.ensures (line_is text here c.loop-rest.line c.loop-rest.invariant.is_end
+          c.loop-rest.invariant.line)));
     }
 
-pub returns : goal.returns
-returns c =
+pub returns-clause-sound : goal.returns-clause-sound
+returns-clause-sound c =
     let text = c.args.text.now in
     sym c.loop-rest.invariant.read ∙ at_end (map (lexeme_of text) c.loop-rest.tokens.items)
     (length text) c.loop-rest.fresh c.loop-rest.rest.now
@@ -67,4 +77,11 @@ loop-rest-preserved-then-is_blank c =
       is_end = subst IsEnd (sym e) (behind_first text here c.loop-rest.invariant.is_end
           c.loop-rest.invariant.within some);
       read = rw (e, c.fresh_behind-fresh.ensures) (sym same ∙ c.loop-rest.invariant.read);
+      line = rw e (blank_line text here c.loop-rest.line c.lines_after-line.result some
+          c.loop-rest.invariant.line c.lines_after-line.ensures);
+      placed = c.loop-rest.invariant.placed;
     }
+
+pub lines_after-line-requires : goal.lines_after-line-requires
+lines_after-line-requires c = few_so_far c.args.text.now c.loop-rest.rest.now c.loop-rest.line
+    c.loop-rest.invariant.line c.requires

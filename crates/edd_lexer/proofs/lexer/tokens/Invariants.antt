@@ -1,4 +1,6 @@
-use Rattle.std.proofs.Common.{◌≡◌, ◌≤◌, ◌-◌, map, length, drop}
+use Rattle.std.proofs.Common.{◌≡◌, ◌≤◌, ◌+◌, ◌-◌, map, length, drop}
+use Rattle.std.specs.List.{AllByRecursion}
+use Rattle.edd_lexer.specs.Places.{IsOnItsLine, lines_in}
 use Rattle.edd_lexer.specs.Views.{lexeme_of}
 use Rattle.edd_lexer.specs.Reading.{tokens_of}
 use Rattle.edd_lexer.proofs.Whole.{tokens_from}
@@ -11,6 +13,8 @@ invariant-loop-rest l = record {
   is_end : l.rest ≡ drop (length l.fn.text - length l.rest) l.fn.text;
   read : with_front (map (lexeme_of l.fn.text) l.tokens.items)
       (tokens_from (length l.fn.text) l.fresh l.rest) ≡ tokens_of l.fn.text;
+  line : l.line + lines_in l.rest ≡ 1 + lines_in l.fn.text;
+  placed : AllByRecursion (IsOnItsLine l.fn.text) l.tokens.items;
 }
 
 abbrev pub decreases-loop-rest : goal.decreases-loop-rest
