@@ -7,7 +7,8 @@
  * structs of yours. docs/EMBEDDING.md is the way in; docs/IMAGE.md says what an image is.
  *
  * Every call answers a status: EDD_OK, or a number that says why it did not do what was asked, and then
- * nothing that you passed has changed, but that edd_attribute says how much room it needs.
+ * nothing that you passed has changed, but that `given` may have a number that is said with the call, as
+ * how much room edd_attribute needs.
  *
  * What you owe, and nothing else is asked of you:
  *  - A pointer is to as many elements as its length says. With a length of 0 it may be any pointer but
@@ -18,8 +19,8 @@
  *    all of the bytes again.
  *  - What a call writes to does not lie in what else it is given.
  *  - rattle_alloc, rattle_realloc and rattle_dealloc are there (examples/c/pool.h says what they do, and pool.c
- *    has them over an array). Calls that take memory give all of it back before they return. edd_load, edd_attribute
- *    and edd_play take memory, and no other call does.
+ *    has them over an array). Calls that take memory give all of it back before they return. edd_load, edd_attribute,
+ *    edd_encode, edd_decode, edd_reader, edd_writer and edd_play take memory, and no other call does.
  *
  * Threads: nothing is shared. Calls may be made by any number of threads at once, on one image as well,
  * if your three functions may. What a call writes to, as a session and its values, no other call is given
@@ -72,6 +73,11 @@ enum {
     EDD_DIV_OVERFLOW = 211,
     EDD_BAD_SHIFT = 212,
     EDD_NO_ELEMENT = 213,
+    /* Of edd_decode: the octets are not those of the message. */
+    EDD_TOO_FEW_OCTETS = 220,
+    EDD_TOO_MANY_OCTETS = 221,
+    EDD_WRONG_CONSTANT = 222,
+    EDD_EXCESS_BITS = 223,
     /* Of each call but edd_load and edd_where: the edd_image is not that of these bytes. */
     EDD_OTHER_IMAGE = 260,
     /* There is too little room, or for edd_play too much. */
@@ -249,6 +255,64 @@ uint32_t edd_attribute(const uint8_t *bytes, size_t length, const edd_image *ima
                        const int64_t *values, size_t count,
                        edd_record *records, size_t room, size_t *given);
 
+/* ---- messages: the octets of a command's transactions ---- */
+
+/*
+ * One of the two messages of a transaction: the number of the command among the commands (that of its edd_item, not
+ * its EDD_NUMBER), the position of the transaction in it, from 0, and EDD_REQUEST or EDD_REPLY. docs/OCTETS.md says
+ * which octets it has.
+ */
+typedef struct edd_message {
+    uint16_t command;
+    uint16_t position;
+    uint8_t side;
+} edd_message;
+
+/* A variable that is set. */
+typedef struct edd_setting {
+    int64_t value;
+    uint16_t variable;
+} edd_setting;
+
+/*
+ * The octets of a message under the values of its sender. EDD_OK: they are at the front of `octets`, and `given` is how
+ * many. EDD_NO_ROOM: `given` is how many there are, and that alone is written. EDD_NO_ITEM: no such command or
+ * transaction, or `side` is another number. EDD_WRONG_VALUES, EDD_DIV_ZERO to EDD_NO_ELEMENT, EDD_MEMORY. Takes memory
+ * for the values, the items and the octets, and gives it back.
+ */
+uint32_t edd_encode(const uint8_t *bytes, size_t length, const edd_image *image, const edd_message *message,
+                    const int64_t *values, size_t count,
+                    uint8_t *octets, size_t room, size_t *given);
+
+/*
+ * What is taken from the octets of a message under the values of its receiver: the values that its variables have then,
+ * in the order of the message. Make them in that order, in `values` itself or by the answer to a request: each is of a
+ * variable of the image and in its range. Bits that the message does not name are as `values` has them. INFO items set
+ * nothing.
+ *
+ * EDD_OK: the settings are at the front of `settings`, and `given` is how many. EDD_NO_ROOM: `given` is how many there
+ * are. EDD_TOO_FEW_OCTETS, EDD_TOO_MANY_OCTETS. EDD_WRONG_CONSTANT: `given` is the place of the first octet that differs
+ * from its constant, from 0. EDD_EXCESS_BITS: `given` is the number of the variable that does not have the bits. The others
+ * are those of edd_encode, and leave `given` as it was. Takes memory for the values, the items and the settings, and
+ * gives it back.
+ */
+uint32_t edd_decode(const uint8_t *bytes, size_t length, const edd_image *image, const edd_message *message,
+                    const int64_t *values, size_t count, const uint8_t *octets, size_t octet_count,
+                    edd_setting *settings, size_t room, size_t *given);
+
+/*
+ * The replies with which a variable is read: those that carry it, of the commands whose EDD_OPERATION is READ, by command
+ * and position. EDD_OK: the one of this number among them, from 0, is in `message`, and `given` is how many they are.
+ * EDD_NO_ITEM: there are no more than `number`; `given` is how many there are, and that alone is written.
+ * EDD_WRONG_VALUES, EDD_MEMORY. Takes memory for the values and the messages, and gives it back.
+ */
+uint32_t edd_reader(const uint8_t *bytes, size_t length, const edd_image *image, uint16_t variable,
+                    const int64_t *values, size_t count, size_t number, edd_message *message, size_t *given);
+
+/* The same of the requests with which a variable is written, of the commands whose EDD_OPERATION is WRITE. */
+uint32_t edd_writer(const uint8_t *bytes, size_t length, const edd_image *image, uint16_t variable,
+                    const int64_t *values, size_t count, size_t number, edd_message *message, size_t *given);
+
 /* ---- methods ---- */
 
 /*
@@ -275,12 +339,6 @@ typedef struct edd_request {
     uint16_t variable;
     uint8_t tag;
 } edd_request;
-
-/* A variable that an answer sets. */
-typedef struct edd_setting {
-    int64_t value;
-    uint16_t variable;
-} edd_setting;
 
 /*
  * An answer to a request: the code, which is the request's value, after `settings` variables were set in their

@@ -1,7 +1,8 @@
 /*
  * Tests of the library for C over the images of examples/valve_positioner.edd, examples/temperature_scanner.edd and
  * examples/flow_transmitter.edd: each call with good and bad arguments, each request for memory refused in turn, and
- * images with a byte changed. Expected values are read off the sources. sessions.c has those of the calls on sessions.
+ * images with a byte changed. Expected values are read off the sources. messages.c has those of the calls on messages, and
+ * sessions.c those of the calls on sessions.
  *
  *     tests VALVE_IMAGE SCANNER_IMAGE FLOW_IMAGE [STEP]
  */
@@ -277,6 +278,36 @@ static void try_another(file *it, file *other)
 
 /* ---- memory ---- */
 
+/* Refuses each request for memory of the calls on messages in turn. */
+static void try_memory_of_messages(file *it)
+{
+    const edd_message reply = { 0, 0, EDD_REPLY };
+    const int64_t values[5] = { 800, 100, 3900, 0, 0 };
+    const uint8_t octets[3] = { 1, 44, 0 };
+    edd_message found;
+    edd_setting settings[2];
+    uint8_t sent[3];
+    size_t given;
+    long at;
+    int call;
+    for (call = 0; call < 3; call++)
+        for (at = 0;; at++) {
+            uint32_t status;
+            requests_left = at;
+            given = 42;
+            status = call == 0 ? edd_encode(OF(it), &reply, values, 5, sent, 3, &given)
+                   : call == 1 ? edd_decode(OF(it), &reply, values, 5, octets, 3, settings, 2, &given)
+                               : edd_reader(OF(it), 0, values, 5, 0, &found, &given);
+            CHECK(blocks == 0);
+            if (status == EDD_OK) {
+                CHECK(at > 1);
+                break;
+            }
+            CHECK(status == EDD_MEMORY && given == 42);
+        }
+    requests_left = -1;
+}
+
 static void try_memory(file *it)
 {
     int64_t values[5] = { 800, 100, 3900, 0, 0 }, after[5];
@@ -319,7 +350,26 @@ static void try_memory(file *it)
 
 /* ---- images with a byte changed ---- */
 
-/* Reads all of an image that was loaded, and plays its methods a little. */
+/* Encodes the messages of a command, and takes them. */
+static void exchange_all(const uint8_t *bytes, size_t length, const edd_image *image, uint16_t command,
+                         const int64_t *values)
+{
+    edd_setting settings[64];
+    uint8_t octets[64];
+    size_t given, taken, k;
+    for (k = 0; k < 4; k++) {
+        edd_message message = { 0, 0, EDD_REQUEST };
+        message.command = command;
+        message.position = (uint16_t)(k / 2);
+        if (k % 2)
+            message.side = EDD_REPLY;
+        if (edd_encode(bytes, length, image, &message, values, image->variables, octets, 64, &given) == EDD_OK)
+            CHECK(edd_decode(bytes, length, image, &message, values, image->variables, octets, given, settings, 64,
+                             &taken) == (taken <= 64 ? EDD_OK : EDD_NO_ROOM));
+    }
+}
+
+/* Reads all of an image that was loaded, encodes its messages, and plays its methods a little. */
 static void read_all(const uint8_t *bytes, size_t length, const edd_image *image)
 {
     static int64_t values[65536], after[65536];
@@ -343,6 +393,8 @@ static void read_all(const uint8_t *bytes, size_t length, const edd_image *image
                         if (records[k].tag == EDD_RECORD_WORDS)
                             CHECK(edd_text(bytes, length, image, records[k].text, TEXT("de"), &words) == EDD_OK);
         }
+    for (number = 0; number < image->commands && number < 20; number++)
+        exchange_all(bytes, length, image, number, values);
     for (number = 0; number < image->methods && number < 20; number++)
         edd_play(bytes, length, image, number, values, image->variables, answers, 3, &setting, 0, 2000, requests, 4, after,
                  image->variables, &ending);
@@ -395,7 +447,9 @@ int main(int count, char **words)
     try_plays(&valve);
     try_another(&valve, &scanner);
     try_memory(&valve);
+    try_memory_of_messages(&valve);
     CHECK(edd_load(flow.bytes, flow.length, &flow.image) == EDD_OK);
+    try_messages(&flow, &valve);
     try_sessions(&valve, &flow, step);
     try_damage(&valve, step);
     try_damage(&scanner, step);

@@ -26,6 +26,9 @@ size_t rounded(size_t size);
 /* How often memory was asked for, given back or resized. */
 extern long memory_calls;
 
+/* Messages over the images of the flow transmitter and of the valve positioner. */
+void try_messages(const file *flow, const file *valve);
+
 /* Sessions over the images of the valve positioner and of the flow transmitter; each step-th byte is damaged. */
 void try_sessions(const file *valve, const file *flow, size_t step);
 

@@ -96,7 +96,7 @@ def steps_beyond(program):
     return [
         ("32 bits of Linux", elsewhere.i686, program, MADE),
         ("clippy", workbench.linted),
-        ("the library for C", calls_for_c.tests, program),
+        ("the library for C", calls_for_c.tests, program, PROFILE),
         ("WebAssembly", elsewhere.wasm, program),
         ("without a system", bare.thumb),
         ("the examples in Rust", example.runs, program),

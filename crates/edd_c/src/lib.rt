@@ -8,5 +8,6 @@
 mod attributes;
 mod images;
 mod lookups;
+mod messages;
 mod plays;
 mod sessions;

@@ -1,5 +1,5 @@
 -- What one more element does to a list that is written at its front.
-use Rattle.std.proofs.Common.{◌≡◌, ℕ, ◌+◌, ◌<◌, ◌≤◌, List, [], ◌∷◌, ◌++◌, length, get_or, take, drop, map, sym, ap, ◌∙◌, arith}
+use Rattle.std.proofs.Common.{◌≡◌, ℕ, ◌+◌, ◌<◌, ◌≤◌, List, [], ◌∷◌, ◌++◌, length, get_or, take, drop, map, refl, sym, ap, ◌∙◌, arith}
 use Rattle.std.specs.Prelude.{slice_set}
 use Rattle.std.proofs.lemmas.List.{take_more, take_more_set, map_push, drop-set-lt, drop-drop, length-set, take-append-drop, length-take-le}
 use Rattle.edd_embed.specs.Records.{written_over}
@@ -32,3 +32,8 @@ all_written f xs start room n h w =
     sym (take-append-drop n room) ∙ ap (λ ys. ys ++ drop n room) w.before
     ∙ ap (λ ys. map f (take n xs) ++ ys) w.after
     ∙ ap (λ k. map f (take n xs) ++ drop k start) (sym long)
+
+pub mapped_twice : {A B C : Type 0} (f : A → B) (g : B → C) (xs : List A)
+    → map (λ x. g (f x)) xs ≡ map g (map f xs)
+mapped_twice f g [] = refl
+mapped_twice f g (x ∷ xs) = ap (λ ys. g (f x) ∷ ys) (mapped_twice f g xs)

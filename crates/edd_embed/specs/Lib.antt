@@ -1,5 +1,6 @@
 pub mod Images
 pub mod Lookups
+pub mod Octets
 pub mod Playing
 pub mod Reading
 pub mod Records

@@ -1,5 +1,5 @@
 -- A method that is played under the answers of a program in C.
-use Rattle.std.specs.Prelude.{◌≡◌, ◌≢◌, ◌==◌, ◌&&◌, Bool, true, false, ℕ, ℤ, nat_le, pos, if◌then◌else◌, List, [], ◌∷◌, length, map, option_map, take, drop, Some, ⊤}
+use Rattle.std.specs.Prelude.{◌≡◌, ◌≢◌, ◌==◌, ◌&&◌, Bool, true, false, ℕ, ℤ, nat_le, pos, if◌then◌else◌, List, [], ◌∷◌, length, map, option_map, take, drop, Some}
 use Rattle.edd_syntax.specs.declared.answer.Trap.{Trap}
 use Rattle.edd_syntax.specs.declared.answer.Trap.TheVariants as trap
 use Rattle.edd_syntax.specs.Answers.{Answer, Go, Abort, Change}

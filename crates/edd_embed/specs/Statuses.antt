@@ -4,12 +4,18 @@ use Rattle.edd_loader.specs.declared.fault.LoadFault.{LoadFault}
 use Rattle.edd_loader.specs.declared.fault.LoadFault.TheVariants as load_fault
 use Rattle.edd_machine.specs.declared.fault.ReadFault.{ReadFault}
 use Rattle.edd_machine.specs.declared.fault.ReadFault.TheVariants as read_fault
+use Rattle.edd_octets.specs.declared.fault.OctetsFault.{OctetsFault}
+use Rattle.edd_octets.specs.declared.fault.OctetsFault.TheVariants as octets_fault
 use Rattle.edd_port.specs.declared.fault.AnswerFault.{AnswerFault}
 use Rattle.edd_port.specs.declared.fault.AnswerFault.TheVariants as answer_fault
 use Rattle.edd_port.specs.declared.fault.PlayFault.{PlayFault}
 use Rattle.edd_port.specs.declared.fault.PlayFault.TheVariants as play_fault
 use Rattle.edd_port.specs.declared.fault.StartFault.{StartFault}
 use Rattle.edd_port.specs.declared.fault.StartFault.TheVariants as start_fault
+use Rattle.edd_embed.specs.declared.carriers.ListFault.{ListFault}
+use Rattle.edd_embed.specs.declared.carriers.ListFault.TheVariants as list_fault
+use Rattle.edd_embed.specs.declared.octets.MessageFault.{MessageFault}
+use Rattle.edd_embed.specs.declared.octets.MessageFault.TheVariants as message_fault
 use Rattle.edd_embed.specs.declared.playing.PlayRefusal.{PlayRefusal}
 use Rattle.edd_embed.specs.declared.playing.PlayRefusal.TheVariants as play_refusal
 use Rattle.edd_embed.specs.declared.reading.AttributeFault.{AttributeFault}
@@ -74,6 +80,25 @@ read_status read_fault.Memory = memory
 abbrev pub attribute_status : AttributeFault → ℕ
 attribute_status (attribute_fault.Read fault) = read_status fault
 attribute_status (attribute_fault.Room n) = no_room
+
+-- the number of a fault of octets
+abbrev pub octets_status : OctetsFault → ℕ
+octets_status (octets_fault.Read fault) = read_status fault
+octets_status octets_fault.TooShort = 220
+octets_status octets_fault.TooLong = 221
+octets_status (octets_fault.WrongConstant place) = 222
+octets_status (octets_fault.OutOfType variable) = 223
+octets_status octets_fault.Memory = memory
+
+-- the same where there may be too little room for the octets or the sets
+abbrev pub message_status : MessageFault → ℕ
+message_status (message_fault.Octets fault) = octets_status fault
+message_status (message_fault.Room n) = no_room
+
+-- the number of why no messages are listed
+abbrev pub list_status : ListFault → ℕ
+list_status list_fault.WrongValues = 204
+list_status list_fault.Memory = memory
 
 -- the number of a fault in playing a method
 abbrev pub play_status : PlayFault → ℕ

@@ -1,13 +1,17 @@
 //! The numbers that calls for C answer: 0 where the call did what was asked, else why it didn't.
 
 ghost use Rattle.std.specs.Prelude.{◌≡◌};
-ghost use Rattle.edd_embed.specs.Statuses.{answer_status, attribute_status, load_status, play_status, read_status, refusal_status, session_status, start_status};
+ghost use Rattle.edd_embed.specs.Octets.{told};
+ghost use Rattle.edd_embed.specs.Statuses.{answer_status, attribute_status, list_status, load_status, message_status, octets_status, play_status, read_status, refusal_status, session_status, start_status};
 
+use crate::carriers::ListFault;
+use crate::octets::MessageFault;
 use crate::playing::PlayRefusal;
 use crate::reading::AttributeFault;
 use crate::turns::SessionRefusal;
 use edd_loader::LoadFault;
 use edd_machine::ReadFault;
+use edd_octets::OctetsFault;
 use edd_port::{AnswerFault, PlayFault, StartFault};
 
 /// The call did what was asked.
@@ -72,6 +76,53 @@ pub fn attribute_status(fault: AttributeFault) -> u32
     match fault {
         AttributeFault::Read(fault) => read_status(fault),
         AttributeFault::Room(_) => NO_ROOM,
+    }
+}
+
+fn octets_status(fault: OctetsFault) -> u32
+    ensures { result ≡ octets_status fault }
+{
+    match fault {
+        OctetsFault::Read(fault) => read_status(fault),
+        OctetsFault::TooShort => 220,
+        OctetsFault::TooLong => 221,
+        OctetsFault::WrongConstant(_) => 222,
+        OctetsFault::OutOfType(_) => 223,
+        OctetsFault::Memory => MEMORY,
+    }
+}
+
+/// The number of why octets or sets are not given.
+pub fn message_status(fault: MessageFault) -> u32
+    ensures { result ≡ message_status fault }
+{
+    match fault {
+        MessageFault::Octets(fault) => octets_status(fault),
+        MessageFault::Room(_) => NO_ROOM,
+    }
+}
+
+/// The number that is told with a fault: how many there are where there is room for fewer, the place
+/// of the octet that differs from its constant, or the variable that does not have the bits; else
+/// what was there before.
+pub fn told(fault: MessageFault, before: usize) -> usize
+    ensures { result ≡ told fault before }
+{
+    match fault {
+        MessageFault::Room(count) => count,
+        MessageFault::Octets(OctetsFault::WrongConstant(place)) => place,
+        MessageFault::Octets(OctetsFault::OutOfType(variable)) => usize::from(variable.0),
+        _ => before,
+    }
+}
+
+/// The number of why no messages are listed.
+pub fn list_status(fault: ListFault) -> u32
+    ensures { result ≡ list_status fault }
+{
+    match fault {
+        ListFault::WrongValues => 204,
+        ListFault::Memory => MEMORY,
     }
 }
 

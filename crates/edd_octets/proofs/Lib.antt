@@ -7,5 +7,7 @@ pub mod FieldLaws
 pub mod SizeLaws
 pub mod MessageLaws
 pub mod Arriving
+pub mod KnownVariables
+pub mod Settable
 pub mod Loops
 pub mod Carrying

@@ -47,16 +47,16 @@ all_bits t = 2 ^ (8 * t.size) - 1
 abbrev pub overlaps : List Part → (mask : ℕ) → Bool
 overlaps begun mask = not (bit_and (union begun) mask == 0)
 
--- the field that the begun parts are; without parts there is none
+-- the field that an open one with these parts ends as; without parts there is none
 abbrev pub closed : List Part → List Field
 closed [] = []
 closed (p ∷ rest) = Variables (p ∷ rest) ∷ []
 
--- the field that ends before an item with this mask, if one of the begun parts has some of its bits
+-- the open field, if it ends before an item with this mask: its parts have some of the mask's bits
 abbrev pub ended : (begun : List Part) → (mask : ℕ) → List Field
 ended begun mask = if overlaps begun mask then closed begun else []
 
--- the begun parts that share a field with an item with this mask
+-- the parts of the open field that an item with this mask shares
 abbrev pub sharing : (begun : List Part) → (mask : ℕ) → List Part
 sharing begun mask = if overlaps begun mask then [] else begun
 
@@ -69,10 +69,11 @@ masked v mask qualifiers =
 abbrev pub whole : List VariableType → VarNo → (qualifiers : ℕ) → Part
 whole types v qualifiers = masked v (all_bits (type_at types v)) qualifiers
 
--- The fields of items, after items whose field is still begun. A constant and a variable without a
--- mask have octets of their own. Items with masks share a field up to the first one whose mask has
--- bit 0; before one that has a bit of an earlier one, before an item without a mask, and at the end
--- the field ends as well. Other records than the items of a message have no octets.
+-- The fields of items, where earlier items have left a field open with the parts `begun`. A constant
+-- has an octet of its own, and a variable without a mask has octets of its own. Items with masks
+-- share a field, which is open until it ends: after an item whose mask has bit 0, before an item
+-- whose mask has a bit of an earlier one, before a constant, before a variable without a mask, and
+-- at the end of the message. Records that are no items of a message have no octets.
 abbrev pub fields_after : List VariableType → (begun : List Part) → List Record → List Field
 fields_after types begun [] = closed begun
 fields_after types begun (records.DataConst n ∷ rest) =

@@ -1,3 +1,4 @@
+pub mod Faults
 pub mod Masks
 pub mod Fields
 pub mod Encoding

@@ -7,6 +7,7 @@ use Rattle.edd_syntax.specs.declared.numbers.VarNo.{VarNo}
 use Rattle.edd_syntax.specs.Answers.{Change}
 use Rattle.edd_instructions.specs.declared.records.Record.{Record}
 use Rattle.edd_instructions.specs.Reading.{Records, IsReading}
+use Rattle.edd_machine.specs.declared.fault.ReadFault.TheVariants as read_fault
 use Rattle.edd_machine.specs.Faults.{IsReadFault}
 use Rattle.edd_machine.specs.Types.{types_in}
 use Rattle.edd_octets.specs.declared.fault.OctetsFault.{OctetsFault}
@@ -58,8 +59,9 @@ abbrev pub IsDecoded : (b : List ℕ) → Message → (values : List ℤ) → (o
     → List Change → Type 0
 IsDecoded b message values octets sets = Comes b message values octets (Ok sets)
 
--- the message is not read, with this fault
+-- the message is not read, with this fault; out of memory is `Memory` alone
 abbrev pub IsNotRead : (b : List ℕ) → Message → (values : List ℤ) → OctetsFault → Type 0
+IsNotRead b message values (fault.Read read_fault.Memory) = ⊥
 IsNotRead b message values (fault.Read why) = IsReadFault b (attribute_of message) values why
 IsNotRead b message values fault.TooShort = ⊥
 IsNotRead b message values fault.TooLong = ⊥
@@ -67,9 +69,10 @@ IsNotRead b message values (fault.WrongConstant place) = ⊥
 IsNotRead b message values (fault.OutOfType variable) = ⊥
 IsNotRead b message values fault.Memory = ⊤
 
--- nothing is taken from the octets, with this fault
+-- nothing is taken from the octets, with this fault; out of memory is `Memory` alone
 abbrev pub IsRefusal : (b : List ℕ) → Message → (values : List ℤ) → (octets : List ℕ)
     → OctetsFault → Type 0
+IsRefusal b message values octets (fault.Read read_fault.Memory) = ⊥
 IsRefusal b message values octets (fault.Read why) =
     IsReadFault b (attribute_of message) values why
 IsRefusal b message values octets fault.TooShort =

@@ -204,6 +204,7 @@ pub fn readers(
 ) -> Result<Vec<Message>, ReadFault>
     ensures sound { IfOk result (λ all. AreReaders image.now values.now.numbers.items variable
         all.items) }
+    ensures accepted { OnOk result (AreDeviceValues (types_in image.now) values.now.numbers.items) }
     ensures refused { IfErr result (IsListFault image.now values.now.numbers.items) }
 {
     if !values.are_of(image) {
@@ -226,6 +227,7 @@ pub fn writers(
 ) -> Result<Vec<Message>, ReadFault>
     ensures sound { IfOk result (λ all. AreWriters image.now values.now.numbers.items variable
         all.items) }
+    ensures accepted { OnOk result (AreDeviceValues (types_in image.now) values.now.numbers.items) }
     ensures refused { IfErr result (IsListFault image.now values.now.numbers.items) }
 {
     if !values.are_of(image) {

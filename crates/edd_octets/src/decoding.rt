@@ -2,6 +2,7 @@
 
 ghost use Rattle.std.specs.Prelude.{◌≡◌, ◌≢◌, ◌≤◌, ◌<◌, ◌+◌, ◌++◌, Err, IfErr, IfOk, IfSome, List, ◌∷◌, None, Ok, OnOk, [], length, map, slice_set};
 ghost use Rattle.edd_octets.specs.declared.fault.OctetsFault;
+ghost use Rattle.edd_syntax.specs.DeviceValues.{AreDeviceValues};
 ghost use Rattle.edd_machine.specs.Types.{types_in};
 ghost use Rattle.edd_octets.specs.Decoding.{decoded, fits, misfit, number_of, received, received_in, received_part, sets_of, value_with, wrong_constant};
 ghost use Rattle.edd_octets.specs.Fields.{length_of, width_of};
@@ -27,8 +28,8 @@ struct Received {
     bits: u32,
 }
 
-// The number that octets are.
-fn number_of(octets: &[u8]) -> u32
+/// The number that the octets of a field are, the highest one first.
+pub fn number_of(octets: &[u8]) -> u32
     requires { length octets.now ≤ 4 }
     ensures { result ≡ number_of octets.now }
 {
@@ -240,6 +241,7 @@ pub fn decode(
 ) -> Result<Vec<(VarNo, i64)>, OctetsFault>
     ensures sound { IfOk result (λ sets. IsDecoded image.now message values.now.numbers.items
         octets.now (map change_of sets.items)) }
+    ensures accepted { OnOk result (AreDeviceValues (types_in image.now) values.now.numbers.items) }
     ensures refused { IfErr result (IsRefusal image.now message values.now.numbers.items
         octets.now) }
 {

@@ -2,7 +2,7 @@
 
 ghost use Rattle.std.specs.Prelude.{◌≡◌, ◌≤◌, ◌++◌, IfErr, IfOk, OnOk, map};
 ghost use Rattle.std.specs.Int.{bytes_high_first};
-ghost use Rattle.edd_syntax.specs.DeviceValues.{value_at};
+ghost use Rattle.edd_syntax.specs.DeviceValues.{AreDeviceValues, value_at};
 ghost use Rattle.edd_machine.specs.Types.{types_in};
 ghost use Rattle.edd_octets.specs.Encoding.{bits_at, encoded, gathered, number_in};
 ghost use Rattle.edd_octets.specs.Fields.{width_of};
@@ -99,6 +99,7 @@ pub fn encode(
 ) -> Result<Vec<u8>, OctetsFault>
     ensures sound { IfOk result (λ octets. IsEncoded image.now message values.now.numbers.items
         octets.items) }
+    ensures accepted { OnOk result (AreDeviceValues (types_in image.now) values.now.numbers.items) }
     ensures refused { IfErr result (IsNotRead image.now message values.now.numbers.items) }
 {
     let fields = message_fields(alloc, image, message, values)?;

@@ -2,6 +2,7 @@
 
 ghost use Rattle.std.specs.Prelude.{◌≡◌};
 ghost use Rattle.edd_octets.specs.declared.fault.OctetsFault.TheVariants as octets_fault;
+ghost use Rattle.edd_octets.specs.Faults.{fault_of_reading};
 
 use edd_machine::ReadFault;
 use edd_syntax::numbers::VarNo;
@@ -12,7 +13,7 @@ use thiserror::Error;
 /// `Memory` prints its number and its kind.
 #[derive(Clone, Copy, Debug, PartialEq, Eq, Error)]
 pub enum OctetsFault {
-    /// The transaction is not read.
+    /// The transaction is not read. Its fault is never `ReadFault::Memory`: that is `Memory`.
     #[error("{0}")]
     Read(ReadFault),
     /// There are fewer octets than the message has.
@@ -27,15 +28,19 @@ pub enum OctetsFault {
     /// A mask that is wider than its variable has bits that the variable does not have.
     #[error("223 EXCESS_BITS")]
     OutOfType(VarNo),
+    /// Memory was refused, for the items of the message or for what is made of them.
     #[error("no memory")]
     Memory,
 }
 
 impl From<ReadFault> for OctetsFault {
-    ghost from_gives = { λ fault e. e ≡ octets_fault.Read fault };
+    ghost from_gives = { λ fault e. e ≡ fault_of_reading fault };
 
     fn from(fault: ReadFault) -> OctetsFault {
-        OctetsFault::Read(fault)
+        match fault {
+            ReadFault::Memory => OctetsFault::Memory,
+            _ => OctetsFault::Read(fault),
+        }
     }
 }
 

@@ -60,14 +60,14 @@ pub fn width_of(field: &Field) -> usize
     }
 }
 
-// The fields of the items so far, and the parts of one that is begun.
+// The fields that have ended so far, and the parts of the open one.
 #[derive(Drop)]
 struct Division {
     fields: Vec<Field>,
     begun: Vec<Part>,
 }
 
-// The field that is begun ends.
+// Ends the open field.
 fn close(alloc: Global, division: &mut Division) -> Result<(), AllocError>
     ensures fields { OnOk result (map field_of division.new.fields.items
         ≡ map field_of division.old.fields.items ++ closed division.old.begun.items) }

@@ -1,8 +1,8 @@
 //! Laws of octets, for their callers.
 
-ghost use Rattle.std.specs.Prelude.{◌≡◌, ℕ, ℤ, List, length};
+ghost use Rattle.std.specs.Prelude.{◌≡◌, ℕ, ℤ, List, None, length};
 ghost use Rattle.std.specs.Int.{bit_at};
-ghost use Rattle.edd_syntax.specs.Answers.{Change, values_set};
+ghost use Rattle.edd_syntax.specs.Answers.{Change, sets_fault, values_set};
 ghost use Rattle.edd_syntax.specs.declared.numbers.VarNo.{VarNo};
 ghost use Rattle.edd_syntax.specs.DeviceValues.{AreDeviceValues, VariableType};
 ghost use Rattle.edd_instructions.specs.Validity.{IsValid};
@@ -40,4 +40,12 @@ pub fn octets_tell_bits()
         → encoded (types_in b) one fields ≡ encoded (types_in b) other fields → (v : VarNo)
         (i : ℕ) → bit_at (names (received fields (encoded (types_in b) one fields)) v) i ≡ 1
         → bit_at (bits_under (types_in b) one v) i ≡ bit_at (bits_under (types_in b) other v) i }
+{}
+
+/// What is decoded can be set, by the answer of a session too: each set names a variable of the
+/// image, and its value is in the range of that variable.
+pub fn sets_can_be_made()
+    ensures { (b : List ℕ) (message : Message) (values : List ℤ) (octets : List ℕ)
+        (sets : List Change) → IsValid b → AreDeviceValues (types_in b) values
+        → IsDecoded b message values octets sets → sets_fault (types_in b) sets ≡ None }
 {}

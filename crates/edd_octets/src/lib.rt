@@ -11,10 +11,10 @@ mod masks;
 mod messages;
 
 pub use carriers::{readers, writers};
-pub use decoding::decode;
+pub use decoding::{decode, number_of};
 pub use encoding::encode;
 pub use fault::OctetsFault;
 pub use fields::{Field, Part, width_of};
-pub use laws::{lengths_are_known, messages_arrive, octets_tell_bits};
+pub use laws::{lengths_are_known, messages_arrive, octets_tell_bits, sets_can_be_made};
 pub use masks::picked;
 pub use messages::{Message, Side, message_fields};

@@ -1,6 +1,8 @@
 //! The messages of an image's transactions.
 
-ghost use Rattle.std.specs.Prelude.{◌≡◌, IfErr, IfOk, map};
+ghost use Rattle.std.specs.Prelude.{◌≡◌, IfErr, IfOk, OnOk, map};
+ghost use Rattle.edd_syntax.specs.DeviceValues.{AreDeviceValues};
+ghost use Rattle.edd_machine.specs.Types.{types_in};
 ghost use Rattle.edd_octets.specs.Messages.{HasFields, IsNotRead, attribute_of, field_of};
 
 use crate::fault::OctetsFault;
@@ -49,6 +51,7 @@ pub fn message_fields(
 ) -> Result<Vec<Field>, OctetsFault>
     ensures sound { IfOk result (λ fields. HasFields image.now message values.now.numbers.items
         (map field_of fields.items)) }
+    ensures accepted { OnOk result (AreDeviceValues (types_in image.now) values.now.numbers.items) }
     ensures refused { IfErr result (IsNotRead image.now message values.now.numbers.items) }
 {
     let items = attribute(alloc, image, attribute_of(message), values)?;

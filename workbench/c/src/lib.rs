@@ -8,8 +8,8 @@ mod memory;
 use core::slice;
 use edd_embed::statuses::{self, DONE, NO_ITEM, NO_SESSION, OTHER_IMAGE};
 use edd_embed::{
-    AttributeFault, Given, ImageNumbers, PlainEnding, PlainItem, PlainRecord, PlainRequest,
-    PlainSession, PlainTurn, PlainType, Setting,
+    AttributeFault, Carrier, Given, ImageNumbers, ListFault, MessageFault, PlainEnding, PlainItem,
+    PlainMessage, PlainRecord, PlainRequest, PlainSession, PlainTurn, PlainType, Setting,
 };
 use edd_syntax::numbers::MethNo;
 use std::alloc::Global;
@@ -38,6 +38,7 @@ const _: () = {
     assert!(offset_of!(PlainSession, is_aborting) == 806);
     assert!(offset_of!(PlainTurn, trap) == 16 && offset_of!(PlainTurn, turn) == 18);
     assert!(size_of::<PlainTurn>() == 20);
+    assert!(offset_of!(PlainMessage, side) == 4 && size_of::<PlainMessage>() == 6);
 };
 
 /// A name or a text, as the header has it.
@@ -225,6 +226,129 @@ pub unsafe extern "C" fn edd_attribute(
             statuses::attribute_status(fault)
         }
     }
+}
+
+/// Writes how many there are, or the number that is told with the fault.
+///
+/// # Safety
+/// There is a number at the place.
+unsafe fn say(result: Result<usize, MessageFault>, given: *mut usize) -> u32 {
+    match result {
+        Ok(count) => {
+            // SAFETY: as the caller says.
+            unsafe { given.write(count) };
+            DONE
+        }
+        Err(fault) => {
+            // SAFETY: as the caller says.
+            unsafe { given.write(statuses::told(fault, given.read())) };
+            statuses::message_status(fault)
+        }
+    }
+}
+
+#[unsafe(no_mangle)]
+pub unsafe extern "C" fn edd_encode(
+    bytes: *const u8,
+    length: usize,
+    image: *const ImageNumbers,
+    message: *const PlainMessage,
+    values: *const i64,
+    count: usize,
+    octets: *mut u8,
+    octets_room: usize,
+    given: *mut usize,
+) -> u32 {
+    let image = with_image!(bytes, length, image);
+    // SAFETY: as the header asks.
+    let Some(message) = edd_embed::message_of(unsafe { *message }) else {
+        return NO_ITEM;
+    };
+    let (values, octets) = unsafe { (list(values, count), room(octets, octets_room)) };
+    let encoded = edd_embed::encode_into(Global, &image, message, values, octets);
+    unsafe { say(encoded, given) }
+}
+
+#[unsafe(no_mangle)]
+pub unsafe extern "C" fn edd_decode(
+    bytes: *const u8,
+    length: usize,
+    image: *const ImageNumbers,
+    message: *const PlainMessage,
+    values: *const i64,
+    count: usize,
+    octets: *const u8,
+    octet_count: usize,
+    settings: *mut Setting,
+    settings_room: usize,
+    given: *mut usize,
+) -> u32 {
+    let image = with_image!(bytes, length, image);
+    // SAFETY: as the header asks.
+    let Some(message) = edd_embed::message_of(unsafe { *message }) else {
+        return NO_ITEM;
+    };
+    let (values, octets) = unsafe { (list(values, count), list(octets, octet_count)) };
+    let settings = unsafe { room(settings, settings_room) };
+    let decoded = edd_embed::decode_into(Global, &image, message, values, octets, settings);
+    unsafe { say(decoded, given) }
+}
+
+/// Writes the message that was found, and how many there are.
+///
+/// # Safety
+/// There is a message at the one place and a number at the other.
+unsafe fn list_one(
+    result: Result<Carrier, ListFault>,
+    message: *mut PlainMessage,
+    given: *mut usize,
+) -> u32 {
+    match result {
+        Ok(found) => {
+            // SAFETY: as the caller says.
+            unsafe { given.write(found.count) };
+            given!(found.message, message)
+        }
+        Err(fault) => statuses::list_status(fault),
+    }
+}
+
+#[unsafe(no_mangle)]
+pub unsafe extern "C" fn edd_reader(
+    bytes: *const u8,
+    length: usize,
+    image: *const ImageNumbers,
+    variable: u16,
+    values: *const i64,
+    count: usize,
+    number: usize,
+    message: *mut PlainMessage,
+    given: *mut usize,
+) -> u32 {
+    let image = with_image!(bytes, length, image);
+    // SAFETY: as the header asks.
+    let values = unsafe { list(values, count) };
+    let found = edd_embed::reader_at(Global, &image, variable, values, number);
+    unsafe { list_one(found, message, given) }
+}
+
+#[unsafe(no_mangle)]
+pub unsafe extern "C" fn edd_writer(
+    bytes: *const u8,
+    length: usize,
+    image: *const ImageNumbers,
+    variable: u16,
+    values: *const i64,
+    count: usize,
+    number: usize,
+    message: *mut PlainMessage,
+    given: *mut usize,
+) -> u32 {
+    let image = with_image!(bytes, length, image);
+    // SAFETY: as the header asks.
+    let values = unsafe { list(values, count) };
+    let found = edd_embed::writer_at(Global, &image, variable, values, number);
+    unsafe { list_one(found, message, given) }
 }
 
 #[unsafe(no_mangle)]

@@ -2,7 +2,7 @@
 
 use crate::memory::{Global, refused};
 use crate::{Image, ReadFault, Values};
-use edd_octets::{Message, picked, width_of};
+use edd_octets::{Message, number_of, picked, width_of};
 use edd_syntax::numbers::{ItemNo, VarNo};
 use std::fmt;
 
@@ -120,6 +120,13 @@ impl MessagePart {
 }
 
 impl MessageField {
+    /// The number that these octets of the field are, the highest one first. `None` where they are not
+    /// as many as its width, which is at most 4.
+    pub fn number_in(&self, octets: &[u8]) -> Option<u32> {
+        let is_whole = octets.len() == self.width && self.width <= 4;
+        is_whole.then(|| number_of(octets))
+    }
+
     fn from_core(field: edd_octets::Field) -> MessageField {
         let width = width_of(&field);
         let carries = match field {
@@ -237,14 +244,13 @@ impl Image {
     /// let reply = Message { command: CmdNo(0), position: 0, side: Side::Reply };
     /// let mode = MessagePart { variable: VarNo(0), mask: 0xF0, is_kept: true };
     /// let range = MessagePart { variable: VarNo(1), mask: 0x0F, is_kept: false };
+    /// let both = MessageField { width: 1, carries: Carried::Variables(vec![mode, range]) };
+    /// assert_eq!(both.number_in(&[0x5A]), Some(0x5A));
+    /// assert_eq!((mode.bits_in(0x5A), range.bits_in(0x5A)), (5, 10));
     /// assert_eq!(
     ///     image.message_fields(reply, &image.values())?,
-    ///     [
-    ///         MessageField { width: 1, carries: Carried::Constant(7) },
-    ///         MessageField { width: 1, carries: Carried::Variables(vec![mode, range]) },
-    ///     ],
+    ///     [MessageField { width: 1, carries: Carried::Constant(7) }, both],
     /// );
-    /// assert_eq!((mode.bits_in(0x5A), range.bits_in(0x5A)), (5, 10));
     /// # Ok::<(), Box<dyn std::error::Error>>(())
     /// ```
     pub fn message_fields(
@@ -351,6 +357,18 @@ mod tests {
             let printed = OctetsFault::from_core(fault).to_string();
             assert_eq!(printed, fault.to_string());
         }
+    }
+
+    #[test]
+    fn a_number_has_as_many_octets_as_its_field() {
+        let field = |width| MessageField {
+            width,
+            carries: Carried::Variables(Vec::new()),
+        };
+        assert_eq!(field(3).number_in(&[1, 2, 3]), Some(0x01_02_03));
+        assert_eq!(field(4).number_in(&[0xFF; 4]), Some(u32::MAX));
+        assert_eq!(field(3).number_in(&[1, 2]), None);
+        assert_eq!(field(5).number_in(&[0; 5]), None);
     }
 
     #[test]

@@ -14,6 +14,7 @@
     reason = "a test fails by a panic"
 )]
 
+mod for_c;
 mod inputs;
 mod messages;
 

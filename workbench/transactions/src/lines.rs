@@ -123,9 +123,9 @@ fn push_field(
     match &field.carries {
         Carried::Constant(octet) => push_line(lines, format_args!("{before}constant {octet}")),
         Carried::Variables(parts) => {
-            let number = octets
-                .iter()
-                .fold(0u32, |number, octet| number << 8 | u32::from(*octet));
+            let Some(number) = field.number_in(octets) else {
+                return;
+            };
             for (part, notation) in parts.iter().zip(notations) {
                 let item = item_text(page, part, notation, octets.len());
                 let value = page.value_of(part.variable, part.bits_in(number));

@@ -19,8 +19,8 @@ give both, with the length that the image has, to each call.",
     Explanation::new(
         261,
         "NO_ROOM",
-        "An array of the caller has too little room for records, and edd_attribute says how much it
-needs; or the values after edd_play have not one place for each variable.",
+        "An array of the caller has too little room for records, octets or sets, and the call says how
+much it needs; or the values after edd_play have not one place for each variable.",
     ),
     Explanation::new(
         262,
