@@ -18,8 +18,8 @@
  *    whether the length is that of the image, and answer EDD_OTHER_IMAGE where they are not. They do not look at
  *    all of the bytes again.
  *  - What a call writes to does not lie in what else it is given.
- *  - rattle_alloc, rattle_realloc and rattle_dealloc are there (examples/c/pool.h says what they do, and pool.c
- *    has them over an array). Calls that take memory give all of it back before they return. edd_load, edd_attribute,
+ *  - rattle_alloc, rattle_realloc and rattle_dealloc are there, as they are declared below (examples/c/pool.c has
+ *    them over an array). Calls that take memory give all of it back before they return. edd_load, edd_attribute,
  *    edd_encode, edd_decode, edd_reader, edd_writer and edd_play take memory, and no other call does.
  *
  * Threads: nothing is shared. Calls may be made by any number of threads at once, on one image as well,
@@ -33,12 +33,33 @@
 #ifndef EDD_H
 #define EDD_H
 
+#include <stdbool.h>
 #include <stddef.h>
 #include <stdint.h>
 
 #ifdef __cplusplus
 extern "C" {
 #endif
+
+/* ---- memory: three functions of yours, which the library calls and never exports ---- */
+
+/* A block that was given, or any place where none was. */
+typedef struct rattle_block {
+    bool is_given;
+    void *place;
+} rattle_block;
+
+/* A block of `size` bytes at a multiple of `alignment`, which divides 16. */
+rattle_block rattle_alloc(size_t size, size_t alignment);
+
+/*
+ * The same block, or another, with `size` bytes, of which the first `kept` are as they were. Where it is refused, the
+ * old block stays.
+ */
+rattle_block rattle_realloc(void *block, size_t kept, size_t size, size_t alignment);
+
+/* Takes a block back that one of the two gave. */
+void rattle_dealloc(void *block);
 
 /* ---- statuses ---- */
 

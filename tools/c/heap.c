@@ -1,5 +1,5 @@
 /* The functions that the library takes memory by, over malloc, for systems that have one. */
-#include "pool.h"
+#include "edd.h"
 
 #include <stdlib.h>
 
