@@ -20,3 +20,4 @@ pub mod Answered
 pub mod Keeping
 pub mod ByteTables
 pub mod LineCounts
+pub mod FaultLines

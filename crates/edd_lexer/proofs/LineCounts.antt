@@ -1,5 +1,5 @@
 -- How many lines end in what is read.
-use Rattle.std.proofs.Common.{◌≡◌, ◌≢◌, ◌⊎◌, inl, inr, ℕ, zero, suc, ◌+◌, ◌-◌, ◌≤◌, ◌<◌, Bool, true, false, cond, ◌&&◌, ◌==◌, List, [], ◌∷◌, ◌++◌, filter, take, drop, length, drop-drop, Option, Some, None, refl, sym, ap, subst, ◌∙◌, arith}
+use Rattle.std.proofs.Common.{◌≡◌, ◌≢◌, ◌⊎◌, inl, inr, ℕ, suc, ◌+◌, ◌-◌, ◌≤◌, ◌<◌, Bool, true, false, cond, ◌==◌, List, [], ◌∷◌, ◌++◌, filter, take, drop, length, drop-drop, refl, sym, ap, subst, ◌∙◌, arith}
 use Rattle.std.specs.Prelude.{bytes_eq, slice_index, ◌%◌}
 use Rattle.std.specs.List.{AllByRecursion, list_all}
 use Rattle.std.proofs.lemmas.List.{take-append-drop, take_all}
@@ -21,14 +21,13 @@ use Rattle.edd_lexer.specs.declared.token.Token.{Token as Read}
 use Rattle.edd_lexer.specs.declared.token.TokenKind.{TokenKind}
 use Rattle.edd_lexer.specs.declared.token.TokenKind.TheVariants as kind
 use Rattle.edd_lexer.specs.Bytes.{begins, behind, in_line, is_blank, is_line_end}
-use Rattle.edd_lexer.specs.Numbers.{IsDecimal, IsDigits, IsExponent, IsFraction, IsHexInteger, IsInteger, IsPlainInteger, IsSigned, is_exponent_letter, is_hex_letter, is_sign}
+use Rattle.edd_lexer.specs.Numbers.{IsDecimal, IsDigits, IsExponent, IsFraction, IsInteger, IsSigned, is_exponent_letter, is_hex_letter, is_sign}
 use Rattle.edd_lexer.specs.Parts.{step_of}
 use Rattle.edd_lexer.specs.Places.{Counts, CountsOrNone, Ends, EndsToken, IsOnItsLine, lines_in}
 use Rattle.edd_lexer.specs.Reading as reading
 use Rattle.edd_lexer.specs.Reading.{step_at}
 use Rattle.edd_lexer.specs.Signs.{comparison_bytes, operator_bytes, symbol_bytes}
 use Rattle.edd_lexer.specs.Tokens.{Stands, behind_byte_order_mark, decimal, integer, sign, string, word}
-use Rattle.edd_lexer.specs.Views.{token_of}
 use Rattle.edd_lexer.proofs.ByteTests.{not_true, same_byte}
 use Rattle.edd_lexer.proofs.Runs.{both}
 use Rattle.edd_lexer.proofs.Sound.{Right}
@@ -334,7 +333,7 @@ stands_none here t rest (string inside raw opens closed good same) other =
 stands_none here t rest (sign s whole ends same) other =
     behind_none here (symbol_bytes s) rest whole (sign_lines s)
 
-right_at : (fresh : Bool) (here : List ℕ) (t : Token) (rest : List ℕ)
+pub right_at : (fresh : Bool) (here : List ℕ) (t : Token) (rest : List ℕ)
     → reading.token t rest ≡ step_at fresh here → Stands here t rest
 unfolding step_at
 right_at fresh [] t rest is = absurd cc

@@ -171,7 +171,7 @@ AreRead : (total : ℕ) → Bool → List ℕ → Result (List Lexeme) Fault →
 AreRead total fresh here (Ok lexemes) = TokensFrom total fresh here lexemes
 AreRead total fresh here (Err fault) = FaultFrom fresh here fault
 
-nothing_begins : (fresh : Bool) (here : List ℕ) (fault : Fault) → step_at fresh here ≡ wrong fault
+pub nothing_begins : (fresh : Bool) (here : List ℕ) (fault : Fault) → step_at fresh here ≡ wrong fault
     → NothingBegins fresh here
 nothing_begins fresh here fault e = record {
   no_token = λ t rest stands. let f : wrong fault ≡ token t rest = sym e

@@ -16,7 +16,7 @@ ghost use Rattle.edd_lexer.specs.Reading as reading;
 ghost use Rattle.edd_lexer.specs.Reading.{tokens_of};
 ghost use Rattle.edd_lexer.specs.Views.{lexeme_of, fault_of, Answers};
 ghost use Rattle.edd_lexer.specs.Parts.{step_of, Leads, Gives};
-ghost use Rattle.edd_lexer.specs.Places.{Counts, CountsOrNone, IsOnItsLine};
+ghost use Rattle.edd_lexer.specs.Places.{Counts, CountsOrNone, IsOnFaultLine, IsOnItsLine, refused_on};
 
 use crate::bytes::{
     begins_digit, begins_longer, begins_name, behind_byte, behind_byte_order_mark, behind_line,
@@ -224,7 +224,8 @@ fn next_step(fresh: bool, text: &[u8]) -> Step
 
 // The refusal for this fault.
 fn refusal(fault: Fault, line: u32) -> LexFault
-    ensures { fault_of result ≡ Some fault }
+    ensures fault { fault_of result ≡ Some fault }
+    ensures line { result ≡ refused_on fault line }
 {
     match fault {
         Fault::TooLong => LexFault::TooLong,
@@ -254,11 +255,12 @@ fn offset(total: u32, left: u32) -> u32
 }
 
 // The tokens of a text that is short enough and in UTF-8, or its first fault.
-#[tactic(auto, using(crate::proofs::Loop::loop_starts, crate::proofs::LineCounts::start_lines))]
+#[tactic(auto, using(crate::proofs::Loop::loop_starts, crate::proofs::LineCounts::start_lines, crate::proofs::FaultLines::start_reached))]
 fn tokens(alloc: Global, text: &[u8]) -> Result<Vec<Token>, LexFault>
     requires { length text.now ≤ 1048576 }
     ensures sound { Gives text.now result (tokens_of text.now) }
     ensures lines { IfOk result (λ list. AllByRecursion (IsOnItsLine text.now) list.items) }
+    ensures fault_lines { IfErr result (IsOnFaultLine text.now) }
 {
     let mut tokens = Vec::with_capacity(alloc, text.len() / 16)?;
     let mut rest = behind_byte_order_mark(text);
@@ -300,6 +302,7 @@ fn tokens(alloc: Global, text: &[u8]) -> Result<Vec<Token>, LexFault>
 fn read(alloc: Global, text: &[u8]) -> Result<Vec<Token>, LexFault>
     ensures sound { Answers text.now result }
     ensures lines { IfOk result (λ list. AllByRecursion (IsOnItsLine text.now) list.items) }
+    ensures fault_lines { IfErr result (IsOnFaultLine text.now) }
 {
     if text.len() > 1_048_576 {
         return Err(LexFault::TooLong);
@@ -327,6 +330,7 @@ pub fn lex(alloc: Global, text: &[u8]) -> Result<Vec<Token>, LexFault>
     ensures only_fault { (fault : kinds.Fault) → LexicalFault text.now fault
         → MatchResult result (λ _. ⊥) (λ e. (e ≡ Memory) ⊎ (fault_of e ≡ Some fault)) }
     ensures lines { IfOk result (λ list. AllByRecursion (IsOnItsLine text.now) list.items) }
+    ensures fault_lines { IfErr result (IsOnFaultLine text.now) }
 {
     read(alloc, text)
 }

@@ -1,4 +1,4 @@
-use Rattle.std.proofs.Common.{◌≡◌, ◌≤◌, length}
+use Rattle.std.proofs.Common.{◌≡◌, length}
 use Rattle.edd_lexer.specs.Gaps.{behind_close}
 use Rattle.edd_lexer.specs.Places.{Ends}
 use Rattle.edd_lexer.proofs.gaps.behind_close.Given as goal

@@ -6,6 +6,7 @@ use Rattle.edd_lexer.specs.Reading.{tokens_of}
 use Rattle.edd_lexer.specs.Views.{lexeme_of}
 use Rattle.edd_lexer.proofs.Loop.{on_blank, behind_first, on_wrong, on_gap, on_token, at_end, end_of_end}
 use Rattle.edd_lexer.proofs.LineCounts.{all_placed, blank_line, few_so_far, line_is, line_on}
+use Rattle.edd_lexer.proofs.FaultLines.{blank_reached, gap_reached, stops_on, token_reached}
 use Rattle.edd_lexer.proofs.lexer.tokens.Goals as goal
 
 pub returns-in-Wrong-clause-sound : goal.returns-in-Wrong-clause-sound
@@ -15,7 +16,14 @@ returns-in-Wrong-clause-sound c =
     c.loop-rest.fresh c.loop-rest.rest.now c.in-Wrong.fault
     (let some = c.in-len1-up.len_at_least in omega arith) (sym c.in-Wrong.ensures.read) in
     let P : Option Fault → Type 0 = λ o. IfSome o (λ fault. tokens_of text ≡ Err fault) in
-    subst P (sym c.refusal.ensures) (sym c.loop-rest.invariant.read ∙ stops)
+    subst P (sym c.refusal.ensures.fault) (sym c.loop-rest.invariant.read ∙ stops)
+
+pub returns-in-Wrong-clause-fault_lines : goal.returns-in-Wrong-clause-fault_lines
+returns-in-Wrong-clause-fault_lines c =
+    rw c.refusal.ensures.line (stops_on c.args.text.now c.loop-rest.rest.now c.loop-rest.fresh
+    c.in-Wrong.fault c.loop-rest.line (let some = c.in-len1-up.len_at_least in omega arith)
+    c.loop-rest.invariant.is_end c.loop-rest.invariant.line c.loop-rest.invariant.reached
+    (sym c.in-Wrong.ensures.read))
 
 pub loop-rest-preserved-in-Gap : goal.loop-rest-preserved-in-Gap
 loop-rest-preserved-in-Gap c =
@@ -32,6 +40,9 @@ loop-rest-preserved-in-Gap c =
       line = line_on text here c.in-Gap.behind.now c.loop-rest.line c.in-Gap.lines
           c.loop-rest.invariant.line c.in-Gap.ensures.counts c.requires;
       placed = c.loop-rest.invariant.placed;
+      reached = gap_reached text c.loop-rest.fresh here c.in-Gap.next c.in-Gap.behind.now
+          c.loop-rest.invariant.reached (let some = c.in-len1-up.len_at_least in omega arith)
+          (sym c.in-Gap.ensures.read);
     }
 
 pub loop-rest-preserved : goal.loop-rest-preserved
@@ -54,6 +65,8 @@ loop-rest-preserved c =
           (all_placed text c.loop-rest.tokens.items _ c.loop-rest.invariant.placed
           (rw c.offset.ensures (line_is text here c.loop-rest.line c.loop-rest.invariant.is_end
           c.loop-rest.invariant.line)));
+      reached = token_reached text c.loop-rest.fresh here _ behind c.loop-rest.invariant.reached
+          (let some = c.in-len1-up.len_at_least in omega arith) (sym c.in-Token.ensures.read);
     }
 
 pub returns-clause-sound : goal.returns-clause-sound
@@ -80,6 +93,8 @@ loop-rest-preserved-then-is_blank c =
       line = rw e (blank_line text here c.loop-rest.line c.lines_after-line.result some
           c.loop-rest.invariant.line c.lines_after-line.ensures);
       placed = c.loop-rest.invariant.placed;
+      reached = rw (e, c.fresh_behind-fresh.ensures) (blank_reached text c.loop-rest.fresh here
+          c.loop-rest.invariant.reached some (sym c.is_blank.ensures ∙ c.if-is_blank.true));
     }
 
 pub lines_after-line-requires : goal.lines_after-line-requires

@@ -1,6 +1,7 @@
-use Rattle.std.proofs.Common.{◌≡◌, ◌≤◌, ◌+◌, ◌-◌, map, length, drop}
+use Rattle.std.proofs.Common.{◌≡◌, ◌≤◌, ◌+◌, ◌-◌, true, map, length, drop}
 use Rattle.std.specs.List.{AllByRecursion}
-use Rattle.edd_lexer.specs.Places.{IsOnItsLine, lines_in}
+use Rattle.edd_lexer.specs.Places.{IsOnItsLine, Reaches, lines_in}
+use Rattle.edd_lexer.specs.Tokens.{behind_byte_order_mark}
 use Rattle.edd_lexer.specs.Views.{lexeme_of}
 use Rattle.edd_lexer.specs.Reading.{tokens_of}
 use Rattle.edd_lexer.proofs.Whole.{tokens_from}
@@ -15,6 +16,7 @@ invariant-loop-rest l = record {
       (tokens_from (length l.fn.text) l.fresh l.rest) ≡ tokens_of l.fn.text;
   line : l.line + lines_in l.rest ≡ 1 + lines_in l.fn.text;
   placed : AllByRecursion (IsOnItsLine l.fn.text) l.tokens.items;
+  reached : Reaches true (behind_byte_order_mark l.fn.text) l.fresh l.rest;
 }
 
 abbrev pub decreases-loop-rest : goal.decreases-loop-rest
