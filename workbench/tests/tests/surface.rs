@@ -23,8 +23,8 @@ use edd_machine::{Machine, ReadFault, Values, ValuesFault, attribute};
 use edd_methods::{MethodCode, lower_method};
 use edd_names::resolve;
 use edd_octets::{
-    Field, Message, OctetsFault, Part, Side, decode, encode, message_fields, picked, readers,
-    width_of, writers,
+    Field, Message, OctetsFault, Part, Side, decode, encode, message_fields, number_of, picked,
+    readers, width_of, writers,
 };
 use edd_parser::parse;
 use edd_plain_std::alloc::{AllocError, Global};
@@ -129,6 +129,7 @@ fn calls_on_octets_have_their_form() {
     let _: fn(Global, &Image<'_>, Message, &Values) -> Result<List<Field>, OctetsFault> =
         message_fields;
     let _: fn(&Field) -> usize = width_of;
+    let _: fn(&[u8]) -> u32 = number_of;
     let _: fn(u32, u32) -> u32 = picked;
 }
 
@@ -156,6 +157,7 @@ fn octets_are_made_and_taken_apart() {
         is_kept: true,
     };
     assert!(matches!(&*fields, [Field::Variables(parts), _] if **parts == [m]));
+    assert_eq!(number_of(&octets), 0x30_FF_FE);
     assert_eq!(picked(0xF0, 0x30), 3);
     let others = Values::new(Global, &image, &[7, 0x45]).unwrap();
     let sets = decode(Global, &image, request, &others, &octets).unwrap();

@@ -8,8 +8,9 @@ use super::small::image_of;
 use super::words::{around_colon, first_of, number, numbers_of};
 use crate::playing::NoAnswer;
 use edd_embed::{
-    Given, ImageNumbers, PlainEnding, PlainRecord, PlainRequest, PlainSession, PlainTurn, Setting,
-    find_item, load_numbers, name_of, plain_of, play_into, read_into, ref_of, type_of,
+    Given, ImageNumbers, PlainEnding, PlainMessage, PlainRecord, PlainRequest, PlainSession,
+    PlainTurn, Setting, find_item, load_numbers, name_of, plain_of, play_into, read_into, ref_of,
+    type_of,
 };
 use edd_instructions::Record;
 use edd_loader::{Image, load};
@@ -106,10 +107,11 @@ fn played(image: &Image<'_>, words: &str) -> Result<String, NoAnswer> {
 }
 
 /// The sizes of the structs, which are those of include/edd.h.
-const SIZES: [usize; 8] = [
+const SIZES: [usize; 9] = [
     size_of::<ImageNumbers>(),
     size_of::<PlainRecord>(),
     size_of::<PlainRequest>(),
+    size_of::<PlainMessage>(),
     size_of::<Setting>(),
     size_of::<Given>(),
     size_of::<PlainEnding>(),
