@@ -1,6 +1,6 @@
 -- What a number leads to, and may be opened, the place offers.
 use Rattle.std.proofs.Common.{◌≡◌, refl, sym, ap, subst, ◌∙◌, ℕ, zero, suc, ℤ, Bool, true, false, List, [], ◌∷◌, ◌++◌, Option, Some, None, ◌⊎◌, inl, inr, filter_map}
-use Rattle.std.specs.Prelude.{pos, negsuc, not, if◌then◌else◌}
+use Rattle.std.specs.Prelude.{pos, negsuc, if◌then◌else◌}
 use Rattle.edd_syntax.specs.declared.answer.Trap.{Trap}
 use Rattle.edd_syntax.specs.declared.numbers.Attr.TheVariants as attr
 use Rattle.edd_syntax.specs.declared.numbers.AttrRef.{AttrRef}
@@ -14,7 +14,7 @@ use Rattle.edd_panel.specs.declared.entries.Listed.TheVariants as listed
 use Rattle.edd_panel.specs.declared.place.Place.{Place}
 use Rattle.edd_panel.specs.declared.place.Place.TheVariants as place
 use Rattle.edd_panel.specs.Edits.{first_number}
-use Rattle.edd_panel.specs.Screens.{IsAmong, IsListed, IsScreen, IsWritten, Offers, ShowsLine, ShowsLines, ShowsPlace, ShowsRead, is_left_out, is_valid, is_zero, line_of, lines_by, nth_entry, numbered, of_item}
+use Rattle.edd_panel.specs.Screens.{IsAmong, IsListed, IsScreen, IsWritten, Offers, ShowsLine, ShowsLines, ShowsPlace, ShowsRead, is_left_out, is_not_zero, is_valid, line_of, lines_by, nth_entry, numbered, of_item}
 
 pub later : {X : Type 0} (y : X) (xs : List X) (x : X) → IsAmong xs x → IsAmong (y ∷ xs) x
 later {X} y xs x is = (y ∷ is.0, is.1, ap (λ (zs : List X). y ∷ zs) is.2)
@@ -83,17 +83,17 @@ module _ (counts : Counts) (reads : AttrRef → Reading → Type 0) where
   ]
 
   -- by VALIDITY
-  by_records : (w : Entry) (rest more : List Listed) (rs : List Record) (zeroed : Bool)
-      → is_zero (first_number rs) ≡ zeroed → is_left_out w ≡ false
+  by_records : (w : Entry) (rest more : List Listed) (rs : List Record) (valid : Bool)
+      → is_not_zero (first_number rs) ≡ valid → is_left_out w ≡ false
       → reads (of_item w.item attr.Validity) (Records rs)
       → AllOffered rest more → (n : ℕ) (e : Entry)
-      → nth_entry ((if zeroed then [] else listed.Entry w ∷ []) ++ more) n ≡ Some e
+      → nth_entry ((if valid then listed.Entry w ∷ [] else []) ++ more) n ≡ Some e
       → e.trap ≡ None → IsOffered (listed.Entry w ∷ rest) e
   unfolding AllOffered
   by_records w rest more rs true z shown read offered n e is none =
-      behind (listed.Entry w) rest e (offered n e is none)
+      one w rest more (Records rs) shown read z offered n e is none
   by_records w rest more rs false z shown read offered n e is none =
-      one w rest more (Records rs) shown read (ap not z) offered n e is none
+      behind (listed.Entry w) rest e (offered n e is none)
 
   by_validity : (w : Entry) (rest more : List Listed) (r : Reading) → is_left_out w ≡ false
       → reads (of_item w.item attr.Validity) r
@@ -104,7 +104,7 @@ module _ (counts : Counts) (reads : AttrRef → Reading → Type 0) where
   by_validity w rest more NoItem shown read offered n e is none =
       one w rest more NoItem shown read refl offered n e is none
   by_validity w rest more (Records rs) shown read offered n e is none =
-      by_records w rest more rs (is_zero (first_number rs)) refl shown read offered n e is none
+      by_records w rest more rs (is_not_zero (first_number rs)) refl shown read offered n e is none
   by_validity w rest more (Fault why) shown read offered n e is none =
       elim (first_or_rest (record w { trap = Some why }) more n e is) [
         | inl same ↦ absurd (untrapped w e why same none)

@@ -10,6 +10,7 @@ use Rattle.edd_image.specs.declared.parts.Counts.{Counts}
 use Rattle.edd_instructions.specs.declared.records.Record.{Record}
 use Rattle.edd_instructions.specs.declared.records.Record.TheVariants as records
 use Rattle.edd_instructions.specs.Reading.{Reading}
+use Rattle.edd_panel.specs.declared.place.Place.TheVariants as place
 use Rattle.edd_panel.specs.Screens.{unmarked, unmarked_from, AreItems, AreTops, mark_entries, mark_entry, mark_menus, of_item, records_of, tops_of}
 
 module _ (counts : Counts) (reads : AttrRef → Reading → Type 0) where
@@ -89,3 +90,15 @@ pub unmarked_end : (all : Bool) (named : List Bool) (i : ℕ) (start old : List 
 unmarked_end all named i start old over so_far =
     sym (ap (λ (xs : List MenuNo). old ++ xs)
     (at_drop_all (λ (ys : List Bool). unmarked_from all i ys) named i over) ∙ append-nil old) ∙ so_far
+
+-- ---- a menu in place of the top
+
+pub valid_menu : (result valid : Bool) (m : MenuNo) → result ≡ valid → result ≡ true
+    → place.Menu m ≡ (if valid then place.Menu m else place.Top)
+valid_menu result true m is e = refl
+valid_menu result false m is e = let both : true ≡ false = sym e ∙ is in absurd cc
+
+pub no_valid_menu : (result valid : Bool) (m : MenuNo) → result ≡ valid → result ≡ false
+    → place.Top ≡ (if valid then place.Menu m else place.Top)
+no_valid_menu result true m is e = let both : false ≡ true = sym e ∙ is in absurd cc
+no_valid_menu result false m is e = refl

@@ -83,15 +83,15 @@ is_for_nobody _ = false
 abbrev pub is_left_out : Entry → Bool
 is_left_out e = is_hidden e.qualifiers || is_for_nobody e.item
 
--- the number is 0
-abbrev pub is_zero : Option ℤ → Bool
-is_zero (Some n) = int_eq n (pos 0)
-is_zero None = false
+-- the number is not 0
+abbrev pub is_not_zero : Option ℤ → Bool
+is_not_zero (Some n) = not (int_eq n (pos 0))
+is_not_zero None = true
 
 -- by VALIDITY the item may be opened: it is not 0, and doesn't trap
 abbrev pub is_valid : Reading → Bool
 is_valid NoItem = true
-is_valid (Records rs) = not (is_zero (first_number rs))
+is_valid (Records rs) = is_not_zero (first_number rs)
 is_valid (Fault why) = false
 
 -- by VALIDITY the place that is shown in place of the top where the menu is alone there
@@ -101,7 +101,7 @@ menu_by r m = if is_valid r then place.Menu m else place.Top
 -- the lines of an entry by VALIDITY: itself, nothing, or itself with the trap
 abbrev pub lines_by : Reading → Entry → List Listed
 lines_by NoItem e = listed.Entry e ∷ []
-lines_by (Records rs) e = if is_zero (first_number rs) then [] else listed.Entry e ∷ []
+lines_by (Records rs) e = if is_not_zero (first_number rs) then listed.Entry e ∷ [] else []
 lines_by (Fault why) e = listed.Entry (record e { trap = Some why }) ∷ []
 
 -- ---- the menus at the top

@@ -9,7 +9,7 @@ ghost use Rattle.edd_machine.specs.Types.{types_in};
 ghost use Rattle.edd_panel.specs.Edits.{reads_of};
 ghost use Rattle.edd_panel.specs.Found.{reading_of};
 ghost use Rattle.edd_panel.specs.Happens.{is_read_only};
-ghost use Rattle.edd_panel.specs.Screens.{AreTopLines, IsScreen, IsShownAt, ShowsAlone, ShowsEntry, ShowsLine, ShowsLines, ShowsList, ShowsMenu, ShowsPlace, ShowsRead, all_items, entry, is_for_nobody, is_hidden, is_left_out, is_valid, is_zero, line_of, lines_by, menu_by, menu_lines, numbered, numbered_from, nth_entry, of_item, plain};
+ghost use Rattle.edd_panel.specs.Screens.{AreTopLines, IsScreen, IsShownAt, ShowsAlone, ShowsEntry, ShowsLine, ShowsLines, ShowsList, ShowsMenu, ShowsPlace, ShowsRead, all_items, entry, is_left_out, is_valid, line_of, lines_by, menu_lines, numbered, numbered_from, nth_entry, of_item, plain};
 
 use crate::edits::first_number;
 use crate::found::{Found, read};
@@ -78,14 +78,8 @@ impl Entry {
     fn is_left_out(&self) -> bool
         ensures { result ≡ is_left_out self.now }
     {
-        self.qualifiers & HIDDEN != 0 || is_for_nobody(self.item)
+        self.qualifiers & HIDDEN != 0 || matches!(self.item, ItemNo::Command(_) | ItemNo::Array(_))
     }
-}
-
-fn is_for_nobody(item: ItemNo) -> bool
-    ensures { result ≡ is_for_nobody item }
-{
-    matches!(item, ItemNo::Command(_) | ItemNo::Array(_))
 }
 
 impl Listing {
@@ -116,31 +110,33 @@ fn nth_entry(lines: &[Listed], number: u64) -> Option<Entry>
     None
 }
 
-fn is_zero(number: Option<i64>) -> bool
-    ensures { result ≡ is_zero number }
-{
-    match number {
-        Some(number) => number == 0,
-        None => false,
-    }
-}
-
 // Whether an item may be opened by what was read of its VALIDITY.
 fn is_valid(validity: &Found) -> bool
     ensures { result ≡ is_valid (reading_of validity.now) }
 {
     match validity {
         Found::Nothing => true,
-        Found::Records(records) => !is_zero(first_number(records)),
+        Found::Records(records) => match first_number(records) {
+            Some(number) => number != 0,
+            None => true,
+        },
         Found::Trap(_) => false,
     }
 }
 
-/// An attribute of an item.
-pub fn of_item(item: ItemNo, attr: Attr) -> AttrRef
-    ensures { result ≡ of_item item attr }
+/// Reads an attribute of an item under values of a device.
+pub fn read_item(
+    alloc: Global,
+    image: &Image<'_>,
+    values: &Values,
+    item: ItemNo,
+    attr: Attr,
+) -> Result<Found, AllocError>
+    requires { AreDeviceValues (types_in image.now) values.now.numbers.items }
+    ensures { IfOk result (λ found. reads_of image.now values.now.numbers.items
+        (of_item item attr) (reading_of found)) }
 {
-    AttrRef { item, attr, sub: 0 }
+    read(alloc, image, AttrRef { item, attr, sub: 0 }, values)
 }
 
 // Adds what is shown of an entry by what was read of its VALIDITY.
@@ -148,17 +144,13 @@ fn add_by(validity: &Found, entry: Entry, lines: &mut Vec<Listed>) -> Result<(),
     ensures { OnOk result (lines.new.items
         ≡ lines.old.items ++ lines_by (reading_of validity.now) entry) }
 {
-    match validity {
-        Found::Nothing => lines.push(Listed::Entry(entry))?,
-        Found::Records(records) => {
-            if !is_zero(first_number(records)) {
-                lines.push(Listed::Entry(entry))?;
-            }
-        }
-        Found::Trap(trap) => lines.push(Listed::Entry(Entry {
+    if let Found::Trap(trap) = validity {
+        lines.push(Listed::Entry(Entry {
             trap: Some(*trap),
             ..entry
-        }))?,
+        }))?;
+    } else if is_valid(validity) {
+        lines.push(Listed::Entry(entry))?;
     }
     Ok(())
 }
@@ -179,7 +171,7 @@ fn add_entry(
     if entry.is_left_out() {
         return Ok(());
     }
-    let validity = read(alloc, image, of_item(entry.item, Attr::Validity), values)?;
+    let validity = read_item(alloc, image, values, entry.item, Attr::Validity)?;
     add_by(&validity, entry, lines)
 }
 
@@ -302,7 +294,7 @@ fn list_attribute(
         (reads_of image.now values.now.numbers.items) (of_item item attr) listing.lines.items
         listing.trap) }
 {
-    let found = read(alloc, image, of_item(item, attr), values)?;
+    let found = read_item(alloc, image, values, item, attr)?;
     list_found(alloc, image, values, &found)
 }
 
@@ -328,17 +320,6 @@ fn add_methods(count: u16, lines: &mut Vec<Listed>) -> Result<(), AllocError>
     Ok(())
 }
 
-// All variables, and then all methods.
-fn all_items(alloc: Global, image: &Image<'_>) -> Result<Vec<Listed>, AllocError>
-    ensures { IfOk result (λ lines. lines.items ≡ all_items (counts_in image.now)) }
-{
-    let counts = image.counts();
-    let mut lines = Vec::new(alloc);
-    add_variables(counts.variables, &mut lines)?;
-    add_methods(counts.methods, &mut lines)?;
-    Ok(lines)
-}
-
 // Entries of these menus.
 fn menu_lines(alloc: Global, menus: &[MenuNo]) -> Result<Vec<Listed>, AllocError>
     ensures { IfOk result (λ lines. lines.items ≡ menu_lines menus.now) }
@@ -356,41 +337,15 @@ fn top_lines(alloc: Global, image: &Image<'_>, values: &Values) -> Result<Vec<Li
     ensures { IfOk result (λ lines. AreTopLines (counts_in image.now)
         (reads_of image.now values.now.numbers.items) lines.items) }
 {
-    if image.counts().menus == 0 {
-        return all_items(alloc, image);
+    let counts = image.counts();
+    if counts.menus == 0 {
+        let mut lines = Vec::new(alloc);
+        add_variables(counts.variables, &mut lines)?;
+        add_methods(counts.methods, &mut lines)?;
+        return Ok(lines);
     }
     let tops = top_menus(alloc, image, values)?;
     menu_lines(alloc, &tops)
-}
-
-// What is read of VALIDITY of a menu.
-fn validity_of(
-    alloc: Global,
-    image: &Image<'_>,
-    values: &Values,
-    menu: MenuNo,
-) -> Result<Found, AllocError>
-    requires { AreDeviceValues (types_in image.now) values.now.numbers.items }
-    ensures { IfOk result (λ found. reads_of image.now values.now.numbers.items
-        (of_item (items.Menu menu) attr.Validity) (reading_of found)) }
-{
-    read(
-        alloc,
-        image,
-        of_item(ItemNo::Menu(menu), Attr::Validity),
-        values,
-    )
-}
-
-// A menu in place of the top, if it may be opened by what was read of its VALIDITY.
-fn menu_by(validity: &Found, menu: MenuNo) -> Place
-    ensures { result ≡ menu_by (reading_of validity.now) menu }
-{
-    if is_valid(validity) {
-        Place::Menu(menu)
-    } else {
-        Place::Top
-    }
 }
 
 // A menu in place of the top, if it may be opened.
@@ -404,8 +359,12 @@ fn shown_menu(
     ensures { IfOk result (ShowsMenu (counts_in image.now)
         (reads_of image.now values.now.numbers.items) menu) }
 {
-    let validity = validity_of(alloc, image, values, menu)?;
-    Ok(menu_by(&validity, menu))
+    let validity = read_item(alloc, image, values, ItemNo::Menu(menu), Attr::Validity)?;
+    if is_valid(&validity) {
+        Ok(Place::Menu(menu))
+    } else {
+        Ok(Place::Top)
+    }
 }
 
 // The menu that is shown in place of the top: one that is alone there.

@@ -9,7 +9,7 @@ ghost use Rattle.edd_machine.specs.Types.{types_in};
 ghost use Rattle.edd_port.specs.Faults.{answer_fault_of};
 ghost use Rattle.edd_port.specs.Turns.{turn_of};
 ghost use Rattle.edd_panel.specs.Advances.{Advances, answer_refusal, answered_by};
-ghost use Rattle.edd_panel.specs.Happens.{AtMenu, AtVariable, Chooses, Edits, Enters, GoesBack, Happens, OpensEntry, OpensOne, StartsOr, level_of, reads_in};
+ghost use Rattle.edd_panel.specs.Happens.{AtMenu, AtVariable, Chooses, Edits, Enters, Happens, OpensEntry, OpensOne, StartsOr, level_of, reads_in};
 ghost use Rattle.edd_panel.specs.Screens.{IsScreen, numbered};
 ghost use Rattle.edd_panel.specs.Standing.{current, opened};
 
@@ -85,20 +85,6 @@ fn entry_of(listing: Listing, number: i64) -> Option<Entry>
     ensures { result ≡ numbered listing.lines.items number }
 {
     listing.numbered(number)
-}
-
-// The deepest level of a path, or the top.
-fn deepest(path: &[Level]) -> Level
-    ensures { result ≡ level_of path.now }
-{
-    let mut level = Level {
-        place: Place::Top,
-        read_only: false,
-    };
-    for next in path {
-        level = *next;
-    }
-    level
 }
 
 impl<'i, 'b> Panel<'i, 'b> {
@@ -247,7 +233,14 @@ impl<'i, 'b> Panel<'i, 'b> {
     pub fn level(&self) -> Level
         ensures { result ≡ level_of self.now.path }
     {
-        deepest(self.path.as_slice())
+        let mut level = Level {
+            place: Place::Top,
+            read_only: false,
+        };
+        for next in &self.path {
+            level = *next;
+        }
+        level
     }
 
     /// How many levels the user is below the top.
@@ -274,22 +267,16 @@ impl<'i, 'b> Panel<'i, 'b> {
         self.open_one(alloc, entry)
     }
 
-    fn go_back(&mut self) -> Happened
-        ensures { GoesBack self.old result self.new }
-    {
-        match self.path.pop() {
-            Some(_) => Happened::Moved,
-            None => Happened::Unknown,
-        }
-    }
-
     fn at_menu(&mut self, alloc: Global, command: Command) -> Result<Happened, AllocError>
         ensures does { IfOk result (λ happened. AtMenu self.old command happened self.new) }
         ensures kept { OnErr result (self.new ≡ self.old) }
     {
         match command {
             Command::Number(number) => self.choose(alloc, number),
-            Command::Back => Ok(self.go_back()),
+            Command::Back => match self.path.pop() {
+                Some(_) => Ok(Happened::Moved),
+                None => Ok(Happened::Unknown),
+            },
             Command::Enter => Ok(Happened::Shown),
             Command::Abort => Ok(Happened::Unknown),
         }

@@ -11,8 +11,8 @@ ghost use Rattle.edd_panel.specs.Edits.{reads_of};
 ghost use Rattle.edd_panel.specs.Found.{reading_of};
 ghost use Rattle.edd_panel.specs.Screens.{AreTops, all_marked, mark_entries, mark_entry, of_item, records_of, tops_of, unmarked};
 
-use crate::entries::of_item;
-use crate::found::{Found, read};
+use crate::entries::read_item;
+use crate::found::Found;
 use edd_instructions::Record;
 use edd_loader::Image;
 use edd_machine::Values;
@@ -54,25 +54,6 @@ fn mark_found(found: &Found, menu: MenuNo, named: &mut Vec<bool>)
     }
 }
 
-// What is read of ITEMS of a menu.
-fn items_of(
-    alloc: Global,
-    image: &Image<'_>,
-    values: &Values,
-    menu: MenuNo,
-) -> Result<Found, AllocError>
-    requires { AreDeviceValues (types_in image.now) values.now.numbers.items }
-    ensures { IfOk result (λ found. reads_of image.now values.now.numbers.items
-        (of_item (items.Menu menu) attr.Items) (reading_of found)) }
-{
-    read(
-        alloc,
-        image,
-        of_item(ItemNo::Menu(menu), Attr::Items),
-        values,
-    )
-}
-
 // Marks the menus that a menu names under the values.
 fn mark_named(
     alloc: Global,
@@ -86,7 +67,7 @@ fn mark_named(
         (of_item (items.Menu menu) attr.Items) r
         × (named.new.items ≡ mark_entries menu.0 (records_of r) named.old.items)) }
 {
-    let found = items_of(alloc, image, values, menu)?;
+    let found = read_item(alloc, image, values, ItemNo::Menu(menu), Attr::Items)?;
     mark_found(&found, menu, named);
     Ok(())
 }
