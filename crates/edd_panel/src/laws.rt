@@ -22,8 +22,9 @@ pub fn edits_are_decided()
 }
 
 /// In every sitting a value changes only by a method that ran or by an edit: of exactly the variable
-/// that is open, to the number that was typed, where its rules allow that, and where it and each
-/// level on the way to it was offered by an entry that is not READ_ONLY, HIDDEN or not valid.
+/// that is open, to the number that was typed, where its rules allow that. The variable, and each
+/// level on the way to it, was offered at its moment: by an entry that is neither READ_ONLY nor
+/// HIDDEN, of an item whose VALIDITY is not 0 and doesn't trap.
 pub fn sittings_are_explained()
     ensures { (b : List ℕ) (values : List ℤ) (steps : List Step)
         → IsSitting (types_in b) (opened b values) steps
