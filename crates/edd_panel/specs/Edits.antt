@@ -32,13 +32,22 @@ pub record Rules : Type 0 where
 abbrev pub of_variable : VarNo → Attr → AttrRef
 of_variable v a = record { item = items.Variable v; attr = a; sub = 0 }
 
--- these are the rules of the variable under the values
-pub record AreRules (b : List ℕ) (values : List ℤ) (v : VarNo) (rules : Rules) : Type 0 where
-  pub type : slice_get (types_in b) v.0 ≡ rules.type
-  pub handling : IsReading b (of_variable v attr.Handling) values rules.handling
-  pub lowest : IsReading b (of_variable v attr.MinValue) values rules.lowest
-  pub highest : IsReading b (of_variable v attr.MaxValue) values rules.highest
-  pub enumerators : IsReading b (of_variable v attr.Enumerators) values rules.enumerators
+-- these are the rules of the variable, where it has one of these types, by what is read
+pub record AreRulesBy (types : List VariableType) (reads : AttrRef → Reading → Type 0) (v : VarNo)
+    (rules : Rules) : Type 0 where
+  pub type : slice_get types v.0 ≡ rules.type
+  pub handling : reads (of_variable v attr.Handling) rules.handling
+  pub lowest : reads (of_variable v attr.MinValue) rules.lowest
+  pub highest : reads (of_variable v attr.MaxValue) rules.highest
+  pub enumerators : reads (of_variable v attr.Enumerators) rules.enumerators
+
+-- what is read of an image under these values
+abbrev pub reads_of : (image : List ℕ) → (values : List ℤ) → AttrRef → Reading → Type 0
+reads_of b values ref r = IsReading b ref values r
+
+-- these are the rules of the variable in an image, under these values
+abbrev pub AreRules : (image : List ℕ) → (values : List ℤ) → VarNo → Rules → Type 0
+AreRules b values v rules = AreRulesBy (types_in b) (reads_of b values) v rules
 
 -- ---- the rules one by one: the fault, if there is one
 
@@ -152,13 +161,24 @@ abbrev pub edit_fault : Rules → (read_only : Bool) → (old new : ℤ) → Opt
 edit_fault rules true old new = Some fault.ReadOnly
 edit_fault rules false old new = or_else (handling_fault rules.handling) (value_fault rules old new)
 
+-- the fault of an edit of the variable is this, if it has one, by what is read
+abbrev pub DecidesBy : (types : List VariableType) → (reads : AttrRef → Reading → Type 0)
+    → (values : List ℤ) → VarNo → (read_only : Bool) → ℤ → Option EditFault → Type 0
+DecidesBy types reads values v read_only n why = (rules : Rules) × AreRulesBy types reads v rules
+    × (edit_fault rules read_only (value_at values v) n ≡ why)
+
 -- the fault of an edit of the variable is this, if it has one
 abbrev pub Decides : (image : List ℕ) → (values : List ℤ) → VarNo → (read_only : Bool) → ℤ
     → Option EditFault → Type 0
-Decides b values v read_only n why = (rules : Rules) × AreRules b values v rules
-    × (edit_fault rules read_only (value_at values v) n ≡ why)
+Decides b values v read_only n why =
+    DecidesBy (types_in b) (reads_of b values) values v read_only n why
 
 -- The technician may set the variable to this number: the type holds it, it is within the limits,
 -- HANDLING has WRITE, the entry is not READ_ONLY, and enumerators name it or the bits that change.
+abbrev pub MayEditBy : (types : List VariableType) → (reads : AttrRef → Reading → Type 0)
+    → (values : List ℤ) → VarNo → (read_only : Bool) → ℤ → Type 0
+MayEditBy types reads values v read_only n = DecidesBy types reads values v read_only n None
+
+-- the same by what is read of the image
 abbrev pub MayEdit : (image : List ℕ) → (values : List ℤ) → VarNo → (read_only : Bool) → ℤ → Type 0
 MayEdit b values v read_only n = Decides b values v read_only n None

@@ -1,9 +1,15 @@
 //! The entries of a screen.
 
-ghost use Rattle.std.specs.Prelude.{◌≡◌};
+ghost use Rattle.std.specs.Prelude.{◌≡◌, ◌++◌, List, IfOk, OnOk, filter_map, option_map};
+ghost use Rattle.edd_syntax.specs.declared.numbers.Attr.TheVariants as attr;
+ghost use Rattle.edd_syntax.specs.declared.numbers.ItemNo.TheVariants as items;
 ghost use Rattle.edd_syntax.specs.DeviceValues.{AreDeviceValues};
+ghost use Rattle.edd_image.specs.Fields.{counts_in};
 ghost use Rattle.edd_machine.specs.Types.{types_in};
+ghost use Rattle.edd_panel.specs.Edits.{reads_of};
+ghost use Rattle.edd_panel.specs.Found.{reading_of};
 ghost use Rattle.edd_panel.specs.Happens.{is_read_only};
+ghost use Rattle.edd_panel.specs.Screens.{AreTopLines, IsScreen, IsShownAt, ShowsAlone, ShowsEntry, ShowsLine, ShowsLines, ShowsList, ShowsMenu, ShowsPlace, ShowsRead, all_items, entry, is_left_out, is_valid, line_of, lines_by, menu_lines, numbered, numbered_from, nth_entry, of_item, plain};
 
 use crate::edits::first_number;
 use crate::found::{Found, read};
@@ -13,7 +19,7 @@ use edd_instructions::Record;
 use edd_loader::Image;
 use edd_machine::Values;
 use edd_syntax::answer::Trap;
-use edd_syntax::numbers::{Attr, AttrRef, ItemNo, MethNo, StrNo, VarNo};
+use edd_syntax::numbers::{Attr, AttrRef, ItemNo, MenuNo, MethNo, StrNo, VarNo};
 use std::alloc::{AllocError, Global};
 
 /// The bits of an entry of a menu that say that it can't be changed there, and that it is not
@@ -50,7 +56,9 @@ pub struct Listing {
 
 impl Entry {
     /// An item that is named without a label or qualifiers.
-    pub fn plain(item: ItemNo) -> Entry {
+    pub fn plain(item: ItemNo) -> Entry
+        ensures { result ≡ plain item }
+    {
         Entry {
             item,
             label: None,
@@ -65,55 +73,89 @@ impl Entry {
     {
         self.qualifiers & READ_ONLY != 0
     }
+
+    // Whether it is hidden, or nothing for a technician.
+    fn is_left_out(&self) -> bool
+        ensures { result ≡ is_left_out self.now }
+    {
+        self.qualifiers & HIDDEN != 0 || matches!(self.item, ItemNo::Command(_) | ItemNo::Array(_))
+    }
 }
 
 impl Listing {
     /// The entry of a number, counted from 1, if there is one.
-    pub fn numbered(&self, number: i64) -> Option<Entry> {
-        let mut count = 0i64;
-        for line in &self.lines {
-            if let Listed::Entry(entry) = line {
-                count = count.saturating_add(1);
-                if count == number {
-                    return Some(*entry);
-                }
-            }
+    pub fn numbered(&self, number: i64) -> Option<Entry>
+        ensures { result ≡ numbered self.now.lines.items number }
+    {
+        if number < 1 {
+            return None;
         }
-        None
+        nth_entry(&self.lines, (number - 1) as u64)
     }
 }
 
-// Whether an item is there.
-enum Presence {
-    There,
-    Absent,
-    Trapped(Trap),
+// The entry of a number, counted from 0.
+fn nth_entry(lines: &[Listed], number: u64) -> Option<Entry>
+    ensures { result ≡ nth_entry lines.now number }
+{
+    let mut left = number;
+    for line in lines {
+        if let Listed::Entry(entry) = line {
+            if left == 0 {
+                return Some(*entry);
+            }
+            left -= 1;
+        }
+    }
+    None
 }
 
-fn presence_of(
+// Whether an item may be opened by what was read of its VALIDITY.
+fn is_valid(validity: &Found) -> bool
+    ensures { result ≡ is_valid (reading_of validity.now) }
+{
+    match validity {
+        Found::Nothing => true,
+        Found::Records(records) => match first_number(records) {
+            Some(number) => number != 0,
+            None => true,
+        },
+        Found::Trap(_) => false,
+    }
+}
+
+/// Reads an attribute of an item under values of a device.
+pub fn read_item(
     alloc: Global,
     image: &Image<'_>,
     values: &Values,
     item: ItemNo,
-) -> Result<Presence, AllocError>
+    attr: Attr,
+) -> Result<Found, AllocError>
     requires { AreDeviceValues (types_in image.now) values.now.numbers.items }
+    ensures { IfOk result (λ found. reads_of image.now values.now.numbers.items
+        (of_item item attr) (reading_of found)) }
 {
-    let attr = AttrRef {
-        item,
-        attr: Attr::Validity,
-        sub: 0,
-    };
-    match read(alloc, image, attr, values)? {
-        Found::Records(records) => match first_number(&records) {
-            Some(0) => Ok(Presence::Absent),
-            _ => Ok(Presence::There),
-        },
-        Found::Trap(trap) => Ok(Presence::Trapped(trap)),
-        Found::Nothing => Ok(Presence::There),
-    }
+    read(alloc, image, AttrRef { item, attr, sub: 0 }, values)
 }
 
-// Adds an entry, unless it is hidden, not there or nothing for a technician.
+// Adds what is shown of an entry by what was read of its VALIDITY.
+fn add_by(validity: &Found, entry: Entry, lines: &mut Vec<Listed>) -> Result<(), AllocError>
+    ensures { OnOk result (lines.new.items
+        ≡ lines.old.items ++ lines_by (reading_of validity.now) entry) }
+{
+    if let Found::Trap(trap) = validity {
+        lines.push(Listed::Entry(Entry {
+            trap: Some(*trap),
+            ..entry
+        }))?;
+    } else if is_valid(validity) {
+        lines.push(Listed::Entry(entry))?;
+    }
+    Ok(())
+}
+
+// Adds what is shown of an entry: nothing where it is hidden, not there or nothing for a technician.
 fn add_entry(
     alloc: Global,
     image: &Image<'_>,
@@ -122,55 +164,120 @@ fn add_entry(
     lines: &mut Vec<Listed>,
 ) -> Result<(), AllocError>
     requires { AreDeviceValues (types_in image.now) values.now.numbers.items }
+    ensures { OnOk result ((here : List Listed) × ShowsEntry (counts_in image.now)
+        (reads_of image.now values.now.numbers.items) entry here
+        × (lines.new.items ≡ lines.old.items ++ here)) }
 {
-    if entry.qualifiers & HIDDEN != 0
-        || matches!(entry.item, ItemNo::Command(_) | ItemNo::Array(_))
-    {
+    if entry.is_left_out() {
         return Ok(());
     }
-    match presence_of(alloc, image, values, entry.item)? {
-        Presence::There => lines.push(Listed::Entry(entry))?,
-        Presence::Absent => {}
-        Presence::Trapped(trap) => lines.push(Listed::Entry(Entry {
-            trap: Some(trap),
-            ..entry
-        }))?,
-    }
-    Ok(())
+    let validity = read_item(alloc, image, values, entry.item, Attr::Validity)?;
+    add_by(&validity, entry, lines)
 }
 
-fn add_record(
+// Adds what is shown of a line.
+fn add_line(
     alloc: Global,
     image: &Image<'_>,
     values: &Values,
-    item: Record,
+    line: Listed,
     lines: &mut Vec<Listed>,
 ) -> Result<(), AllocError>
     requires { AreDeviceValues (types_in image.now) values.now.numbers.items }
+    ensures { OnOk result ((here : List Listed) × ShowsLine (counts_in image.now)
+        (reads_of image.now values.now.numbers.items) line here
+        × (lines.new.items ≡ lines.old.items ++ here)) }
 {
-    match item {
-        Record::Words(text) => Ok(lines.push(Listed::Text(text))?),
-        Record::Entry { item, quals } => {
-            let entry = Entry {
-                qualifiers: quals,
-                ..Entry::plain(item)
-            };
-            add_entry(alloc, image, values, entry, lines)
+    match line {
+        Listed::Text(_) => {
+            lines.push(line)?;
+            Ok(())
         }
+        Listed::Entry(entry) => add_entry(alloc, image, values, entry, lines),
+    }
+}
+
+// What is shown of lines.
+fn shown_of(
+    alloc: Global,
+    image: &Image<'_>,
+    values: &Values,
+    written: &[Listed],
+) -> Result<Vec<Listed>, AllocError>
+    requires { AreDeviceValues (types_in image.now) values.now.numbers.items }
+    ensures { IfOk result (λ shown. ShowsLines (counts_in image.now)
+        (reads_of image.now values.now.numbers.items) written.now shown.items) }
+{
+    let mut shown = Vec::new(alloc);
+    for line in written {
+        add_line(alloc, image, values, *line, &mut shown)?;
+    }
+    Ok(shown)
+}
+
+// The line that a record of ITEMS or MEMBERS is.
+fn line_of(written: Record) -> Option<Listed>
+    ensures { result ≡ line_of written }
+{
+    match written {
+        Record::Words(text) => Some(Listed::Text(text)),
+        Record::Entry { item, quals } => Some(Listed::Entry(Entry {
+            qualifiers: quals,
+            ..Entry::plain(item)
+        })),
         Record::Member {
             item,
             label,
             help,
             ..
-        } => {
-            let entry = Entry {
-                label,
-                help,
-                ..Entry::plain(item)
-            };
-            add_entry(alloc, image, values, entry, lines)
+        } => Some(Listed::Entry(Entry {
+            label,
+            help,
+            ..Entry::plain(item)
+        })),
+        _ => None,
+    }
+}
+
+// The lines that records are.
+fn written_in(alloc: Global, records: &[Record]) -> Result<Vec<Listed>, AllocError>
+    ensures { IfOk result (λ lines. lines.items ≡ filter_map line_of records.now) }
+{
+    let mut lines = Vec::new(alloc);
+    for written in records {
+        if let Some(line) = line_of(*written) {
+            lines.push(line)?;
         }
-        _ => Ok(()),
+    }
+    Ok(lines)
+}
+
+// What is shown of a list that was read.
+fn list_found(
+    alloc: Global,
+    image: &Image<'_>,
+    values: &Values,
+    found: &Found,
+) -> Result<Listing, AllocError>
+    requires { AreDeviceValues (types_in image.now) values.now.numbers.items }
+    ensures { IfOk result (λ listing. ShowsRead (counts_in image.now)
+        (reads_of image.now values.now.numbers.items) (reading_of found.now) listing.lines.items
+        listing.trap) }
+{
+    match found {
+        Found::Nothing => Ok(Listing {
+            lines: Vec::new(alloc),
+            trap: None,
+        }),
+        Found::Records(records) => {
+            let written = written_in(alloc, records)?;
+            let lines = shown_of(alloc, image, values, &written)?;
+            Ok(Listing { lines, trap: None })
+        }
+        Found::Trap(trap) => Ok(Listing {
+            lines: Vec::new(alloc),
+            trap: Some(*trap),
+        }),
     }
 }
 
@@ -183,47 +290,98 @@ fn list_attribute(
     attr: Attr,
 ) -> Result<Listing, AllocError>
     requires { AreDeviceValues (types_in image.now) values.now.numbers.items }
+    ensures { IfOk result (λ listing. ShowsList (counts_in image.now)
+        (reads_of image.now values.now.numbers.items) (of_item item attr) listing.lines.items
+        listing.trap) }
 {
-    let mut lines = Vec::new(alloc);
-    let mut trap = None;
-    match read(alloc, image, AttrRef { item, attr, sub: 0 }, values)? {
-        Found::Records(records) => {
-            for item in &records {
-                add_record(alloc, image, values, *item, &mut lines)?;
-            }
-        }
-        Found::Trap(why) => trap = Some(why),
-        Found::Nothing => {}
-    }
-    Ok(Listing { lines, trap })
+    let found = read_item(alloc, image, values, item, attr)?;
+    list_found(alloc, image, values, &found)
 }
 
-// All variables, and then all methods.
-fn list_all(alloc: Global, image: &Image<'_>, values: &Values) -> Result<Listing, AllocError>
+// Adds all variables.
+fn add_variables(count: u16, lines: &mut Vec<Listed>) -> Result<(), AllocError>
+    ensures { OnOk result (lines.new.items ≡ lines.old.items
+        ++ numbered_from (λ n. items.Variable (record { 0 = n })) 0 count) }
+{
+    for number in 0..count {
+        lines.push(Listed::Entry(Entry::plain(ItemNo::Variable(VarNo(number)))))?;
+    }
+    Ok(())
+}
+
+// Adds all methods.
+fn add_methods(count: u16, lines: &mut Vec<Listed>) -> Result<(), AllocError>
+    ensures { OnOk result (lines.new.items ≡ lines.old.items
+        ++ numbered_from (λ n. items.Method (record { 0 = n })) 0 count) }
+{
+    for number in 0..count {
+        lines.push(Listed::Entry(Entry::plain(ItemNo::Method(MethNo(number)))))?;
+    }
+    Ok(())
+}
+
+// Entries of these menus.
+fn menu_lines(alloc: Global, menus: &[MenuNo]) -> Result<Vec<Listed>, AllocError>
+    ensures { IfOk result (λ lines. lines.items ≡ menu_lines menus.now) }
+{
+    let mut lines = Vec::new(alloc);
+    for menu in menus {
+        lines.push(Listed::Entry(Entry::plain(ItemNo::Menu(*menu))))?;
+    }
+    Ok(lines)
+}
+
+// The lines that may be at the top: its menus, or all items where there is no menu.
+fn top_lines(alloc: Global, image: &Image<'_>, values: &Values) -> Result<Vec<Listed>, AllocError>
     requires { AreDeviceValues (types_in image.now) values.now.numbers.items }
+    ensures { IfOk result (λ lines. AreTopLines (counts_in image.now)
+        (reads_of image.now values.now.numbers.items) lines.items) }
 {
     let counts = image.counts();
-    let mut lines = Vec::new(alloc);
-    for number in 0..counts.variables {
-        let entry = Entry::plain(ItemNo::Variable(VarNo(number)));
-        add_entry(alloc, image, values, entry, &mut lines)?;
+    if counts.menus == 0 {
+        let mut lines = Vec::new(alloc);
+        add_variables(counts.variables, &mut lines)?;
+        add_methods(counts.methods, &mut lines)?;
+        return Ok(lines);
     }
-    for number in 0..counts.methods {
-        let entry = Entry::plain(ItemNo::Method(MethNo(number)));
-        add_entry(alloc, image, values, entry, &mut lines)?;
-    }
-    Ok(Listing { lines, trap: None })
+    let tops = top_menus(alloc, image, values)?;
+    menu_lines(alloc, &tops)
 }
 
-fn list_tops(alloc: Global, image: &Image<'_>, values: &Values) -> Result<Listing, AllocError>
+// A menu in place of the top, if it may be opened.
+fn shown_menu(
+    alloc: Global,
+    image: &Image<'_>,
+    values: &Values,
+    menu: MenuNo,
+) -> Result<Place, AllocError>
     requires { AreDeviceValues (types_in image.now) values.now.numbers.items }
+    ensures { IfOk result (ShowsMenu (counts_in image.now)
+        (reads_of image.now values.now.numbers.items) menu) }
 {
-    let mut lines = Vec::new(alloc);
-    for menu in &top_menus(alloc, image, values)? {
-        let entry = Entry::plain(ItemNo::Menu(*menu));
-        add_entry(alloc, image, values, entry, &mut lines)?;
+    let validity = read_item(alloc, image, values, ItemNo::Menu(menu), Attr::Validity)?;
+    if is_valid(&validity) {
+        Ok(Place::Menu(menu))
+    } else {
+        Ok(Place::Top)
     }
-    Ok(Listing { lines, trap: None })
+}
+
+// The menu that is shown in place of the top: one that is alone there.
+fn shown_alone(
+    alloc: Global,
+    image: &Image<'_>,
+    values: &Values,
+    tops: &[MenuNo],
+) -> Result<Place, AllocError>
+    requires { AreDeviceValues (types_in image.now) values.now.numbers.items }
+    ensures { IfOk result (ShowsAlone (counts_in image.now)
+        (reads_of image.now values.now.numbers.items) tops.now) }
+{
+    match tops {
+        [only] => shown_menu(alloc, image, values, *only),
+        _ => Ok(Place::Top),
+    }
 }
 
 /// The place that is shown for another: in place of the top, where it would be one menu alone, that
@@ -235,14 +393,43 @@ pub fn shown_place(
     place: Place,
 ) -> Result<Place, AllocError>
     requires { AreDeviceValues (types_in image.now) values.now.numbers.items }
+    ensures { IfOk result (IsShownAt (counts_in image.now)
+        (reads_of image.now values.now.numbers.items) place) }
 {
-    if !matches!(place, Place::Top) {
-        return Ok(place);
+    match place {
+        Place::Top => {
+            let tops = top_menus(alloc, image, values)?;
+            shown_alone(alloc, image, values, &tops)
+        }
+        Place::Menu(_) | Place::Collection(_) => Ok(place),
     }
-    let tops = top_menus(alloc, image, values)?;
-    match tops.as_slice() {
-        [only] => Ok(Place::Menu(*only)),
-        _ => Ok(Place::Top),
+}
+
+// The lines of a place itself.
+fn list_place(
+    alloc: Global,
+    image: &Image<'_>,
+    values: &Values,
+    place: Place,
+) -> Result<Listing, AllocError>
+    requires { AreDeviceValues (types_in image.now) values.now.numbers.items }
+    ensures { IfOk result (λ listing. ShowsPlace (counts_in image.now)
+        (reads_of image.now values.now.numbers.items) place listing.lines.items listing.trap) }
+{
+    match place {
+        Place::Top => {
+            let written = top_lines(alloc, image, values)?;
+            let lines = shown_of(alloc, image, values, &written)?;
+            Ok(Listing { lines, trap: None })
+        }
+        Place::Menu(menu) => list_attribute(alloc, image, values, ItemNo::Menu(menu), Attr::Items),
+        Place::Collection(collection) => list_attribute(
+            alloc,
+            image,
+            values,
+            ItemNo::Collection(collection),
+            Attr::Members,
+        ),
     }
 }
 
@@ -254,22 +441,9 @@ pub fn list_entries(
     place: Place,
 ) -> Result<Listing, AllocError>
     requires { AreDeviceValues (types_in image.now) values.now.numbers.items }
+    ensures { IfOk result (λ listing. IsScreen (counts_in image.now)
+        (reads_of image.now values.now.numbers.items) place listing.lines.items listing.trap) }
 {
-    match shown_place(alloc, image, values, place)? {
-        Place::Top => {
-            if image.counts().menus == 0 {
-                list_all(alloc, image, values)
-            } else {
-                list_tops(alloc, image, values)
-            }
-        }
-        Place::Menu(menu) => list_attribute(alloc, image, values, ItemNo::Menu(menu), Attr::Items),
-        Place::Collection(collection) => list_attribute(
-            alloc,
-            image,
-            values,
-            ItemNo::Collection(collection),
-            Attr::Members,
-        ),
-    }
+    let shown = shown_place(alloc, image, values, place)?;
+    list_place(alloc, image, values, shown)
 }

@@ -24,7 +24,7 @@ pub use edits::{bits_of, first_number, handling_fault, is_enumerator};
 pub use entries::{Entry, Listed, Listing, list_entries, shown_place};
 pub use fault::EditFault;
 pub use found::{Found, read};
-pub use laws::edits_are_decided;
+pub use laws::{edits_are_decided, sittings_are_explained};
 pub use panel::Panel;
 pub use place::{Field, Level, Place};
 pub use rules::{EditRules, of_variable, rules_of};

@@ -1,19 +1,21 @@
 //! The panel: a machine over commands.
 
-ghost use Rattle.std.specs.Prelude.{◌≡◌, ◌||◌, ◌++◌, ◌∷◌, [], ◌<◌, IfNone, IfOk, IfSome, None, OnErr, OnOk, Some, length, option_map};
+ghost use Rattle.std.specs.Prelude.{◌≡◌, ◌<◌, IfNone, IfOk, IfSome, None, OnErr, OnOk, Some, length, option_map};
 ghost use Rattle.std.specs.Result.{result_err};
 ghost use Rattle.edd_syntax.specs.Answers.{answer_of};
 ghost use Rattle.edd_syntax.specs.DeviceValues.{AreDeviceValues};
+ghost use Rattle.edd_image.specs.Fields.{counts_in};
 ghost use Rattle.edd_machine.specs.Types.{types_in};
 ghost use Rattle.edd_port.specs.Faults.{answer_fault_of};
 ghost use Rattle.edd_port.specs.Turns.{turn_of};
 ghost use Rattle.edd_panel.specs.Advances.{Advances, answer_refusal, answered_by};
-ghost use Rattle.edd_panel.specs.Happens.{AtMenu, AtVariable, Edits, Happens, KeepsReadOnly, is_read_only};
+ghost use Rattle.edd_panel.specs.Happens.{AtMenu, AtVariable, Chooses, Edits, Enters, Happens, OpensEntry, OpensOne, StartsOr, level_of, reads_in};
+ghost use Rattle.edd_panel.specs.Screens.{IsScreen, numbered};
 ghost use Rattle.edd_panel.specs.Standing.{current, opened};
 
 use crate::command::{Command, Happened};
 use crate::deciding::{decide, set};
-use crate::entries::{Entry, list_entries};
+use crate::entries::{Entry, Listing, list_entries};
 use crate::place::{Field, Level, Place};
 use crate::replies::reply;
 use edd_loader::Image;
@@ -78,6 +80,13 @@ fn values_in<'s>(session: &'s Session<'_, '_>) -> &'s Values
     session.values()
 }
 
+// The entry of a number on a screen, if there is one.
+fn entry_of(listing: Listing, number: i64) -> Option<Entry>
+    ensures { result ≡ numbered listing.lines.items number }
+{
+    listing.numbered(number)
+}
+
 impl<'i, 'b> Panel<'i, 'b> {
     /// A panel at its top screen, if the values are those of a device of this description.
     pub fn open(
@@ -109,6 +118,7 @@ impl<'i, 'b> Panel<'i, 'b> {
     pub fn values(&self) -> &Values
         ensures current { result.now.numbers.items ≡ current self.now }
         ensures valid { AreDeviceValues (types_in self.now.image) result.now.numbers.items }
+        ensures device { AreDeviceValues (types_in self.now.image) self.now.values }
     {
         match &self.session {
             Some(session) => values_in(session),
@@ -161,8 +171,7 @@ impl<'i, 'b> Panel<'i, 'b> {
 
     // Starts a method under a copy of the values.
     fn start(&mut self, alloc: Global, method: MethNo) -> Result<Happened, AllocError>
-        ensures does { IfOk result (λ happened. AtMenu self.old happened self.new) }
-        ensures stays { (self.new.field ≡ self.old.field) × (self.new.path ≡ self.old.path) }
+        ensures does { IfOk result (λ happened. StartsOr self.old method happened self.new) }
         ensures kept { OnErr result (self.new ≡ self.old) }
     {
         let numbers = Vec::from_slice(alloc, self.values.numbers.as_slice())?;
@@ -176,30 +185,23 @@ impl<'i, 'b> Panel<'i, 'b> {
     }
 
     fn enter(&mut self, place: Place, read_only: bool) -> Result<Happened, AllocError>
-        ensures does { IfOk result (λ happened. AtMenu self.old happened self.new) }
-        ensures enters { OnOk result ((self.new.field ≡ self.old.field) × (self.new.path
-            ≡ self.old.path ++ record { place = place; read_only = read_only } ∷ [])) }
+        ensures does { IfOk result (λ happened. Enters self.old place read_only happened self.new) }
         ensures kept { OnErr result (self.new ≡ self.old) }
     {
         self.path.push(Level { place, read_only })?;
         Ok(Happened::Moved)
     }
 
-    fn open_entry(
-        &mut self,
-        alloc: Global,
-        entry: Entry,
-        read_only: bool,
-    ) -> Result<Happened, AllocError>
-        ensures does { IfOk result (λ happened. AtMenu self.old happened self.new) }
-        ensures fixed { OnOk result
-            (KeepsReadOnly (read_only || is_read_only entry.qualifiers) self.old self.new) }
+    // Opens an entry of the screen that is shown.
+    fn open_entry(&mut self, alloc: Global, entry: Entry) -> Result<Happened, AllocError>
+        ensures does { IfOk result (λ happened. OpensEntry self.old (level_of self.old.path) entry
+            happened self.new) }
         ensures kept { OnErr result (self.new ≡ self.old) }
     {
         if let Some(trap) = entry.trap {
             return Ok(Happened::Trapped(trap));
         }
-        let read_only = read_only || entry.is_read_only();
+        let read_only = self.level().read_only || entry.is_read_only();
         match entry.item {
             ItemNo::Variable(variable) => {
                 self.field = Some(Field {
@@ -215,15 +217,30 @@ impl<'i, 'b> Panel<'i, 'b> {
         }
     }
 
-    /// The level whose screen is shown.
-    pub fn level(&self) -> Level {
-        match self.path.as_slice() {
-            [.., level] => *level,
-            [] => Level {
-                place: Place::Top,
-                read_only: false,
-            },
+    // Opens the entry that has a number, if one has it.
+    fn open_one(&mut self, alloc: Global, entry: Option<Entry>) -> Result<Happened, AllocError>
+        ensures does { IfOk result (λ happened. OpensOne self.old (level_of self.old.path) entry
+            happened self.new) }
+        ensures kept { OnErr result (self.new ≡ self.old) }
+    {
+        match entry {
+            Some(entry) => self.open_entry(alloc, entry),
+            None => Ok(Happened::NoEntry),
         }
+    }
+
+    /// The level whose screen is shown.
+    pub fn level(&self) -> Level
+        ensures { result ≡ level_of self.now.path }
+    {
+        let mut level = Level {
+            place: Place::Top,
+            read_only: false,
+        };
+        for next in &self.path {
+            level = *next;
+        }
+        level
     }
 
     /// How many levels the user is below the top.
@@ -233,34 +250,33 @@ impl<'i, 'b> Panel<'i, 'b> {
         self.path.len()
     }
 
-    fn choose(&mut self, alloc: Global, number: i64) -> Result<Happened, AllocError>
-        ensures does { IfOk result (λ happened. AtMenu self.old happened self.new) }
-        ensures kept { OnErr result (self.new ≡ self.old) }
+    // The lines of the screen that is shown.
+    fn screen(&self, alloc: Global) -> Result<Listing, AllocError>
+        ensures { IfOk result (λ listing. IsScreen (counts_in self.now.image) (reads_in self.now)
+            (level_of self.now.path).place listing.lines.items listing.trap) }
     {
-        let level = self.level();
-        let listing = list_entries(alloc, self.image, &self.values, level.place)?;
-        match listing.numbered(number) {
-            Some(entry) => self.open_entry(alloc, entry, level.read_only),
-            None => Ok(Happened::NoEntry),
-        }
+        list_entries(alloc, self.image, &self.values, self.level().place)
     }
 
-    fn go_back(&mut self) -> Happened
-        ensures { AtMenu self.old result self.new }
+    fn choose(&mut self, alloc: Global, number: i64) -> Result<Happened, AllocError>
+        ensures does { IfOk result (λ happened. Chooses self.old number happened self.new) }
+        ensures kept { OnErr result (self.new ≡ self.old) }
     {
-        match self.path.pop() {
-            Some(_) => Happened::Moved,
-            None => Happened::Unknown,
-        }
+        let listing = self.screen(alloc)?;
+        let entry = entry_of(listing, number);
+        self.open_one(alloc, entry)
     }
 
     fn at_menu(&mut self, alloc: Global, command: Command) -> Result<Happened, AllocError>
-        ensures does { IfOk result (λ happened. AtMenu self.old happened self.new) }
+        ensures does { IfOk result (λ happened. AtMenu self.old command happened self.new) }
         ensures kept { OnErr result (self.new ≡ self.old) }
     {
         match command {
             Command::Number(number) => self.choose(alloc, number),
-            Command::Back => Ok(self.go_back()),
+            Command::Back => match self.path.pop() {
+                Some(_) => Ok(Happened::Moved),
+                None => Ok(Happened::Unknown),
+            },
             Command::Enter => Ok(Happened::Shown),
             Command::Abort => Ok(Happened::Unknown),
         }

@@ -2,6 +2,7 @@ pub mod EveryRun
 pub mod FewSteps
 pub mod Loaded
 pub mod NeverStuck
+pub mod OfferedByUnits
 pub mod OneRun
 pub mod SameSources
 pub mod ShownRuns

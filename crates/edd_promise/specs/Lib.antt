@@ -1,4 +1,5 @@
 pub mod Embedded
+pub mod Meant
 pub mod Plays
 pub mod Reads
 pub mod Sessions

@@ -2,6 +2,7 @@
 
 use crate::{Event, Mismatch, Report, Summary, Verdict};
 use edd_cases::Misread;
+use edd_outcomes::{Counts, Outcome, count};
 use std::fmt::{self, Display, Write as _};
 use std::io::{self, Write};
 
@@ -24,14 +25,6 @@ struct Suite {
 struct Case {
     name: String,
     result: Result<Verdict, Misread>,
-}
-
-/// How many test cases there are, and how many failed and were refused.
-#[derive(Clone, Copy, Default)]
-struct Counts {
-    tests: usize,
-    failures: usize,
-    errors: usize,
 }
 
 impl<W: Write> JUnit<W> {
@@ -73,7 +66,7 @@ impl<W: Write> Report for JUnit<W> {
     }
 
     fn finish(&mut self, _summary: Summary) -> io::Result<()> {
-        let counts = Counts::of(self.suites.iter().flat_map(|suite| &suite.cases));
+        let counts = Attributes::of(self.suites.iter().flat_map(|suite| &suite.cases));
         writeln!(self.output, r#"<?xml version="1.0" encoding="UTF-8"?>"#)?;
         writeln!(self.output, "<testsuites {counts}>")?;
         for suite in &self.suites {
@@ -83,29 +76,38 @@ impl<W: Write> Report for JUnit<W> {
     }
 }
 
-impl Counts {
-    fn of<'c>(cases: impl Iterator<Item = &'c Case>) -> Counts {
-        let mut counts = Counts::default();
-        for case in cases {
-            let (failure, error) = match case.result {
-                Ok(Verdict::Passed) => (0, 0),
-                Ok(Verdict::Failed(_)) => (1, 0),
-                Err(_) => (0, 1),
-            };
-            counts.tests = counts.tests.saturating_add(1);
-            counts.failures = counts.failures.saturating_add(failure);
-            counts.errors = counts.errors.saturating_add(error);
+impl Case {
+    fn outcome(&self) -> Outcome {
+        match self.result {
+            Ok(Verdict::Passed) => Outcome::Passed,
+            Ok(Verdict::Failed(_)) => Outcome::Failed,
+            Err(_) => Outcome::Refused,
         }
-        counts
     }
 }
 
-impl Display for Counts {
+/// The numbers of test cases, and of those that failed and were refused, as attributes.
+struct Attributes(Counts);
+
+impl Attributes {
+    fn of<'c>(cases: impl Iterator<Item = &'c Case>) -> Attributes {
+        let outcomes: Vec<Outcome> = cases.map(Case::outcome).collect();
+        Attributes(count(&outcomes))
+    }
+}
+
+impl Display for Attributes {
     fn fmt(&self, formatter: &mut fmt::Formatter<'_>) -> fmt::Result {
+        let Counts {
+            passed,
+            failed,
+            refused,
+            ..
+        } = self.0;
+        let tests = passed.saturating_add(failed).saturating_add(refused);
         write!(
             formatter,
-            r#"tests="{}" failures="{}" errors="{}""#,
-            self.tests, self.failures, self.errors
+            r#"tests="{tests}" failures="{failed}" errors="{refused}""#
         )
     }
 }
@@ -113,7 +115,7 @@ impl Display for Counts {
 impl Display for Suite {
     fn fmt(&self, formatter: &mut fmt::Formatter<'_>) -> fmt::Result {
         let file = Escaped(&self.file);
-        let counts = Counts::of(self.cases.iter());
+        let counts = Attributes::of(self.cases.iter());
         writeln!(formatter, r#"  <testsuite name="{file}" {counts}>"#)?;
         for case in &self.cases {
             let name = Escaped(&case.name);
@@ -215,7 +217,7 @@ mod tests {
             misread,
         };
         report.add(refused).unwrap();
-        report.finish(Summary::default()).unwrap();
+        report.finish(Summary(count(&[]))).unwrap();
         assert_eq!(
             String::from_utf8(report.output).unwrap(),
             r#"<?xml version="1.0" encoding="UTF-8"?>

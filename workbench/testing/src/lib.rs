@@ -18,6 +18,7 @@ mod verdict;
 
 pub use edd_cases::{Misread, TestFault};
 pub use edd_files::{FileFault, Files};
+pub use edd_outcomes::Counts;
 pub use error::TestError;
 pub use junit::JUnit;
 pub use lines::Lines;

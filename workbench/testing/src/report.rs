@@ -2,6 +2,7 @@
 
 use crate::Verdict;
 use edd_cases::Misread;
+use edd_outcomes::Counts;
 use std::fmt;
 use std::io;
 
@@ -48,51 +49,31 @@ pub trait Report {
     fn finish(&mut self, summary: Summary) -> io::Result<()>;
 }
 
-/// How many tests passed and failed.
-#[derive(Clone, Copy, Debug, Default, PartialEq, Eq)]
-pub struct Summary {
-    /// Tests that passed.
-    pub passed: usize,
-    /// Tests that failed.
-    pub failed: usize,
-    /// Files that are refused.
-    pub refused: usize,
-    /// Tests that a filter leaves out.
-    pub left_out: usize,
-}
+/// How many tests passed and failed, as the core counts them.
+#[derive(Clone, Copy, Debug, PartialEq, Eq)]
+pub struct Summary(pub Counts);
 
 impl Summary {
     /// Whether no test failed and no file is refused.
     pub fn is_success(self) -> bool {
-        self.failed == 0 && self.refused == 0
-    }
-
-    pub(crate) fn count(&mut self, event: Event<'_>) {
-        let counted = match event {
-            Event::Tested {
-                verdict: Verdict::Passed,
-                ..
-            } => &mut self.passed,
-            Event::Tested { .. } => &mut self.failed,
-            Event::Refused { .. } => &mut self.refused,
-            Event::Updated { .. } => return,
-        };
-        *counted = counted.saturating_add(1);
-    }
-
-    pub(crate) fn leave_out(&mut self) {
-        self.left_out = self.left_out.saturating_add(1);
+        self.0.failed == 0 && self.0.refused == 0
     }
 }
 
 impl fmt::Display for Summary {
     fn fmt(&self, formatter: &mut fmt::Formatter<'_>) -> fmt::Result {
-        write!(formatter, "{} passed, {} failed", self.passed, self.failed)?;
-        if self.refused > 0 {
-            write!(formatter, ", {} refused", self.refused)?;
+        let Counts {
+            passed,
+            failed,
+            left_out,
+            refused,
+        } = self.0;
+        write!(formatter, "{passed} passed, {failed} failed")?;
+        if refused > 0 {
+            write!(formatter, ", {refused} refused")?;
         }
-        if self.left_out > 0 {
-            write!(formatter, ", {} left out", self.left_out)?;
+        if left_out > 0 {
+            write!(formatter, ", {left_out} left out")?;
         }
         Ok(())
     }

@@ -5,9 +5,9 @@ use crate::report::{Event, Report, Summary};
 use crate::{Mismatch, TestError, Verdict};
 use core_std::alloc::Global;
 use core_std::string::String as CoreString;
-use edd_cases::{Case, Form, Misread, TestFault, Tests, push_as_it_is, push_case, read_tests};
+use edd_cases::{Case, Misread, TestFault, Tests, push_as_it_is, push_case, read_tests};
 use edd_files::{Files, Source, read_sources, save_update};
-use edd_outcomes::{compare, refusal_in};
+use edd_outcomes::{Outcome, Score, refusal_in};
 
 /// The tests that are to be run.
 #[derive(Clone, Copy, Debug)]
@@ -68,20 +68,21 @@ pub fn run_tests(
         request,
         files,
         report,
-        summary: Summary::default(),
+        score: Score::nothing(Global),
     };
     for source in &sources {
         run.run_file(source)?;
     }
-    run.report.finish(run.summary)?;
-    Ok(run.summary)
+    let summary = Summary(run.score.counts());
+    run.report.finish(summary)?;
+    Ok(summary)
 }
 
 struct Run<'r, F, R> {
     request: &'r Request<'r>,
     files: &'r mut F,
     report: &'r mut R,
-    summary: Summary,
+    score: Score,
 }
 
 impl<F: Files, R: Report> Run<'_, F, R> {
@@ -92,10 +93,13 @@ impl<F: Files, R: Report> Run<'_, F, R> {
                 fault: TestFault::Memory,
                 ..
             }) => Err(TestError::Memory),
-            Err(misread) => self.report_event(Event::Refused {
-                file: source.name,
-                misread,
-            }),
+            Err(misread) => {
+                self.score.refuse()?;
+                self.report_event(Event::Refused {
+                    file: source.name,
+                    misread,
+                })
+            }
         }
     }
 
@@ -106,7 +110,7 @@ impl<F: Files, R: Report> Run<'_, F, R> {
         push_as_it_is(&mut updated, &tests.head)?;
         for case in &tests.cases {
             if self.is_left_out(case) {
-                self.summary.leave_out();
+                self.score.leave_out()?;
                 push_as_it_is(&mut updated, &case.lines)?;
             } else {
                 self.run_one(file, case, &mut updated)?;
@@ -133,10 +137,12 @@ impl<F: Files, R: Report> Run<'_, F, R> {
     ) -> Result<(), TestError> {
         let printed = run_case(file, case, self.files)?;
         let seen = printed.lines(Global)?;
-        let difference = compare(Global, case, &seen)?;
-        let is_updated = difference.is_some() && self.request.is_update && case.form == Form::Whole;
+        let compared = self
+            .score
+            .compare(Global, case, &seen, self.request.is_update)?;
+        let is_updated = compared.outcome == Outcome::Updated;
         push_case(Global, updated, case, &seen, is_updated)?;
-        let verdict = match difference {
+        let verdict = match compared.difference {
             Some(difference) if !is_updated => {
                 Verdict::Failed(Mismatch::new(difference, refusal_in(&seen)))
             }
@@ -150,7 +156,6 @@ impl<F: Files, R: Report> Run<'_, F, R> {
     }
 
     fn report_event(&mut self, event: Event<'_>) -> Result<(), TestError> {
-        self.summary.count(event);
         self.report.add(event)?;
         Ok(())
     }
