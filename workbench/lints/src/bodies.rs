@@ -1,14 +1,21 @@
 //! The bodies of methods.
 
 mod aborts;
+mod answers;
 mod cases;
 mod choices;
+mod elements;
 pub(crate) mod flow;
 mod layout;
 mod locals;
 pub(crate) mod loops;
+mod repeats;
+mod selections;
+mod sends;
 mod statements;
+mod states;
 mod stores;
+mod turns;
 mod waits;
 
 use crate::context::Context;
@@ -19,6 +26,7 @@ use crate::source::{TokenIndex, index};
 use crate::visit::{Visitor, visit_parts};
 use crate::warning::Findings;
 use aborts::check_abort_methods;
+use answers::check_answers;
 use choices::check_choices;
 use edd_instructions::Sort;
 use edd_syntax::expr::Expr;
@@ -27,8 +35,13 @@ use edd_syntax::numbers::ItemNo;
 use edd_syntax::operators::{Builtin, RequestKind};
 use edd_syntax::reference::Target;
 use edd_syntax::stmt::{Part, Stmt};
+use elements::check_elements;
 use locals::check_locals;
+use repeats::check_repeats;
+use selections::check_selections;
+use sends::check_sends;
 use statements::check_parts;
+use states::check_states;
 
 /// How many abort methods there may be.
 const MOST_ABORT_METHODS: usize = 8;
@@ -102,6 +115,12 @@ pub(crate) fn check_method<'d>(
             if called.asks_which {
                 check_choices(parts, context, findings);
             }
+            check_answers(parts, context, findings);
+            check_sends(parts, context, findings);
+            check_selections(parts, context, findings);
+            check_states(method, parts, context, findings);
+            check_repeats(parts, context, findings);
+            check_elements(parts, context, findings);
             check_body(parts, context, findings);
         }
     }

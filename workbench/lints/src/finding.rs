@@ -2,12 +2,18 @@
 
 use crate::abort_methods::check_abort_methods;
 use crate::context::Context;
+use crate::echoes::check_echoes;
 use crate::entries::check_entries;
+use crate::exchanged::States;
+use crate::families::check_families;
 use crate::instrument::Instrument;
 use crate::items::{PART, check_items, parts_of};
+use crate::labels::Labels;
 use crate::levels::Levels;
 use crate::limits::check_circular;
+use crate::lockouts::check_lockouts;
 use crate::menus::check_menus;
+use crate::names::Names;
 use crate::parallel::Threads;
 use crate::places::Places;
 use crate::remarks::Remarks;
@@ -29,7 +35,10 @@ fn elements_of(description: &Checked) -> Vec<Element> {
 }
 
 /// What is checked of a description as a whole.
-const WHOLE: [fn(&Context<'_>, &mut Findings<'_>); 7] = [
+const WHOLE: [fn(&Context<'_>, &mut Findings<'_>); 10] = [
+    check_echoes,
+    check_lockouts,
+    check_families,
     check_carried,
     check_circular,
     check_menus,
@@ -72,6 +81,9 @@ fn find_in_parts(
     let context = Context {
         source,
         places,
+        names: Names::of(&instrument),
+        labels: Labels::of(&instrument),
+        states: States::of(&instrument),
         instrument,
         usage,
     };

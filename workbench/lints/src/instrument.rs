@@ -1,14 +1,18 @@
 //! What is known of the items of a description.
 
+use crate::exchanges::{Exchange, exchanges_of};
 use crate::lists::{enumerators_of, is_total, values_in};
 use crate::range::Range;
 use crate::source::{TokenIndex, index};
+use crate::texts::variants::first_words;
+use crate::traits::quoted;
 use crate::types::{number_of, number_parts};
+use crate::units::{Unit, unit_of};
 use edd_constants::evaluate;
 use edd_instructions::Sort;
 use edd_syntax::cond::Cond;
 use edd_syntax::expr::Expr;
-use edd_syntax::item::{Attribute, Item, ItemKind, TypePart, TypeWord};
+use edd_syntax::item::{Attribute, Enumerator, Item, ItemKind, TypePart, TypeWord};
 use edd_syntax::numbers::{Element, ItemNo, NumberOption, VarNo};
 use edd_syntax::reference::Target;
 use edd_syntax::types::{Handling, VarType};
@@ -17,12 +21,20 @@ use std::collections::{HashMap, HashSet};
 /// What is known of a variable.
 pub(crate) struct Variable<'i> {
     pub(crate) item: &'i Item<Target>,
+    pub(crate) number: u16,
     pub(crate) kind: Option<VarType>,
     pub(crate) range: Option<Range>,
     /// The enumerators of all branches.
     pub(crate) enumerators: HashSet<i64>,
+    /// The enumerators by what their texts say in their first language, and the other way round.
+    pub(crate) by_text: HashMap<&'i str, i64>,
+    pub(crate) texts: HashMap<i64, &'i str>,
+    /// Its unit, where it always is the same one.
+    pub(crate) unit: Option<Unit>,
     /// Whether HANDLING is READ, under no condition.
     pub(crate) is_read_only: bool,
+    /// Whether it is WRITE so.
+    pub(crate) is_write_only: bool,
     /// The least MIN_VALUE and the greatest MAX_VALUE of all branches, where these are constants.
     pub(crate) least: Option<i64>,
     pub(crate) greatest: Option<i64>,
@@ -40,6 +52,8 @@ struct Command {
     are_numbered: bool,
     /// How many transactions there are.
     count: i64,
+    /// What its transactions carry.
+    exchanges: Vec<Exchange>,
 }
 
 /// What is known of the items of a description.
@@ -51,6 +65,8 @@ pub(crate) struct Instrument<'i> {
     elements: HashMap<(u16, u32), u16>,
     /// The arrays with elements.
     arrays: HashSet<u16>,
+    /// What the elements of each array hold together.
+    element_ranges: HashMap<u16, Range>,
     /// The commands by their numbers.
     commands: HashMap<u32, Command>,
     /// The names of all items.
@@ -66,26 +82,23 @@ pub(crate) fn variable_of(target: Target) -> Option<u16> {
 }
 
 impl<'i> Variable<'i> {
-    fn of(item: &'i Item<Target>) -> Variable<'i> {
+    fn of(item: &'i Item<Target>, number: usize) -> Variable<'i> {
         let mut variable = Variable {
             item,
+            number: u16::try_from(number).unwrap_or(u16::MAX),
             kind: None,
             range: None,
             enumerators: HashSet::new(),
+            by_text: HashMap::new(),
+            texts: HashMap::new(),
+            unit: None,
             is_read_only: false,
+            is_write_only: false,
             least: None,
             greatest: None,
         };
-        for part in number_parts(variable.parts()).filter(|part| is_total(part.value)) {
-            let values = values_in(part.value);
-            let numbers: Option<Vec<_>> = values.iter().map(|one| number_of(one.value)).collect();
-            let numbers = numbers.into_iter().flatten();
-            match part.which {
-                NumberOption::MinValue => variable.least = numbers.min(),
-                NumberOption::MaxValue => variable.greatest = numbers.max(),
-                NumberOption::DefaultValue => {}
-            }
-        }
+        variable.add_limits();
+        variable.unit = unit_of(&variable);
         for attribute in &item.attributes {
             match attribute {
                 Attribute::TypeOf {
@@ -97,12 +110,41 @@ impl<'i> Variable<'i> {
                     variable.range = Some(Range::of(*kind, *size));
                     let listed = enumerators_of(parts);
                     variable.enumerators = listed.iter().map(|one| one.value.value).collect();
+                    for one in listed {
+                        variable.add_text(one.value);
+                    }
                 }
-                Attribute::Handling(_, Cond::Value(Handling::Read)) => variable.is_read_only = true,
+                Attribute::Handling(_, Cond::Value(handling)) => {
+                    variable.is_read_only = *handling == Handling::Read;
+                    variable.is_write_only = *handling == Handling::Write;
+                }
                 _ => {}
             }
         }
         variable
+    }
+
+    fn add_limits(&mut self) {
+        for part in number_parts(self.parts()).filter(|part| is_total(part.value)) {
+            let values = values_in(part.value);
+            let numbers: Option<Vec<_>> = values.iter().map(|one| number_of(one.value)).collect();
+            let numbers = numbers.into_iter().flatten();
+            match part.which {
+                NumberOption::MinValue => self.least = numbers.min(),
+                NumberOption::MaxValue => self.greatest = numbers.max(),
+                NumberOption::DefaultValue => {}
+            }
+        }
+    }
+
+    fn add_text(&mut self, enumerator: &'i Enumerator) {
+        let text = quoted(&enumerator.text)
+            .map(first_words)
+            .unwrap_or_default();
+        if !text.is_empty() {
+            self.by_text.insert(text, enumerator.value);
+            self.texts.insert(enumerator.value, text);
+        }
     }
 
     pub(crate) fn name(&self) -> &'i str {
@@ -174,17 +216,22 @@ impl<'i> Instrument<'i> {
                 .map(|element| ((element.array.0, element.number), element.var.0))
                 .collect(),
             arrays: elements.iter().map(|element| element.array.0).collect(),
+            element_ranges: HashMap::new(),
             commands: HashMap::new(),
             names: items.iter().map(Item::name).collect(),
         };
         for (number, item) in items.iter().enumerate() {
             instrument.add_place(item, number);
             match item.sort {
-                ItemKind::Variable => instrument.variables.push(Variable::of(item)),
+                ItemKind::Variable => {
+                    let variable = Variable::of(item, instrument.variables.len());
+                    instrument.variables.push(variable);
+                }
                 ItemKind::Command => instrument.add_command(item),
                 _ => {}
             }
         }
+        instrument.add_element_ranges(elements);
         instrument
     }
 
@@ -196,6 +243,48 @@ impl<'i> Instrument<'i> {
         if let Some(places) = self.by_kind.get_mut(kind) {
             places.push(place);
         }
+    }
+
+    fn add_element_ranges(&mut self, elements: &[Element]) {
+        for element in elements {
+            let Some(range) = self.range(element.var.0) else {
+                continue;
+            };
+            let known = self.element_ranges.entry(element.array.0).or_insert(range);
+            known.low = known.low.min(range.low);
+            known.high = known.high.max(range.high);
+        }
+    }
+
+    /// What an element of an array can hold, whichever it is.
+    pub(crate) fn element_range(&self, array: u16) -> Option<Range> {
+        self.element_ranges.get(&array).copied()
+    }
+
+    /// What the transaction of a command carries. Without a number the command has to have one alone.
+    pub(crate) fn exchange(&self, command: i64, transaction: Option<i64>) -> Option<&Exchange> {
+        let number = u32::try_from(command).ok()?;
+        let known = self.commands.get(&number)?;
+        match transaction {
+            None => match &*known.exchanges {
+                [one] => Some(one),
+                _ => None,
+            },
+            Some(wanted) => {
+                let is_wanted = |one: &&Exchange| one.number.map(i64::from) == Some(wanted);
+                let mut found = known.exchanges.iter().filter(is_wanted);
+                found.next().filter(|_| found.next().is_none())
+            }
+        }
+    }
+
+    /// Whether a command of a number has a transaction of another one.
+    pub(crate) fn has_transaction(&self, command: i64, transaction: i64) -> bool {
+        let number = u32::try_from(command).ok();
+        let command = number.and_then(|number| self.commands.get(&number));
+        command.is_some_and(|command| {
+            u32::try_from(transaction).is_ok_and(|number| command.transactions.contains(&number))
+        })
     }
 
     fn add_command(&mut self, command: &Item<Target>) {
@@ -214,6 +303,7 @@ impl<'i> Instrument<'i> {
             known.count = known.count.saturating_add(own.count);
             known.transactions.extend(own.transactions);
             known.codes.extend(own.codes);
+            known.exchanges.extend(exchanges_of(command));
         }
     }
 

@@ -2,19 +2,24 @@
 
 use crate::bodies::check_method;
 use crate::branches::check_branches;
+use crate::claims::check_claims;
 use crate::classes::check_classes;
 use crate::commands::check_command;
 use crate::conditions::check_conditionals_of;
 use crate::context::Context;
+use crate::exchanged::check_exchanged;
 use crate::gaps::check_gaps;
 use crate::instrument::{Instrument, Variable};
 use crate::limits::check_limits_under_conditions;
 use crate::listings::check_listings;
+use crate::names::check_names;
+use crate::offers::{check_offers, check_set_back};
 use crate::settled::check_attributes;
 use crate::source::{TokenIndex, index};
 use crate::traffic::check_traffic;
 use crate::traits::{check_label, check_traits};
 use crate::types::check_type;
+use crate::units::{check_limit_units, check_named_units};
 use crate::warning::Findings;
 use edd_syntax::item::{Item, ItemKind};
 use edd_syntax::numbers::{ItemNo, MethNo};
@@ -58,6 +63,21 @@ pub(crate) fn parts_of<'c, 'd>(
     parts
 }
 
+fn check_variable(
+    variable: &Variable<'_>,
+    context: &Context<'_>,
+    findings: &mut Findings<'_>,
+) {
+    check_type(variable, context, findings);
+    check_limits_under_conditions(variable, context, findings);
+    check_traits(variable, context, findings);
+    check_named_units(variable, findings);
+    check_limit_units(variable, context, findings);
+    check_claims(variable, findings);
+    check_offers(variable, context, findings);
+    check_set_back(variable, context, findings);
+}
+
 /// Checks items by themselves: what is found in one depends on no finding in another one.
 pub(crate) fn check_items<'d>(
     part: &Part<'_, 'd>,
@@ -72,9 +92,7 @@ pub(crate) fn check_items<'d>(
         match item.sort {
             ItemKind::Variable => {
                 if let Some(variable) = variables.next() {
-                    check_type(variable, context, findings);
-                    check_limits_under_conditions(variable, context, findings);
-                    check_traits(variable, context, findings);
+                    check_variable(variable, context, findings);
                 }
             }
             ItemKind::Command => {
@@ -94,5 +112,7 @@ pub(crate) fn check_items<'d>(
             check_label(attribute, findings);
         }
         check_attributes(item, context, findings);
+        check_names(item, context, findings);
+        check_exchanged(item, context, findings);
     }
 }

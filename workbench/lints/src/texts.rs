@@ -2,7 +2,10 @@
 
 mod codes;
 mod comments;
+mod contents;
+mod exchanged;
 mod languages;
+mod opposites;
 mod signs;
 mod spoken;
 mod translations;
@@ -12,7 +15,10 @@ pub(crate) mod variants;
 use crate::context::Context;
 use crate::warning::Findings;
 use comments::check_comments;
+use contents::check_contents;
+use exchanged::check_exchanged;
 use languages::check_languages;
+use opposites::check_opposites;
 use signs::check_signs;
 use spoken::spoken_in;
 use translations::{check_insides, check_translations};
@@ -22,6 +28,9 @@ pub(crate) fn check_texts(context: &Context<'_>, findings: &mut Findings<'_>) {
     let texts = spoken_in(context.source);
     check_languages(&texts, findings);
     check_signs(&texts, findings);
+    check_contents(&texts, findings);
+    check_exchanged(&texts, findings);
+    check_opposites(&texts, findings);
     check_translations(&texts, findings);
     check_insides(&texts, context, findings);
     check_comments(context.source, findings);

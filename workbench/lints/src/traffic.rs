@@ -7,7 +7,8 @@ use crate::instrument::Variable;
 use crate::kind::{CommandKind, TextKind, VariableKind};
 use crate::lists::values_of;
 use crate::source::{TokenIndex, index};
-use crate::traits::{classes_of, quoted};
+use crate::texts::variants::Variants;
+use crate::traits::{classes_of, is_spare, quoted};
 use crate::usage::{carried, operation_of};
 use crate::warning::Findings;
 use edd_syntax::cond::Cond;
@@ -112,6 +113,25 @@ fn check_requests(transactions: &[Transaction<'_>], findings: &mut Findings<'_>)
     }
 }
 
+// A reply of a READ of which nothing is kept, and variables in it that nobody may read.
+fn check_kept(transaction: &Transaction<'_>, context: &Context<'_>, findings: &mut Findings<'_>) {
+    let mut is_info = has_variable(&transaction.reply);
+    for item in &transaction.reply {
+        let DataItem::Variable { at, qualifiers, .. } = item else {
+            continue;
+        };
+        is_info &= qualifiers.info && !qualifiers.index;
+        let variable = carried(item).and_then(|number| context.instrument.variable(number));
+        if let Some(variable) = variable.filter(|one| one.is_write_only && !qualifiers.info) {
+            let name = variable.name().to_owned();
+            findings.add(index(*at), CommandKind::ReadsUnreadable(name));
+        }
+    }
+    if is_info {
+        findings.add(transaction.at, CommandKind::KeepsNothing);
+    }
+}
+
 // Variables that a WRITE command sets, and that nothing else lets a technician or a method set.
 fn check_written(
     transaction: &Transaction<'_>,
@@ -139,6 +159,54 @@ fn check_written(
     }
 }
 
+/// What the text of a code says where something went wrong, and where nothing did.
+const ERRORS: [&str; 16] = [
+    "error",
+    "failed",
+    "failure",
+    "refused",
+    "rejected",
+    "too large",
+    "too small",
+    "too high",
+    "too low",
+    "locked",
+    "busy",
+    "invalid",
+    "not allowed",
+    "denied",
+    "overflow",
+    "protected",
+];
+const SUCCESSES: [&str; 5] = ["ok", "success", "done", "accepted", "no error"];
+
+// A class that says the opposite of what its text says.
+fn opposite_class(code: &ResponseCode) -> Option<CommandKind> {
+    let text = quoted(&code.text)?;
+    let first = Variants::of(text.as_bytes()).next()?;
+    let words = str::from_utf8(first.words).ok()?.trim().to_lowercase();
+    let found = |all: &[&'static str]| all.iter().copied().find(|word| words.contains(word));
+    let is_denied = ["no ", "not ", "without", "un"]
+        .iter()
+        .any(|word| words.contains(word));
+    match code.class {
+        ResponseClass::Success => {
+            let error = found(&ERRORS).filter(|error| error.contains("not ") || !is_denied);
+            error.map(CommandKind::OppositeClass)
+        }
+        ResponseClass::DataEntryError
+        | ResponseClass::ModeError
+        | ResponseClass::ProcessError
+        | ResponseClass::MiscError
+            if code.number != 0 =>
+        {
+            let success = SUCCESSES.iter().copied().find(|word| words == *word);
+            success.map(CommandKind::SuccessfulError)
+        }
+        _ => None,
+    }
+}
+
 fn check_codes(
     at: TokenIndex,
     codes: &[ResponseCode],
@@ -149,12 +217,27 @@ fn check_codes(
         findings.add(at, CommandKind::NoResponseCodes);
     }
     let mut before = None;
+    let mut texts = HashMap::new();
     for (code, at) in codes.iter().zip(code_places(at, codes, context)) {
+        if let Some(kind) = opposite_class(code) {
+            findings.add(at, kind);
+        }
         if code.number == 0 && code.class != ResponseClass::Success {
             findings.add(at, CommandKind::FailingZero);
         }
         if quoted(&code.text).is_some_and(str::is_empty) {
             findings.add(at, TextKind::EmptyText);
+        }
+        let text = quoted(&code.text).filter(|text| !text.is_empty() && !is_spare(text));
+        if let Some(text) = text {
+            let known: &mut Vec<&ResponseCode> = texts.entry(text).or_default();
+            match known.iter().find(|one| one.class == code.class) {
+                Some(one) if one.number != code.number => {
+                    findings.add(at, CommandKind::RepeatedCodeText(one.number));
+                }
+                Some(_) => {}
+                None => known.push(code),
+            }
         }
         if before.is_some_and(|before| code.number < before) {
             findings.add(at, CommandKind::UnorderedResponseCode(code.number));
@@ -178,6 +261,9 @@ pub(crate) fn check_traffic(
                 |one: &&Transaction<'_>| has_variable(&one.request) && one.reply.is_empty();
             for transaction in transactions.iter().filter(silent) {
                 findings.add(transaction.at, CommandKind::ReadsNothing);
+            }
+            for transaction in &transactions {
+                check_kept(transaction, context, findings);
             }
         }
         Some(Operation::Write) => {
@@ -217,6 +303,10 @@ pub(crate) fn check_carried(context: &Context<'_>, findings: &mut Findings<'_>) 
     for (number, variable) in (0u16..).zip(context.instrument.variables()) {
         let is_carried = usage.requested.contains(number) || usage.replied.contains(number);
         let classes = classes_of(variable);
+        if classes.contains("CONSTANT") && usage.set.contains(number) {
+            let at = index(variable.item.at);
+            findings.add(at, VariableKind::SetConstant(variable.name().to_owned()));
+        }
         if is_carried || usage.set.contains(number) || classes.contains("LOCAL") {
             continue;
         }

@@ -40,7 +40,8 @@ pub(crate) fn quoted(text: &Text) -> Option<&str> {
     }
 }
 
-fn is_spare(text: &str) -> bool {
+/// Whether a text says that what it is for is not used.
+pub(crate) fn is_spare(text: &str) -> bool {
     let text = text.to_lowercase();
     SPARE.iter().any(|word| text.contains(word))
 }
@@ -163,12 +164,30 @@ fn check_classes(at: TokenIndex, variable: &Variable<'_>, findings: &mut Finding
     }
 }
 
+// A unit of bits.
+fn check_unit(variable: &Variable<'_>, findings: &mut Findings<'_>) {
+    if variable.kind != Some(VarType::BitEnumerated) {
+        return;
+    }
+    for attribute in &variable.item.attributes {
+        if let Attribute::OneText(at, TextAttribute::ConstantUnit, unit) = attribute {
+            let mut units = values_in(unit)
+                .into_iter()
+                .filter_map(|one| quoted(one.value));
+            if units.any(|unit| !unit.trim().is_empty()) {
+                findings.add(index(*at), VariableKind::UnitOfBits);
+            }
+        }
+    }
+}
+
 /// Checks the attributes of a variable.
 pub(crate) fn check_traits(
     variable: &Variable<'_>,
     context: &Context<'_>,
     findings: &mut Findings<'_>,
 ) {
+    check_unit(variable, findings);
     for attribute in &variable.item.attributes {
         let at = index(attribute.at());
         match attribute {

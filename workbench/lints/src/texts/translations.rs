@@ -6,6 +6,7 @@ use super::spoken::Spoken;
 use super::variants::{Variant, Variants};
 use crate::context::Context;
 use crate::kind::TextKind;
+use crate::units::Unit;
 use crate::warning::Findings;
 use edd_syntax::symbols::Keyword;
 
@@ -59,6 +60,11 @@ fn has_word(words: &[u8]) -> bool {
     })
 }
 
+// Whether a text is the sign or the name of a unit.
+fn is_unit(words: &[u8]) -> bool {
+    str::from_utf8(words).is_ok_and(|words| Unit::of(words.trim()).is_some())
+}
+
 // What a text has, where it is in one language.
 fn single_language(raw: &[u8]) -> Option<Variant<'_>> {
     let mut variants = Variants::of(raw);
@@ -86,7 +92,7 @@ pub(super) fn check_translations(texts: &[Spoken<'_>], findings: &mut Findings<'
     let mut all = 0_usize;
     let mut translated = 0_usize;
     for spoken in texts {
-        if is_for_readers(spoken) && has_word(&spoken.raw) {
+        if is_for_readers(spoken) && has_word(&spoken.raw) && !is_unit(&spoken.raw) {
             let has_more = single_language(&spoken.raw).is_none();
             all = all.saturating_add(1);
             translated = translated.saturating_add(usize::from(has_more));
@@ -101,7 +107,8 @@ pub(super) fn check_translations(texts: &[Spoken<'_>], findings: &mut Findings<'
             continue;
         };
         let says_language = spoken.raw.starts_with(b"|");
-        if has_word(words) && (says_language || is_for_readers(spoken)) {
+        let is_told = says_language || (is_for_readers(spoken) && !is_unit(words));
+        if has_word(words) && is_told {
             let code = code_text(code).to_owned();
             findings.add(spoken.at, TextKind::Untranslated(code));
         }
