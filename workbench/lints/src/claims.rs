@@ -9,9 +9,11 @@ use crate::traits::quoted;
 use crate::types::number_parts;
 use crate::units::Unit;
 use crate::warning::Findings;
+use crate::words::Phrases;
 use edd_syntax::item::Attribute;
 use edd_syntax::numbers::{NumberOption, TextAttribute};
 use edd_syntax::types::VarType;
+use std::sync::LazyLock;
 
 /// What stands between the ends of a range.
 const BETWEEN: [&str; 8] = [" to ", " bis ", "...", "..", "-", "–", " - ", " – "];
@@ -28,6 +30,8 @@ const DEFAULTS: [&str; 6] = [
 
 /// What a text with one of them has, whether it begins with a capital or not.
 const HINTS: [&str; 3] = ["efault", "tandard", "orgabe"];
+
+static HINTED: LazyLock<Phrases> = LazyLock::new(|| Phrases::of(&HINTS));
 
 /// A range that a text names.
 struct Named {
@@ -78,11 +82,11 @@ fn range_at(text: &str, unit: Option<Unit>) -> Option<(i64, i64, &str)> {
 // The one range that a text names.
 fn range_in(text: &str, unit: Option<Unit>) -> Option<Named> {
     let mut found = None;
-    let mut before = ' ';
+    let mut before = b' ';
     let mut passed = 0_usize;
-    for (at, sign) in text.char_indices() {
-        let begins = sign.is_ascii_digit() || sign == '-';
-        let is_apart = matches!(before, ' ' | '(' | '[');
+    for (at, sign) in text.bytes().enumerate() {
+        let begins = sign.is_ascii_digit() || sign == b'-';
+        let is_apart = matches!(before, b' ' | b'(' | b'[');
         if begins && is_apart && passed <= at {
             let rest = text.get(at..)?;
             if let Some((low, high, behind)) = range_at(rest, unit) {
@@ -124,14 +128,20 @@ fn constant(variable: &Variable<'_>, which: NumberOption) -> Option<i64> {
     parts.next()?.number()
 }
 
-fn check_range(text: &str, variable: &Variable<'_>, unit: Option<Unit>) -> Option<VariableKind> {
-    let named = range_in(text, unit)?;
+// The constant limits of a variable.
+fn limits_of(variable: &Variable<'_>) -> Option<(i64, i64)> {
     let greatest = constant(variable, NumberOption::MaxValue)?;
     let least = match constant(variable, NumberOption::MinValue) {
         Some(least) => least,
         None if variable.kind == Some(VarType::UnsignedInteger) => 0,
         None => return None,
     };
+    Some((least, greatest))
+}
+
+fn check_range(text: &str, limits: (i64, i64), unit: Option<Unit>) -> Option<VariableKind> {
+    let named = range_in(text, unit)?;
+    let (least, greatest) = limits;
     let (low, high) = (named.low, named.high);
     // A part of the limits may be what is usual.
     let is_beyond = low < least || greatest < high;
@@ -140,11 +150,11 @@ fn check_range(text: &str, variable: &Variable<'_>, unit: Option<Unit>) -> Optio
     is_told.then_some(VariableKind::NamedRange(low, high, least, greatest))
 }
 
-fn check_default(text: &str, variable: &Variable<'_>) -> Option<VariableKind> {
-    if !HINTS.iter().any(|hint| text.contains(hint)) {
+fn check_default(text: &str, default: i64) -> Option<VariableKind> {
+    let may_name = HINTED.find(text).is_some();
+    if !may_name || !HINTS.iter().any(|hint| text.contains(hint)) {
         return None;
     }
-    let default = constant(variable, NumberOption::DefaultValue)?;
     let text = text.to_lowercase();
     let named = DEFAULTS.iter().find_map(|word| {
         let (_, behind) = text.split_once(word)?;
@@ -160,13 +170,19 @@ pub(crate) fn wrong_claim(text: &str, variable: &Variable<'_>) -> Option<Variabl
         variable.kind,
         Some(VarType::Integer | VarType::UnsignedInteger)
     );
-    if !is_number || !text.contains(|sign: char| sign.is_ascii_digit()) {
+    if !is_number || !text.bytes().any(|sign| sign.is_ascii_digit()) {
         return None;
     }
-    let unit = variable.unit;
+    let limits = limits_of(variable);
+    let default = constant(variable, NumberOption::DefaultValue);
+    if limits.is_none() && default.is_none() {
+        return None;
+    }
+    let unit = variable.unit();
     Variants::of(text.as_bytes()).find_map(|variant| {
         let words = str::from_utf8(variant.words).ok()?;
-        check_range(words, variable, unit).or_else(|| check_default(words, variable))
+        let range = limits.and_then(|limits| check_range(words, limits, unit));
+        range.or_else(|| check_default(words, default?))
     })
 }
 

@@ -1,7 +1,7 @@
 //! Transactions that differ from all others where they look copied: what a reply repeats of its request.
 
 use crate::context::Context;
-use crate::exchanges::{Exchange, exchanges_of};
+use crate::exchanges::Exchange;
 use crate::kind::CommandKind;
 use crate::source::TokenIndex;
 use crate::usage::operation_of;
@@ -9,7 +9,6 @@ use crate::warning::Findings;
 use edd_syntax::item::{Item, ItemKind};
 use edd_syntax::reference::Target;
 use edd_syntax::types::Operation;
-use std::collections::HashSet;
 
 /// How many others have to agree.
 const FEWEST: usize = 2;
@@ -25,15 +24,14 @@ fn check_selectors(exchanges: &[Exchange], findings: &mut Findings<'_>) {
             .iter()
             .filter_map(|one| Some((one, one.selector?, one.echo?)))
     };
-    let agreeing = pairs()
-        .filter(|(_, selector, echo)| selector == echo)
-        .count();
-    let selectors: HashSet<_> = pairs().map(|(_, selector, _)| selector).collect();
     let mut others = pairs().filter(|(_, selector, echo)| selector != echo);
     let (Some((one, selector, echo)), None) = (others.next(), others.next()) else {
         return;
     };
-    if FEWEST <= agreeing && selectors.contains(&echo) {
+    let agreeing = pairs()
+        .filter(|(_, selector, echo)| selector == echo)
+        .count();
+    if FEWEST <= agreeing && pairs().any(|(_, selector, _)| selector == echo) {
         findings.add(one.at, CommandKind::OtherEcho(echo, selector));
     }
 }
@@ -48,12 +46,14 @@ struct Written {
 impl Written {
     // A transaction that replies with what it sends, or with nothing of it.
     fn add(&mut self, exchange: &Exchange) {
-        if exchange.sent.is_empty() || exchange.received.is_empty() {
+        let (sent, received) = (&exchange.sent, exchange.received.numbers());
+        if sent.numbers().is_empty() || received.is_empty() {
             return;
         }
-        if exchange.received.is_subset(&exchange.sent) {
+        let repeated = received.iter().filter(|one| sent.contains(**one)).count();
+        if repeated == received.len() {
             self.agreeing = self.agreeing.saturating_add(1);
-        } else if exchange.sent.is_disjoint(&exchange.received) {
+        } else if repeated == 0 {
             self.others.push(exchange.at);
         }
     }
@@ -63,11 +63,12 @@ impl Written {
 pub(crate) fn check_echoes(context: &Context<'_>, findings: &mut Findings<'_>) {
     let mut written = Written::default();
     let commands = context.instrument.items.iter();
-    for command in commands.filter(|item| item.sort == ItemKind::Command) {
-        let exchanges = exchanges_of(command);
-        check_selectors(&exchanges, findings);
+    let commands = commands.filter(|item| item.sort == ItemKind::Command);
+    for (number, command) in commands.enumerate() {
+        let exchanges = context.instrument.exchanges(number);
+        check_selectors(exchanges, findings);
         if is_write(command) {
-            for exchange in &exchanges {
+            for exchange in exchanges {
                 written.add(exchange);
             }
         }

@@ -17,16 +17,16 @@ use std::collections::HashMap;
 const MOST: usize = 8;
 
 /// The variables by the texts of their enumerators.
-pub(crate) struct States<'d> {
-    by_text: HashMap<&'d str, Vec<u16>>,
+pub(crate) struct States {
+    by_text: HashMap<String, Vec<u16>>,
 }
 
-impl<'d> States<'d> {
-    pub(crate) fn of(instrument: &Instrument<'d>) -> States<'d> {
-        let mut by_text: HashMap<&str, Vec<u16>> = HashMap::new();
+impl States {
+    pub(crate) fn of(instrument: &Instrument<'_>) -> States {
+        let mut by_text: HashMap<String, Vec<u16>> = HashMap::new();
         for variable in instrument.variables() {
-            for text in variable.by_text.keys() {
-                let known = by_text.entry(text).or_default();
+            for text in variable.texts().numbers.keys() {
+                let known = by_text.entry(text.clone()).or_default();
                 if known.len() < MOST {
                     known.push(variable.number);
                 }
@@ -38,7 +38,7 @@ impl<'d> States<'d> {
     // The one variable that has all of these texts, of which there are some.
     fn named_by(&self, texts: &[&str]) -> Option<u16> {
         let (first, rest) = texts.split_first()?;
-        let mut found = self.by_text.get(first)?.iter().copied().filter(|one| {
+        let mut found = self.by_text.get(*first)?.iter().copied().filter(|one| {
             let has = |text: &&str| {
                 self.by_text
                     .get(*text)
@@ -71,8 +71,9 @@ impl Texts<'_, '_, '_> {
                 continue;
             };
             texts.push(text);
-            let other = variable.by_text.get(text).filter(|other| *other != label);
-            let has_own = variable.texts.get(label).is_some_and(|own| *own != text);
+            let known = variable.texts();
+            let other = known.numbers.get(text).filter(|other| *other != label);
+            let has_own = known.words.get(label).is_some_and(|own| own != text);
             if let Some(other) = other.filter(|_| has_own) {
                 let at = self.context.places.arm(arm);
                 self.findings.add(at, ConditionKind::ExchangedText(*other));
@@ -81,8 +82,11 @@ impl Texts<'_, '_, '_> {
         // All texts may be those of another variable that is meant to be selected on.
         texts.sort_unstable();
         texts.dedup();
-        let is_own = texts.iter().any(|text| variable.by_text.contains_key(text));
-        let named = self.context.states.named_by(&texts).filter(|_| !is_own);
+        let known = &variable.texts().numbers;
+        if texts.len() < 2 || texts.iter().any(|text| known.contains_key(*text)) {
+            return;
+        }
+        let named = self.context.states().named_by(&texts);
         if let (Some(other), Some(first)) = (named, arms.first()) {
             let at = self.context.places.arm(first);
             let name = self.context.instrument.name_of(other);
@@ -130,10 +134,7 @@ pub(crate) fn check_exchanged<'d>(
 ) {
     for attribute in &item.attributes {
         if let Attribute::OneText(..) = attribute {
-            let mut texts = Texts {
-                context,
-                findings,
-            };
+            let mut texts = Texts { context, findings };
             conditionals_of(attribute, &mut texts);
         }
     }

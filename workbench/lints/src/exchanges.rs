@@ -6,7 +6,26 @@ use crate::usage::carried;
 use edd_syntax::cond::Cond;
 use edd_syntax::item::{Attribute, DataItem, Item, TransactionPart};
 use edd_syntax::reference::Target;
-use std::collections::HashSet;
+
+/// Variables by their numbers, sorted, each once.
+#[derive(Default)]
+pub(crate) struct Carried(Vec<u16>);
+
+impl Carried {
+    fn extend(&mut self, numbers: impl Iterator<Item = u16>) {
+        self.0.extend(numbers);
+        self.0.sort_unstable();
+        self.0.dedup();
+    }
+
+    pub(crate) fn numbers(&self) -> &[u16] {
+        &self.0
+    }
+
+    pub(crate) fn contains(&self, variable: u16) -> bool {
+        self.0.binary_search(&variable).is_ok()
+    }
+}
 
 /// What a transaction carries.
 pub(crate) struct Exchange {
@@ -16,11 +35,11 @@ pub(crate) struct Exchange {
     pub(crate) selector: Option<u32>,
     pub(crate) echo: Option<u32>,
     /// The variables of the REQUEST, whatever holds.
-    pub(crate) sent: HashSet<u16>,
+    pub(crate) sent: Carried,
     /// Those of the REPLY, whatever holds.
-    pub(crate) received: HashSet<u16>,
+    pub(crate) received: Carried,
     /// Those that the REPLY always sets as a whole.
-    pub(crate) set: HashSet<u16>,
+    pub(crate) set: Carried,
 }
 
 // The constant with which a message begins.
@@ -61,9 +80,9 @@ impl Exchange {
             number: *number,
             selector: None,
             echo: None,
-            sent: HashSet::new(),
-            received: HashSet::new(),
-            set: HashSet::new(),
+            sent: Carried::default(),
+            received: Carried::default(),
+            set: Carried::default(),
         };
         for part in parts {
             match part {

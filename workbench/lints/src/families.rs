@@ -3,7 +3,7 @@
 
 use crate::context::Context;
 use crate::instrument::Variable;
-use crate::kind::MenuKind;
+use crate::kind::{MenuKind, VariableKind};
 use crate::names::numbered;
 use crate::source::{TokenIndex, index};
 use crate::texts::variants::Variants;
@@ -15,7 +15,7 @@ use edd_syntax::cond::Cond;
 use edd_syntax::item::{Attribute, Item};
 use edd_syntax::numbers::TextAttribute;
 use edd_syntax::reference::Target;
-use std::collections::{BTreeMap, HashMap, HashSet};
+use std::collections::{BTreeMap, BTreeSet, HashMap};
 
 /// Of how many families an item may name members, so that all of them are looked at.
 const MOST_STEMS: usize = 64;
@@ -26,14 +26,12 @@ type Numbers = BTreeMap<u32, TokenIndex>;
 /// What an item with a number names.
 struct Member<'d> {
     number: u32,
-    label: Option<(TokenIndex, &'d str)>,
     /// By their stems.
     named: HashMap<&'d str, Numbers>,
 }
 
-/// All items with numbers.
+/// The items with numbers that are looked at: those of families of which a member names another one's items.
 struct Families<'d> {
-    names: HashSet<(&'d str, u32)>,
     members: BTreeMap<&'d str, Vec<Member<'d>>>,
 }
 
@@ -55,46 +53,72 @@ fn number_in(text: &str) -> Option<u32> {
     runs.next().is_none().then(|| first.parse().ok()).flatten()
 }
 
+// The names between that of an item and the next item that are those of items with numbers, with their places.
+fn named_by<'d>(
+    place: usize,
+    context: &Context<'d>,
+) -> impl Iterator<Item = (TokenIndex, &'d str, u32)> {
+    let items = context.instrument.items;
+    let start = items.get(place).map(|item| index(item.at));
+    let next = items.get(place.saturating_add(1));
+    let end = next.map_or(context.source.tokens.len(), |item| index(item.at));
+    let source = context.source;
+    let places = start.unwrap_or(end).saturating_add(1)..end;
+    places.filter_map(move |at| {
+        if source.kind(at) != Some(TokenKind::Name) || !source.bytes(at).last()?.is_ascii_digit() {
+            return None;
+        }
+        let (stem, number) = numbered(source.word(at))?;
+        Some((at, stem, number))
+    })
+}
+
+// Whether an item names one with another number than its own, and there is one with its own.
+fn names_other(place: usize, (stem, own): (&str, u32), context: &Context<'_>) -> bool {
+    let instrument = &context.instrument;
+    named_by(place, context).any(|(at, other, number)| {
+        number != own
+            && other != stem
+            && instrument.has_name(context.source.word(at))
+            && instrument.has_name(&format!("{other}{own}"))
+    })
+}
+
 impl<'d> Families<'d> {
     fn of(context: &Context<'d>) -> Families<'d> {
         let items = context.instrument.items;
-        let names = items.iter().filter_map(|item| numbered(item.name()));
+        let numbers = || {
+            let names = items.iter().map(|item| numbered(item.name()));
+            names
+                .enumerate()
+                .filter_map(|(place, name)| Some((place, name?)))
+        };
+        let suspects = numbers().filter(|(place, name)| names_other(*place, *name, context));
+        let suspects: BTreeSet<&str> = suspects.map(|(_, (stem, _))| stem).collect();
         let mut families = Families {
-            names: names.collect(),
             members: BTreeMap::new(),
         };
-        let ends = items.iter().skip(1).map(|item| index(item.at));
-        let ends = ends.chain([context.source.tokens.len()]);
-        for (item, end) in items.iter().zip(ends) {
-            families.add(item, end, context);
+        if suspects.is_empty() {
+            return families;
+        }
+        for (place, (stem, number)) in numbers() {
+            if suspects.contains(stem) {
+                families.add(place, stem, number, context);
+            }
         }
         families
     }
 
-    // Notes the names between that of an item and the next item.
-    fn add(&mut self, item: &'d Item<Target>, end: TokenIndex, context: &Context<'d>) {
-        let Some((stem, number)) = numbered(item.name()) else {
-            return;
-        };
+    // Notes what an item names.
+    fn add(&mut self, place: usize, stem: &'d str, number: u32, context: &Context<'d>) {
         let mut member = Member {
             number,
-            label: label_of(item),
             named: HashMap::new(),
         };
-        for at in index(item.at).saturating_add(1)..end {
-            if context.source.kind(at) != Some(TokenKind::Name) {
-                continue;
-            }
-            let Some((other, number)) = numbered(context.source.word(at)) else {
-                continue;
-            };
-            if other != stem && self.names.contains(&(other, number)) {
-                member
-                    .named
-                    .entry(other)
-                    .or_default()
-                    .entry(number)
-                    .or_insert(at);
+        for (at, other, number) in named_by(place, context) {
+            if other != stem && context.instrument.has_name(context.source.word(at)) {
+                let numbers = member.named.entry(other).or_default();
+                numbers.entry(number).or_insert(at);
             }
         }
         self.members.entry(stem).or_default().push(member);
@@ -116,7 +140,6 @@ impl<'d> Families<'d> {
             for member in members.iter().filter(|one| one.named.len() <= MOST_STEMS) {
                 self.check_names(member, &agreeing, context, findings);
             }
-            check_labels(members, findings);
         }
     }
 
@@ -138,65 +161,74 @@ impl<'d> Families<'d> {
             let others = agreeing.get(stem).copied().unwrap_or(0);
             // Where one other member alone names its own, both may share it.
             let is_copied = 2 <= others || (others == 1 && names_own);
-            if *other != own && is_copied && self.names.contains(&(*stem, own)) {
+            let expected = format!("{stem}{own}");
+            if *other != own && is_copied && context.instrument.has_name(&expected) {
                 let word = context.source.word(*at).to_owned();
-                let expected = format!("{stem}{own}");
                 findings.add(*at, MenuKind::LeftOverName(word, expected));
             }
         }
     }
 }
 
-// A label with the number of another member, whose label is the same.
-fn check_labels(members: &[Member<'_>], findings: &mut Findings<'_>) {
-    let labels: HashMap<u32, &str> = members
-        .iter()
-        .filter_map(|one| Some((one.number, one.label?.1)))
-        .collect();
-    for member in members {
-        let Some((at, label)) = member.label else {
+// Labels with the number of another item of their family, whose label is the same.
+fn check_labels(context: &Context<'_>, findings: &mut Findings<'_>) {
+    for item in context.instrument.items {
+        let Some((stem, own)) = numbered(item.name()) else {
             continue;
         };
-        let Some(number) = number_in(label).filter(|number| *number != member.number) else {
+        let Some((at, label)) = label_of(item) else {
             continue;
         };
-        if labels.get(&number) == Some(&label) {
-            findings.add(at, MenuKind::LeftOverNumber(number, member.number));
+        let Some(number) = number_in(label).filter(|number| *number != own) else {
+            continue;
+        };
+        let other = context.instrument.item_named(&format!("{stem}{number}"));
+        if other
+            .and_then(label_of)
+            .is_some_and(|(_, other)| other == label)
+        {
+            findings.add(at, MenuKind::LeftOverNumber(number, own));
         }
     }
 }
 
+/// A variable with a number, with the stem of its name and its unit.
+type Measured<'v, 'd> = (&'d str, Unit, &'v Variable<'d>);
+
 // The one unit of a family that is another one than all others have.
-fn check_units(units: &[(TokenIndex, Unit)], findings: &mut Findings<'_>) {
-    let mut counts: Vec<(Unit, usize, TokenIndex)> = Vec::new();
-    for (at, unit) in units {
-        match counts.iter_mut().find(|(known, ..)| known == unit) {
-            Some((_, count, _)) => *count = count.saturating_add(1),
-            None => counts.push((*unit, 1, *at)),
-        }
-    }
-    counts.sort_by_key(|(_, count, _)| *count);
-    if let [(other, 1, at), (usual, count, _)] = *counts
-        && 2 <= count
-        && usual.is_comparable(other)
+fn check_units(family: &[Measured<'_, '_>], findings: &mut Findings<'_>) {
+    let [(_, one, _), (_, second, _), (_, third, _), ..] = family else {
+        return;
+    };
+    // Of the first three two at least have the usual one.
+    let usual = if one == second || one == third {
+        one
+    } else {
+        second
+    };
+    let mut others = family.iter().filter(|(_, unit, _)| unit != usual);
+    if let (Some((_, other, variable)), None) = (others.next(), others.next())
+        && usual.is_comparable(*other)
     {
-        let kind = crate::kind::VariableKind::OtherUnit(other.name(), usual.name());
-        findings.add(at, kind);
+        let kind = VariableKind::OtherUnit(other.name(), usual.name());
+        findings.add(at_of(variable), kind);
     }
 }
 
 /// Checks the families of a description.
 pub(crate) fn check_families(context: &Context<'_>, findings: &mut Findings<'_>) {
     Families::of(context).check(context, findings);
-    let mut units: BTreeMap<&str, Vec<(TokenIndex, Unit)>> = BTreeMap::new();
-    for variable in context.instrument.variables() {
-        let place = numbered(variable.name()).zip(variable.unit);
-        if let Some(((stem, _), unit)) = place {
-            units.entry(stem).or_default().push((at_of(variable), unit));
-        }
-    }
-    for units in units.values() {
-        check_units(units, findings);
+    check_labels(context, findings);
+    let variables = context.instrument.variables().iter();
+    let units = variables.filter_map(|variable| {
+        let unit = variable.unit()?;
+        let (stem, _) = numbered(variable.name())?;
+        Some((stem, unit, variable))
+    });
+    let mut units: Vec<_> = units.collect();
+    units.sort_by_key(|(stem, ..)| *stem);
+    for family in units.chunk_by(|one, other| one.0 == other.0) {
+        check_units(family, findings);
     }
 }
 

@@ -4,16 +4,13 @@ use crate::abort_methods::check_abort_methods;
 use crate::context::Context;
 use crate::echoes::check_echoes;
 use crate::entries::check_entries;
-use crate::exchanged::States;
 use crate::families::check_families;
 use crate::instrument::Instrument;
 use crate::items::{PART, check_items, parts_of};
-use crate::labels::Labels;
 use crate::levels::Levels;
 use crate::limits::check_circular;
 use crate::lockouts::check_lockouts;
 use crate::menus::check_menus;
-use crate::names::Names;
 use crate::parallel::Threads;
 use crate::places::Places;
 use crate::remarks::Remarks;
@@ -78,15 +75,7 @@ fn find_in_parts(
     let elements = elements_of(description);
     let known = || (Instrument::of(items, &elements), Usage::of(items));
     let (places, (instrument, usage)) = threads.make_both(|| Places::of(source, items), known);
-    let context = Context {
-        source,
-        places,
-        names: Names::of(&instrument),
-        labels: Labels::of(&instrument),
-        states: States::of(&instrument),
-        instrument,
-        usage,
-    };
+    let context = Context::new(source, places, instrument, usage);
     let mut findings = check_all(&context, length, threads);
     let remarks = Remarks::of(source);
     remarks.check_names(&mut findings);

@@ -7,16 +7,17 @@ use crate::source::{TokenIndex, index};
 use crate::texts::variants::first_words;
 use crate::traits::quoted;
 use crate::types::{number_of, number_parts};
-use crate::units::{Unit, unit_of};
+use crate::units::{Unit, units_of};
 use edd_constants::evaluate;
 use edd_instructions::Sort;
 use edd_syntax::cond::Cond;
 use edd_syntax::expr::Expr;
-use edd_syntax::item::{Attribute, Enumerator, Item, ItemKind, TypePart, TypeWord};
+use edd_syntax::item::{Attribute, Item, ItemKind, TypePart, TypeWord};
 use edd_syntax::numbers::{Element, ItemNo, NumberOption, VarNo};
 use edd_syntax::reference::Target;
 use edd_syntax::types::{Handling, VarType};
 use std::collections::{HashMap, HashSet};
+use std::sync::OnceLock;
 
 /// What is known of a variable.
 pub(crate) struct Variable<'i> {
@@ -25,12 +26,11 @@ pub(crate) struct Variable<'i> {
     pub(crate) kind: Option<VarType>,
     pub(crate) range: Option<Range>,
     /// The enumerators of all branches.
-    pub(crate) enumerators: HashSet<i64>,
-    /// The enumerators by what their texts say in their first language, and the other way round.
-    pub(crate) by_text: HashMap<&'i str, i64>,
-    pub(crate) texts: HashMap<i64, &'i str>,
-    /// Its unit, where it always is the same one.
-    pub(crate) unit: Option<Unit>,
+    pub(crate) enumerators: Vec<i64>,
+    /// What their texts say, once that is asked for.
+    texts: OnceLock<Texts>,
+    /// Its units in all branches and languages, where all of them are known.
+    pub(crate) units: Vec<Unit>,
     /// Whether HANDLING is READ, under no condition.
     pub(crate) is_read_only: bool,
     /// Whether it is WRITE so.
@@ -40,20 +40,42 @@ pub(crate) struct Variable<'i> {
     pub(crate) greatest: Option<i64>,
 }
 
+/// The enumerators of a variable by what their texts say in their first language, and the other way round.
+#[derive(Default)]
+pub(crate) struct Texts {
+    pub(crate) numbers: HashMap<String, i64>,
+    pub(crate) words: HashMap<i64, String>,
+}
+
+impl Texts {
+    fn of(parts: &[TypePart<Target>]) -> Texts {
+        let mut texts = Texts::default();
+        for listed in enumerators_of(parts) {
+            let text = quoted(&listed.value.text);
+            let words = text.map(first_words).unwrap_or_default();
+            if !words.is_empty() {
+                texts.numbers.insert(words.to_owned(), listed.value.value);
+                texts.words.insert(listed.value.value, words.to_owned());
+            }
+        }
+        texts
+    }
+}
+
 /// What is known of the commands of a number.
 #[derive(Default)]
 struct Command {
     /// Where the number is first.
     at: TokenIndex,
-    transactions: HashSet<u32>,
-    /// Its response codes.
-    codes: HashSet<u32>,
+    transactions: Vec<u32>,
+    /// Their response codes.
+    codes: Vec<u32>,
     /// Whether all transactions have their numbers written.
     are_numbered: bool,
     /// How many transactions there are.
     count: i64,
-    /// What its transactions carry.
-    exchanges: Vec<Exchange>,
+    /// Which of all commands they are.
+    places: Vec<usize>,
 }
 
 /// What is known of the items of a description.
@@ -69,8 +91,10 @@ pub(crate) struct Instrument<'i> {
     element_ranges: HashMap<u16, Range>,
     /// The commands by their numbers.
     commands: HashMap<u32, Command>,
-    /// The names of all items.
-    names: HashSet<&'i str>,
+    /// What the transactions of each command carry.
+    exchanges: Vec<Vec<Exchange>>,
+    /// The items by their names.
+    names: HashMap<&'i str, usize>,
 }
 
 /// The variable that a target is.
@@ -88,17 +112,16 @@ impl<'i> Variable<'i> {
             number: u16::try_from(number).unwrap_or(u16::MAX),
             kind: None,
             range: None,
-            enumerators: HashSet::new(),
-            by_text: HashMap::new(),
-            texts: HashMap::new(),
-            unit: None,
+            enumerators: Vec::new(),
+            texts: OnceLock::new(),
+            units: Vec::new(),
             is_read_only: false,
             is_write_only: false,
             least: None,
             greatest: None,
         };
         variable.add_limits();
-        variable.unit = unit_of(&variable);
+        variable.units = units_of(item);
         for attribute in &item.attributes {
             match attribute {
                 Attribute::TypeOf {
@@ -110,9 +133,8 @@ impl<'i> Variable<'i> {
                     variable.range = Some(Range::of(*kind, *size));
                     let listed = enumerators_of(parts);
                     variable.enumerators = listed.iter().map(|one| one.value.value).collect();
-                    for one in listed {
-                        variable.add_text(one.value);
-                    }
+                    variable.enumerators.sort_unstable();
+                    variable.enumerators.dedup();
                 }
                 Attribute::Handling(_, Cond::Value(handling)) => {
                     variable.is_read_only = *handling == Handling::Read;
@@ -137,14 +159,23 @@ impl<'i> Variable<'i> {
         }
     }
 
-    fn add_text(&mut self, enumerator: &'i Enumerator) {
-        let text = quoted(&enumerator.text)
-            .map(first_words)
-            .unwrap_or_default();
-        if !text.is_empty() {
-            self.by_text.insert(text, enumerator.value);
-            self.texts.insert(enumerator.value, text);
-        }
+    /// What the texts of its enumerators say.
+    pub(crate) fn texts(&self) -> &Texts {
+        self.texts.get_or_init(|| Texts::of(self.parts()))
+    }
+
+    /// Its unit, where it always is the same one.
+    pub(crate) fn unit(&self) -> Option<Unit> {
+        let first = self.units.first().copied()?;
+        self.units
+            .iter()
+            .all(|unit| *unit == first)
+            .then_some(first)
+    }
+
+    /// Whether a number is one of its enumerators.
+    pub(crate) fn has_enumerator(&self, number: i64) -> bool {
+        self.enumerators.binary_search(&number).is_ok()
     }
 
     pub(crate) fn name(&self) -> &'i str {
@@ -172,7 +203,7 @@ impl<'i> Variable<'i> {
     pub(crate) fn lacks(&self, number: i64) -> bool {
         self.kind == Some(VarType::Enumerated)
             && !self.enumerators.is_empty()
-            && !self.enumerators.contains(&number)
+            && !self.has_enumerator(number)
     }
 }
 
@@ -218,7 +249,8 @@ impl<'i> Instrument<'i> {
             arrays: elements.iter().map(|element| element.array.0).collect(),
             element_ranges: HashMap::new(),
             commands: HashMap::new(),
-            names: items.iter().map(Item::name).collect(),
+            exchanges: Vec::new(),
+            names: items.iter().map(Item::name).zip(0..).collect(),
         };
         for (number, item) in items.iter().enumerate() {
             instrument.add_place(item, number);
@@ -264,18 +296,13 @@ impl<'i> Instrument<'i> {
     /// What the transaction of a command carries. Without a number the command has to have one alone.
     pub(crate) fn exchange(&self, command: i64, transaction: Option<i64>) -> Option<&Exchange> {
         let number = u32::try_from(command).ok()?;
-        let known = self.commands.get(&number)?;
-        match transaction {
-            None => match &*known.exchanges {
-                [one] => Some(one),
-                _ => None,
-            },
-            Some(wanted) => {
-                let is_wanted = |one: &&Exchange| one.number.map(i64::from) == Some(wanted);
-                let mut found = known.exchanges.iter().filter(is_wanted);
-                found.next().filter(|_| found.next().is_none())
-            }
-        }
+        let places = self.commands.get(&number)?.places.iter();
+        let all = places.flat_map(|place| self.exchanges(*place));
+        let is_wanted = |one: &&Exchange| {
+            transaction.is_none_or(|wanted| one.number.map(i64::from) == Some(wanted))
+        };
+        let mut found = all.filter(is_wanted);
+        found.next().filter(|_| found.next().is_none())
     }
 
     /// Whether a command of a number has a transaction of another one.
@@ -303,8 +330,14 @@ impl<'i> Instrument<'i> {
             known.count = known.count.saturating_add(own.count);
             known.transactions.extend(own.transactions);
             known.codes.extend(own.codes);
-            known.exchanges.extend(exchanges_of(command));
+            known.places.push(self.exchanges.len());
         }
+        self.exchanges.push(exchanges_of(command));
+    }
+
+    /// What the transactions of the command carry that is so many behind the first one.
+    pub(crate) fn exchanges(&self, command: usize) -> &[Exchange] {
+        self.exchanges.get(command).map_or(&[], Vec::as_slice)
     }
 
     /// The index of an item among all items.
@@ -336,7 +369,22 @@ impl<'i> Instrument<'i> {
 
     /// Whether an item has a name.
     pub(crate) fn has_name(&self, name: &str) -> bool {
-        self.names.contains(name)
+        self.names.contains_key(name)
+    }
+
+    /// The item of a name.
+    pub(crate) fn item_named(&self, name: &str) -> Option<&'i Item<Target>> {
+        self.items.get(*self.names.get(name)?)
+    }
+
+    /// The variable of a name.
+    pub(crate) fn variable_named(&self, name: &str) -> Option<u16> {
+        let place = self.names.get(name)?;
+        let item = self.items.get(*place)?;
+        let numbers = self.by_kind.get(usize::from(item.kind().number()))?;
+        let number = numbers.binary_search(place).ok()?;
+        let is_variable = item.sort == ItemKind::Variable;
+        u16::try_from(number).ok().filter(|_| is_variable)
     }
 
     /// The variable that an element of an array is.

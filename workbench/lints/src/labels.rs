@@ -3,6 +3,7 @@
 use crate::instrument::{Instrument, Variable};
 use crate::texts::variants::first_words;
 use crate::traits::quoted;
+use crate::words::terms_of;
 use edd_syntax::cond::Cond;
 use edd_syntax::item::Attribute;
 use edd_syntax::numbers::TextAttribute;
@@ -22,35 +23,49 @@ const SHORTEST: usize = 3;
 
 /// The variables by the English labels that no other one has.
 pub(crate) struct Labels {
+    /// By their words in small letters.
     variables: HashMap<String, Option<u16>>,
 }
 
 // The label of a variable in its first language.
-fn label_of(variable: &Variable<'_>) -> Option<String> {
+fn label_of<'d>(variable: &Variable<'d>) -> Option<&'d str> {
     let attributes = variable.item.attributes.iter();
     let mut label = attributes.filter_map(|one| match one {
         Attribute::OneText(_, TextAttribute::Label, Cond::Value(text)) => quoted(text),
         _ => None,
     });
-    Some(first_words(label.next()?).to_lowercase())
+    Some(first_words(label.next()?))
 }
 
-fn words_of(text: &str) -> Vec<String> {
-    let parts = text.split(|sign: char| !sign.is_alphanumeric());
-    let parts = parts.filter(|part| !part.is_empty());
-    parts.map(str::to_lowercase).collect()
+// Writes words in small letters, with blanks between.
+fn join<'t>(words: impl IntoIterator<Item = &'t str>, joined: &mut String) {
+    joined.clear();
+    for word in words {
+        if !joined.is_empty() {
+            joined.push(' ');
+        }
+        if word.is_ascii() {
+            joined.extend(word.chars().map(|sign| sign.to_ascii_lowercase()));
+        } else {
+            joined.push_str(&word.to_lowercase());
+        }
+    }
 }
 
 impl Labels {
     pub(crate) fn of(instrument: &Instrument<'_>) -> Labels {
         let mut variables = HashMap::new();
-        let all = instrument.variables();
-        for (number, variable) in (0u16..).zip(all) {
+        let mut words = String::new();
+        for variable in instrument.variables() {
             if let Some(label) = label_of(variable) {
-                let words = words_of(&label).join(" ");
-                let known = variables.entry(words).or_insert(Some(number));
-                if *known != Some(number) {
-                    *known = None;
+                join(terms_of(label), &mut words);
+                let number = Some(variable.number);
+                match variables.get_mut(words.as_str()) {
+                    Some(known) if *known != number => *known = None,
+                    Some(_) => {}
+                    None => {
+                        variables.insert(words.clone(), number);
+                    }
                 }
             }
         }
@@ -59,26 +74,30 @@ impl Labels {
 
     /// The one variable whose label a text has, where it has no word of the label and the name of its own.
     pub(crate) fn named_in(&self, text: &str, own: &Variable<'_>) -> Option<u16> {
-        let words = words_of(text);
-        let own_words = words_of(&label_of(own)?);
-        let name_words = words_of(&own.name().replace('_', " "));
-        let own_words: HashSet<_> = own_words.into_iter().chain(name_words).collect();
-        let has_own = words
-            .iter()
-            .any(|word| SHORTEST <= word.len() && own_words.contains(word));
-        if has_own {
+        let words: Vec<_> = terms_of(text).collect();
+        let own_words = terms_of(label_of(own)?).chain(terms_of(own.name()));
+        let own_words: HashSet<_> = own_words.map(str::to_lowercase).collect();
+        let is_own =
+            |word: &&str| SHORTEST <= word.len() && own_words.contains(&word.to_lowercase());
+        if words.iter().any(is_own) {
             return None;
         }
-        let mut found = HashSet::new();
+        let mut found = None;
+        let mut label = String::new();
         for length in 1..=LONGEST {
             for part in words.windows(length) {
-                let label = part.join(" ");
-                if SHORTEST < label.len() && !COMMON.contains(&label.as_str()) {
-                    found.extend(self.variables.get(&label).copied().flatten());
+                join(part.iter().copied(), &mut label);
+                if label.len() <= SHORTEST || COMMON.contains(&label.as_str()) {
+                    continue;
                 }
+                let named = self.variables.get(&label).copied().flatten();
+                let named = named.filter(|number| *number != own.number);
+                if named.is_some() && found.is_some() && named != found {
+                    return None;
+                }
+                found = found.or(named);
             }
         }
-        let mut found = found.into_iter().filter(|number| *number != own.number);
-        found.next().filter(|_| found.next().is_none())
+        found
     }
 }

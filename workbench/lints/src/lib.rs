@@ -56,6 +56,7 @@ mod usage;
 mod values;
 mod visit;
 mod warning;
+mod words;
 
 pub use classes::CLASSES;
 pub use finding::find;

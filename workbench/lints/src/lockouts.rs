@@ -10,6 +10,7 @@ use crate::settled::where_valid;
 use crate::source::{TokenIndex, index};
 use crate::traits::classes_of;
 use crate::types::number_parts;
+use crate::usage::{Variables, has_validity};
 use crate::values::Values;
 use crate::values::environment::{Environment, Storage, storage_of};
 use crate::visit::{Visitor, visit_item};
@@ -21,40 +22,55 @@ use edd_syntax::item::{Attribute, Item, ItemKind, MenuEntry};
 use edd_syntax::numbers::{CollNo, ItemNo, NumberOption};
 use edd_syntax::operators::{Builtin, Comparison, RequestKind};
 use edd_syntax::reference::Target;
-use std::collections::{HashMap, HashSet};
+use std::collections::{BTreeMap, BTreeSet};
 
-/// A place at which a variable can be changed.
+/// A place at which a variable can be changed, and what it is there.
 struct Change {
     at: TokenIndex,
-    /// Whether a method does it, and not an entry of a menu.
-    is_by_method: bool,
-    /// What the variable is there, where that is known.
-    there: Option<Values>,
+    there: Values,
+}
+
+/// The variables that something changes whatever they are.
+#[derive(Default)]
+struct Free {
+    /// By methods, or as members of collections.
+    always: Variables,
+    /// By entries of menus, where they can be entered.
+    entered: Variables,
 }
 
 /// Where variables can be changed.
 struct Changes<'c, 'd> {
     context: &'c Context<'d>,
-    all: HashMap<u16, Vec<Change>>,
+    free: Free,
     /// The collections that are entries: their members can be changed wherever they are.
-    collections: HashSet<u16>,
+    collections: BTreeSet<u16>,
+    /// Where others can be changed, by methods and by entries.
+    by_methods: BTreeMap<u16, Vec<Change>>,
+    by_entries: BTreeMap<u16, Vec<Change>>,
 }
 
 impl<'c, 'd> Changes<'c, 'd> {
-    fn add(
-        &mut self,
-        variable: u16,
-        at: TokenIndex,
-        is_by_method: bool,
-        known: &Environment<'c, 'd>,
-    ) {
+    fn add(&mut self, variable: u16, at: TokenIndex, known: &Environment<'c, 'd>) {
         let storage = Storage::Variable(variable);
-        let there = known.knows(storage).then(|| known.get(storage));
-        self.all.entry(variable).or_default().push(Change {
-            at,
-            is_by_method,
-            there,
-        });
+        if known.knows(storage) {
+            let there = known.get(storage);
+            let places = self.by_entries.entry(variable).or_default();
+            places.push(Change { at, there });
+        } else {
+            self.free.entered.insert(variable);
+        }
+    }
+
+    fn add_set(&mut self, variable: u16, at: TokenIndex, known: &Environment<'c, 'd>) {
+        let storage = Storage::Variable(variable);
+        if known.knows(storage) {
+            let there = known.get(storage);
+            let places = self.by_methods.entry(variable).or_default();
+            places.push(Change { at, there });
+        } else {
+            self.free.always.insert(variable);
+        }
     }
 
     fn add_entries(
@@ -100,7 +116,7 @@ impl<'c, 'd> Changes<'c, 'd> {
         let at = self.context.places.entry(entry);
         match item {
             ItemNo::Variable(variable) if !qualifiers.read_only && !qualifiers.hidden => {
-                self.add(variable.0, at, false, known);
+                self.add(variable.0, at, known);
             }
             ItemNo::Collection(number) => {
                 self.collections.insert(number.0);
@@ -110,21 +126,23 @@ impl<'c, 'd> Changes<'c, 'd> {
     }
 
     fn add_item(&mut self, item: &Item<Target>) {
-        let known = Environment::new(Sort::Attribute, self.context);
-        let there = where_valid(item, known);
+        let there = || where_valid(item, Environment::new(Sort::Attribute, self.context));
         match item.sort {
             ItemKind::Menu => {
+                let there = there();
                 for attribute in &item.attributes {
                     if let Attribute::Items(_, entries) = attribute {
                         self.add_entries(entries, Some(there.clone()));
                     }
                 }
             }
-            ItemKind::Method => {
+            // What the other methods set is known already.
+            ItemKind::Method if has_validity(item) => {
+                let there = there();
                 let mut sets = Sets::default();
                 visit_item(item, &mut sets);
                 for variable in sets.variables {
-                    self.add(variable, index(item.at), true, &there);
+                    self.add_set(variable, index(item.at), &there);
                 }
             }
             _ => {}
@@ -145,7 +163,7 @@ fn members_of(item: &Item<Target>) -> impl Iterator<Item = u16> {
 /// The variables that a method sets.
 #[derive(Default)]
 struct Sets {
-    variables: HashSet<u16>,
+    variables: BTreeSet<u16>,
 }
 
 impl<'t> Visitor<'t> for Sets {
@@ -174,8 +192,7 @@ impl<'t> Visitor<'t> for Sets {
 
 // What a variable may be: its enumerators, or the ends of what it holds.
 fn candidates(variable: &Variable<'_>) -> Vec<i64> {
-    let mut all: Vec<_> = variable.enumerators.iter().copied().collect();
-    all.sort_unstable();
+    let mut all = variable.enumerators.clone();
     if all.is_empty() {
         let ends = variable
             .range
@@ -188,10 +205,8 @@ fn candidates(variable: &Variable<'_>) -> Vec<i64> {
 
 // The value at which nothing lets a variable be changed. Where its default is no such value it may be meant to
 // be locked once.
-fn locked_at(variable: &Variable<'_>, places: &[Change]) -> Option<i64> {
-    let there: Option<Vec<_>> = places.iter().map(|place| place.there).collect();
-    let there = there?;
-    let is_locked = |number: &i64| !there.iter().any(|values| values.holds(*number));
+fn locked_at(variable: &Variable<'_>, places: &[&Change]) -> Option<i64> {
+    let is_locked = |number: &i64| !places.iter().any(|place| place.there.holds(*number));
     let mut parts = number_parts(variable.parts());
     let default = parts.find(|part| part.which == NumberOption::DefaultValue);
     let default = default.and_then(|part| part.number());
@@ -201,12 +216,38 @@ fn locked_at(variable: &Variable<'_>, places: &[Change]) -> Option<i64> {
     default.or_else(|| candidates(variable).into_iter().find(is_locked))
 }
 
+impl Changes<'_, '_> {
+    // The first place at which a variable can be changed, and a value at which none of them lets it be.
+    fn locked(&self, variable: &Variable<'_>) -> Option<(TokenIndex, i64)> {
+        let number = variable.number;
+        let usage = &self.context.usage;
+        // What can't be entered is changed by methods alone.
+        let is_entered = !variable.is_read_only;
+        let is_free = self.free.always.contains(number)
+            || (is_entered && self.free.entered.contains(number))
+            || usage.freely_set.contains(number)
+            || usage.replied.contains(number)
+            || classes_of(variable).contains("DYNAMIC");
+        if is_free {
+            return None;
+        }
+        let by_methods = self.by_methods.get(&number).into_iter().flatten();
+        let by_entries = self.by_entries.get(&number).filter(|_| is_entered);
+        let mut places: Vec<_> = by_methods.chain(by_entries.into_iter().flatten()).collect();
+        places.sort_by_key(|place| place.at);
+        let locked = locked_at(variable, &places)?;
+        Some((places.first()?.at, locked))
+    }
+}
+
 /// Checks which variables can be changed only where they have a value already.
 pub(crate) fn check_lockouts(context: &Context<'_>, findings: &mut Findings<'_>) {
     let mut changes = Changes {
         context,
-        all: HashMap::new(),
-        collections: HashSet::new(),
+        free: Free::default(),
+        collections: BTreeSet::new(),
+        by_methods: BTreeMap::new(),
+        by_entries: BTreeMap::new(),
     };
     for item in context.instrument.items {
         changes.add_item(item);
@@ -215,25 +256,22 @@ pub(crate) fn check_lockouts(context: &Context<'_>, findings: &mut Findings<'_>)
         let item = ItemNo::Collection(CollNo(*number));
         let place = context.instrument.place_of(item);
         let shown = place.and_then(|place| context.instrument.items.get(place));
-        for member in shown.into_iter().flat_map(members_of) {
-            changes.all.remove(&member);
-        }
+        changes
+            .free
+            .always
+            .extend(shown.into_iter().flat_map(members_of));
     }
-    let mut all: Vec<_> = changes.all.into_iter().collect();
-    all.sort_unstable_by_key(|(variable, _)| *variable);
-    for (number, places) in all {
-        let Some(variable) = context.instrument.variable(number) else {
-            continue;
-        };
-        let is_sent_back =
-            context.usage.replied.contains(number) || classes_of(variable).contains("DYNAMIC");
-        // What can't be entered is changed by methods alone.
-        let mut places = places;
-        places.retain(|place| place.is_by_method || !variable.is_read_only);
-        let locked = locked_at(variable, &places).filter(|_| !is_sent_back);
-        if let (Some(number), Some(first)) = (locked, places.first()) {
+    let numbers: BTreeSet<_> = changes
+        .by_methods
+        .keys()
+        .chain(changes.by_entries.keys())
+        .collect();
+    for number in numbers {
+        let variable = context.instrument.variable(*number);
+        let locked = variable.and_then(|one| Some((one, changes.locked(one)?)));
+        if let Some((variable, (at, number))) = locked {
             let kind = VariableKind::LockedOut(variable.name().to_owned(), number);
-            findings.add(first.at, kind);
+            findings.add(at, kind);
         }
     }
 }

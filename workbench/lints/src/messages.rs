@@ -150,8 +150,13 @@ fn check_message(
 ) {
     let mut carried: HashMap<(usize, u16), Carried> = HashMap::new();
     let all = values_of(items);
-    check_widths(&all, context, findings);
-    check_crossing(&all, context, findings);
+    let has_mask = |one: &Listed<'_, DataItem<Target>>| {
+        matches!(one.value, DataItem::Variable { mask: Some(_), .. })
+    };
+    if all.iter().any(has_mask) {
+        check_widths(&all, context, findings);
+        check_crossing(&all, context, findings);
+    }
     for listed in all {
         let Some(item) = Carrying::of(listed.value) else {
             continue;

@@ -2,7 +2,7 @@
 //! do not carry what they are called after.
 
 use crate::context::Context;
-use crate::exchanges::exchanges_of;
+use crate::exchanges::Exchange;
 use crate::instrument::{Instrument, Variable, variable_of};
 use crate::kind::{CommandKind, NumberRole, VariableKind};
 use crate::limits::sum_of;
@@ -13,13 +13,15 @@ use crate::traits::quoted;
 use crate::types::number_parts;
 use crate::usage::operation_of;
 use crate::warning::Findings;
+use crate::words::{Vocabulary, words_of};
 use edd_instructions::Sort;
 use edd_syntax::cond::Cond;
 use edd_syntax::item::{Attribute, Item, ItemKind};
 use edd_syntax::numbers::{ItemNo, NumberOption, TextAttribute, VarNo};
 use edd_syntax::reference::Target;
 use edd_syntax::types::Operation;
-use std::collections::{HashMap, HashSet};
+use std::collections::HashSet;
+use std::sync::LazyLock;
 
 /// Words of which those of one side say the opposite of those of the other.
 const OPPOSITES: &[[&[&str]; 2]] = &[
@@ -44,45 +46,70 @@ const OPPOSITES: &[[&[&str]; 2]] = &[
 const READS: [&str; 4] = ["read", "get", "rd", "load"];
 const WRITES: [&str; 4] = ["write", "set", "wr", "put"];
 
-fn words_of(text: &str) -> Vec<String> {
-    let parts = text.split(|sign: char| !sign.is_alphabetic());
-    let parts = parts.filter(|part| !part.is_empty());
-    parts.map(str::to_lowercase).collect()
+/// The row of each of these words, and its side.
+static SIDES: LazyLock<Vocabulary<(u32, usize)>> = LazyLock::new(|| {
+    let rows = (0..).zip(OPPOSITES);
+    let sides = rows.flat_map(|(row, [first, second])| {
+        let first = first.iter().map(move |word| (*word, (row, 0)));
+        first.chain(second.iter().map(move |word| (*word, (row, 1))))
+    });
+    Vocabulary::of(sides)
+});
+
+/// How many of the rows are about ends of a range.
+const ENDS: usize = 2;
+
+/// On which sides of which rows a text has words, as bits.
+#[derive(Clone, Copy, Default)]
+struct Sides {
+    on: [u32; 2],
 }
 
-// The word of a side that is among words, where none of the other side is.
-fn side_of(words: &[String], sides: &[&[&'static str]; 2]) -> Option<(usize, &'static str)> {
-    let found = sides.map(|side| {
-        side.iter()
-            .copied()
-            .find(|word| words.iter().any(|own| own == word))
-    });
-    match found {
-        [Some(word), None] => Some((0, word)),
-        [None, Some(word)] => Some((1, word)),
-        _ => None,
+impl Sides {
+    fn of(text: &str) -> Sides {
+        let mut sides = Sides::default();
+        for word in words_of(text) {
+            if let Some((row, side)) = SIDES.get(word)
+                && let Some(on) = sides.on.get_mut(side)
+            {
+                *on |= 1_u32.wrapping_shl(row);
+            }
+        }
+        sides
     }
+
+    // The rows of which the text has words of one side alone.
+    fn single(self) -> [u32; 2] {
+        let [first, second] = self.on;
+        [first & !second, second & !first]
+    }
+
+    // The side of a row of which the text has words, where it has none of the other one.
+    fn side(self, row: usize) -> Option<usize> {
+        let row = u32::try_from(row).ok()?;
+        let is_on = |bits: u32| bits.checked_shr(row).is_some_and(|bits| bits & 1 == 1);
+        self.single().into_iter().position(is_on)
+    }
+
+    // The first row on which two texts are on different sides, where they are on none on the same.
+    fn opposite(self, other: Sides) -> Option<usize> {
+        let ([a, b], [c, d]) = (self.single(), other.single());
+        let (alike, opposite) = ((a & c) | (b & d), (a & d) | (b & c));
+        let is_opposite = alike == 0 && opposite != 0;
+        is_opposite.then(|| usize::try_from(opposite.trailing_zeros()).ok())?
+    }
+}
+
+// The word of a row that a text has, the first of the list.
+fn word_in(text: &str, row: usize) -> Option<&'static str> {
+    let mut listed = OPPOSITES.get(row)?.iter().copied().flatten().copied();
+    listed.find(|listed| words_of(text).any(|word| word.eq_ignore_ascii_case(listed)))
 }
 
 // Two words by which two names say the opposite, where they say nothing alike.
 fn opposite(one: &str, other: &str) -> Option<(&'static str, &'static str)> {
-    let other = words_of(other);
-    if !OPPOSITES
-        .iter()
-        .any(|sides| side_of(&other, sides).is_some())
-    {
-        return None;
-    }
-    let one = words_of(one);
-    let pairs = OPPOSITES.iter().filter_map(|sides| {
-        let (first, word) = side_of(&one, sides)?;
-        let (second, against) = side_of(&other, sides)?;
-        Some((first != second, word, against))
-    });
-    let pairs: Vec<_> = pairs.collect();
-    let is_other = !pairs.is_empty() && pairs.iter().all(|(is_other, ..)| *is_other);
-    let (_, word, against) = pairs.first().filter(|_| is_other)?;
-    Some((word, against))
+    let row = Sides::of(one).opposite(Sides::of(other))?;
+    Some((word_in(one, row)?, word_in(other, row)?))
 }
 
 // The English words of a text.
@@ -91,7 +118,10 @@ fn english(text: &str) -> &str {
     first.map_or("", |one| str::from_utf8(one.words).unwrap_or_default())
 }
 
-fn check_label(item: &Item<Target>, findings: &mut Findings<'_>) {
+fn check_label(item: &Item<Target>, sides: Sides, findings: &mut Findings<'_>) {
+    if sides.single() == [0; 2] {
+        return;
+    }
     for attribute in &item.attributes {
         if let Attribute::OneText(at, TextAttribute::Label, Cond::Value(text)) = attribute
             && let Some(text) = quoted(text)
@@ -104,13 +134,14 @@ fn check_label(item: &Item<Target>, findings: &mut Findings<'_>) {
 
 // A MIN_VALUE of the lower one of two that is the upper one, or a MAX_VALUE of the upper one that is the lower
 // one, by their names.
-fn check_ends(variable: &Variable<'_>, context: &Context<'_>, findings: &mut Findings<'_>) {
-    let own = words_of(variable.name());
-    let ends = OPPOSITES.iter().take(2);
-    let Some((sides, (side, _))) = ends
-        .filter_map(|sides| Some((sides, side_of(&own, sides)?)))
-        .next()
-    else {
+fn check_ends(
+    variable: &Variable<'_>,
+    sides: Sides,
+    context: &Context<'_>,
+    findings: &mut Findings<'_>,
+) {
+    let own = (0..ENDS).find_map(|row| Some((row, sides.side(row)?)));
+    let Some((row, side)) = own else {
         return;
     };
     for part in number_parts(variable.parts()) {
@@ -126,8 +157,8 @@ fn check_ends(variable: &Variable<'_>, context: &Context<'_>, findings: &mut Fin
         let Some(other) = other.filter(|_| is_wrong_end) else {
             continue;
         };
-        let words = words_of(other.name());
-        if side_of(&words, sides).is_some_and(|(against, _)| against != side) {
+        let against = Sides::of(other.name()).side(row);
+        if against.is_some_and(|against| against != side) {
             let kind = VariableKind::OppositeLimit(
                 NumberRole::Option(part.which),
                 other.name().to_owned(),
@@ -193,20 +224,24 @@ fn check_enumerators(variable: &Variable<'_>, findings: &mut Findings<'_>) {
 // Two entries of which each has the number of the other, where all others have their own.
 fn check_numbers(entries: &[(TokenIndex, u32, &str)], findings: &mut Findings<'_>) {
     let mut wrong = Vec::new();
-    let mut stems = HashMap::new();
+    let mut stems = Vec::new();
     for (at, own, item) in entries {
         let Some((stem, number)) = numbered(item) else {
             return;
         };
-        stems.insert(stem, ());
         if number != *own {
             wrong.push((*at, *own, number, *item));
+        }
+        if stems.last() != Some(&stem) {
+            stems.push(stem);
+        }
+        if 2 < wrong.len() || 1 < stems.len() {
+            return;
         }
     }
     if let [(at, own, number, item), (_, other, back, second)] = *wrong
         && own == back
         && number == other
-        && stems.len() == 1
     {
         let kind = VariableKind::ExchangedMembers(item.to_owned(), second.to_owned());
         findings.add(at, kind);
@@ -251,104 +286,115 @@ fn called_after(command: &Item<Target>) -> Option<&str> {
     verbs.contains(&verb).then_some(rest)
 }
 
-/// The variables of a description by their names.
-pub(crate) struct Names<'d> {
-    variables: HashMap<&'d str, u16>,
-    /// Those after which a command is called that writes.
+/// The variables after which commands are called that write.
+pub(crate) struct Names {
     written: HashSet<u16>,
 }
 
-impl<'d> Names<'d> {
-    pub(crate) fn of(instrument: &Instrument<'d>) -> Names<'d> {
-        let variables = (0u16..).zip(instrument.variables());
-        let variables = variables.map(|(number, variable)| (variable.name(), number));
-        let variables: HashMap<_, _> = variables.collect();
-        let items = instrument.items.iter();
-        let written = items
+impl Names {
+    pub(crate) fn of(instrument: &Instrument<'_>) -> Names {
+        let commands = instrument.items.iter();
+        let written = commands
+            .filter(|item| item.sort == ItemKind::Command)
             .filter(|item| operation_of(item) == Some(Operation::Write))
-            .filter_map(|item| variables.get(called_after(item)?).copied());
+            .filter_map(|item| instrument.variable_named(called_after(item)?));
         Names {
             written: written.collect(),
-            variables,
-        }
-    }
-
-    // A command whose verb says the opposite of its OPERATION.
-    fn check_verb(command: &Item<Target>, findings: &mut Findings<'_>) {
-        let verb = command.name().split('_').next().unwrap_or_default();
-        let (operation, other) = match operation_of(command) {
-            Some(Operation::Read) if verb == "write" => ("READ", "write"),
-            Some(Operation::Write) if verb == "read" => ("WRITE", "read"),
-            _ => return,
-        };
-        let at = command.attributes.iter().find_map(|one| match one {
-            Attribute::Operation(at, _) => Some(index(*at)),
-            _ => None,
-        });
-        if let Some(at) = at {
-            findings.add(at, VariableKind::OppositeOperation(operation, other));
         }
     }
 
     // A command that replies with what another command is called after, and not with what it sends itself.
-    fn check_reply(&self, command: &Item<Target>, own: u16, findings: &mut Findings<'_>) {
-        for exchange in exchanges_of(command) {
-            let mut received = exchange.received.iter();
-            let is_other = exchange.sent.contains(&own) && !exchange.received.contains(&own);
-            let other =
-                received.find(|one| self.written.contains(one) && !exchange.sent.contains(one));
-            if other.is_some() && is_other && exchange.received.len() == 1 {
+    fn check_reply(&self, all: &[Exchange], own: u16, findings: &mut Findings<'_>) {
+        for exchange in all {
+            let is_other = exchange.sent.contains(own) && !exchange.received.contains(own);
+            if let [other] = exchange.received.numbers()
+                && is_other
+                && self.written.contains(other)
+                && !exchange.sent.contains(*other)
+            {
                 findings.add(exchange.at, CommandKind::OtherReply);
             }
         }
     }
 
     // A command that carries others than the variable that its name has.
-    fn check_command(&self, command: &Item<Target>, findings: &mut Findings<'_>) {
+    fn check_command(
+        &self,
+        command: &Item<Target>,
+        all: &[Exchange],
+        context: &Context<'_>,
+        findings: &mut Findings<'_>,
+    ) {
         let Some(name) = called_after(command) else {
             return;
         };
-        let Some(variable) = self.variables.get(name) else {
+        let Some(variable) = context.instrument.variable_named(name) else {
             return;
         };
-        let all = exchanges_of(command);
-        let mut carried = all
-            .iter()
-            .flat_map(|one| one.sent.iter().chain(&one.received));
-        let has_some = all
-            .iter()
-            .any(|one| !one.sent.is_empty() || !one.received.is_empty());
-        if has_some && !carried.any(|one| one == variable) {
+        let messages = || all.iter().flat_map(|one| [&one.sent, &one.received]);
+        let has_some = messages().any(|message| !message.numbers().is_empty());
+        if has_some && !messages().any(|message| message.contains(variable)) {
             let kind = VariableKind::OtherVariable(command.name().to_owned(), name.to_owned());
             findings.add(index(command.at), kind);
         }
-        self.check_reply(command, *variable, findings);
+        self.check_reply(all, variable, findings);
     }
 }
 
-/// Checks what the names of an item and of what it lists say.
-pub(crate) fn check_names<'d>(
+// A command whose verb says the opposite of its OPERATION.
+fn check_verb(command: &Item<Target>, findings: &mut Findings<'_>) {
+    let verb = command.name().split('_').next().unwrap_or_default();
+    let (operation, other) = match operation_of(command) {
+        Some(Operation::Read) if verb == "write" => ("READ", "write"),
+        Some(Operation::Write) if verb == "read" => ("WRITE", "read"),
+        _ => return,
+    };
+    let at = command.attributes.iter().find_map(|one| match one {
+        Attribute::Operation(at, _) => Some(index(*at)),
+        _ => None,
+    });
+    if let Some(at) = at {
+        findings.add(at, VariableKind::OppositeOperation(operation, other));
+    }
+}
+
+/// Checks what the names of a variable and of its enumerators say.
+pub(crate) fn check_variable_names(
+    variable: &Variable<'_>,
+    context: &Context<'_>,
+    findings: &mut Findings<'_>,
+) {
+    let sides = Sides::of(variable.name());
+    check_label(variable.item, sides, findings);
+    check_ends(variable, sides, context, findings);
+    if 1 < variable.enumerators.len() {
+        check_enumerators(variable, findings);
+    }
+}
+
+/// Checks what the name of a command says of what it does and carries.
+pub(crate) fn check_command_names(
+    command: &Item<Target>,
+    exchanges: &[Exchange],
+    context: &Context<'_>,
+    findings: &mut Findings<'_>,
+) {
+    check_verb(command, findings);
+    context
+        .names
+        .check_command(command, exchanges, context, findings);
+}
+
+/// Checks what the names in a list of items say.
+pub(crate) fn check_listed_names<'d>(
     item: &Item<Target>,
     context: &Context<'d>,
     findings: &mut Findings<'d>,
 ) {
-    let names = &context.names;
     match item.sort {
-        ItemKind::Variable => {
-            check_label(item, findings);
-            let variable = names.variables.get(item.name()).copied();
-            if let Some(variable) = variable.and_then(|one| context.instrument.variable(one)) {
-                check_ends(variable, context, findings);
-                check_enumerators(variable, findings);
-            }
-        }
-        ItemKind::Command => {
-            Names::check_verb(item, findings);
-            names.check_command(item, findings);
-        }
         ItemKind::Collection(_) => check_members(item, context, findings),
         ItemKind::Array => check_elements(item, context, findings),
-        ItemKind::Menu | ItemKind::Method => {}
+        _ => {}
     }
 }
 

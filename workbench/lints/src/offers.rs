@@ -261,7 +261,8 @@ fn check_reached(
 ) {
     let elements = elements_of(variable.parts());
     let is_long = MOST < variable.enumerators.len();
-    if is_long || !read_by(elements.clone()).contains(&number) {
+    let is_plain = |one: &Element| matches!(one, Cond::Value(_));
+    if is_long || elements.clone().all(is_plain) || !read_by(elements.clone()).contains(&number) {
         return;
     }
     let mut places = Places {

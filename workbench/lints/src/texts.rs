@@ -8,6 +8,7 @@ mod languages;
 mod opposites;
 mod signs;
 mod spoken;
+mod translated;
 mod translations;
 mod usual;
 pub(crate) mod variants;
@@ -21,16 +22,18 @@ use languages::check_languages;
 use opposites::check_opposites;
 use signs::check_signs;
 use spoken::spoken_in;
+use translated::Translations;
 use translations::{check_insides, check_translations};
 
 /// Checks all texts and comments.
 pub(crate) fn check_texts(context: &Context<'_>, findings: &mut Findings<'_>) {
     let texts = spoken_in(context.source);
-    check_languages(&texts, findings);
+    let translations = Translations::of(&texts);
+    check_languages(&translations, findings);
     check_signs(&texts, findings);
-    check_contents(&texts, findings);
-    check_exchanged(&texts, findings);
-    check_opposites(&texts, findings);
+    check_contents(&texts, &translations, findings);
+    check_exchanged(&translations, findings);
+    check_opposites(&translations, findings);
     check_translations(&texts, findings);
     check_insides(&texts, context, findings);
     check_comments(context.source, findings);

@@ -11,11 +11,13 @@ use crate::texts::variants::Variants;
 use crate::traits::{classes_of, is_spare, quoted};
 use crate::usage::{carried, operation_of};
 use crate::warning::Findings;
+use crate::words::Phrases;
 use edd_syntax::cond::Cond;
 use edd_syntax::item::{Attribute, DataItem, Item, ResponseCode, TransactionPart};
 use edd_syntax::reference::Target;
 use edd_syntax::types::{Handling, Operation, ResponseClass};
 use std::collections::HashMap;
+use std::sync::LazyLock;
 
 /// The greatest number of a command that two octets hold.
 const MOST: u32 = 65_535;
@@ -180,19 +182,21 @@ const ERRORS: [&str; 16] = [
 ];
 const SUCCESSES: [&str; 5] = ["ok", "success", "done", "accepted", "no error"];
 
+static FAILED: LazyLock<Phrases> = LazyLock::new(|| Phrases::of(&ERRORS));
+
 // A class that says the opposite of what its text says.
 fn opposite_class(code: &ResponseCode) -> Option<CommandKind> {
     let text = quoted(&code.text)?;
     let first = Variants::of(text.as_bytes()).next()?;
-    let words = str::from_utf8(first.words).ok()?.trim().to_lowercase();
-    let found = |all: &[&'static str]| all.iter().copied().find(|word| words.contains(word));
-    let is_denied = ["no ", "not ", "without", "un"]
-        .iter()
-        .any(|word| words.contains(word));
+    let words = str::from_utf8(first.words).ok()?.trim();
     match code.class {
         ResponseClass::Success => {
-            let error = found(&ERRORS).filter(|error| error.contains("not ") || !is_denied);
-            error.map(CommandKind::OppositeClass)
+            let error = FAILED.find(words)?;
+            let words = words.to_lowercase();
+            let denials = ["no ", "not ", "without", "un"];
+            let is_denied = denials.iter().any(|word| words.contains(word));
+            let is_told = error.contains("not ") || !is_denied;
+            is_told.then_some(CommandKind::OppositeClass(error))
         }
         ResponseClass::DataEntryError
         | ResponseClass::ModeError
@@ -200,10 +204,47 @@ fn opposite_class(code: &ResponseCode) -> Option<CommandKind> {
         | ResponseClass::MiscError
             if code.number != 0 =>
         {
-            let success = SUCCESSES.iter().copied().find(|word| words == *word);
+            let mut successes = SUCCESSES.iter().copied();
+            let success = successes.find(|word| words.eq_ignore_ascii_case(word));
             success.map(CommandKind::SuccessfulError)
         }
         _ => None,
+    }
+}
+
+/// The text of a response code, and how many come before it.
+type Said<'t> = (&'t str, usize);
+
+// Checks the codes that are there with the class and the text of an earlier one.
+fn check_repeated_texts(
+    codes: &[ResponseCode],
+    places: &[TokenIndex],
+    findings: &mut Findings<'_>,
+) {
+    let texts = codes.iter().map(|code| quoted(&code.text));
+    let said = texts
+        .zip(0..)
+        .filter_map(|(text, place)| Some((text?, place)));
+    let mut said: Vec<Said<'_>> = said.filter(|(text, _)| !text.is_empty()).collect();
+    said.sort_unstable();
+    let same = said.chunk_by(|(one, _), (other, _)| one == other);
+    for group in same.filter(|group| 1 < group.len()) {
+        if group.first().is_some_and(|(text, _)| is_spare(text)) {
+            continue;
+        }
+        let mut known: Vec<&ResponseCode> = Vec::new();
+        for (_, place) in group {
+            let Some((code, at)) = codes.get(*place).zip(places.get(*place)) else {
+                continue;
+            };
+            match known.iter().find(|one| one.class == code.class) {
+                Some(one) if one.number != code.number => {
+                    findings.add(*at, CommandKind::RepeatedCodeText(one.number));
+                }
+                Some(_) => {}
+                None => known.push(code),
+            }
+        }
     }
 }
 
@@ -216,9 +257,10 @@ fn check_codes(
     if codes.is_empty() {
         findings.add(at, CommandKind::NoResponseCodes);
     }
+    let places = code_places(at, codes, context);
+    check_repeated_texts(codes, &places, findings);
     let mut before = None;
-    let mut texts = HashMap::new();
-    for (code, at) in codes.iter().zip(code_places(at, codes, context)) {
+    for (code, at) in codes.iter().zip(places) {
         if let Some(kind) = opposite_class(code) {
             findings.add(at, kind);
         }
@@ -227,17 +269,6 @@ fn check_codes(
         }
         if quoted(&code.text).is_some_and(str::is_empty) {
             findings.add(at, TextKind::EmptyText);
-        }
-        let text = quoted(&code.text).filter(|text| !text.is_empty() && !is_spare(text));
-        if let Some(text) = text {
-            let known: &mut Vec<&ResponseCode> = texts.entry(text).or_default();
-            match known.iter().find(|one| one.class == code.class) {
-                Some(one) if one.number != code.number => {
-                    findings.add(at, CommandKind::RepeatedCodeText(one.number));
-                }
-                Some(_) => {}
-                None => known.push(code),
-            }
         }
         if before.is_some_and(|before| code.number < before) {
             findings.add(at, CommandKind::UnorderedResponseCode(code.number));

@@ -46,17 +46,35 @@ pub(crate) fn is_spare(text: &str) -> bool {
     SPARE.iter().any(|word| text.contains(word))
 }
 
+// Whether two enumerators say the same in a language.
+fn has_same(enumerators: &[Listed<'_, Enumerator>]) -> bool {
+    let texts = enumerators.iter().filter_map(|one| quoted(&one.value.text));
+    let words = texts.flat_map(|text| Variants::of(text.as_bytes()));
+    let mut words: Vec<_> = words
+        .map(|one| (one.words.trim_ascii(), one.code))
+        .collect();
+    words.sort_unstable();
+    words.windows(2).any(|pair| pair.first() == pair.last())
+}
+
 fn check_texts(enumerators: &[Listed<'_, Enumerator>], findings: &mut Findings<'_>) {
+    for listed in enumerators {
+        if quoted(&listed.value.text).is_some_and(str::is_empty) {
+            findings.add(index(listed.value.at), TextKind::EmptyText);
+        }
+    }
+    if has_same(enumerators) {
+        check_repeated(enumerators, findings);
+    }
+}
+
+fn check_repeated(enumerators: &[Listed<'_, Enumerator>], findings: &mut Findings<'_>) {
     let mut seen = HashMap::new();
     for listed in enumerators {
         let at = index(listed.value.at);
-        let Some(text) = quoted(&listed.value.text) else {
+        let Some(text) = quoted(&listed.value.text).filter(|text| !text.is_empty()) else {
             continue;
         };
-        if text.is_empty() {
-            findings.add(at, TextKind::EmptyText);
-            continue;
-        }
         // In one language alone two of them can't be told apart either.
         let mut earlier = None;
         for variant in Variants::of(text.as_bytes()) {

@@ -13,11 +13,15 @@ use crate::texts::variants::Variants;
 use crate::traits::quoted;
 use crate::types::number_parts;
 use crate::warning::Findings;
+use crate::words::Vocabulary;
 use edd_instructions::Sort;
+use edd_syntax::cond::Cond;
 use edd_syntax::expr::Expr;
-use edd_syntax::item::Attribute;
+use edd_syntax::item::{Attribute, Item};
 use edd_syntax::numbers::TextAttribute;
 use edd_syntax::reference::Target;
+use edd_syntax::text::Text;
+use std::sync::LazyLock;
 
 /// What is measured in a unit.
 #[derive(Clone, Copy, PartialEq, Eq)]
@@ -153,14 +157,19 @@ impl PartialEq for Unit {
     }
 }
 
+/// The units by their signs and names.
+static NAMED: LazyLock<Vocabulary<Unit>> = LazyLock::new(|| {
+    let rows = UNITS.iter().enumerate();
+    Vocabulary::of(rows.flat_map(|(row, known)| {
+        let names = known.names.iter().copied();
+        names.map(move |name| (name, Unit { row, name }))
+    }))
+});
+
 impl Unit {
     /// The unit that a text is.
     pub(crate) fn of(text: &str) -> Option<Unit> {
-        let mut rows = UNITS.iter().enumerate();
-        rows.find_map(|(row, known)| {
-            let name = known.names.iter().copied().find(|name| *name == text)?;
-            Some(Unit { row, name })
-        })
+        NAMED.get_exactly(text)
     }
 
     pub(crate) fn name(self) -> &'static str {
@@ -174,16 +183,15 @@ impl Unit {
     }
 }
 
+/// What comes before the unit of a value.
+const IN: &str = " in ";
+
 fn words_of(variant: &[u8]) -> &str {
     str::from_utf8(variant).unwrap_or_default()
 }
 
-// The units of a variable in all branches and languages, where all of them are known.
-fn units_of(variable: &Variable<'_>) -> Option<Vec<Unit>> {
-    let units = variable.item.attributes.iter().find_map(|one| match one {
-        Attribute::OneText(_, TextAttribute::ConstantUnit, unit) => Some(unit),
-        _ => None,
-    })?;
+// The units of a text in all branches and languages, where all of them are known.
+fn units_in(units: &Cond<Target, Text>) -> Option<Vec<Unit>> {
     if !is_total(units) {
         return None;
     }
@@ -196,11 +204,13 @@ fn units_of(variable: &Variable<'_>) -> Option<Vec<Unit>> {
     Some(all)
 }
 
-/// The unit of a variable, where it has one and always the same.
-pub(crate) fn unit_of(variable: &Variable<'_>) -> Option<Unit> {
-    let units = units_of(variable)?;
-    let first = units.first().copied()?;
-    units.iter().all(|unit| *unit == first).then_some(first)
+/// The units of a variable in all branches and languages; none where one of them is not known.
+pub(crate) fn units_of(variable: &Item<Target>) -> Vec<Unit> {
+    let units = variable.attributes.iter().find_map(|one| match one {
+        Attribute::OneText(_, TextAttribute::ConstantUnit, unit) => Some(unit),
+        _ => None,
+    });
+    units.and_then(units_in).unwrap_or_default()
 }
 
 // The units that the end of a label names, as `(mbar)`, `[mbar]` and `in mbar` do. Single capital letters
@@ -217,9 +227,28 @@ fn named_by_label(label: &str) -> Option<Unit> {
     Unit::of(name.trim()).filter(|_| !is_letter && name != "min")
 }
 
+// What is behind each ` in ` of a text, up to the next one.
+fn behind_in(text: &str) -> impl Iterator<Item = &str> {
+    // Blanks are looked for by themselves: they are found faster than a word.
+    let mut places = text.bytes().enumerate().filter(|(_, byte)| *byte == b' ');
+    let mut next = move |start: usize| {
+        places.find_map(|(at, _)| {
+            let behind = text.get(at..)?.strip_prefix(IN)?;
+            (start <= at).then_some((at, behind))
+        })
+    };
+    let mut found = next(0);
+    std::iter::from_fn(move || {
+        let (at, behind) = found.take()?;
+        found = next(at.saturating_add(IN.len()));
+        let length = found.map(|(end, _)| end.saturating_sub(at).saturating_sub(IN.len()));
+        behind.get(..length.unwrap_or(behind.len()))
+    })
+}
+
 // The unit that a help names as that of the value, as `in seconds`.
 fn named_by_help(help: &str) -> Option<Unit> {
-    let mut parts = help.split(" in ").skip(1).filter_map(|behind| {
+    let mut parts = behind_in(help).filter_map(|behind| {
         let end = behind.find([' ', '.', ',', ';', ')', ':', '\\']);
         let (name, rest) = behind.split_at_checked(end.unwrap_or(behind.len()))?;
         let is_ended = rest.is_empty() || !rest.starts_with(' ');
@@ -231,9 +260,10 @@ fn named_by_help(help: &str) -> Option<Unit> {
 
 /// Checks whether the LABEL and the HELP of a variable name another unit than its own.
 pub(crate) fn check_named_units(variable: &Variable<'_>, findings: &mut Findings<'_>) {
-    let Some(units) = units_of(variable) else {
+    let units = &variable.units;
+    if units.is_empty() {
         return;
-    };
+    }
     for attribute in &variable.item.attributes {
         let Attribute::OneText(at, which, text) = attribute else {
             continue;
@@ -261,7 +291,7 @@ pub(crate) fn check_named_units(variable: &Variable<'_>, findings: &mut Findings
 // The unit of what a reference refers to.
 fn unit_of_target(target: Target, walk: &Walk<'_, '_>) -> Option<Unit> {
     let variable = walk.context.instrument.variable(variable_of(target)?)?;
-    variable.unit
+    variable.unit()
 }
 
 /// Checks two plain values that are compared, added, or stored in each other.
@@ -287,13 +317,13 @@ pub(crate) fn check_limit_units(
     context: &Context<'_>,
     findings: &mut Findings<'_>,
 ) {
-    let Some(own) = variable.unit else {
+    let Some(own) = variable.unit() else {
         return;
     };
     for part in number_parts(variable.parts()) {
         let others = values_in(part.value).into_iter().filter_map(|listed| {
             let (target, _) = sum_of(listed.value, Sort::Attribute, &context.instrument)?;
-            context.instrument.variable(variable_of(target)?)?.unit
+            context.instrument.variable(variable_of(target)?)?.unit()
         });
         if let Some(other) = others.into_iter().find(|other| *other != own) {
             let kind = ConditionKind::TwoUnits(own.name, other.name);

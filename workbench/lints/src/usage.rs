@@ -20,7 +20,7 @@ use edd_syntax::types::Operation;
 pub(crate) struct Variables(Vec<bool>);
 
 impl Variables {
-    fn insert(&mut self, variable: u16) {
+    pub(crate) fn insert(&mut self, variable: u16) {
         let place = usize::from(variable);
         if self.0.len() <= place {
             self.0.resize(place.saturating_add(1), false);
@@ -30,7 +30,7 @@ impl Variables {
         }
     }
 
-    fn extend(&mut self, variables: impl IntoIterator<Item = u16>) {
+    pub(crate) fn extend(&mut self, variables: impl IntoIterator<Item = u16>) {
         for variable in variables {
             self.insert(variable);
         }
@@ -55,10 +55,14 @@ pub(crate) struct Usage {
     pub(crate) shown: Variables,
     /// Set by methods.
     pub(crate) set: Variables,
+    /// Set by methods that are always valid.
+    pub(crate) freely_set: Variables,
     /// In an expression, an array or a collection.
     pub(crate) mentioned: Variables,
     pub(crate) has_read_command: bool,
     pub(crate) has_write_command: bool,
+    /// Whether the item that is looked at has no VALIDITY.
+    is_valid: bool,
 }
 
 /// The operation of a command.
@@ -68,6 +72,12 @@ pub(crate) fn operation_of(command: &Item<Target>) -> Option<Operation> {
         Attribute::Operation(_, operation) => Some(*operation),
         _ => None,
     })
+}
+
+/// Whether an item has a VALIDITY.
+pub(crate) fn has_validity(item: &Item<Target>) -> bool {
+    let mut attributes = item.attributes.iter();
+    attributes.any(|one| matches!(one, Attribute::Validity(..)))
 }
 
 /// The variable of an item of a message.
@@ -83,6 +93,7 @@ impl Usage {
     pub(crate) fn of(items: &[Item<Target>]) -> Usage {
         let mut usage = Usage::default();
         for item in items {
+            usage.is_valid = !has_validity(item);
             visit_item(item, &mut usage);
             for attribute in &item.attributes {
                 usage.add_attribute(attribute);
@@ -140,7 +151,11 @@ impl Usage {
     }
 
     fn add_set(&mut self, target: Option<Target>) {
-        self.set.extend(target.and_then(variable_of));
+        let variable = target.and_then(variable_of);
+        self.set.extend(variable);
+        if self.is_valid {
+            self.freely_set.extend(variable);
+        }
     }
 }
 
@@ -151,7 +166,7 @@ impl<'t> Visitor<'t> for Usage {
             && let Expr::Compare(Comparison::Equal, first, _) = without_parentheses(e)
             && let Expr::Reference(target) = **first
         {
-            self.add_set(Some(target));
+            self.set.extend(variable_of(target));
         }
     }
 

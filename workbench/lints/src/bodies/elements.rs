@@ -102,7 +102,7 @@ impl Elements<'_, '_, '_> {
         if let Some(kind) = crate::claims::wrong_claim(question.unwrap_or_default(), own) {
             self.findings.add(at, kind);
         }
-        let other = self.context.labels.named_in(words, own);
+        let other = self.context.labels().named_in(words, own);
         let other = other.and_then(|number| self.context.instrument.variable(number));
         if let Some(other) = other.filter(|other| is_entered(own) && is_entered(other)) {
             let kind = MethodKind::OtherQuestion(other.name().to_owned(), own.name().to_owned());

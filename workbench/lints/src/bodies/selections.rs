@@ -47,11 +47,9 @@ impl Selections<'_, '_, '_> {
         let Some(variable) = known else {
             return;
         };
-        let is_other = variable
-            .by_text
-            .get(choice)
-            .is_some_and(|own| *own != number);
-        if is_other && variable.texts.contains_key(&number) {
+        let texts = variable.texts();
+        let is_other = texts.numbers.get(choice).is_some_and(|own| *own != number);
+        if is_other && texts.words.contains_key(&number) {
             let kind = MethodKind::ExchangedChoice(choice.to_owned());
             self.findings.add(at, kind);
         }

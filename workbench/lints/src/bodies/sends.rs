@@ -77,8 +77,8 @@ impl Unsent<'_, '_, '_> {
             return self.pending.clear();
         };
         self.pending
-            .retain(|variable, _| !exchange.sent.contains(variable));
-        let is_lost = |variable: &u16| exchange.set.contains(variable);
+            .retain(|variable, _| !exchange.sent.contains(*variable));
+        let is_lost = |variable: &u16| exchange.set.contains(*variable);
         for (variable, put) in self.pending.iter().filter(|(one, _)| is_lost(one)) {
             let name = instrument.name_of(*variable);
             match put {
@@ -231,8 +231,12 @@ fn saving(part: &Part<Target>) -> Option<TokenIndex> {
     }
 }
 
-// The last save of a body, behind which it sets variables and neither sends nor saves any more.
-fn check_saves(parts: &[Part<Target>], context: &Context<'_>, findings: &mut Findings<'_>) {
+/// Checks the last save of a body, behind which it sets variables and neither sends nor saves any more.
+pub(super) fn check_saves(
+    parts: &[Part<Target>],
+    context: &Context<'_>,
+    findings: &mut Findings<'_>,
+) {
     let last = parts.iter().rposition(|part| saving(part).is_some());
     let Some((at, rest)) = last.and_then(|last| {
         Some((
@@ -403,7 +407,7 @@ impl<'t> Visitor<'t> for Gathering<'_, '_, '_> {
     }
 }
 
-/// Checks what a body sets, sends and saves.
+/// Checks what a body sets and sends.
 pub(super) fn check_sends<'d>(
     parts: &[Part<Target>],
     context: &Context<'d>,
@@ -411,7 +415,14 @@ pub(super) fn check_sends<'d>(
 ) {
     check_block(parts, context, findings);
     visit_parts(parts, &mut Blocks { context, findings });
-    check_saves(parts, context, findings);
+}
+
+/// Checks the locals of a body that keep values of variables.
+pub(super) fn check_copies<'d>(
+    parts: &[Part<Target>],
+    context: &Context<'d>,
+    findings: &mut Findings<'d>,
+) {
     let mut copies = Copies::default();
     copies.add_block(parts, context);
     let mut gathering = Gathering {

@@ -9,6 +9,7 @@ use crate::texts::variants::Variants;
 use crate::traits::quoted;
 use crate::visit::{Visitor, visit_parts};
 use crate::warning::Findings;
+use crate::words::words_of;
 use edd_constants::evaluate;
 use edd_instructions::Sort;
 use edd_syntax::cond::Cond;
@@ -32,14 +33,14 @@ const STATES: [[&str; 2]; 9] = [
     ["locked", "unlocked"],
 ];
 
-fn words_of(text: &str) -> Vec<String> {
-    let words = text.split(|sign: char| !sign.is_alphabetic());
-    words.map(str::to_lowercase).collect()
+// Whether one of some words is a word of a state.
+fn has(words: &[&str], state: &str) -> bool {
+    words.iter().any(|word| word.eq_ignore_ascii_case(state))
 }
 
 // The words of the name and the LABEL of a method.
-fn named(method: &Item<Target>) -> Vec<String> {
-    let mut words = words_of(method.name());
+fn named(method: &Item<Target>) -> Vec<&str> {
+    let mut words: Vec<_> = words_of(method.name()).collect();
     for attribute in &method.attributes {
         if let Attribute::OneText(_, TextAttribute::Label, Cond::Value(text)) = attribute
             && let Some(first) = quoted(text).and_then(|text| Variants::of(text.as_bytes()).next())
@@ -83,10 +84,9 @@ impl<'t> Visitor<'t> for Sets<'t> {
 }
 
 // The word of a method that a state says the opposite of.
-fn opposed(words: &[String], state: &str) -> Option<&'static str> {
-    let state = words_of(state);
+fn opposed(words: &[&str], state: &str) -> Option<&'static str> {
+    let state: Vec<_> = words_of(state).collect();
     STATES.iter().find_map(|[one, other]| {
-        let has = |all: &[String], word: &str| all.iter().any(|own| own == word);
         let is_opposed = |says: &'static str, against: &str| {
             let is_said = has(words, says) && !has(words, against);
             (is_said && has(&state, against) && !has(&state, says)).then_some(says)
@@ -104,7 +104,7 @@ pub(super) fn check_states(
 ) {
     let words = named(method);
     let mut pairs = STATES.iter().flatten();
-    if !pairs.any(|state| words.iter().any(|word| word == state)) {
+    if !pairs.any(|state| has(&words, state)) {
         return;
     }
     let mut sets = Sets::default();
@@ -114,12 +114,12 @@ pub(super) fn check_states(
         let (Some(variable), Some((number, e))) = (known, set) else {
             continue;
         };
-        let Some(state) = variable.texts.get(&number) else {
+        let Some(state) = variable.texts().words.get(&number) else {
             continue;
         };
         if let Some(says) = opposed(&words, state) {
             let at: TokenIndex = context.places.sign(e);
-            let kind = MethodKind::OppositeState(says.to_owned(), (*state).to_owned());
+            let kind = MethodKind::OppositeState(says.to_owned(), state.clone());
             findings.add(at, kind);
         }
     }

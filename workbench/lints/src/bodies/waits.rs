@@ -102,7 +102,7 @@ impl Doings {
             let known = command.filter(|_| is_known);
             let instrument = &walk.context.instrument;
             let exchange = known.and_then(|number| instrument.exchange(number, *transaction));
-            exchange.is_none_or(|exchange| exchange.received.contains(&variable))
+            exchange.is_none_or(|exchange| exchange.received.contains(variable))
         })
     }
 

@@ -40,9 +40,7 @@ fn numbers_of(values: Values) -> Option<RangeInclusive<i64>> {
 // What a technician or the device may set a variable to, where that is written.
 fn listed_numbers(variable: &Variable<'_>) -> Vec<i64> {
     if !variable.enumerators.is_empty() {
-        let mut numbers: Vec<_> = variable.enumerators.iter().copied().collect();
-        numbers.sort_unstable();
-        return numbers;
+        return variable.enumerators.clone();
     }
     let limit = |which| {
         let mut parts = number_parts(variable.parts()).filter(|part| part.which == which);

@@ -52,6 +52,11 @@ fn check_gap(source: Source<'_>, gap: Gap, findings: &mut Findings<'_>) {
 
 // Whether a comment is opened twice in a gap.
 fn has_nested(bytes: &[u8]) -> bool {
+    // Each has a star, and so has the end of a comment.
+    let stars = bytes.iter().filter(|byte| **byte == b'*').count();
+    if stars < 3 {
+        return false;
+    }
     let opens = bytes.windows(2).filter(|pair| *pair == b"/*");
     1 < opens.take(2).count()
 }

@@ -2,6 +2,7 @@
 
 use super::codes::code_text;
 use super::spoken::Spoken;
+use super::translated::{Translated, Translations};
 use super::variants::{Variant, Variants};
 use crate::kind::TextKind;
 use crate::warning::Findings;
@@ -28,18 +29,17 @@ fn is_converted(raw: &[u8]) -> bool {
 }
 
 // A number of the first language and one of another, where these have as many and not the same.
-fn uneven_numbers(raw: &[u8]) -> Option<(Variant<'_>, Variant<'_>)> {
-    if !raw.iter().any(u8::is_ascii_digit) {
+fn uneven_numbers<'t>(text: Translated<'t>) -> Option<(Variant<'t>, Variant<'t>)> {
+    let (first, others) = text.languages.split_first()?;
+    if !first.words.iter().any(u8::is_ascii_digit) {
         return None;
     }
-    let mut variants = Variants::of(raw);
-    let first = variants.next()?;
     let numbers = numbers_in(first.words);
-    let other = variants.find(|other| {
+    let other = others.iter().find(|other| {
         let others = numbers_in(other.words);
         others.len() == numbers.len() && others != numbers
     })?;
-    (!is_converted(raw)).then_some((first, other))
+    (!is_converted(&text.spoken.raw)).then_some((*first, *other))
 }
 
 // The numbers of one of two variants that the other one lacks, as text.
@@ -98,19 +98,23 @@ fn has_path(raw: &[u8]) -> bool {
 }
 
 /// Checks what the texts of a description say.
-pub(super) fn check_contents(texts: &[Spoken<'_>], findings: &mut Findings<'_>) {
-    for spoken in texts {
-        if spoken.raw.contains(&b'|')
-            && let Some((first, other)) = uneven_numbers(&spoken.raw)
-        {
+pub(super) fn check_contents(
+    texts: &[Spoken<'_>],
+    translations: &Translations<'_>,
+    findings: &mut Findings<'_>,
+) {
+    for text in translations.iter() {
+        if let Some((first, other)) = uneven_numbers(text) {
             let kind = TextKind::UnevenNumbers(
                 text_of(first, other),
                 code_text(first.code).to_owned(),
                 text_of(other, first),
                 code_text(other.code).to_owned(),
             );
-            findings.add(spoken.at, kind);
+            findings.add(text.spoken.at, kind);
         }
+    }
+    for spoken in texts {
         if spoken.raw.contains(&b'\\') && has_path(&spoken.raw) {
             findings.add(spoken.at, TextKind::EscapedPath);
         }

@@ -1,10 +1,12 @@
 //! Texts whose languages are exchanged, and sentences that are the same in two.
 
-use super::spoken::Spoken;
-use super::variants::Variants;
+use super::translated::{Translated, Translations};
 use crate::kind::TextKind;
+use crate::source::TokenIndex;
 use crate::warning::Findings;
+use crate::words::{Vocabulary, words_of};
 use std::collections::HashMap;
+use std::sync::LazyLock;
 
 /// Words of German sentences that English ones have not.
 const GERMAN: [&str; 16] = [
@@ -18,35 +20,81 @@ const ENGLISH: [&str; 14] = [
     "does",
 ];
 
+/// The languages that these words are of.
+static LANGUAGES: LazyLock<Vocabulary<Language>> = LazyLock::new(|| {
+    let german = GERMAN.map(|word| (word, Language::German));
+    let english = ENGLISH.map(|word| (word, Language::English));
+    Vocabulary::of(german.into_iter().chain(english))
+});
+
+/// A language of which some words are known.
+#[derive(Clone, Copy, PartialEq, Eq)]
+enum Language {
+    English,
+    German,
+}
+
 /// How many words a sentence has that is translated.
 const SENTENCE: usize = 4;
 
 /// The English and the German of a text.
 struct Pair<'r> {
+    at: TokenIndex,
     english: &'r str,
     german: &'r str,
 }
 
-fn pair_of(raw: &[u8]) -> Option<Pair<'_>> {
-    let mut english = None;
-    let mut german = None;
-    for variant in Variants::of(raw) {
-        let words = str::from_utf8(variant.words).ok()?.trim();
-        match variant.code {
-            b"en" => english = english.or(Some(words)),
-            b"de" => german = german.or(Some(words)),
-            _ => {}
-        }
+impl<'r> Pair<'r> {
+    fn of(text: Translated<'r>) -> Option<Pair<'r>> {
+        Some(Pair {
+            at: text.spoken.at,
+            english: text.words(b"en")?.trim(),
+            german: text.words(b"de")?.trim(),
+        })
     }
-    Some(Pair {
-        english: english?,
-        german: german?,
-    })
 }
 
-fn words_of(text: &str) -> impl Iterator<Item = &str> + Clone {
-    let words = text.split(|sign: char| !sign.is_alphabetic());
-    words.filter(|word| !word.is_empty())
+/// How often one language says what, and another one what. Nearly all descriptions have no two texts of which
+/// each says in one language what the other says in the other: a text is counted where it may be one of such.
+struct Counts<'r> {
+    texts: HashMap<(&'r str, &'r str), usize>,
+}
+
+// A number that is the same for the same words, and seldom for others.
+fn key_of(text: &str) -> u64 {
+    let bytes = text.as_bytes();
+    let (Some(first), Some(last)) = (bytes.first_chunk(), bytes.last_chunk()) else {
+        return bytes
+            .iter()
+            .fold(0, |key: u64, byte| key.rotate_left(8) ^ u64::from(*byte));
+    };
+    u64::from_le_bytes(*first) ^ u64::from_le_bytes(*last).rotate_left(20)
+}
+
+impl<'r> Counts<'r> {
+    fn of(pairs: &[Pair<'r>]) -> Counts<'r> {
+        let others = || pairs.iter().filter(|pair| pair.english != pair.german);
+        let mut german: Vec<u64> = others().map(|pair| key_of(pair.german)).collect();
+        german.sort_unstable();
+        let may_be_turned = |pair: &&Pair<'r>| german.binary_search(&key_of(pair.english)).is_ok();
+        let mut texts: HashMap<_, usize> = HashMap::new();
+        for pair in others().filter(may_be_turned) {
+            let count = texts.entry((pair.english, pair.german)).or_default();
+            *count = count.saturating_add(1);
+        }
+        Counts { texts }
+    }
+
+    fn get(&self, english: &str, german: &str) -> usize {
+        self.texts.get(&(english, german)).copied().unwrap_or(0)
+    }
+
+    // Whether more texts have the two languages of one the other way round.
+    fn are_turned(&self, pair: &Pair<'_>) -> bool {
+        !self.texts.is_empty()
+            && pair.english != pair.german
+            && self.get(pair.english, pair.german) < self.get(pair.german, pair.english)
+    }
 }
 
 fn has_umlaut(text: &str) -> bool {
@@ -54,49 +102,41 @@ fn has_umlaut(text: &str) -> bool {
     text.as_bytes().contains(&0xC3) && text.contains(['ä', 'ö', 'ü', 'ß', 'Ä', 'Ö', 'Ü'])
 }
 
+// Whether a text has words of one language.
+fn has(text: &str, language: Language) -> bool {
+    words_of(text).any(|word| LANGUAGES.get_exactly(word) == Some(language))
+}
+
 // Whether the words of a pair show that its languages are exchanged.
 fn looks_exchanged(pair: &Pair<'_>) -> bool {
-    let has = |text: &str, all: &[&str]| words_of(text).any(|word| all.contains(&word));
-    let is_turned = |first: &str, second: &str| {
-        has(first, &GERMAN)
-            && !has(first, &ENGLISH)
-            && has(second, &ENGLISH)
-            && !has(second, &GERMAN)
-    };
-    let by_letters = has_umlaut(pair.english)
-        && !has_umlaut(pair.german)
-        && pair.english.to_lowercase() != pair.german.to_lowercase();
+    let is_of = |text, one, other| has(text, one) && !has(text, other);
+    let (english, german) = (Language::English, Language::German);
+    if is_of(pair.english, german, english) && is_of(pair.german, english, german) {
+        return true;
+    }
     // A name may have such letters in each language.
-    is_turned(pair.english, pair.german) || (by_letters && !has(pair.english, &ENGLISH))
+    has_umlaut(pair.english)
+        && !has_umlaut(pair.german)
+        && pair.english.to_lowercase() != pair.german.to_lowercase()
+        && !has(pair.english, english)
 }
 
 // Whether a text is the same sentence in both languages.
 fn is_same_sentence(pair: &Pair<'_>) -> bool {
     pair.english == pair.german
         && SENTENCE <= words_of(pair.english).count()
-        && words_of(pair.english).any(|word| ENGLISH.contains(&word) || GERMAN.contains(&word))
+        && words_of(pair.english).any(|word| LANGUAGES.get_exactly(word).is_some())
 }
 
 /// Checks the languages of the texts with each other.
-pub(super) fn check_exchanged(texts: &[Spoken<'_>], findings: &mut Findings<'_>) {
-    let pairs = texts.iter().filter(|spoken| spoken.raw.contains(&b'|'));
-    let pairs: Vec<_> = pairs
-        .filter_map(|spoken| Some((spoken.at, pair_of(&spoken.raw)?)))
-        .collect();
-    let mut counts: HashMap<(&str, &str), usize> = HashMap::new();
-    for (_, pair) in &pairs {
-        let count = counts.entry((pair.english, pair.german)).or_default();
-        *count = count.saturating_add(1);
-    }
-    let count = |english, german| counts.get(&(english, german)).copied().unwrap_or(0);
-    for (at, pair) in &pairs {
-        let own = count(pair.english, pair.german);
-        let turned = count(pair.german, pair.english);
-        let is_turned = pair.english != pair.german && own < turned;
-        if is_turned || looks_exchanged(pair) {
-            findings.add(*at, TextKind::ExchangedLanguages);
+pub(super) fn check_exchanged(texts: &Translations<'_>, findings: &mut Findings<'_>) {
+    let pairs: Vec<_> = texts.iter().filter_map(Pair::of).collect();
+    let counts = Counts::of(&pairs);
+    for pair in &pairs {
+        if counts.are_turned(pair) || looks_exchanged(pair) {
+            findings.add(pair.at, TextKind::ExchangedLanguages);
         } else if is_same_sentence(pair) {
-            findings.add(*at, TextKind::SameSentence);
+            findings.add(pair.at, TextKind::SameSentence);
         }
     }
 }

@@ -1,9 +1,10 @@
 //! Translations that say the opposite.
 
-use super::spoken::Spoken;
-use super::variants::Variants;
+use super::translated::Translations;
 use crate::kind::TextKind;
 use crate::warning::Findings;
+use crate::words::{Vocabulary, words_of};
+use std::sync::LazyLock;
 
 /// Words of two sides, in English and in German.
 struct Sides {
@@ -114,65 +115,105 @@ const ALL: &[Sides] = &[
 /// How many words a text has at most of which two that say the opposite tell enough.
 const LONGEST: usize = 4;
 
-fn words_of(text: &str) -> impl Iterator<Item = &str> + Clone {
-    let words = text.split(|sign: char| !sign.is_alphabetic());
-    words.filter(|word| !word.is_empty())
+/// Which sides of which pairs words are on, as bits.
+#[derive(Clone, Copy, Default)]
+struct On {
+    first: u16,
+    second: u16,
 }
 
-// Whether two words are the same but for capitals.
-fn is_word(word: &str, other: &str) -> bool {
-    word.len() == other.len()
-        && (word.eq_ignore_ascii_case(other) || (!word.is_ascii() && word.to_lowercase() == other))
-}
+/// The words of a language with their sides.
+type Known = Vocabulary<On>;
 
-// The side of which some words are, where none is of the other side.
-fn side_of(text: &str, sides: [&[&str]; 2]) -> Option<usize> {
-    let has = sides.map(|side| {
-        let mut words = words_of(text);
-        words.any(|word| side.iter().any(|other| is_word(word, other)))
+static ENGLISH: LazyLock<Known> = LazyLock::new(|| known(|sides| sides.english));
+static GERMAN: LazyLock<Known> = LazyLock::new(|| known(|sides| sides.german));
+
+fn known(language: fn(&Sides) -> [&'static [&'static str]; 2]) -> Known {
+    let bits = std::iter::successors(Some(1_u16), |bit| bit.checked_mul(2));
+    let all = ALL.iter().zip(bits).flat_map(|(sides, bit)| {
+        let [first, second] = language(sides);
+        let on_first = On {
+            first: bit,
+            second: 0,
+        };
+        let on_second = On {
+            first: 0,
+            second: bit,
+        };
+        let first = first.iter().map(move |word| (*word, on_first));
+        first.chain(second.iter().map(move |word| (*word, on_second)))
     });
-    match has {
-        [true, false] => Some(0),
-        [false, true] => Some(1),
-        _ => None,
+    Vocabulary::of(all)
+}
+
+impl On {
+    // The sides of which some words are, where none is of the other side. Of a long text nothing is said.
+    fn of(text: &str, known: &Known) -> Option<On> {
+        let mut all = On::default();
+        for (count, word) in words_of(text).enumerate() {
+            if count == LONGEST {
+                return None;
+            }
+            let on = known.get(word).unwrap_or_default();
+            all.first |= on.first;
+            all.second |= on.second;
+        }
+        Some(On {
+            first: all.first & !all.second,
+            second: all.second & !all.first,
+        })
     }
 }
 
 // Whether two texts say the opposite, and nothing alike.
 fn are_opposite(english: &str, german: &str) -> bool {
-    let is_long = |text| words_of(text).nth(LONGEST).is_some();
-    if is_long(english) || is_long(german) {
+    let english = On::of(english, &ENGLISH).filter(|one| (one.first | one.second) != 0);
+    let Some((one, other)) = english.and_then(|one| Some((one, On::of(german, &GERMAN)?))) else {
         return false;
-    }
-    let compared = ALL.iter().filter_map(|sides| {
-        let one = side_of(english, sides.english)?;
-        let other = side_of(german, sides.german)?;
-        Some(one != other)
-    });
-    let mut compared = compared.peekable();
-    compared.peek().is_some() && compared.all(|is_other| is_other)
-}
-
-fn variant_of<'r>(raw: &'r [u8], code: &[u8]) -> Option<&'r str> {
-    let mut variants = Variants::of(raw).filter(|variant| variant.code == code);
-    str::from_utf8(variants.next()?.words).ok()
+    };
+    let alike = (one.first & other.first) | (one.second & other.second);
+    let opposite = (one.first & other.second) | (one.second & other.first);
+    alike == 0 && opposite != 0
 }
 
 /// Checks whether the German of a text says the opposite of its English. Of a list each choice is looked at.
-pub(super) fn check_opposites(texts: &[Spoken<'_>], findings: &mut Findings<'_>) {
-    for spoken in texts.iter().filter(|spoken| spoken.raw.contains(&b'|')) {
-        let pair = variant_of(&spoken.raw, b"en").zip(variant_of(&spoken.raw, b"de"));
-        let Some((english, german)) = pair else {
+pub(super) fn check_opposites(texts: &Translations<'_>, findings: &mut Findings<'_>) {
+    for text in texts.iter() {
+        let Some((english, german)) = text.words(b"en").zip(text.words(b"de")) else {
             continue;
         };
-        let is_opposite = if spoken.is_choices {
+        let is_opposite = if text.spoken.is_choices {
             let mut pairs = english.split(';').zip(german.split(';'));
             pairs.any(|(one, other)| are_opposite(one, other))
         } else {
             are_opposite(english, german)
         };
         if is_opposite {
-            findings.add(spoken.at, TextKind::OppositeTranslation);
+            findings.add(text.spoken.at, TextKind::OppositeTranslation);
+        }
+    }
+}
+
+#[cfg(test)]
+mod tests {
+    use super::*;
+
+    #[test]
+    fn each_word_is_on_one_side() {
+        for sides in ALL {
+            for [one, other] in [sides.english, sides.german] {
+                assert!(!one.iter().any(|word| other.contains(word)));
+            }
+        }
+        let words = |language: fn(&Sides) -> [&'static [&'static str]; 2]| {
+            let all = ALL.iter().flat_map(move |sides| language(sides).concat());
+            all.collect::<Vec<_>>()
+        };
+        for words in [words(|sides| sides.english), words(|sides| sides.german)] {
+            let mut single = words.clone();
+            single.sort_unstable();
+            single.dedup();
+            assert_eq!(single.len(), words.len());
         }
     }
 }

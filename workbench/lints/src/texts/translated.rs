@@ -1,0 +1,68 @@
+//! The texts with codes of languages, and what each of them has for these: what several lints look at is read
+//! once.
+
+use super::spoken::Spoken;
+use super::variants::{Variant, Variants};
+use std::ops::Range;
+
+/// A text with a bar.
+struct Text<'t> {
+    spoken: &'t Spoken<'t>,
+    languages: Range<usize>,
+    has_stray_bar: bool,
+}
+
+/// The texts with bars, with all of their languages.
+pub(super) struct Translations<'t> {
+    texts: Vec<Text<'t>>,
+    languages: Vec<Variant<'t>>,
+}
+
+/// A text with what it has for each language.
+#[derive(Clone, Copy)]
+pub(super) struct Translated<'t> {
+    pub(super) spoken: &'t Spoken<'t>,
+    pub(super) languages: &'t [Variant<'t>],
+    pub(super) has_stray_bar: bool,
+}
+
+impl<'t> Translations<'t> {
+    pub(super) fn of(all: &'t [Spoken<'t>]) -> Translations<'t> {
+        let mut translations = Translations {
+            texts: Vec::new(),
+            languages: Vec::new(),
+        };
+        for spoken in all.iter().filter(|spoken| spoken.raw.contains(&b'|')) {
+            let start = translations.languages.len();
+            let mut variants = Variants::of(&spoken.raw);
+            translations.languages.extend(variants.by_ref());
+            translations.texts.push(Text {
+                spoken,
+                languages: start..translations.languages.len(),
+                has_stray_bar: variants.has_stray_bar,
+            });
+        }
+        translations
+    }
+
+    /// The texts, in the order of the source.
+    pub(super) fn iter(&self) -> impl Iterator<Item = Translated<'_>> {
+        self.texts.iter().map(|text| Translated {
+            spoken: text.spoken,
+            languages: self
+                .languages
+                .get(text.languages.clone())
+                .unwrap_or_default(),
+            has_stray_bar: text.has_stray_bar,
+        })
+    }
+}
+
+impl<'t> Translated<'t> {
+    /// What the text has for a language first.
+    pub(super) fn words(&self, code: &[u8]) -> Option<&'t str> {
+        let mut languages = self.languages.iter();
+        let variant = languages.find(|variant| variant.code == code)?;
+        str::from_utf8(variant.words).ok()
+    }
+}
