@@ -225,9 +225,7 @@ pub(crate) fn check_claims(variable: &Variable<'_>, findings: &mut Findings<'_>)
     for attribute in &variable.item.attributes {
         if let Attribute::OneText(at, TextAttribute::Label | TextAttribute::Help, text) = attribute
         {
-            let mut texts = values_in(text)
-                .into_iter()
-                .filter_map(|one| quoted(one.value));
+            let mut texts = values_in(text).filter_map(|one| quoted(one.value));
             if let Some(kind) = texts.find_map(|text| wrong_claim(text, variable)) {
                 findings.add(index(*at), kind);
             }

@@ -25,9 +25,9 @@ impl States {
     pub(crate) fn of(instrument: &Instrument<'_>) -> States {
         let mut by_text: HashMap<String, Vec<u16>> = HashMap::new();
         for variable in instrument.variables() {
-            for text in variable.texts().numbers.keys() {
-                let known = by_text.entry(text.clone()).or_default();
-                if known.len() < MOST {
+            for text in variable.all_words() {
+                let known = by_text.entry(text.to_owned()).or_default();
+                if known.len() < MOST && known.last() != Some(&variable.number) {
                     known.push(variable.number);
                 }
             }
@@ -71,19 +71,18 @@ impl Texts<'_, '_, '_> {
                 continue;
             };
             texts.push(text);
-            let known = variable.texts();
-            let other = known.numbers.get(text).filter(|other| *other != label);
-            let has_own = known.words.get(label).is_some_and(|own| own != text);
+            let other = variable.enumerator_of(text).filter(|other| other != label);
+            let has_own = variable.words_of(*label).is_some_and(|own| own != text);
             if let Some(other) = other.filter(|_| has_own) {
                 let at = self.context.places.arm(arm);
-                self.findings.add(at, ConditionKind::ExchangedText(*other));
+                self.findings.add(at, ConditionKind::ExchangedText(other));
             }
         }
         // All texts may be those of another variable that is meant to be selected on.
         texts.sort_unstable();
         texts.dedup();
-        let known = &variable.texts().numbers;
-        if texts.len() < 2 || texts.iter().any(|text| known.contains_key(*text)) {
+        let is_own = |text: &&str| variable.enumerator_of(text).is_some();
+        if texts.len() < 2 || texts.iter().any(is_own) {
             return;
         }
         let named = self.context.states().named_by(&texts);

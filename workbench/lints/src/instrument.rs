@@ -1,7 +1,7 @@
 //! What is known of the items of a description.
 
 use crate::exchanges::{Exchange, exchanges_of};
-use crate::lists::{enumerators_of, is_total, values_in};
+use crate::lists::{Listed, enumerators_of, is_total, values_in};
 use crate::range::Range;
 use crate::source::{TokenIndex, index};
 use crate::texts::variants::first_words;
@@ -12,12 +12,11 @@ use edd_constants::evaluate;
 use edd_instructions::Sort;
 use edd_syntax::cond::Cond;
 use edd_syntax::expr::Expr;
-use edd_syntax::item::{Attribute, Item, ItemKind, TypePart, TypeWord};
+use edd_syntax::item::{Attribute, Enumerator, Item, ItemKind, TypePart, TypeWord};
 use edd_syntax::numbers::{Element, ItemNo, NumberOption, VarNo};
 use edd_syntax::reference::Target;
 use edd_syntax::types::{Handling, VarType};
 use std::collections::{HashMap, HashSet};
-use std::sync::OnceLock;
 
 /// What is known of a variable.
 pub(crate) struct Variable<'i> {
@@ -27,8 +26,9 @@ pub(crate) struct Variable<'i> {
     pub(crate) range: Option<Range>,
     /// The enumerators of all branches.
     pub(crate) enumerators: Vec<i64>,
-    /// What their texts say, once that is asked for.
-    texts: OnceLock<Texts>,
+    /// What their texts say in their first language: by their numbers, and by what is said.
+    words: Vec<(i64, &'i str)>,
+    numbers: Vec<(&'i str, i64)>,
     /// Its units in all branches and languages, where all of them are known.
     pub(crate) units: Vec<Unit>,
     /// Whether HANDLING is READ, under no condition.
@@ -38,28 +38,6 @@ pub(crate) struct Variable<'i> {
     /// The least MIN_VALUE and the greatest MAX_VALUE of all branches, where these are constants.
     pub(crate) least: Option<i64>,
     pub(crate) greatest: Option<i64>,
-}
-
-/// The enumerators of a variable by what their texts say in their first language, and the other way round.
-#[derive(Default)]
-pub(crate) struct Texts {
-    pub(crate) numbers: HashMap<String, i64>,
-    pub(crate) words: HashMap<i64, String>,
-}
-
-impl Texts {
-    fn of(parts: &[TypePart<Target>]) -> Texts {
-        let mut texts = Texts::default();
-        for listed in enumerators_of(parts) {
-            let text = quoted(&listed.value.text);
-            let words = text.map(first_words).unwrap_or_default();
-            if !words.is_empty() {
-                texts.numbers.insert(words.to_owned(), listed.value.value);
-                texts.words.insert(listed.value.value, words.to_owned());
-            }
-        }
-        texts
-    }
 }
 
 /// What is known of the commands of a number.
@@ -94,7 +72,7 @@ pub(crate) struct Instrument<'i> {
     /// What the transactions of each command carry.
     exchanges: Vec<Vec<Exchange>>,
     /// The items by their names.
-    names: HashMap<&'i str, usize>,
+    names: HashMap<&'i [u8], usize>,
 }
 
 /// The variable that a target is.
@@ -113,7 +91,8 @@ impl<'i> Variable<'i> {
             kind: None,
             range: None,
             enumerators: Vec::new(),
-            texts: OnceLock::new(),
+            words: Vec::new(),
+            numbers: Vec::new(),
             units: Vec::new(),
             is_read_only: false,
             is_write_only: false,
@@ -135,6 +114,7 @@ impl<'i> Variable<'i> {
                     variable.enumerators = listed.iter().map(|one| one.value.value).collect();
                     variable.enumerators.sort_unstable();
                     variable.enumerators.dedup();
+                    variable.add_texts(&listed);
                 }
                 Attribute::Handling(_, Cond::Value(handling)) => {
                     variable.is_read_only = *handling == Handling::Read;
@@ -149,7 +129,7 @@ impl<'i> Variable<'i> {
     fn add_limits(&mut self) {
         for part in number_parts(self.parts()).filter(|part| is_total(part.value)) {
             let values = values_in(part.value);
-            let numbers: Option<Vec<_>> = values.iter().map(|one| number_of(one.value)).collect();
+            let numbers: Option<Vec<_>> = values.map(|one| number_of(one.value)).collect();
             let numbers = numbers.into_iter().flatten();
             match part.which {
                 NumberOption::MinValue => self.least = numbers.min(),
@@ -159,9 +139,36 @@ impl<'i> Variable<'i> {
         }
     }
 
+    // Of two that say the same the last one counts.
+    fn add_texts(&mut self, listed: &[Listed<'i, Enumerator>]) {
+        let said = listed.iter().filter_map(|one| {
+            let words = first_words(quoted(&one.value.text)?);
+            (!words.is_empty()).then_some((one.value.value, words))
+        });
+        self.words.extend(said);
+        self.numbers
+            .extend(self.words.iter().map(|(number, words)| (*words, *number)));
+        self.words.sort_by_key(|(number, _)| *number);
+        self.numbers.sort_by_key(|(words, _)| *words);
+    }
+
+    /// What the text of an enumerator says.
+    pub(crate) fn words_of(&self, number: i64) -> Option<&'i str> {
+        let end = self.words.partition_point(|(one, _)| *one <= number);
+        let (found, words) = self.words.get(end.checked_sub(1)?)?;
+        (*found == number).then_some(*words)
+    }
+
+    /// The enumerator whose text says something.
+    pub(crate) fn enumerator_of(&self, text: &str) -> Option<i64> {
+        let end = self.numbers.partition_point(|(words, _)| *words <= text);
+        let (found, number) = self.numbers.get(end.checked_sub(1)?)?;
+        (*found == text).then_some(*number)
+    }
+
     /// What the texts of its enumerators say.
-    pub(crate) fn texts(&self) -> &Texts {
-        self.texts.get_or_init(|| Texts::of(self.parts()))
+    pub(crate) fn all_words(&self) -> impl Iterator<Item = &'i str> {
+        self.words.iter().map(|(_, words)| *words)
     }
 
     /// Its unit, where it always is the same one.
@@ -235,6 +242,11 @@ fn command_number(command: &Item<Target>) -> Option<(TokenIndex, u32)> {
         })
 }
 
+fn names_of(items: &[Item<Target>]) -> HashMap<&[u8], usize> {
+    let names = items.iter().map(|item| item.name().as_bytes());
+    names.zip(0..).collect()
+}
+
 impl<'i> Instrument<'i> {
     /// What is known of items and of the elements of their arrays.
     pub(crate) fn of(items: &'i [Item<Target>], elements: &[Element]) -> Instrument<'i> {
@@ -250,7 +262,7 @@ impl<'i> Instrument<'i> {
             element_ranges: HashMap::new(),
             commands: HashMap::new(),
             exchanges: Vec::new(),
-            names: items.iter().map(Item::name).zip(0..).collect(),
+            names: names_of(items),
         };
         for (number, item) in items.iter().enumerate() {
             instrument.add_place(item, number);
@@ -369,20 +381,25 @@ impl<'i> Instrument<'i> {
 
     /// Whether an item has a name.
     pub(crate) fn has_name(&self, name: &str) -> bool {
-        self.names.contains_key(name)
+        self.names.contains_key(name.as_bytes())
+    }
+
+    /// The index of the item of a name among all items.
+    pub(crate) fn place_named(&self, name: &[u8]) -> Option<usize> {
+        self.names.get(name).copied()
     }
 
     /// The item of a name.
     pub(crate) fn item_named(&self, name: &str) -> Option<&'i Item<Target>> {
-        self.items.get(*self.names.get(name)?)
+        self.items.get(self.place_named(name.as_bytes())?)
     }
 
     /// The variable of a name.
     pub(crate) fn variable_named(&self, name: &str) -> Option<u16> {
-        let place = self.names.get(name)?;
-        let item = self.items.get(*place)?;
+        let place = self.place_named(name.as_bytes())?;
+        let item = self.items.get(place)?;
         let numbers = self.by_kind.get(usize::from(item.kind().number()))?;
-        let number = numbers.binary_search(place).ok()?;
+        let number = numbers.binary_search(&place).ok()?;
         let is_variable = item.sort == ItemKind::Variable;
         u16::try_from(number).ok().filter(|_| is_variable)
     }

@@ -45,11 +45,12 @@ fn join<'t>(words: impl IntoIterator<Item = &'t str>, joined: &mut String) {
             joined.push(' ');
         }
         if word.is_ascii() {
-            joined.extend(word.chars().map(|sign| sign.to_ascii_lowercase()));
+            joined.push_str(word);
         } else {
             joined.push_str(&word.to_lowercase());
         }
     }
+    joined.make_ascii_lowercase();
 }
 
 impl Labels {

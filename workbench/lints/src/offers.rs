@@ -189,7 +189,8 @@ fn check_default(variable: &Variable<'_>, context: &Context<'_>, findings: &mut 
         return;
     }
     // Under a condition of its own it may follow that of the enumerators.
-    let [default] = &*values_in(part.value) else {
+    let mut defaults = values_in(part.value);
+    let (Some(default), None) = (defaults.next(), defaults.next()) else {
         return;
     };
     let Some(number) = number_of(default.value).filter(|_| part.number().is_some()) else {

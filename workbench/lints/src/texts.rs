@@ -32,8 +32,9 @@ pub(crate) fn check_texts(context: &Context<'_>, findings: &mut Findings<'_>) {
     check_languages(&translations, findings);
     check_signs(&texts, findings);
     check_contents(&texts, &translations, findings);
-    check_exchanged(&translations, findings);
-    check_opposites(&translations, findings);
+    let pairs = translations.pairs();
+    check_exchanged(&pairs, findings);
+    check_opposites(&pairs, findings);
     check_translations(&texts, findings);
     check_insides(&texts, context, findings);
     check_comments(context.source, findings);

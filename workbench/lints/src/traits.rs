@@ -189,9 +189,7 @@ fn check_unit(variable: &Variable<'_>, findings: &mut Findings<'_>) {
     }
     for attribute in &variable.item.attributes {
         if let Attribute::OneText(at, TextAttribute::ConstantUnit, unit) = attribute {
-            let mut units = values_in(unit)
-                .into_iter()
-                .filter_map(|one| quoted(one.value));
+            let mut units = values_in(unit).filter_map(|one| quoted(one.value));
             if units.any(|unit| !unit.trim().is_empty()) {
                 findings.add(index(*at), VariableKind::UnitOfBits);
             }
@@ -238,7 +236,7 @@ pub(crate) fn check_label(attribute: &Attribute<Target>, findings: &mut Findings
                 Variants::of(text.as_bytes()).all(|variant| variant.words.trim_ascii().is_empty())
             })
         };
-        if values_in(label).iter().any(|listed| is_empty(listed.value)) {
+        if values_in(label).any(|listed| is_empty(listed.value)) {
             findings.add(index(*at), TextKind::EmptyText);
         }
     }

@@ -321,11 +321,11 @@ pub(crate) fn check_limit_units(
         return;
     };
     for part in number_parts(variable.parts()) {
-        let others = values_in(part.value).into_iter().filter_map(|listed| {
+        let mut others = values_in(part.value).filter_map(|listed| {
             let (target, _) = sum_of(listed.value, Sort::Attribute, &context.instrument)?;
             context.instrument.variable(variable_of(target)?)?.unit()
         });
-        if let Some(other) = others.into_iter().find(|other| *other != own) {
+        if let Some(other) = others.find(|other| *other != own) {
             let kind = ConditionKind::TwoUnits(own.name, other.name);
             findings.add(part.at, kind);
         }

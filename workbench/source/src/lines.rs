@@ -32,11 +32,14 @@ pub struct Lines<'a> {
 impl<'a> Lines<'a> {
     /// The lines of a text.
     pub fn of(text: &'a [u8]) -> Lines<'a> {
-        let ends = text.iter().enumerate().filter(|(_, byte)| **byte == b'\n');
-        let starts: Vec<usize> = [0]
-            .into_iter()
-            .chain(ends.map(|(place, _)| place.saturating_add(1)))
-            .collect();
+        let mut starts = vec![0];
+        let mut start = 0_usize;
+        // A line that is not ended is the last one.
+        let lines = text.split_inclusive(|byte| *byte == b'\n');
+        for line in lines.filter(|line| line.ends_with(b"\n")) {
+            start = start.saturating_add(line.len());
+            starts.push(start);
+        }
         let marks = Marks::of(text, &starts);
         Lines {
             text,

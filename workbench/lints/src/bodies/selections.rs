@@ -47,9 +47,8 @@ impl Selections<'_, '_, '_> {
         let Some(variable) = known else {
             return;
         };
-        let texts = variable.texts();
-        let is_other = texts.numbers.get(choice).is_some_and(|own| *own != number);
-        if is_other && texts.words.contains_key(&number) {
+        let own = variable.enumerator_of(choice);
+        if own.is_some_and(|own| own != number) && variable.words_of(number).is_some() {
             let kind = MethodKind::ExchangedChoice(choice.to_owned());
             self.findings.add(at, kind);
         }

@@ -114,12 +114,12 @@ pub(super) fn check_states(
         let (Some(variable), Some((number, e))) = (known, set) else {
             continue;
         };
-        let Some(state) = variable.texts().words.get(&number) else {
+        let Some(state) = variable.words_of(number) else {
             continue;
         };
         if let Some(says) = opposed(&words, state) {
             let at: TokenIndex = context.places.sign(e);
-            let kind = MethodKind::OppositeState(says.to_owned(), state.clone());
+            let kind = MethodKind::OppositeState(says.to_owned(), state.to_owned());
             findings.add(at, kind);
         }
     }

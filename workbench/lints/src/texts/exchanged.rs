@@ -1,8 +1,7 @@
 //! Texts whose languages are exchanged, and sentences that are the same in two.
 
-use super::translated::{Translated, Translations};
+use super::translated::Pair;
 use crate::kind::TextKind;
-use crate::source::TokenIndex;
 use crate::warning::Findings;
 use crate::words::{Vocabulary, words_of};
 use std::collections::HashMap;
@@ -37,26 +36,11 @@ enum Language {
 /// How many words a sentence has that is translated.
 const SENTENCE: usize = 4;
 
-/// The English and the German of a text.
-struct Pair<'r> {
-    at: TokenIndex,
-    english: &'r str,
-    german: &'r str,
-}
-
-impl<'r> Pair<'r> {
-    fn of(text: Translated<'r>) -> Option<Pair<'r>> {
-        Some(Pair {
-            at: text.spoken.at,
-            english: text.words(b"en")?.trim(),
-            german: text.words(b"de")?.trim(),
-        })
-    }
-}
-
 /// How often one language says what, and another one what. Nearly all descriptions have no two texts of which
 /// each says in one language what the other says in the other: a text is counted where it may be one of such.
 struct Counts<'r> {
+    /// The keys of what texts say in German.
+    german: Vec<u64>,
     texts: HashMap<(&'r str, &'r str), usize>,
 }
 
@@ -82,7 +66,7 @@ impl<'r> Counts<'r> {
             let count = texts.entry((pair.english, pair.german)).or_default();
             *count = count.saturating_add(1);
         }
-        Counts { texts }
+        Counts { german, texts }
     }
 
     fn get(&self, english: &str, german: &str) -> usize {
@@ -91,8 +75,8 @@ impl<'r> Counts<'r> {
 
     // Whether more texts have the two languages of one the other way round.
     fn are_turned(&self, pair: &Pair<'_>) -> bool {
-        !self.texts.is_empty()
-            && pair.english != pair.german
+        pair.english != pair.german
+            && self.german.binary_search(&key_of(pair.english)).is_ok()
             && self.get(pair.english, pair.german) < self.get(pair.german, pair.english)
     }
 }
@@ -129,14 +113,14 @@ fn is_same_sentence(pair: &Pair<'_>) -> bool {
 }
 
 /// Checks the languages of the texts with each other.
-pub(super) fn check_exchanged(texts: &Translations<'_>, findings: &mut Findings<'_>) {
-    let pairs: Vec<_> = texts.iter().filter_map(Pair::of).collect();
-    let counts = Counts::of(&pairs);
-    for pair in &pairs {
+pub(super) fn check_exchanged(pairs: &[Pair<'_>], findings: &mut Findings<'_>) {
+    let counts = Counts::of(pairs);
+    for pair in pairs {
+        let at = pair.spoken.at;
         if counts.are_turned(pair) || looks_exchanged(pair) {
-            findings.add(pair.at, TextKind::ExchangedLanguages);
+            findings.add(at, TextKind::ExchangedLanguages);
         } else if is_same_sentence(pair) {
-            findings.add(pair.at, TextKind::SameSentence);
+            findings.add(at, TextKind::SameSentence);
         }
     }
 }

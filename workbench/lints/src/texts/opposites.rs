@@ -1,6 +1,6 @@
 //! Translations that say the opposite.
 
-use super::translated::Translations;
+use super::translated::Pair;
 use crate::kind::TextKind;
 use crate::warning::Findings;
 use crate::words::{Vocabulary, words_of};
@@ -177,19 +177,16 @@ fn are_opposite(english: &str, german: &str) -> bool {
 }
 
 /// Checks whether the German of a text says the opposite of its English. Of a list each choice is looked at.
-pub(super) fn check_opposites(texts: &Translations<'_>, findings: &mut Findings<'_>) {
-    for text in texts.iter() {
-        let Some((english, german)) = text.words(b"en").zip(text.words(b"de")) else {
-            continue;
-        };
-        let is_opposite = if text.spoken.is_choices {
-            let mut pairs = english.split(';').zip(german.split(';'));
-            pairs.any(|(one, other)| are_opposite(one, other))
+pub(super) fn check_opposites(pairs: &[Pair<'_>], findings: &mut Findings<'_>) {
+    for pair in pairs {
+        let is_opposite = if pair.spoken.is_choices {
+            let mut choices = pair.english.split(';').zip(pair.german.split(';'));
+            choices.any(|(one, other)| are_opposite(one, other))
         } else {
-            are_opposite(english, german)
+            are_opposite(pair.english, pair.german)
         };
         if is_opposite {
-            findings.add(text.spoken.at, TextKind::OppositeTranslation);
+            findings.add(pair.spoken.at, TextKind::OppositeTranslation);
         }
     }
 }

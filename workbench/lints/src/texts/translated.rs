@@ -59,10 +59,31 @@ impl<'t> Translations<'t> {
 }
 
 impl<'t> Translated<'t> {
-    /// What the text has for a language first.
-    pub(super) fn words(&self, code: &[u8]) -> Option<&'t str> {
+    // What the text has for a language first.
+    fn words(&self, code: &[u8]) -> Option<&'t str> {
         let mut languages = self.languages.iter();
         let variant = languages.find(|variant| variant.code == code)?;
-        str::from_utf8(variant.words).ok()
+        Some(str::from_utf8(variant.words).ok()?.trim())
+    }
+}
+
+/// The English and the German of a text.
+pub(super) struct Pair<'t> {
+    pub(super) spoken: &'t Spoken<'t>,
+    pub(super) english: &'t str,
+    pub(super) german: &'t str,
+}
+
+impl<'t> Translations<'t> {
+    /// The texts that have both languages.
+    pub(super) fn pairs(&self) -> Vec<Pair<'_>> {
+        let pairs = self.iter().filter_map(|text| {
+            Some(Pair {
+                spoken: text.spoken,
+                english: text.words(b"en")?,
+                german: text.words(b"de")?,
+            })
+        });
+        pairs.collect()
     }
 }

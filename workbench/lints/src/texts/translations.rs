@@ -69,7 +69,7 @@ fn is_unit(words: &[u8]) -> bool {
 fn single_language(raw: &[u8]) -> Option<Variant<'_>> {
     let mut variants = Variants::of(raw);
     let first = variants.next()?;
-    variants.next().is_none().then_some(first)
+    (!raw.contains(&b'|') || variants.next().is_none()).then_some(first)
 }
 
 fn is_for_readers(spoken: &Spoken<'_>) -> bool {
@@ -87,8 +87,19 @@ fn is_for_readers(spoken: &Spoken<'_>) -> bool {
     )
 }
 
-/// Warns of texts in one language, where nearly all others have more.
-pub(super) fn check_translations(texts: &[Spoken<'_>], findings: &mut Findings<'_>) {
+// What a text has in one language that is to be translated: its code.
+fn untranslated<'s>(spoken: &'s Spoken<'_>) -> Option<&'s [u8]> {
+    let says_language = spoken.raw.starts_with(b"|");
+    if !says_language && !is_for_readers(spoken) {
+        return None;
+    }
+    let Variant { code, words } = single_language(&spoken.raw)?;
+    let is_told = says_language || !is_unit(words);
+    (has_word(words) && is_told).then_some(code)
+}
+
+// Whether three of four texts are translated.
+fn are_translated(texts: &[Spoken<'_>]) -> bool {
     let mut all = 0_usize;
     let mut translated = 0_usize;
     for spoken in texts {
@@ -98,20 +109,20 @@ pub(super) fn check_translations(texts: &[Spoken<'_>], findings: &mut Findings<'
             translated = translated.saturating_add(usize::from(has_more));
         }
     }
-    // Three of four are translated.
-    if translated < FEWEST || translated.saturating_mul(4) < all.saturating_mul(3) {
+    FEWEST <= translated && all.saturating_mul(3) <= translated.saturating_mul(4)
+}
+
+/// Warns of texts in one language, where nearly all others have more.
+pub(super) fn check_translations(texts: &[Spoken<'_>], findings: &mut Findings<'_>) {
+    let suspects = texts
+        .iter()
+        .filter_map(|one| Some((one.at, untranslated(one)?)));
+    let suspects: Vec<_> = suspects.collect();
+    if suspects.is_empty() || !are_translated(texts) {
         return;
     }
-    for spoken in texts {
-        let Some(Variant { code, words }) = single_language(&spoken.raw) else {
-            continue;
-        };
-        let says_language = spoken.raw.starts_with(b"|");
-        let is_told = says_language || (is_for_readers(spoken) && !is_unit(words));
-        if has_word(words) && is_told {
-            let code = code_text(code).to_owned();
-            findings.add(spoken.at, TextKind::Untranslated(code));
-        }
+    for (at, code) in suspects {
+        findings.add(at, TextKind::Untranslated(code_text(code).to_owned()));
     }
 }
 
