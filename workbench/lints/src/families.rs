@@ -53,9 +53,17 @@ fn number_in(text: &str) -> Option<u32> {
     runs.next().is_none().then(|| first.parse().ok()).flatten()
 }
 
-// The names between that of an item and the next item that are those of items with numbers, with their places.
+// Whether a name ends with these digits, and has none before them.
+fn ends_with_number(name: &[u8], digits: &[u8]) -> bool {
+    let stem = name.strip_suffix(digits);
+    stem.is_some_and(|stem| !stem.last().is_some_and(u8::is_ascii_digit))
+}
+
+// The names with numbers between that of an item and the next item, with their places. Those with the number of
+// these digits are passed.
 fn named_by<'d>(
     place: usize,
+    passed: &'d str,
     context: &Context<'d>,
 ) -> impl Iterator<Item = (TokenIndex, &'d str, u32)> {
     let items = context.instrument.items;
@@ -65,7 +73,12 @@ fn named_by<'d>(
     let source = context.source;
     let places = start.unwrap_or(end).saturating_add(1)..end;
     places.filter_map(move |at| {
-        if source.kind(at) != Some(TokenKind::Name) || !source.bytes(at).last()?.is_ascii_digit() {
+        if source.kind(at) != Some(TokenKind::Name) {
+            return None;
+        }
+        let name = source.bytes(at);
+        let has_digits = name.last().is_some_and(u8::is_ascii_digit);
+        if !has_digits || (!passed.is_empty() && ends_with_number(name, passed.as_bytes())) {
             return None;
         }
         let (stem, number) = numbered(source.word(at))?;
@@ -76,7 +89,9 @@ fn named_by<'d>(
 // Whether an item names one with another number than its own, and there is one with its own.
 fn names_other(place: usize, (stem, own): (&str, u32), context: &Context<'_>) -> bool {
     let instrument = &context.instrument;
-    named_by(place, context).any(|(at, other, number)| {
+    let name = instrument.items.get(place).map_or("", Item::name);
+    let digits = name.get(stem.len()..).unwrap_or_default();
+    named_by(place, digits, context).any(|(at, other, number)| {
         number != own
             && other != stem
             && instrument.has_name(context.source.word(at))
@@ -115,7 +130,7 @@ impl<'d> Families<'d> {
             number,
             named: HashMap::new(),
         };
-        for (at, other, number) in named_by(place, context) {
+        for (at, other, number) in named_by(place, "", context) {
             if other != stem && context.instrument.has_name(context.source.word(at)) {
                 let numbers = member.named.entry(other).or_default();
                 numbers.entry(number).or_insert(at);

@@ -51,11 +51,12 @@ impl<'r> Wrong<'r> {
     }
 }
 
-// The languages of a text by themselves. Returns their codes.
-fn check_text<'r>(text: Translated<'r>, findings: &mut Findings<'_>) -> Vec<&'r [u8]> {
+// The languages of a text by themselves.
+fn check_text<'r>(text: Translated<'r>, codes: &mut Vec<&'r [u8]>, findings: &mut Findings<'_>) {
     let at = text.spoken.at;
     let mut wrong = Wrong::default();
-    let mut codes: Vec<_> = text.languages.iter().map(|one| one.code).collect();
+    codes.clear();
+    codes.extend(text.languages.iter().map(|one| one.code));
     codes.sort_unstable();
     // Few texts have a language twice: only there it matters which is the first.
     let has_repeated = codes.windows(2).any(|pair| pair.first() == pair.last());
@@ -67,7 +68,6 @@ fn check_text<'r>(text: Translated<'r>, findings: &mut Findings<'_>) -> Vec<&'r 
         findings.add(at, TextKind::StrayBar);
     }
     wrong.report(at, findings);
-    codes
 }
 
 // How many choices words have: semicolons part them.
@@ -100,9 +100,10 @@ fn check_choices(text: Translated<'_>, findings: &mut Findings<'_>) {
 /// which nothing is to be said.
 pub(super) fn check_languages(texts: &Translations<'_>, findings: &mut Findings<'_>) {
     let mut usual = Usual::default();
+    let mut codes = Vec::new();
     for text in texts.iter() {
-        let codes = check_text(text, findings);
-        usual.add(text.spoken.at, &codes);
+        check_text(text, &mut codes, findings);
+        usual.add(text.spoken.at, text.languages);
         if text.spoken.is_choices {
             check_choices(text, findings);
         }
