@@ -61,9 +61,10 @@ impl<'s> Names<'s> {
 /// other method adds, and nothing else names it.
 pub(crate) fn check_abort_methods(context: &Context<'_>, findings: &mut Findings<'_>) {
     let source = context.source;
-    let adds = |at| source.bytes(at) == Builtin::AddAbortMethod.name().as_bytes();
+    let adds = Builtin::AddAbortMethod.name().as_bytes();
+    let mut tokens = source.tokens.iter().enumerate();
     // Most descriptions add none.
-    if !(0..source.tokens.len()).any(adds) {
+    if !tokens.any(|(at, token)| token.kind == TokenKind::Name && source.bytes(at) == adds) {
         return;
     }
     let names = Names::of(source);

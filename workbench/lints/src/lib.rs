@@ -51,6 +51,7 @@ mod traffic;
 mod traits;
 mod types;
 mod units;
+mod unshared;
 mod unused;
 mod usage;
 mod values;

@@ -39,6 +39,7 @@ lints! {
     UnreadableDynamic
     WideFormat
     UnreadDynamic
+    UnsentVariable
     ConditionalDefault
     UnreachableEnumerator
     ContradictingUnit
@@ -63,6 +64,7 @@ lints! {
     RepeatedResponseText
     UnevenEcho
     OppositeClass
+    UnsharedCondition
     TrappingExpression
     ConstantCondition
     RepeatedCase

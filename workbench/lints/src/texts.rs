@@ -35,7 +35,7 @@ pub(crate) fn check_texts(context: &Context<'_>, findings: &mut Findings<'_>) {
     let pairs = translations.pairs();
     check_exchanged(&pairs, findings);
     check_opposites(&pairs, findings);
-    check_translations(&texts, findings);
+    check_translations(&texts, &translations, findings);
     check_insides(&texts, context, findings);
     check_comments(context.source, findings);
 }

@@ -9,7 +9,7 @@ use crate::lists::values_of;
 use crate::source::{TokenIndex, index};
 use crate::texts::variants::Variants;
 use crate::traits::{classes_of, is_spare, quoted};
-use crate::usage::{carried, operation_of};
+use crate::usage::{Usage, carried, operation_of};
 use crate::warning::Findings;
 use crate::words::Phrases;
 use edd_syntax::cond::Cond;
@@ -328,25 +328,46 @@ fn may_be_written(variable: &Variable<'_>) -> bool {
     })
 }
 
+// Whether a variable that is read from the device is said to be one that can be written, and nothing sends it.
+// What an expression reads may be entered for that alone.
+fn is_unsent(number: u16, variable: &Variable<'_>, usage: &Usage) -> bool {
+    let is_written = variable.item.attributes.iter().any(|attribute| {
+        matches!(
+            attribute,
+            Attribute::Handling(_, Cond::Value(Handling::Write | Handling::ReadWrite))
+        )
+    });
+    is_written
+        && usage.has_write_command
+        && usage.read.contains(number)
+        && !usage.requested.contains(number)
+        && !usage.mentioned.contains(number)
+}
+
 /// Checks which variables no command carries, though they are such as commands carry.
 pub(crate) fn check_carried(context: &Context<'_>, findings: &mut Findings<'_>) {
     let usage = &context.usage;
     for (number, variable) in (0u16..).zip(context.instrument.variables()) {
-        let is_carried = usage.requested.contains(number) || usage.replied.contains(number);
         let classes = classes_of(variable);
-        if classes.contains("CONSTANT") && usage.set.contains(number) {
-            let at = index(variable.item.at);
-            findings.add(at, VariableKind::SetConstant(variable.name().to_owned()));
-        }
-        if is_carried || usage.set.contains(number) || classes.contains("LOCAL") {
-            continue;
-        }
         let at = index(variable.item.at);
         let name = || variable.name().to_owned();
+        if classes.contains("CONSTANT") && usage.set.contains(number) {
+            findings.add(at, VariableKind::SetConstant(name()));
+        }
+        if usage.set.contains(number) || classes.contains("LOCAL") {
+            continue;
+        }
+        let is_dynamic = classes.contains("DYNAMIC");
+        let is_carried = usage.requested.contains(number) || usage.replied.contains(number);
         let is_used = usage.shown.contains(number) || usage.mentioned.contains(number);
-        if classes.contains("DYNAMIC") && usage.has_read_command && is_used {
+        let is_read = usage.received.contains(number) || !usage.has_read_command;
+        if is_dynamic && !is_read && is_used {
             findings.add(at, VariableKind::UnreadDynamic(name()));
-        } else if usage.has_write_command
+        } else if is_unsent(number, variable, usage) && !is_dynamic && !classes.contains("CONSTANT")
+        {
+            findings.add(at, VariableKind::Unsent(name()));
+        } else if !is_carried
+            && usage.has_write_command
             && usage.offered.contains(number)
             && !usage.mentioned.contains(number)
             && may_be_written(variable)

@@ -49,6 +49,10 @@ pub(crate) struct Usage {
     pub(crate) requested: Variables,
     /// In a REPLY.
     pub(crate) replied: Variables,
+    /// In a REPLY from which they are set: not for INFO.
+    pub(crate) received: Variables,
+    /// In such a REPLY of a command that reads.
+    pub(crate) read: Variables,
     /// Entries of menus by which they may be set.
     pub(crate) offered: Variables,
     /// Entries of menus.
@@ -117,22 +121,48 @@ impl Usage {
                 let elements = elements.iter().filter_map(|one| variable_of(one.variable));
                 self.mentioned.extend(elements);
             }
-            Attribute::Transaction { parts, .. } => {
-                for part in parts {
-                    let (carriers, items) = match part {
-                        TransactionPart::Request(_, items) => (&mut self.requested, items),
-                        TransactionPart::Reply(_, items) => (&mut self.replied, items),
-                    };
-                    let items = values_of(items);
-                    carriers.extend(items.iter().filter_map(|listed| carried(listed.value)));
-                }
-            }
             _ => {}
         }
     }
 
+    fn add_messages(&mut self, parts: &[TransactionPart<Target>], is_read: bool) {
+        for part in parts {
+            match part {
+                TransactionPart::Request(_, items) => {
+                    let items = values_of(items);
+                    let items = items.iter().filter_map(|listed| carried(listed.value));
+                    self.requested.extend(items);
+                }
+                TransactionPart::Reply(_, items) => {
+                    for listed in values_of(items) {
+                        self.add_received(listed.value, is_read);
+                    }
+                }
+            }
+        }
+    }
+
+    // An item for INFO sets nothing.
+    fn add_received(&mut self, item: &DataItem<Target>, is_read: bool) {
+        let DataItem::Variable { qualifiers, .. } = item else {
+            return;
+        };
+        let variable = carried(item);
+        self.replied.extend(variable);
+        if !qualifiers.info {
+            self.received.extend(variable);
+            self.read.extend(variable.filter(|_| is_read));
+        }
+    }
+
     fn add_command(&mut self, command: &Item<Target>) {
-        match operation_of(command) {
+        let operation = operation_of(command);
+        for attribute in &command.attributes {
+            if let Attribute::Transaction { parts, .. } = attribute {
+                self.add_messages(parts, operation == Some(Operation::Read));
+            }
+        }
+        match operation {
             Some(Operation::Read) => self.has_read_command = true,
             Some(Operation::Write) => self.has_write_command = true,
             _ => {}

@@ -2,6 +2,7 @@
 
 use crate::marks::Marks;
 use crate::{Origin, Span};
+use std::io::BufRead;
 
 /// The longest line of a source that is shown, in bytes.
 const LONGEST: usize = 400;
@@ -33,11 +34,15 @@ impl<'a> Lines<'a> {
     /// The lines of a text.
     pub fn of(text: &'a [u8]) -> Lines<'a> {
         let mut starts = vec![0];
-        let mut start = 0_usize;
-        // A line that is not ended is the last one.
-        let lines = text.split_inclusive(|byte| *byte == b'\n');
-        for line in lines.filter(|line| line.ends_with(b"\n")) {
-            start = start.saturating_add(line.len());
+        let (mut start, mut rest) = (0_usize, text);
+        // Reading from bytes does not fail.
+        while let Ok(length) = rest.skip_until(b'\n') {
+            start = start.saturating_add(length);
+            let is_ended =
+                0 < length && text.get(..start).is_some_and(|line| line.ends_with(b"\n"));
+            if !is_ended {
+                break;
+            }
             starts.push(start);
         }
         let marks = Marks::of(text, &starts);

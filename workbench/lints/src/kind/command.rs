@@ -51,6 +51,8 @@ kinds! {
             "the reply begins with {echo} and the request with {selector}: in the others both are the same"
         OtherReply UnevenEcho
             "the reply has none of what the request sends, and something else: others have the same in both"
+        UnsharedCondition(variable: String) UnsharedCondition
+            "no message carries {variable}: who receives this can't tell which of the branches it is"
         UnorderedResponseCode(number: u32) UnorderedResponseCodes
             "{number} is smaller than the response code before it"
     }

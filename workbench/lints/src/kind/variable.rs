@@ -114,6 +114,8 @@ kinds! {
             "{command} does not carry {variable}, which its name has"
         LockedOut(variable: String, number: i64) LockedOut
             "nothing lets {variable} be changed where it is {number}"
+        Unsent(variable: String) UnsentVariable
+            "{variable} may be written, and no command sends it: the next reply replaces what is entered"
         Ineffective(variable: String) IneffectiveVariable
             "what is entered for {variable} has no effect: no command sends it, and nothing reads it"
     }

@@ -201,4 +201,20 @@ COMMAND c { NUMBER 1; OPERATION READ;
         counterexample: r#"COMMAND c { NUMBER 1; OPERATION READ; TRANSACTION { } RESPONSE_CODES { 0, SUCCESS, "OK"; 3, DATA_ENTRY_ERROR, "Value too large" } }"#,
         notes: "",
     },
+    Row {
+        lint: Lint::UnsharedCondition,
+        name: "unshared-condition",
+        level: Level::Warn,
+        summary: "a condition in a message on a variable that no message carries",
+        details: "a condition in a REQUEST or a REPLY on variables that can be entered, that no message carries and no method sets, two of whose branches have other items with the same octets for some values: who sends and who receives them have other values for the condition ([OCTETS](OCTETS.md#rules)), and nothing in the message tells the branches apart. Branches of which one is longer, or has another constant at a place, can be told apart, and one with masks is not looked at.",
+        example: "VARIABLE a { TYPE INTEGER; }
+VARIABLE b { TYPE INTEGER; }
+VARIABLE mode { TYPE UNSIGNED_INTEGER; }
+COMMAND c { NUMBER 1; OPERATION READ; TRANSACTION { REPLY { IF (mode == 0) { a } ELSE { b } } } }",
+        counterexample: "VARIABLE a { TYPE INTEGER; }
+VARIABLE b { TYPE INTEGER; }
+VARIABLE mode { TYPE UNSIGNED_INTEGER; }
+COMMAND c { NUMBER 1; OPERATION READ; TRANSACTION { REQUEST { mode } REPLY { IF (mode == 0) { a } ELSE { b } } } }",
+        notes: "",
+    },
 ];

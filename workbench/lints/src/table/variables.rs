@@ -175,7 +175,7 @@ VARIABLE b { TYPE INTEGER; }",
         name: "unread-dynamic",
         level: Level::Warn,
         summary: "a variable of CLASS DYNAMIC that no reply carries",
-        details: "a variable of CLASS DYNAMIC that a menu or an expression has, that is in no message of a command and that no method sets, where there are commands that read. One of CLASS LOCAL is the host's.",
+        details: "a variable of CLASS DYNAMIC that a menu or an expression has, that no REPLY sets and no method, where there are commands that read. An item for INFO sets nothing. One of CLASS LOCAL is the host's.",
         example: "VARIABLE a { TYPE INTEGER; }
 VARIABLE d { CLASS DYNAMIC; HANDLING READ; TYPE INTEGER; }
 COMMAND c { NUMBER 1; OPERATION READ; TRANSACTION { REPLY { a } } }
@@ -185,6 +185,22 @@ VARIABLE d { CLASS DYNAMIC; HANDLING READ; TYPE INTEGER; }
 COMMAND c { NUMBER 1; OPERATION READ; TRANSACTION { REPLY { a, d } } }
 MENU m { ITEMS { d } }",
         notes: "",
+    },
+    Row {
+        lint: Lint::UnsentVariable,
+        name: "unsent-variable",
+        level: Level::Warn,
+        summary: "a variable that is read and may be written, and that no command sends",
+        details: "a variable whose HANDLING is WRITE or READ & WRITE, under no condition, that the REPLY of a READ command sets, and that is in no REQUEST, where there are commands that write: it has readers and no writer ([OCTETS](OCTETS.md#which-command-carries-a-variable)). One that an expression or a method has may be entered for that, and one of CLASS DYNAMIC, CONSTANT or LOCAL is not the device's to keep.",
+        example: "VARIABLE a { TYPE INTEGER; }
+VARIABLE v { HANDLING READ & WRITE; TYPE INTEGER; }
+COMMAND c { NUMBER 1; OPERATION READ; TRANSACTION { REPLY { a, v } } }
+COMMAND d { NUMBER 2; OPERATION WRITE; TRANSACTION { REQUEST { a } } }",
+        counterexample: "VARIABLE a { TYPE INTEGER; }
+VARIABLE v { HANDLING READ & WRITE; TYPE INTEGER; }
+COMMAND c { NUMBER 1; OPERATION READ; TRANSACTION { REPLY { a, v } } }
+COMMAND d { NUMBER 2; OPERATION WRITE; TRANSACTION { REQUEST { a, v } } }",
+        notes: "Without HANDLING there is no warning: makers leave it out where nothing is to be written.",
     },
     Row {
         lint: Lint::ConditionalDefault,

@@ -58,6 +58,20 @@ impl<'t> Translations<'t> {
     }
 }
 
+impl<'t> Translations<'t> {
+    /// All texts, with their languages where they have bars.
+    pub(super) fn beside<'a>(
+        &'a self,
+        all: &'a [Spoken<'t>],
+    ) -> impl Iterator<Item = (&'a Spoken<'t>, Option<Translated<'a>>)> {
+        let mut translated = self.iter().peekable();
+        all.iter().map(move |spoken| {
+            let own = translated.next_if(|text| text.spoken.at == spoken.at);
+            (spoken, own)
+        })
+    }
+}
+
 impl<'t> Translated<'t> {
     // What the text has for a language first.
     fn words(&self, code: &[u8]) -> Option<&'t str> {
