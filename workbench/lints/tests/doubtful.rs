@@ -86,7 +86,7 @@ fn lints_of(text: &str, levels: &Levels) -> Option<BTreeSet<Lint>> {
 fn the_description_that_all_have_in_common_is_clean() {
     let (base, all) = read();
     assert_eq!(lints_of(&base, &Levels::default()), Some(BTreeSet::new()));
-    assert_eq!(all.len(), 700);
+    assert_eq!(all.len(), 713);
 }
 
 #[test]
