@@ -20,8 +20,8 @@ struct Adding<'s> {
 #[derive(Default)]
 struct Names<'s> {
     adding: Vec<Adding<'s>>,
-    /// All names but at declarations and where they are added.
-    others: HashSet<&'s str>,
+    /// Where all others are, but at declarations.
+    others: Vec<TokenIndex>,
     /// The method whose tokens are passed.
     method: &'s str,
     /// The place of an add_abort_method whose argument comes.
@@ -35,7 +35,7 @@ impl<'s> Names<'s> {
         for (at, token) in source.tokens.iter().enumerate() {
             match token.kind {
                 TokenKind::Name if declares => names.method = source.word(at),
-                TokenKind::Name => names.add(source.word(at), at),
+                TokenKind::Name => names.add(source, at),
                 TokenKind::Symbol(Symbol::Semicolon) => names.adds = None,
                 _ => {}
             }
@@ -44,14 +44,15 @@ impl<'s> Names<'s> {
         names
     }
 
-    fn add(&mut self, name: &'s str, at: TokenIndex) {
-        if let Some(at) = self.adds.take() {
-            let method = self.method;
+    fn add(&mut self, source: Source<'s>, at: TokenIndex) {
+        if let Some(adds) = self.adds.take() {
+            let (method, name) = (self.method, source.word(at));
+            let at = adds;
             self.adding.push(Adding { method, name, at });
-        } else if name == Builtin::AddAbortMethod.name() {
+        } else if source.bytes(at) == Builtin::AddAbortMethod.name().as_bytes() {
             self.adds = Some(at);
         } else {
-            self.others.insert(name);
+            self.others.push(at);
         }
     }
 }
@@ -60,9 +61,10 @@ impl<'s> Names<'s> {
 /// other method adds, and nothing else names it.
 pub(crate) fn check_abort_methods(context: &Context<'_>, findings: &mut Findings<'_>) {
     let source = context.source;
-    let adds = |at| source.bytes(at) == Builtin::AddAbortMethod.name().as_bytes();
+    let adds = Builtin::AddAbortMethod.name().as_bytes();
+    let mut tokens = source.tokens.iter().enumerate();
     // Most descriptions add none.
-    if !(0..source.tokens.len()).any(adds) {
+    if !tokens.any(|(at, token)| token.kind == TokenKind::Name && source.bytes(at) == adds) {
         return;
     }
     let names = Names::of(source);
@@ -72,8 +74,14 @@ pub(crate) fn check_abort_methods(context: &Context<'_>, findings: &mut Findings
         .filter(|one| !added.contains(one.method))
         .map(|one| one.name)
         .collect();
+    let mut suspects: Vec<_> = names.adding.iter().map(|one| one.method).collect();
+    suspects.retain(|method| sure.contains(method));
+    if suspects.is_empty() {
+        return;
+    }
+    let others: HashSet<_> = names.others.iter().map(|at| source.word(*at)).collect();
     for one in &names.adding {
-        if sure.contains(one.method) && !names.others.contains(one.method) {
+        if sure.contains(one.method) && !others.contains(one.method) {
             let method = one.method.to_owned();
             findings.add(one.at, MethodKind::NestedAbortMethod(method));
         }

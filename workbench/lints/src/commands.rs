@@ -5,6 +5,7 @@ use crate::kind::CommandKind;
 use crate::messages::check_messages;
 use crate::repeats::{Numbered, Numbers};
 use crate::source::{TokenIndex, index};
+use crate::unshared::check_unshared;
 use crate::warning::Findings;
 use edd_lexer::token::TokenKind;
 use edd_syntax::item::{Attribute, Item, ResponseCode};
@@ -55,6 +56,7 @@ pub(crate) fn check_command(
             Attribute::Number(_, number) => check_number(*number, at, context, findings),
             Attribute::Transaction { number, parts, .. } => {
                 check_messages(parts, context, findings);
+                check_unshared(parts, context, findings);
                 if let Some(number) = number {
                     transactions.add(i64::from(*number), at, findings);
                 }

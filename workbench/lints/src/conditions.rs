@@ -4,6 +4,7 @@ use crate::context::Context;
 use crate::expressions::operands::{check_label, selected_variable};
 use crate::expressions::walk::Walk;
 use crate::expressions::{Test, check_condition, check_expression};
+use crate::gaps::{Cases, check_shifted};
 use crate::repeats::{Numbered, Numbers};
 use crate::visit::{Conditionals, Value, conditionals_of};
 use crate::warning::Findings;
@@ -41,6 +42,18 @@ fn check_conditional<V: Value>(conditional: &Cond<Target, V>, walk: &mut Walk<'_
 
 fn check_arms<V: Value>(arms: &[Arm<Target, V>], walk: &mut Walk<'_, '_>) {
     let mut labels = Numbers::new(Numbered::Case);
+    let cases = Cases {
+        labels: arms
+            .iter()
+            .filter_map(|arm| match arm {
+                Arm::Case { label, .. } => Some((*label, walk.context.places.arm(arm))),
+                Arm::Default { .. } => None,
+            })
+            .collect(),
+        has_default: arms.iter().any(|arm| matches!(arm, Arm::Default { .. })),
+    };
+    let selected = walk.selected.last().copied().flatten();
+    check_shifted(selected, &cases, walk.context, walk.findings);
     for arm in arms {
         let (Arm::Case { body, .. } | Arm::Default { body, .. }) = arm;
         if let Arm::Case { label, .. } = arm {

@@ -1,5 +1,6 @@
 //! Expressions of attributes and of methods.
 
+mod bindings;
 pub(crate) mod calls;
 pub(crate) mod choices;
 pub(crate) mod operands;
@@ -9,6 +10,11 @@ pub(crate) mod walk;
 
 use crate::kind::{ConditionKind, MethodKind};
 use crate::source::TokenIndex;
+use crate::units::check_two_units;
+use bindings::{
+    check_added_state, check_added_truth, check_negated_mask, check_negated_number,
+    check_shifted_sum,
+};
 use calls::check_call;
 use choices::{check_choices, check_delay};
 use edd_arithmetic::trap_of;
@@ -20,7 +26,7 @@ use edd_syntax::operators::{Builtin, Comparison, Operator, RequestKind};
 use edd_syntax::reference::Target;
 use operands::{
     Logical, check_bits, check_chosen, check_compared, check_compound, check_logical,
-    check_operands, check_settled, ranged_place,
+    check_operands, check_settled, ranged_place, referred,
 };
 use slips::{
     check_answer, check_argument, check_assigned_operand, check_binary, check_changed_bits,
@@ -65,6 +71,20 @@ fn check_trap(operator: Operator, second: &Expr<Target>, at: TokenIndex, walk: &
     }
 }
 
+// A sum or a difference of two values.
+fn check_sum_units(
+    operator: Operator,
+    first: &Expr<Target>,
+    second: &Expr<Target>,
+    at: TokenIndex,
+    walk: &mut Walk<'_, '_>,
+) {
+    let is_sum = matches!(operator, Operator::Add | Operator::Subtract);
+    if let Some(place) = referred(first).filter(|_| is_sum) {
+        check_two_units(place, second, at, walk);
+    }
+}
+
 // A constant number of an element that the array does not have.
 fn check_index(array: Target, index: &Expr<Target>, at: TokenIndex, walk: &mut Walk<'_, '_>) {
     let Target::Item(ItemNo::Array(array)) = array else {
@@ -90,7 +110,11 @@ fn check_comparison(e: &Expr<Target>, at: TokenIndex, is_statement: bool, walk: 
     if is_statement {
         walk.findings.add(at, MethodKind::DroppedComparison);
     }
-    let is_misread = check_compared(first, second, at, walk);
+    let is_misread =
+        check_compared(first, second, at, walk) || check_added_state(first, second, at, walk);
+    if let Some(place) = referred(first) {
+        check_two_units(place, second, at, walk);
+    }
     if !is_misread && !is_statement {
         check_settled(e, at, walk);
     }
@@ -105,6 +129,7 @@ fn check_comparison(e: &Expr<Target>, at: TokenIndex, is_statement: bool, walk: 
 }
 
 fn check_assignment(to: Target, value: &Expr<Target>, at: TokenIndex, walk: &mut Walk<'_, '_>) {
+    check_two_units(to, value, at, walk);
     check_assigned(to, value, at, walk);
     check_stored(to, value, at, walk);
     check_reversed(value, at, walk);
@@ -138,9 +163,15 @@ pub(crate) fn check_expression(e: &Expr<Target>, is_statement: bool, walk: &mut 
             check_expression(index, false, walk);
         }
         Expr::Parentheses(inner) => check_expression(inner, is_statement, walk),
-        Expr::Unary(_, inner) => check_expression(inner, false, walk),
+        Expr::Unary(operator, inner) => {
+            check_negated_number(*operator, inner, at, walk);
+            check_expression(inner, false, walk);
+        }
         Expr::Binary(operator, first, second) => {
             check_expression(first, false, walk);
+            check_shifted_sum(*operator, first, second, at, walk);
+            check_negated_mask(*operator, first, second, at, walk);
+            check_sum_units(*operator, first, second, at, walk);
             check_bits(*operator, first, second, at, walk);
             check_operands(*operator, first, second, at, walk);
             check_binary(*operator, first, second, at, walk);
@@ -151,6 +182,7 @@ pub(crate) fn check_expression(e: &Expr<Target>, is_statement: bool, walk: &mut 
         Expr::LogicalAnd(first, second) => check_operator(Logical::And, first, second, at, walk),
         Expr::LogicalOr(first, second) => check_operator(Logical::Or, first, second, at, walk),
         Expr::Conditional(test, first, second) => {
+            check_added_truth(test, walk);
             check_expression(test, false, walk);
             check_chosen(first, second, at, walk);
             check_expression(first, false, walk);
@@ -164,7 +196,11 @@ pub(crate) fn check_expression(e: &Expr<Target>, is_statement: bool, walk: &mut 
         }
         Expr::CompoundAssign(operator, to, value) => {
             check_trap(*operator, value, at, walk);
+            if matches!(operator, Operator::Add | Operator::Subtract) {
+                check_two_units(*to, value, at, walk);
+            }
             check_changed_bits(*operator, *to, value, at, walk);
+            check_negated_mask(*operator, &Expr::Reference(*to), value, at, walk);
             check_compound(*operator, *to, value, at, walk);
             check_expression(value, false, walk);
             if is_statement {

@@ -2,11 +2,14 @@
 
 use crate::abort_methods::check_abort_methods;
 use crate::context::Context;
+use crate::echoes::check_echoes;
 use crate::entries::check_entries;
+use crate::families::check_families;
 use crate::instrument::Instrument;
 use crate::items::{PART, check_items, parts_of};
 use crate::levels::Levels;
 use crate::limits::check_circular;
+use crate::lockouts::check_lockouts;
 use crate::menus::check_menus;
 use crate::parallel::Threads;
 use crate::places::Places;
@@ -29,7 +32,10 @@ fn elements_of(description: &Checked) -> Vec<Element> {
 }
 
 /// What is checked of a description as a whole.
-const WHOLE: [fn(&Context<'_>, &mut Findings<'_>); 7] = [
+const WHOLE: [fn(&Context<'_>, &mut Findings<'_>); 10] = [
+    check_echoes,
+    check_lockouts,
+    check_families,
     check_carried,
     check_circular,
     check_menus,
@@ -69,12 +75,7 @@ fn find_in_parts(
     let elements = elements_of(description);
     let known = || (Instrument::of(items, &elements), Usage::of(items));
     let (places, (instrument, usage)) = threads.make_both(|| Places::of(source, items), known);
-    let context = Context {
-        source,
-        places,
-        instrument,
-        usage,
-    };
+    let context = Context::new(source, places, instrument, usage);
     let mut findings = check_all(&context, length, threads);
     let remarks = Remarks::of(source);
     remarks.check_names(&mut findings);

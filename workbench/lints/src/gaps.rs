@@ -4,6 +4,7 @@
 use crate::context::Context;
 use crate::expressions::operands::selected_variable;
 use crate::kind::ConditionKind;
+use crate::source::TokenIndex;
 use crate::visit::{Conditionals, Value, Visitor, conditionals_of, visit_conditionals_of};
 use crate::warning::Findings;
 use edd_syntax::cond::{Arm, Cond};
@@ -115,6 +116,43 @@ impl<'t> Conditionals<'t> for Gaps<'_, '_, '_> {
         for c in all {
             self.check_cases(c);
         }
+    }
+}
+
+/// The numbers of the cases of a SELECT or a `switch`, with their places.
+pub(crate) struct Cases {
+    pub(crate) labels: Vec<(i64, TokenIndex)>,
+    pub(crate) has_default: bool,
+}
+
+/// For how many numbers within the limits of a variable there may be cases.
+const MOST_CASES: i64 = 64;
+
+/// Checks cases over a variable with limits, of which one is outside of them, where a number within has none.
+pub(crate) fn check_shifted(
+    number: Option<u16>,
+    cases: &Cases,
+    context: &Context<'_>,
+    findings: &mut Findings<'_>,
+) {
+    let variable = number.and_then(|number| context.instrument.variable(number));
+    let Some(variable) = variable.filter(|one| one.enumerators.is_empty() && !one.is_read_only)
+    else {
+        return;
+    };
+    let (Some(least), Some(greatest)) = (variable.least, variable.greatest) else {
+        return;
+    };
+    if cases.has_default || MOST_CASES <= greatest.saturating_sub(least) {
+        return;
+    }
+    let labels: HashSet<_> = cases.labels.iter().map(|(label, _)| *label).collect();
+    let missing = (least..=greatest).find(|number| !labels.contains(number));
+    let holds = |label: i64| variable.range.is_some_and(|range| range.holds(label));
+    let mut outside = cases.labels.iter();
+    let outside = outside.find(|(label, _)| (*label < least || greatest < *label) && holds(*label));
+    if let (Some(missing), Some((label, at))) = (missing, outside) {
+        findings.add(*at, ConditionKind::ShiftedCases(*label, missing));
     }
 }
 

@@ -1,14 +1,18 @@
 //! What is known of the items of a description.
 
-use crate::lists::{enumerators_of, is_total, values_in};
+use crate::exchanges::{Exchange, exchanges_of};
+use crate::lists::{Listed, enumerators_of, is_total, values_in};
 use crate::range::Range;
 use crate::source::{TokenIndex, index};
+use crate::texts::variants::first_words;
+use crate::traits::quoted;
 use crate::types::{number_of, number_parts};
+use crate::units::{Unit, units_of};
 use edd_constants::evaluate;
 use edd_instructions::Sort;
 use edd_syntax::cond::Cond;
 use edd_syntax::expr::Expr;
-use edd_syntax::item::{Attribute, Item, ItemKind, TypePart, TypeWord};
+use edd_syntax::item::{Attribute, Enumerator, Item, ItemKind, TypePart, TypeWord};
 use edd_syntax::numbers::{Element, ItemNo, NumberOption, VarNo};
 use edd_syntax::reference::Target;
 use edd_syntax::types::{Handling, VarType};
@@ -17,12 +21,20 @@ use std::collections::{HashMap, HashSet};
 /// What is known of a variable.
 pub(crate) struct Variable<'i> {
     pub(crate) item: &'i Item<Target>,
+    pub(crate) number: u16,
     pub(crate) kind: Option<VarType>,
     pub(crate) range: Option<Range>,
     /// The enumerators of all branches.
-    pub(crate) enumerators: HashSet<i64>,
+    pub(crate) enumerators: Vec<i64>,
+    /// What their texts say in their first language: by their numbers, and by what is said.
+    words: Vec<(i64, &'i str)>,
+    numbers: Vec<(&'i str, i64)>,
+    /// Its units in all branches and languages, where all of them are known.
+    pub(crate) units: Vec<Unit>,
     /// Whether HANDLING is READ, under no condition.
     pub(crate) is_read_only: bool,
+    /// Whether it is WRITE so.
+    pub(crate) is_write_only: bool,
     /// The least MIN_VALUE and the greatest MAX_VALUE of all branches, where these are constants.
     pub(crate) least: Option<i64>,
     pub(crate) greatest: Option<i64>,
@@ -33,13 +45,15 @@ pub(crate) struct Variable<'i> {
 struct Command {
     /// Where the number is first.
     at: TokenIndex,
-    transactions: HashSet<u32>,
-    /// Its response codes.
-    codes: HashSet<u32>,
+    transactions: Vec<u32>,
+    /// Their response codes.
+    codes: Vec<u32>,
     /// Whether all transactions have their numbers written.
     are_numbered: bool,
     /// How many transactions there are.
     count: i64,
+    /// Which of all commands they are.
+    places: Vec<usize>,
 }
 
 /// What is known of the items of a description.
@@ -51,10 +65,14 @@ pub(crate) struct Instrument<'i> {
     elements: HashMap<(u16, u32), u16>,
     /// The arrays with elements.
     arrays: HashSet<u16>,
+    /// What the elements of each array hold together.
+    element_ranges: HashMap<u16, Range>,
     /// The commands by their numbers.
     commands: HashMap<u32, Command>,
-    /// The names of all items.
-    names: HashSet<&'i str>,
+    /// What the transactions of each command carry.
+    exchanges: Vec<Vec<Exchange>>,
+    /// The items by their names.
+    names: HashMap<&'i [u8], usize>,
 }
 
 /// The variable that a target is.
@@ -66,26 +84,23 @@ pub(crate) fn variable_of(target: Target) -> Option<u16> {
 }
 
 impl<'i> Variable<'i> {
-    fn of(item: &'i Item<Target>) -> Variable<'i> {
+    fn of(item: &'i Item<Target>, number: usize) -> Variable<'i> {
         let mut variable = Variable {
             item,
+            number: u16::try_from(number).unwrap_or(u16::MAX),
             kind: None,
             range: None,
-            enumerators: HashSet::new(),
+            enumerators: Vec::new(),
+            words: Vec::new(),
+            numbers: Vec::new(),
+            units: Vec::new(),
             is_read_only: false,
+            is_write_only: false,
             least: None,
             greatest: None,
         };
-        for part in number_parts(variable.parts()).filter(|part| is_total(part.value)) {
-            let values = values_in(part.value);
-            let numbers: Option<Vec<_>> = values.iter().map(|one| number_of(one.value)).collect();
-            let numbers = numbers.into_iter().flatten();
-            match part.which {
-                NumberOption::MinValue => variable.least = numbers.min(),
-                NumberOption::MaxValue => variable.greatest = numbers.max(),
-                NumberOption::DefaultValue => {}
-            }
-        }
+        variable.add_limits();
+        variable.units = units_of(item);
         for attribute in &item.attributes {
             match attribute {
                 Attribute::TypeOf {
@@ -97,12 +112,77 @@ impl<'i> Variable<'i> {
                     variable.range = Some(Range::of(*kind, *size));
                     let listed = enumerators_of(parts);
                     variable.enumerators = listed.iter().map(|one| one.value.value).collect();
+                    variable.enumerators.sort_unstable();
+                    variable.enumerators.dedup();
+                    variable.add_texts(&listed);
                 }
-                Attribute::Handling(_, Cond::Value(Handling::Read)) => variable.is_read_only = true,
+                Attribute::Handling(_, Cond::Value(handling)) => {
+                    variable.is_read_only = *handling == Handling::Read;
+                    variable.is_write_only = *handling == Handling::Write;
+                }
                 _ => {}
             }
         }
         variable
+    }
+
+    fn add_limits(&mut self) {
+        for part in number_parts(self.parts()).filter(|part| is_total(part.value)) {
+            let values = values_in(part.value);
+            let numbers: Option<Vec<_>> = values.map(|one| number_of(one.value)).collect();
+            let numbers = numbers.into_iter().flatten();
+            match part.which {
+                NumberOption::MinValue => self.least = numbers.min(),
+                NumberOption::MaxValue => self.greatest = numbers.max(),
+                NumberOption::DefaultValue => {}
+            }
+        }
+    }
+
+    // Of two that say the same the last one counts.
+    fn add_texts(&mut self, listed: &[Listed<'i, Enumerator>]) {
+        let said = listed.iter().filter_map(|one| {
+            let words = first_words(quoted(&one.value.text)?);
+            (!words.is_empty()).then_some((one.value.value, words))
+        });
+        self.words.extend(said);
+        self.numbers
+            .extend(self.words.iter().map(|(number, words)| (*words, *number)));
+        self.words.sort_by_key(|(number, _)| *number);
+        self.numbers.sort_by_key(|(words, _)| *words);
+    }
+
+    /// What the text of an enumerator says.
+    pub(crate) fn words_of(&self, number: i64) -> Option<&'i str> {
+        let end = self.words.partition_point(|(one, _)| *one <= number);
+        let (found, words) = self.words.get(end.checked_sub(1)?)?;
+        (*found == number).then_some(*words)
+    }
+
+    /// The enumerator whose text says something.
+    pub(crate) fn enumerator_of(&self, text: &str) -> Option<i64> {
+        let end = self.numbers.partition_point(|(words, _)| *words <= text);
+        let (found, number) = self.numbers.get(end.checked_sub(1)?)?;
+        (*found == text).then_some(*number)
+    }
+
+    /// What the texts of its enumerators say.
+    pub(crate) fn all_words(&self) -> impl Iterator<Item = &'i str> {
+        self.words.iter().map(|(_, words)| *words)
+    }
+
+    /// Its unit, where it always is the same one.
+    pub(crate) fn unit(&self) -> Option<Unit> {
+        let first = self.units.first().copied()?;
+        self.units
+            .iter()
+            .all(|unit| *unit == first)
+            .then_some(first)
+    }
+
+    /// Whether a number is one of its enumerators.
+    pub(crate) fn has_enumerator(&self, number: i64) -> bool {
+        self.enumerators.binary_search(&number).is_ok()
     }
 
     pub(crate) fn name(&self) -> &'i str {
@@ -130,7 +210,7 @@ impl<'i> Variable<'i> {
     pub(crate) fn lacks(&self, number: i64) -> bool {
         self.kind == Some(VarType::Enumerated)
             && !self.enumerators.is_empty()
-            && !self.enumerators.contains(&number)
+            && !self.has_enumerator(number)
     }
 }
 
@@ -162,6 +242,11 @@ fn command_number(command: &Item<Target>) -> Option<(TokenIndex, u32)> {
         })
 }
 
+fn names_of(items: &[Item<Target>]) -> HashMap<&[u8], usize> {
+    let names = items.iter().map(|item| item.name().as_bytes());
+    names.zip(0..).collect()
+}
+
 impl<'i> Instrument<'i> {
     /// What is known of items and of the elements of their arrays.
     pub(crate) fn of(items: &'i [Item<Target>], elements: &[Element]) -> Instrument<'i> {
@@ -174,17 +259,23 @@ impl<'i> Instrument<'i> {
                 .map(|element| ((element.array.0, element.number), element.var.0))
                 .collect(),
             arrays: elements.iter().map(|element| element.array.0).collect(),
+            element_ranges: HashMap::new(),
             commands: HashMap::new(),
-            names: items.iter().map(Item::name).collect(),
+            exchanges: Vec::new(),
+            names: names_of(items),
         };
         for (number, item) in items.iter().enumerate() {
             instrument.add_place(item, number);
             match item.sort {
-                ItemKind::Variable => instrument.variables.push(Variable::of(item)),
+                ItemKind::Variable => {
+                    let variable = Variable::of(item, instrument.variables.len());
+                    instrument.variables.push(variable);
+                }
                 ItemKind::Command => instrument.add_command(item),
                 _ => {}
             }
         }
+        instrument.add_element_ranges(elements);
         instrument
     }
 
@@ -196,6 +287,43 @@ impl<'i> Instrument<'i> {
         if let Some(places) = self.by_kind.get_mut(kind) {
             places.push(place);
         }
+    }
+
+    fn add_element_ranges(&mut self, elements: &[Element]) {
+        for element in elements {
+            let Some(range) = self.range(element.var.0) else {
+                continue;
+            };
+            let known = self.element_ranges.entry(element.array.0).or_insert(range);
+            known.low = known.low.min(range.low);
+            known.high = known.high.max(range.high);
+        }
+    }
+
+    /// What an element of an array can hold, whichever it is.
+    pub(crate) fn element_range(&self, array: u16) -> Option<Range> {
+        self.element_ranges.get(&array).copied()
+    }
+
+    /// What the transaction of a command carries. Without a number the command has to have one alone.
+    pub(crate) fn exchange(&self, command: i64, transaction: Option<i64>) -> Option<&Exchange> {
+        let number = u32::try_from(command).ok()?;
+        let places = self.commands.get(&number)?.places.iter();
+        let all = places.flat_map(|place| self.exchanges(*place));
+        let is_wanted = |one: &&Exchange| {
+            transaction.is_none_or(|wanted| one.number.map(i64::from) == Some(wanted))
+        };
+        let mut found = all.filter(is_wanted);
+        found.next().filter(|_| found.next().is_none())
+    }
+
+    /// Whether a command of a number has a transaction of another one.
+    pub(crate) fn has_transaction(&self, command: i64, transaction: i64) -> bool {
+        let number = u32::try_from(command).ok();
+        let command = number.and_then(|number| self.commands.get(&number));
+        command.is_some_and(|command| {
+            u32::try_from(transaction).is_ok_and(|number| command.transactions.contains(&number))
+        })
     }
 
     fn add_command(&mut self, command: &Item<Target>) {
@@ -214,7 +342,14 @@ impl<'i> Instrument<'i> {
             known.count = known.count.saturating_add(own.count);
             known.transactions.extend(own.transactions);
             known.codes.extend(own.codes);
+            known.places.push(self.exchanges.len());
         }
+        self.exchanges.push(exchanges_of(command));
+    }
+
+    /// What the transactions of the command carry that is so many behind the first one.
+    pub(crate) fn exchanges(&self, command: usize) -> &[Exchange] {
+        self.exchanges.get(command).map_or(&[], Vec::as_slice)
     }
 
     /// The index of an item among all items.
@@ -246,7 +381,27 @@ impl<'i> Instrument<'i> {
 
     /// Whether an item has a name.
     pub(crate) fn has_name(&self, name: &str) -> bool {
-        self.names.contains(name)
+        self.names.contains_key(name.as_bytes())
+    }
+
+    /// The index of the item of a name among all items.
+    pub(crate) fn place_named(&self, name: &[u8]) -> Option<usize> {
+        self.names.get(name).copied()
+    }
+
+    /// The item of a name.
+    pub(crate) fn item_named(&self, name: &str) -> Option<&'i Item<Target>> {
+        self.items.get(self.place_named(name.as_bytes())?)
+    }
+
+    /// The variable of a name.
+    pub(crate) fn variable_named(&self, name: &str) -> Option<u16> {
+        let place = self.place_named(name.as_bytes())?;
+        let item = self.items.get(place)?;
+        let numbers = self.by_kind.get(usize::from(item.kind().number()))?;
+        let number = numbers.binary_search(&place).ok()?;
+        let is_variable = item.sort == ItemKind::Variable;
+        u16::try_from(number).ok().filter(|_| is_variable)
     }
 
     /// The variable that an element of an array is.

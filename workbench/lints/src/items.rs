@@ -2,19 +2,24 @@
 
 use crate::bodies::check_method;
 use crate::branches::check_branches;
+use crate::claims::check_claims;
 use crate::classes::check_classes;
 use crate::commands::check_command;
 use crate::conditions::check_conditionals_of;
 use crate::context::Context;
+use crate::exchanged::check_exchanged;
 use crate::gaps::check_gaps;
 use crate::instrument::{Instrument, Variable};
 use crate::limits::check_limits_under_conditions;
 use crate::listings::check_listings;
+use crate::names::{check_command_names, check_listed_names, check_variable_names};
+use crate::offers::{check_offers, check_set_back};
 use crate::settled::check_attributes;
 use crate::source::{TokenIndex, index};
 use crate::traffic::check_traffic;
 use crate::traits::{check_label, check_traits};
 use crate::types::check_type;
+use crate::units::{check_limit_units, check_named_units};
 use crate::warning::Findings;
 use edd_syntax::item::{Item, ItemKind};
 use edd_syntax::numbers::{ItemNo, MethNo};
@@ -25,7 +30,8 @@ pub(crate) struct Part<'c, 'd> {
     items: &'d [Item<Target>],
     /// The variables among them.
     variables: &'c [Variable<'d>],
-    /// How many methods come before them.
+    /// How many commands and methods come before them.
+    commands: usize,
     methods: u16,
 }
 
@@ -38,7 +44,7 @@ pub(crate) fn parts_of<'c, 'd>(
     length: TokenIndex,
 ) -> Vec<Part<'c, 'd>> {
     let (mut rest, mut others) = (instrument.items, instrument.variables());
-    let (mut parts, mut methods) = (Vec::new(), 0_u16);
+    let (mut parts, mut commands, mut methods) = (Vec::new(), 0_usize, 0_u16);
     while let Some(first) = rest.first() {
         let end = index(first.at).saturating_add(length);
         let is_behind = |item: &Item<Target>| end <= index(item.at);
@@ -49,13 +55,26 @@ pub(crate) fn parts_of<'c, 'd>(
         parts.push(Part {
             items,
             variables,
+            commands,
             methods,
         });
+        commands = commands.saturating_add(of_kind(ItemKind::Command));
         let more = u16::try_from(of_kind(ItemKind::Method)).unwrap_or(u16::MAX);
         methods = methods.saturating_add(more);
         (rest, others) = (behind, next);
     }
     parts
+}
+
+fn check_variable(variable: &Variable<'_>, context: &Context<'_>, findings: &mut Findings<'_>) {
+    check_type(variable, context, findings);
+    check_limits_under_conditions(variable, context, findings);
+    check_traits(variable, context, findings);
+    check_named_units(variable, findings);
+    check_limit_units(variable, context, findings);
+    check_claims(variable, findings);
+    check_offers(variable, context, findings);
+    check_set_back(variable, context, findings);
 }
 
 /// Checks items by themselves: what is found in one depends on no finding in another one.
@@ -65,16 +84,17 @@ pub(crate) fn check_items<'d>(
     findings: &mut Findings<'d>,
 ) {
     let mut variables = part.variables.iter();
+    let mut commands = part.commands..;
     let mut methods = part.methods..;
     for item in part.items {
         check_conditionals_of(item, context, findings);
         check_branches(item, context, findings);
+        let is_variable = item.sort == ItemKind::Variable;
+        let variable = is_variable.then(|| variables.next()).flatten();
         match item.sort {
             ItemKind::Variable => {
-                if let Some(variable) = variables.next() {
-                    check_type(variable, context, findings);
-                    check_limits_under_conditions(variable, context, findings);
-                    check_traits(variable, context, findings);
+                if let Some(variable) = variable {
+                    check_variable(variable, context, findings);
                 }
             }
             ItemKind::Command => {
@@ -94,5 +114,18 @@ pub(crate) fn check_items<'d>(
             check_label(attribute, findings);
         }
         check_attributes(item, context, findings);
+        match item.sort {
+            ItemKind::Variable => {
+                if let Some(variable) = variable {
+                    check_variable_names(variable, context, findings);
+                }
+            }
+            ItemKind::Command => {
+                let own = commands.next().map(|one| context.instrument.exchanges(one));
+                check_command_names(item, own.unwrap_or_default(), context, findings);
+            }
+            _ => check_listed_names(item, context, findings),
+        }
+        check_exchanged(item, context, findings);
     }
 }

@@ -39,6 +39,14 @@ lints! {
     UnreadableDynamic
     WideFormat
     UnreadDynamic
+    UnsentVariable
+    ConditionalDefault
+    UnreachableEnumerator
+    ContradictingUnit
+    ContradictingRange
+    ContradictingName
+    LockedOut
+    UnitOfBits
     RepeatedCommandNumber
     RepeatedResponseCode
     RepeatedTransactionNumber
@@ -52,6 +60,11 @@ lints! {
     AmbiguousTransaction
     FailingZero
     EmptyResponseCodes
+    NarrowMask
+    RepeatedResponseText
+    UnevenEcho
+    OppositeClass
+    UnsharedCondition
     TrappingExpression
     ConstantCondition
     RepeatedCase
@@ -72,6 +85,10 @@ lints! {
     DoubleSign
     UnnamedBits
     UntestedIndex
+    MixedUnits
+    ExchangedText
+    UnenterableCase
+    UntestedDivisor
     CyclicMenu
     EmptyMenu
     RepeatedEntry
@@ -87,6 +104,8 @@ lints! {
     RepeatedMember
     EmptyList
     EmptyMethod
+    UnreadableValue
+    LeftOverName
     StrayBar
     MissingLanguage
     RepeatedLanguage
@@ -105,6 +124,11 @@ lints! {
     EmptyChoice
     RepeatedChoice
     UnknownLint
+    UnevenNumbers
+    ExchangedLanguages
+    OppositeTranslation
+    EscapedPath
+    SwallowedCode
     UnusedItem
     DroppedComparison
     DroppedValue
@@ -132,6 +156,14 @@ lints! {
     EmptySwitch
     MisleadingIndentation
     DanglingElse
+    LostValue
+    EarlySave
+    LateCopy
+    StoredElement
+    OtherQuestion
+    ExchangedBranches
+    ComparedCopy
+    OppositeState
     UnreachableStatement
     EndlessLoop
     DeadLoop
@@ -151,6 +183,10 @@ lints! {
     RepeatedAbortMethod
     LateAbortMethod
     LoopedAbortMethod
+    MissedEnd
+    RestartedSum
+    RepeatedTurns
+    UnevenAverage
     LiteralCondition
     UndeclaredCommand
     UnreachedMethod

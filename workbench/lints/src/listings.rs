@@ -12,7 +12,7 @@ use crate::warning::Findings;
 use edd_lexer::token::TokenKind;
 use edd_syntax::cond::Cond;
 use edd_syntax::item::{Attribute, Item, ItemKind, MenuEntry, MenuQualifiers};
-use edd_syntax::numbers::TextAttribute;
+use edd_syntax::numbers::{ItemNo, TextAttribute};
 use edd_syntax::reference::Target;
 use edd_syntax::symbols::Symbol;
 use std::collections::{HashMap, HashSet};
@@ -128,6 +128,15 @@ fn check_qualifiers(entry: &MenuEntry<Target>, context: &Context<'_>, findings: 
         findings.add(at, MenuKind::HiddenQualifiers);
     }
     let place = context.instrument.place_of(item);
+    if let ItemNo::Variable(number) = item
+        && let Some(variable) = context.instrument.variable(number.0)
+        && variable.is_write_only
+        && (qualifiers.display_value || qualifiers.read_only)
+        && !qualifiers.hidden
+    {
+        let name = variable.name().to_owned();
+        findings.add(at, MenuKind::UnreadableEntry(name));
+    }
     if let Some(item) = place.and_then(|place| context.instrument.items.get(place))
         && let Some(qualifier) = misplaced(item.sort, qualifiers)
     {

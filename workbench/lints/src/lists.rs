@@ -71,9 +71,13 @@ pub(crate) fn is_total<V>(conditional: &Cond<Target, V>) -> bool {
     }
 }
 
-/// The values of a conditional.
-pub(crate) fn values_in<V>(conditional: &Cond<Target, V>) -> Vec<Listed<'_, V>> {
-    values_of(std::slice::from_ref(conditional))
+/// The values of a conditional: one, where it has no conditions.
+pub(crate) fn values_in<V>(conditional: &Cond<Target, V>) -> impl Iterator<Item = Listed<'_, V>> {
+    let (one, more) = match conditional {
+        Cond::Value(value) => (Some(Listed { list: 0, value }), Vec::new()),
+        _ => (None, values_of(std::slice::from_ref(conditional))),
+    };
+    one.into_iter().chain(more)
 }
 
 /// The values of a list.

@@ -1,16 +1,17 @@
 //! What a message carries twice, and masks that its variables do not have.
 
 use crate::context::Context;
-use crate::instrument::variable_of;
+use crate::instrument::{Variable, variable_of};
 use crate::kind::CommandKind;
-use crate::lists::values_of;
+use crate::lists::{Listed, values_of};
 use crate::range::Range;
 use crate::source::{TokenIndex, index};
 use crate::warning::Findings;
 use edd_syntax::cond::Cond;
 use edd_syntax::item::{DataItem, TransactionPart};
 use edd_syntax::reference::Target;
-use std::collections::HashMap;
+use edd_syntax::types::VarType;
+use std::collections::{BTreeMap, HashMap};
 
 /// What a list has of a variable so far.
 #[derive(Clone, Copy)]
@@ -73,6 +74,74 @@ impl Carrying {
     }
 }
 
+// The masks of a variable in a list, together.
+#[derive(Clone, Copy)]
+struct Masked {
+    at: TokenIndex,
+    bits: u32,
+    is_whole: bool,
+}
+
+// Variables of enumerators of which all masks together have too few bits.
+fn check_widths(
+    listed: &[Listed<'_, DataItem<Target>>],
+    context: &Context<'_>,
+    findings: &mut Findings<'_>,
+) {
+    let mut masks: BTreeMap<(u16, usize), Masked> = BTreeMap::new();
+    for item in listed
+        .iter()
+        .filter_map(|one| Some((one.list, Carrying::of(one.value)?)))
+    {
+        let (list, item) = item;
+        let known = masks.entry((item.variable, list)).or_insert(Masked {
+            at: item.at,
+            bits: 0,
+            is_whole: false,
+        });
+        known.bits |= item.mask.unwrap_or(0);
+        known.is_whole |= item.mask.is_none();
+    }
+    for ((number, _), masked) in masks {
+        let variable = context.instrument.variable(number);
+        let is_enumerated = |one: &&Variable<'_>| one.kind == Some(VarType::Enumerated);
+        let Some(variable) = variable.filter(is_enumerated).filter(|_| !masked.is_whole) else {
+            continue;
+        };
+        let count = variable.enumerators.len();
+        let room = 1_usize.checked_shl(masked.bits.count_ones());
+        if room.is_some_and(|room| room < count) {
+            let name = variable.name().to_owned();
+            findings.add(masked.at, CommandKind::NarrowMask(masked.bits, count, name));
+        }
+    }
+}
+
+// Masks of two variables that follow each other: each has bits of the other one and bits that it has not,
+// so that they neither share an octet nor fill one each.
+fn check_crossing(
+    listed: &[Listed<'_, DataItem<Target>>],
+    context: &Context<'_>,
+    findings: &mut Findings<'_>,
+) {
+    for pair in listed.windows(2) {
+        let [one, other] = pair else {
+            continue;
+        };
+        let (Some(one), Some(other)) = (Carrying::of(one.value), Carrying::of(other.value)) else {
+            continue;
+        };
+        let (Some(first), Some(second)) = (one.mask, other.mask) else {
+            continue;
+        };
+        let is_crossing = first & second != 0 && first & !second != 0 && second & !first != 0;
+        if is_crossing && one.variable != other.variable {
+            let name = context.instrument.name_of(one.variable);
+            findings.add_beside(other.at, CommandKind::CrossingMasks(name), one.at);
+        }
+    }
+}
+
 fn check_message(
     items: &[Cond<Target, DataItem<Target>>],
     is_reply: bool,
@@ -80,7 +149,15 @@ fn check_message(
     findings: &mut Findings<'_>,
 ) {
     let mut carried: HashMap<(usize, u16), Carried> = HashMap::new();
-    for listed in values_of(items) {
+    let all = values_of(items);
+    let has_mask = |one: &Listed<'_, DataItem<Target>>| {
+        matches!(one.value, DataItem::Variable { mask: Some(_), .. })
+    };
+    if all.iter().any(has_mask) {
+        check_widths(&all, context, findings);
+        check_crossing(&all, context, findings);
+    }
+    for listed in all {
         let Some(item) = Carrying::of(listed.value) else {
             continue;
         };

@@ -54,6 +54,14 @@ pub(crate) struct Places {
 }
 
 impl Places {
+    // Room for the nodes that so many tokens have in most descriptions, so that few are moved.
+    fn with_room(tokens: usize) -> Places {
+        let mut places = Places::default();
+        places.expressions.reserve(tokens / 10);
+        places.statements.reserve(tokens / 40);
+        places
+    }
+
     /// The places of the nodes of a description with these items.
     pub(crate) fn of(source: Source<'_>, items: &[Item<Target>]) -> Places {
         let mut locator = Locator::new(source);

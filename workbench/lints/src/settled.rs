@@ -4,10 +4,11 @@
 mod attributes;
 mod counters;
 mod indexes;
+mod searches;
 mod statements;
 mod stores;
 
-pub(crate) use attributes::{check_attributes, variables_read};
+pub(crate) use attributes::{check_attributes, variables_read, where_valid};
 pub(crate) use statements::check_body;
 
 use crate::context::Context;
@@ -26,7 +27,7 @@ use edd_instructions::Sort;
 use edd_syntax::expr::Expr;
 use edd_syntax::operators::UnaryOperator;
 use edd_syntax::reference::Target;
-use std::collections::BTreeMap;
+use std::collections::{BTreeMap, BTreeSet};
 
 /// A walk over the ways through an item, with what is known on each of them.
 struct Ways<'c, 'd, 'f> {
@@ -36,6 +37,10 @@ struct Ways<'c, 'd, 'f> {
     counters: BTreeMap<Storage, Values>,
     /// Whether the condition comes after `else`: that it holds there may be written for clarity.
     is_chained: bool,
+    /// The places that some condition of the item tests.
+    tested: BTreeSet<Storage>,
+    /// How many loops are open.
+    loops: usize,
 }
 
 fn depends(e: &Expr<Target>, sort: Sort) -> bool {
@@ -67,12 +72,28 @@ impl Observer for Ways<'_, '_, '_> {
             }
             Expr::Indexed(array, index) => indexes::check_index(self, e, *array, index, known),
             Expr::Assign(to, _) => stores::check_store(self, e, *to, values, known),
+            Expr::Binary(operator, _, second) | Expr::CompoundAssign(operator, _, second) => {
+                indexes::check_divisor(self, e, *operator, second, known);
+            }
             Expr::LogicalAnd(first, second) | Expr::LogicalOr(first, second) => {
                 for operand in [first, second] {
                     self.check_operand(operand, true, known);
                 }
             }
             _ => {}
+        }
+    }
+}
+
+impl<'c, 'd, 'f> Ways<'c, 'd, 'f> {
+    fn new(context: &'c Context<'d>, findings: &'f mut Findings<'d>) -> Ways<'c, 'd, 'f> {
+        Ways {
+            context,
+            findings,
+            counters: BTreeMap::new(),
+            is_chained: false,
+            tested: BTreeSet::new(),
+            loops: 0,
         }
     }
 }

@@ -7,14 +7,17 @@ use crate::instrument::Variable;
 use crate::kind::{CommandKind, TextKind, VariableKind};
 use crate::lists::values_of;
 use crate::source::{TokenIndex, index};
-use crate::traits::{classes_of, quoted};
-use crate::usage::{carried, operation_of};
+use crate::texts::variants::Variants;
+use crate::traits::{classes_of, is_spare, quoted};
+use crate::usage::{Usage, carried, operation_of};
 use crate::warning::Findings;
+use crate::words::Phrases;
 use edd_syntax::cond::Cond;
 use edd_syntax::item::{Attribute, DataItem, Item, ResponseCode, TransactionPart};
 use edd_syntax::reference::Target;
 use edd_syntax::types::{Handling, Operation, ResponseClass};
 use std::collections::HashMap;
+use std::sync::LazyLock;
 
 /// The greatest number of a command that two octets hold.
 const MOST: u32 = 65_535;
@@ -112,6 +115,25 @@ fn check_requests(transactions: &[Transaction<'_>], findings: &mut Findings<'_>)
     }
 }
 
+// A reply of a READ of which nothing is kept, and variables in it that nobody may read.
+fn check_kept(transaction: &Transaction<'_>, context: &Context<'_>, findings: &mut Findings<'_>) {
+    let mut is_info = has_variable(&transaction.reply);
+    for item in &transaction.reply {
+        let DataItem::Variable { at, qualifiers, .. } = item else {
+            continue;
+        };
+        is_info &= qualifiers.info && !qualifiers.index;
+        let variable = carried(item).and_then(|number| context.instrument.variable(number));
+        if let Some(variable) = variable.filter(|one| one.is_write_only && !qualifiers.info) {
+            let name = variable.name().to_owned();
+            findings.add(index(*at), CommandKind::ReadsUnreadable(name));
+        }
+    }
+    if is_info {
+        findings.add(transaction.at, CommandKind::KeepsNothing);
+    }
+}
+
 // Variables that a WRITE command sets, and that nothing else lets a technician or a method set.
 fn check_written(
     transaction: &Transaction<'_>,
@@ -139,6 +161,93 @@ fn check_written(
     }
 }
 
+/// What the text of a code says where something went wrong, and where nothing did.
+const ERRORS: [&str; 16] = [
+    "error",
+    "failed",
+    "failure",
+    "refused",
+    "rejected",
+    "too large",
+    "too small",
+    "too high",
+    "too low",
+    "locked",
+    "busy",
+    "invalid",
+    "not allowed",
+    "denied",
+    "overflow",
+    "protected",
+];
+const SUCCESSES: [&str; 5] = ["ok", "success", "done", "accepted", "no error"];
+
+static FAILED: LazyLock<Phrases> = LazyLock::new(|| Phrases::of(&ERRORS));
+
+// A class that says the opposite of what its text says.
+fn opposite_class(code: &ResponseCode) -> Option<CommandKind> {
+    let text = quoted(&code.text)?;
+    let first = Variants::of(text.as_bytes()).next()?;
+    let words = str::from_utf8(first.words).ok()?.trim();
+    match code.class {
+        ResponseClass::Success => {
+            let error = FAILED.find(words)?;
+            let words = words.to_lowercase();
+            let denials = ["no ", "not ", "without", "un"];
+            let is_denied = denials.iter().any(|word| words.contains(word));
+            let is_told = error.contains("not ") || !is_denied;
+            is_told.then_some(CommandKind::OppositeClass(error))
+        }
+        ResponseClass::DataEntryError
+        | ResponseClass::ModeError
+        | ResponseClass::ProcessError
+        | ResponseClass::MiscError
+            if code.number != 0 =>
+        {
+            let mut successes = SUCCESSES.iter().copied();
+            let success = successes.find(|word| words.eq_ignore_ascii_case(word));
+            success.map(CommandKind::SuccessfulError)
+        }
+        _ => None,
+    }
+}
+
+/// The text of a response code, and how many come before it.
+type Said<'t> = (&'t str, usize);
+
+// Checks the codes that are there with the class and the text of an earlier one.
+fn check_repeated_texts(
+    codes: &[ResponseCode],
+    places: &[TokenIndex],
+    findings: &mut Findings<'_>,
+) {
+    let texts = codes.iter().map(|code| quoted(&code.text));
+    let said = texts
+        .zip(0..)
+        .filter_map(|(text, place)| Some((text?, place)));
+    let mut said: Vec<Said<'_>> = said.filter(|(text, _)| !text.is_empty()).collect();
+    said.sort_unstable();
+    let same = said.chunk_by(|(one, _), (other, _)| one == other);
+    for group in same.filter(|group| 1 < group.len()) {
+        if group.first().is_some_and(|(text, _)| is_spare(text)) {
+            continue;
+        }
+        let mut known: Vec<&ResponseCode> = Vec::new();
+        for (_, place) in group {
+            let Some((code, at)) = codes.get(*place).zip(places.get(*place)) else {
+                continue;
+            };
+            match known.iter().find(|one| one.class == code.class) {
+                Some(one) if one.number != code.number => {
+                    findings.add(*at, CommandKind::RepeatedCodeText(one.number));
+                }
+                Some(_) => {}
+                None => known.push(code),
+            }
+        }
+    }
+}
+
 fn check_codes(
     at: TokenIndex,
     codes: &[ResponseCode],
@@ -148,8 +257,13 @@ fn check_codes(
     if codes.is_empty() {
         findings.add(at, CommandKind::NoResponseCodes);
     }
+    let places = code_places(at, codes, context);
+    check_repeated_texts(codes, &places, findings);
     let mut before = None;
-    for (code, at) in codes.iter().zip(code_places(at, codes, context)) {
+    for (code, at) in codes.iter().zip(places) {
+        if let Some(kind) = opposite_class(code) {
+            findings.add(at, kind);
+        }
         if code.number == 0 && code.class != ResponseClass::Success {
             findings.add(at, CommandKind::FailingZero);
         }
@@ -178,6 +292,9 @@ pub(crate) fn check_traffic(
                 |one: &&Transaction<'_>| has_variable(&one.request) && one.reply.is_empty();
             for transaction in transactions.iter().filter(silent) {
                 findings.add(transaction.at, CommandKind::ReadsNothing);
+            }
+            for transaction in &transactions {
+                check_kept(transaction, context, findings);
             }
         }
         Some(Operation::Write) => {
@@ -211,21 +328,46 @@ fn may_be_written(variable: &Variable<'_>) -> bool {
     })
 }
 
+// Whether a variable that is read from the device is said to be one that can be written, and nothing sends it.
+// What an expression reads may be entered for that alone.
+fn is_unsent(number: u16, variable: &Variable<'_>, usage: &Usage) -> bool {
+    let is_written = variable.item.attributes.iter().any(|attribute| {
+        matches!(
+            attribute,
+            Attribute::Handling(_, Cond::Value(Handling::Write | Handling::ReadWrite))
+        )
+    });
+    is_written
+        && usage.has_write_command
+        && usage.read.contains(number)
+        && !usage.requested.contains(number)
+        && !usage.mentioned.contains(number)
+}
+
 /// Checks which variables no command carries, though they are such as commands carry.
 pub(crate) fn check_carried(context: &Context<'_>, findings: &mut Findings<'_>) {
     let usage = &context.usage;
     for (number, variable) in (0u16..).zip(context.instrument.variables()) {
-        let is_carried = usage.requested.contains(number) || usage.replied.contains(number);
         let classes = classes_of(variable);
-        if is_carried || usage.set.contains(number) || classes.contains("LOCAL") {
-            continue;
-        }
         let at = index(variable.item.at);
         let name = || variable.name().to_owned();
+        if classes.contains("CONSTANT") && usage.set.contains(number) {
+            findings.add(at, VariableKind::SetConstant(name()));
+        }
+        if usage.set.contains(number) || classes.contains("LOCAL") {
+            continue;
+        }
+        let is_dynamic = classes.contains("DYNAMIC");
+        let is_carried = usage.requested.contains(number) || usage.replied.contains(number);
         let is_used = usage.shown.contains(number) || usage.mentioned.contains(number);
-        if classes.contains("DYNAMIC") && usage.has_read_command && is_used {
+        let is_read = usage.received.contains(number) || !usage.has_read_command;
+        if is_dynamic && !is_read && is_used {
             findings.add(at, VariableKind::UnreadDynamic(name()));
-        } else if usage.has_write_command
+        } else if is_unsent(number, variable, usage) && !is_dynamic && !classes.contains("CONSTANT")
+        {
+            findings.add(at, VariableKind::Unsent(name()));
+        } else if !is_carried
+            && usage.has_write_command
             && usage.offered.contains(number)
             && !usage.mentioned.contains(number)
             && may_be_written(variable)

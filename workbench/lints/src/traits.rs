@@ -40,22 +40,41 @@ pub(crate) fn quoted(text: &Text) -> Option<&str> {
     }
 }
 
-fn is_spare(text: &str) -> bool {
+/// Whether a text says that what it is for is not used.
+pub(crate) fn is_spare(text: &str) -> bool {
     let text = text.to_lowercase();
     SPARE.iter().any(|word| text.contains(word))
 }
 
+// Whether two enumerators say the same in a language.
+fn has_same(enumerators: &[Listed<'_, Enumerator>]) -> bool {
+    let texts = enumerators.iter().filter_map(|one| quoted(&one.value.text));
+    let words = texts.flat_map(|text| Variants::of(text.as_bytes()));
+    let mut words: Vec<_> = words
+        .map(|one| (one.words.trim_ascii(), one.code))
+        .collect();
+    words.sort_unstable();
+    words.windows(2).any(|pair| pair.first() == pair.last())
+}
+
 fn check_texts(enumerators: &[Listed<'_, Enumerator>], findings: &mut Findings<'_>) {
+    for listed in enumerators {
+        if quoted(&listed.value.text).is_some_and(str::is_empty) {
+            findings.add(index(listed.value.at), TextKind::EmptyText);
+        }
+    }
+    if has_same(enumerators) {
+        check_repeated(enumerators, findings);
+    }
+}
+
+fn check_repeated(enumerators: &[Listed<'_, Enumerator>], findings: &mut Findings<'_>) {
     let mut seen = HashMap::new();
     for listed in enumerators {
         let at = index(listed.value.at);
-        let Some(text) = quoted(&listed.value.text) else {
+        let Some(text) = quoted(&listed.value.text).filter(|text| !text.is_empty()) else {
             continue;
         };
-        if text.is_empty() {
-            findings.add(at, TextKind::EmptyText);
-            continue;
-        }
         // In one language alone two of them can't be told apart either.
         let mut earlier = None;
         for variant in Variants::of(text.as_bytes()) {
@@ -163,12 +182,28 @@ fn check_classes(at: TokenIndex, variable: &Variable<'_>, findings: &mut Finding
     }
 }
 
+// A unit of bits.
+fn check_unit(variable: &Variable<'_>, findings: &mut Findings<'_>) {
+    if variable.kind != Some(VarType::BitEnumerated) {
+        return;
+    }
+    for attribute in &variable.item.attributes {
+        if let Attribute::OneText(at, TextAttribute::ConstantUnit, unit) = attribute {
+            let mut units = values_in(unit).filter_map(|one| quoted(one.value));
+            if units.any(|unit| !unit.trim().is_empty()) {
+                findings.add(index(*at), VariableKind::UnitOfBits);
+            }
+        }
+    }
+}
+
 /// Checks the attributes of a variable.
 pub(crate) fn check_traits(
     variable: &Variable<'_>,
     context: &Context<'_>,
     findings: &mut Findings<'_>,
 ) {
+    check_unit(variable, findings);
     for attribute in &variable.item.attributes {
         let at = index(attribute.at());
         match attribute {
@@ -201,7 +236,7 @@ pub(crate) fn check_label(attribute: &Attribute<Target>, findings: &mut Findings
                 Variants::of(text.as_bytes()).all(|variant| variant.words.trim_ascii().is_empty())
             })
         };
-        if values_in(label).iter().any(|listed| is_empty(listed.value)) {
+        if values_in(label).any(|listed| is_empty(listed.value)) {
             findings.add(index(*at), TextKind::EmptyText);
         }
     }

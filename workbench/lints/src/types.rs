@@ -126,7 +126,7 @@ fn check_defaults(
 ) {
     for part in number_parts(parts).filter(|part| part.which == NumberOption::DefaultValue) {
         let numbers = values_in(part.value);
-        let numbers = numbers.iter().filter_map(|listed| number_of(listed.value));
+        let numbers = numbers.filter_map(|listed| number_of(listed.value));
         for number in numbers.filter(|number| range.holds(*number)) {
             if let Some(kind) = unnamed(number, variable) {
                 findings.add(part.at, kind);

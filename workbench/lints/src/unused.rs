@@ -3,23 +3,21 @@
 use crate::context::Context;
 use crate::entries::has_entries;
 use crate::kind::{Kind, MenuKind};
-use crate::source::{Source, index};
+use crate::source::index;
 use crate::warning::Findings;
 use edd_lexer::token::TokenKind;
 use edd_syntax::item::{Item, ItemKind};
 use edd_syntax::numbers::Kind as ItemSort;
 use edd_syntax::reference::Target;
-use std::collections::HashMap;
 
-// How often each name of an item is in a source.
-fn uses_of<'i>(source: Source<'_>, items: &'i [Item<Target>]) -> HashMap<&'i [u8], usize> {
-    let mut uses: HashMap<&[u8], usize> = items
-        .iter()
-        .map(|item| (item.name().as_bytes(), 0))
-        .collect();
-    for (number, token) in source.tokens.iter().enumerate() {
+// How often the name of each item is in a source.
+fn uses_of(context: &Context<'_>) -> Vec<usize> {
+    let source = context.source;
+    let mut uses = vec![0_usize; context.instrument.items.len()];
+    for (at, token) in source.tokens.iter().enumerate() {
         if token.kind == TokenKind::Name
-            && let Some(count) = uses.get_mut(source.bytes(number))
+            && let Some(place) = context.instrument.place_named(source.bytes(at))
+            && let Some(count) = uses.get_mut(place)
         {
             *count = count.saturating_add(1);
         }
@@ -66,13 +64,12 @@ impl Around {
 /// Checks which items have names that are nowhere but at their declarations.
 pub(crate) fn check_uses(context: &Context<'_>, findings: &mut Findings<'_>) {
     let items = context.instrument.items;
-    let uses = uses_of(context.source, items);
+    let uses = uses_of(context);
     let around = Around::of(items);
-    for (number, item) in items.iter().enumerate() {
-        let is_used = uses
-            .get(item.name().as_bytes())
-            .is_some_and(|count| 1 < *count);
-        if !is_used && let Some(kind) = around.unused(item, number) {
+    for ((number, item), count) in items.iter().enumerate().zip(uses) {
+        if count < 2
+            && let Some(kind) = around.unused(item, number)
+        {
             findings.add(index(item.at), kind);
         }
     }

@@ -20,7 +20,7 @@ use edd_syntax::types::Operation;
 pub(crate) struct Variables(Vec<bool>);
 
 impl Variables {
-    fn insert(&mut self, variable: u16) {
+    pub(crate) fn insert(&mut self, variable: u16) {
         let place = usize::from(variable);
         if self.0.len() <= place {
             self.0.resize(place.saturating_add(1), false);
@@ -30,7 +30,7 @@ impl Variables {
         }
     }
 
-    fn extend(&mut self, variables: impl IntoIterator<Item = u16>) {
+    pub(crate) fn extend(&mut self, variables: impl IntoIterator<Item = u16>) {
         for variable in variables {
             self.insert(variable);
         }
@@ -49,16 +49,24 @@ pub(crate) struct Usage {
     pub(crate) requested: Variables,
     /// In a REPLY.
     pub(crate) replied: Variables,
+    /// In a REPLY from which they are set: not for INFO.
+    pub(crate) received: Variables,
+    /// In such a REPLY of a command that reads.
+    pub(crate) read: Variables,
     /// Entries of menus by which they may be set.
     pub(crate) offered: Variables,
     /// Entries of menus.
     pub(crate) shown: Variables,
     /// Set by methods.
     pub(crate) set: Variables,
+    /// Set by methods that are always valid.
+    pub(crate) freely_set: Variables,
     /// In an expression, an array or a collection.
     pub(crate) mentioned: Variables,
     pub(crate) has_read_command: bool,
     pub(crate) has_write_command: bool,
+    /// Whether the item that is looked at has no VALIDITY.
+    is_valid: bool,
 }
 
 /// The operation of a command.
@@ -68,6 +76,12 @@ pub(crate) fn operation_of(command: &Item<Target>) -> Option<Operation> {
         Attribute::Operation(_, operation) => Some(*operation),
         _ => None,
     })
+}
+
+/// Whether an item has a VALIDITY.
+pub(crate) fn has_validity(item: &Item<Target>) -> bool {
+    let mut attributes = item.attributes.iter();
+    attributes.any(|one| matches!(one, Attribute::Validity(..)))
 }
 
 /// The variable of an item of a message.
@@ -83,6 +97,7 @@ impl Usage {
     pub(crate) fn of(items: &[Item<Target>]) -> Usage {
         let mut usage = Usage::default();
         for item in items {
+            usage.is_valid = !has_validity(item);
             visit_item(item, &mut usage);
             for attribute in &item.attributes {
                 usage.add_attribute(attribute);
@@ -106,22 +121,48 @@ impl Usage {
                 let elements = elements.iter().filter_map(|one| variable_of(one.variable));
                 self.mentioned.extend(elements);
             }
-            Attribute::Transaction { parts, .. } => {
-                for part in parts {
-                    let (carriers, items) = match part {
-                        TransactionPart::Request(_, items) => (&mut self.requested, items),
-                        TransactionPart::Reply(_, items) => (&mut self.replied, items),
-                    };
-                    let items = values_of(items);
-                    carriers.extend(items.iter().filter_map(|listed| carried(listed.value)));
-                }
-            }
             _ => {}
         }
     }
 
+    fn add_messages(&mut self, parts: &[TransactionPart<Target>], is_read: bool) {
+        for part in parts {
+            match part {
+                TransactionPart::Request(_, items) => {
+                    let items = values_of(items);
+                    let items = items.iter().filter_map(|listed| carried(listed.value));
+                    self.requested.extend(items);
+                }
+                TransactionPart::Reply(_, items) => {
+                    for listed in values_of(items) {
+                        self.add_received(listed.value, is_read);
+                    }
+                }
+            }
+        }
+    }
+
+    // An item for INFO sets nothing.
+    fn add_received(&mut self, item: &DataItem<Target>, is_read: bool) {
+        let DataItem::Variable { qualifiers, .. } = item else {
+            return;
+        };
+        let variable = carried(item);
+        self.replied.extend(variable);
+        if !qualifiers.info {
+            self.received.extend(variable);
+            self.read.extend(variable.filter(|_| is_read));
+        }
+    }
+
     fn add_command(&mut self, command: &Item<Target>) {
-        match operation_of(command) {
+        let operation = operation_of(command);
+        for attribute in &command.attributes {
+            if let Attribute::Transaction { parts, .. } = attribute {
+                self.add_messages(parts, operation == Some(Operation::Read));
+            }
+        }
+        match operation {
             Some(Operation::Read) => self.has_read_command = true,
             Some(Operation::Write) => self.has_write_command = true,
             _ => {}
@@ -140,7 +181,11 @@ impl Usage {
     }
 
     fn add_set(&mut self, target: Option<Target>) {
-        self.set.extend(target.and_then(variable_of));
+        let variable = target.and_then(variable_of);
+        self.set.extend(variable);
+        if self.is_valid {
+            self.freely_set.extend(variable);
+        }
     }
 }
 
@@ -151,7 +196,7 @@ impl<'t> Visitor<'t> for Usage {
             && let Expr::Compare(Comparison::Equal, first, _) = without_parentheses(e)
             && let Expr::Reference(target) = **first
         {
-            self.add_set(Some(target));
+            self.set.extend(variable_of(target));
         }
     }
 

@@ -33,9 +33,19 @@ pub(crate) trait Value {
     fn entry(&self) -> Option<&MenuEntry<Target>> {
         None
     }
+
+    /// The text that it is.
+    fn text(&self) -> Option<&Text> {
+        None
+    }
 }
 
-impl Value for Text {}
+impl Value for Text {
+    fn text(&self) -> Option<&Text> {
+        Some(self)
+    }
+}
+
 impl Value for Handling {}
 impl Value for bool {}
 impl Value for Enumerator {}

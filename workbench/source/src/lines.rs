@@ -2,6 +2,7 @@
 
 use crate::marks::Marks;
 use crate::{Origin, Span};
+use std::io::BufRead;
 
 /// The longest line of a source that is shown, in bytes.
 const LONGEST: usize = 400;
@@ -32,11 +33,18 @@ pub struct Lines<'a> {
 impl<'a> Lines<'a> {
     /// The lines of a text.
     pub fn of(text: &'a [u8]) -> Lines<'a> {
-        let ends = text.iter().enumerate().filter(|(_, byte)| **byte == b'\n');
-        let starts: Vec<usize> = [0]
-            .into_iter()
-            .chain(ends.map(|(place, _)| place.saturating_add(1)))
-            .collect();
+        let mut starts = vec![0];
+        let (mut start, mut rest) = (0_usize, text);
+        // Reading from bytes does not fail.
+        while let Ok(length) = rest.skip_until(b'\n') {
+            start = start.saturating_add(length);
+            let is_ended =
+                0 < length && text.get(..start).is_some_and(|line| line.ends_with(b"\n"));
+            if !is_ended {
+                break;
+            }
+            starts.push(start);
+        }
         let marks = Marks::of(text, &starts);
         Lines {
             text,

@@ -11,6 +11,7 @@ use crate::kind::MethodKind;
 use crate::source::{TokenIndex, index};
 use crate::visit::{Visitor, visit_parts};
 use crate::warning::Findings;
+use edd_arithmetic::holds;
 use edd_constants::evaluate;
 use edd_instructions::Sort;
 use edd_syntax::expr::Expr;
@@ -73,11 +74,27 @@ impl Asked {
 
 /// The locals of a body that keep answers alone, with what gives them.
 #[derive(Default)]
-struct Answers {
+pub(super) struct Answers {
     kept: HashMap<u8, Option<Asked>>,
 }
 
 impl Answers {
+    /// The answers that the locals of a body keep.
+    pub(super) fn in_parts(parts: &[Part<Target>]) -> Answers {
+        let mut answers = Answers::default();
+        visit_parts(parts, &mut answers);
+        answers
+    }
+
+    /// Whether a local keeps the codes of one command alone.
+    pub(super) fn are_codes(&self, place: Target) -> bool {
+        let kept = match place {
+            Target::Local(slot) => self.kept.get(&slot).copied().flatten(),
+            _ => None,
+        };
+        matches!(kept, Some(Asked::Command(_)))
+    }
+
     fn add(&mut self, target: Target, asked: Option<Asked>) {
         if let Target::Local(slot) = target {
             let known = self.kept.entry(slot).or_insert(asked);
@@ -119,6 +136,15 @@ impl Compared<'_, '_, '_> {
     }
 }
 
+// Whether a comparison holds for each of so many choices.
+fn holds_for_all(comparison: Comparison, count: i64, second: &Expr<Target>) -> bool {
+    let is_order = !matches!(comparison, Comparison::Equal | Comparison::NotEqual);
+    let number = evaluate(second, Sort::Method).number();
+    let last = count.saturating_sub(1);
+    let ends = [0, last];
+    is_order && number.is_some_and(|number| ends.iter().all(|one| holds(comparison, *one, number)))
+}
+
 impl<'t> Visitor<'t> for Compared<'_, '_, '_> {
     fn expression(&mut self, e: &'t Expr<Target>, _: Sort) {
         if let Expr::LogicalAnd(first, second) | Expr::LogicalOr(first, second) = e {
@@ -128,6 +154,12 @@ impl<'t> Visitor<'t> for Compared<'_, '_, '_> {
         let Expr::Compare(comparison, first, second) = e else {
             return;
         };
+        if let Some(Asked::Choices(count)) = Asked::by(first)
+            && holds_for_all(*comparison, count, second)
+        {
+            let at = self.context.places.sign(e);
+            return self.findings.add(at, MethodKind::EveryChoice);
+        }
         let is_told = match comparison {
             Comparison::Equal | Comparison::NotEqual => true,
             // Of an order the number may be the least that is no choice.
@@ -173,10 +205,8 @@ pub(super) fn check_choices<'d>(
     context: &Context<'d>,
     findings: &mut Findings<'d>,
 ) {
-    let mut answers = Answers::default();
-    visit_parts(parts, &mut answers);
     let mut compared = Compared {
-        answers,
+        answers: Answers::in_parts(parts),
         joined: HashSet::new(),
         context,
         findings,

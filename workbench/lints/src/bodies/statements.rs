@@ -5,11 +5,13 @@ use super::flow::{Flow, counts, is_abort, is_empty_block};
 use super::layout::{check_else, check_layout};
 use super::loops::{Head, Loop, check_head, check_loop, has_no_body, step_of};
 use super::stores::check_stores;
+use super::turns::{check_end, check_same_turn};
 use super::waits::{check_away, check_counting, check_single_turn, check_wait};
 use crate::expressions::operands::selected_variable;
 use crate::expressions::stores::{check_wrapped, without_parentheses};
 use crate::expressions::walk::Walk;
 use crate::expressions::{Test, check_condition, check_expression, check_tested};
+use crate::gaps::{Cases, check_shifted};
 use crate::kind::MethodKind;
 use crate::source::{TokenIndex, index};
 use edd_syntax::expr::Expr;
@@ -122,6 +124,7 @@ fn check_part(
         so_far.flow.ends = ends;
     }
     check_empty_else(s, next, walk);
+    check_end(s, next, walk);
     so_far.has_statement = true;
 }
 
@@ -319,6 +322,15 @@ fn check_switch(
     let has_default = parts
         .iter()
         .any(|part| matches!(part, Part::DefaultLabel { .. }));
+    let labels = parts.iter().filter_map(|part| match part {
+        Part::CaseLabel { at, label } => Some((*label, index(*at))),
+        _ => None,
+    });
+    let cases = Cases {
+        labels: labels.collect(),
+        has_default,
+    };
+    check_shifted(selected_variable(on), &cases, walk.context, walk.findings);
     Flow {
         ends: (has_default && !flow.breaks && flow.ends.is_some()).then_some(at),
         leaves: asks || flow.leaves,
@@ -340,6 +352,7 @@ fn check_statement(s: &Stmt<Target>, walk: &mut Walk<'_, '_>) -> Flow {
         Stmt::While(condition, body) => {
             check_wait(Some(condition), None, body, at, walk);
             check_away(condition, body, at, walk);
+            check_same_turn(condition, body, walk);
             check_while(condition, body, at, walk)
         }
         Stmt::Do(body, condition) => {

@@ -2,7 +2,7 @@
 
 use super::flow::Flow;
 use super::loops::{leads_away, limit_of, start_of, step_of};
-use crate::expressions::calls::target_of_argument;
+use crate::expressions::calls::{number_of_argument, target_of_argument};
 use crate::expressions::operands::referred;
 use crate::expressions::walk::Walk;
 use crate::instrument::variable_of;
@@ -19,14 +19,16 @@ use edd_syntax::stmt::{Part, Stmt};
 
 /// What the nodes of a loop do.
 #[derive(Default)]
-struct Doings {
+pub(super) struct Doings {
     reads: Vec<Target>,
-    sets: Vec<Target>,
+    pub(super) sets: Vec<Target>,
     /// Whether a `break`, a `return` or an abort may end it.
-    ends: bool,
+    pub(super) ends: bool,
     asks: bool,
     /// Whether a request may give variables other values.
     refreshes: bool,
+    /// The numbers of the commands that are sent, with those of their transactions.
+    sent: Vec<(Option<i64>, Option<i64>, usize)>,
     /// Whether what it reads may be any variable.
     reads_elements: bool,
     /// Whether a `continue` may begin its next turn.
@@ -48,10 +50,15 @@ impl<'t> Visitor<'t> for Doings {
             } => match function {
                 Builtin::Ask(request) => {
                     self.asks = true;
-                    self.refreshes |= !matches!(
-                        request,
-                        RequestKind::PutMessage | RequestKind::Acknowledge | RequestKind::Delay
-                    );
+                    match request {
+                        RequestKind::SendCommand | RequestKind::SendCommandTrans => {
+                            let number = |place| number_of_argument(arguments, place);
+                            self.sent.push((number(0), number(1), arguments.len()));
+                        }
+                        RequestKind::PutMessage | RequestKind::Acknowledge | RequestKind::Delay => {
+                        }
+                        _ => self.refreshes = true,
+                    }
                 }
                 Builtin::Iassign | Builtin::Lassign => {
                     self.sets.extend(target_of_argument(arguments, 0));
@@ -70,10 +77,42 @@ impl<'t> Visitor<'t> for Doings {
 }
 
 impl Doings {
-    fn of(s: &Stmt<Target>) -> Doings {
+    pub(super) fn of(s: &Stmt<Target>) -> Doings {
         let mut doings = Doings::default();
         visit_statement(s, &mut doings);
         doings
+    }
+
+    pub(super) fn of_expression(e: &Expr<Target>) -> Doings {
+        let mut doings = Doings::default();
+        visit_expression(e, Sort::Method, &mut doings);
+        doings
+    }
+
+    /// Whether the reply of a command that is sent may have one of these variables.
+    fn receives_any(&self, targets: &[Target], walk: &Walk<'_, '_>) -> bool {
+        let mut variables = targets.iter().copied().filter_map(variable_of);
+        variables.any(|variable| self.receives(variable, walk))
+    }
+
+    // Whether the reply of a command that is sent may have a variable: of one that is not known it may.
+    fn receives(&self, variable: u16, walk: &Walk<'_, '_>) -> bool {
+        self.sent.iter().any(|(command, transaction, count)| {
+            let is_known = *count == 1 || transaction.is_some();
+            let known = command.filter(|_| is_known);
+            let instrument = &walk.context.instrument;
+            let exchange = known.and_then(|number| instrument.exchange(number, *transaction));
+            exchange.is_none_or(|exchange| exchange.received.contains(variable))
+        })
+    }
+
+    pub(super) fn asks(&self) -> bool {
+        self.asks
+    }
+
+    /// Whether something is set, asked for or ended.
+    pub(super) fn acts(&self) -> bool {
+        self.ends || self.asks || !self.sets.is_empty()
     }
 }
 
@@ -188,12 +227,30 @@ pub(super) fn check_wait(
     };
     let variable = test.reads.iter().copied().find_map(variable_of);
     match (first, variable) {
-        (_, Some(variable)) if !all.refreshes => {
+        (_, Some(variable)) if !all.refreshes && !all.receives_any(&test.reads, walk) => {
             let name = walk.context.instrument.name_of(variable);
             walk.findings.add(at, MethodKind::UnrefreshedWait(name));
         }
         (Target::Local(_), None) => walk.findings.add(at, MethodKind::UnmovedCounter),
         _ => {}
+    }
+}
+
+// The loops in the body of a `for` that count the same. What leaves the loop does not help where an inner
+// one right in the body always counts to its end.
+fn check_shared(body: &Stmt<Target>, counted: Target, walk: &mut Walk<'_, '_>) {
+    if !Doings::of(body).ends {
+        return visit_statement(body, &mut Shared { counted, walk });
+    }
+    let Stmt::Block(parts) = body else {
+        return;
+    };
+    for part in parts {
+        if let Part::Statement(s @ Stmt::For { body: inner, .. }) = part
+            && !Doings::of(inner).ends
+        {
+            Shared { counted, walk }.statement(s);
+        }
     }
 }
 
@@ -214,9 +271,7 @@ pub(super) fn check_counting(
     if let Stmt::Block(parts) = body {
         check_counted_twice(parts, counted, walk);
     }
-    if !Doings::of(body).ends {
-        visit_statement(body, &mut Shared { counted, walk });
-    }
+    check_shared(body, counted, walk);
     if step == 0 {
         return walk.findings.add(at, MethodKind::CountsByZero);
     }

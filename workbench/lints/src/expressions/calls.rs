@@ -70,15 +70,19 @@ fn check_command(arguments: &[Argument<Target>], at: TokenIndex, walk: &mut Walk
         return;
     };
     let instrument = &walk.context.instrument;
+    let transaction = number_of_argument(arguments, 1);
     if instrument.lacks_command(command) {
-        let kind = if COMMON.contains(&command) {
+        // Where both are exchanged there is such a command and such a transaction.
+        let other = transaction.filter(|other| instrument.has_transaction(*other, command));
+        let kind = if let Some(other) = other {
+            MethodKind::ExchangedNumbers(other, command)
+        } else if COMMON.contains(&command) {
             MethodKind::UndeclaredCommand(command)
         } else {
             MethodKind::MissingCommand(command)
         };
         return walk.findings.add(at, kind);
     }
-    let transaction = number_of_argument(arguments, 1);
     let lacking = transaction.filter(|number| instrument.lacks_transaction(command, *number));
     if let Some(number) = lacking {
         walk.findings

@@ -2,6 +2,7 @@
 
 use super::calls::number_of_argument;
 use super::walk::Walk;
+use crate::claims::seconds_in;
 use crate::kind::{MethodKind, TextKind};
 use crate::source::TokenIndex;
 use crate::texts::variants::Variants;
@@ -75,6 +76,17 @@ pub(super) fn check_delay(arguments: &[Argument<Target>], at: TokenIndex, walk: 
         Some(seconds) if LONG_DELAY <= seconds => {
             walk.findings.add(at, MethodKind::LongDelay(seconds));
         }
-        _ => {}
+        Some(seconds) => {
+            let text = match arguments.get(1) {
+                Some(Argument::Text(text)) => quoted(text),
+                _ => None,
+            };
+            let named = text.and_then(seconds_in).filter(|named| *named != seconds);
+            if let Some(named) = named {
+                walk.findings
+                    .add(at, MethodKind::NamedDelay(named, seconds));
+            }
+        }
+        None => {}
     }
 }

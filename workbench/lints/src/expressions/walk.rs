@@ -1,6 +1,7 @@
 //! A walk through the trees of an item, with what they read, set and ask for.
 
 use crate::context::Context;
+use crate::visit::for_children;
 use crate::warning::Findings;
 use edd_instructions::Sort;
 use edd_syntax::expr::Expr;
@@ -66,6 +67,25 @@ impl<'w, 'd> Walk<'w, 'd> {
             ranged: None,
             assigned: None,
             selected: Vec::new(),
+        }
+    }
+
+    /// The name of a place as an expression that reads it has it.
+    pub(crate) fn name_of(&self, place: Target, e: &Expr<Target>) -> String {
+        match e {
+            Expr::Reference(to) if *to == place => {
+                let at = self.context.places.sign(e);
+                self.context.source.word(at).to_owned()
+            }
+            _ => {
+                let mut name = String::new();
+                for_children(e, |inner| {
+                    if name.is_empty() {
+                        name = self.name_of(place, inner);
+                    }
+                });
+                name
+            }
         }
     }
 

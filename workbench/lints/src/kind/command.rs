@@ -33,6 +33,26 @@ kinds! {
             "0 is the code of what went well, and this is no SUCCESS"
         NoResponseCodes EmptyResponseCodes
             "there are no response codes here"
+        NarrowMask(mask: u32, count: usize, variable: String) NarrowMask
+            "{mask} has too few bits for the {count} enumerators of {variable}"
+        CrossingMasks(other: String) OverlappingMasks
+            "this mask has bits of the mask of {other} before it, and others"
+        KeepsNothing SilentRead
+            "this READ keeps nothing: all of its reply is INFO"
+        ReadsUnreadable(variable: String) UnreadableValue
+            "this READ gets {variable}, and its HANDLING is WRITE"
+        RepeatedCodeText(number: u32) RepeatedResponseText
+            "the response code {number} has the same class and text"
+        OppositeClass(text: &'static str) OppositeClass
+            "this class is that of what went well, and the text says {text}"
+        SuccessfulError(text: &'static str) OppositeClass
+            "this class is that of an error, and the text says {text}"
+        OtherEcho(echo: u32, selector: u32) UnevenEcho
+            "the reply begins with {echo} and the request with {selector}: in the others both are the same"
+        OtherReply UnevenEcho
+            "the reply has none of what the request sends, and something else: others have the same in both"
+        UnsharedCondition(variable: String) UnsharedCondition
+            "no message carries {variable}: who receives this can't tell which of the branches it is"
         UnorderedResponseCode(number: u32) UnorderedResponseCodes
             "{number} is smaller than the response code before it"
     }

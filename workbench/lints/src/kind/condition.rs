@@ -32,6 +32,24 @@ kinds! {
             "the case {label} is never taken: the variable holds {range}"
         NoPower(number: i64) MisreadOperators
             "^ is the exclusive or, and no power: this is {number}"
+        ShiftedSum MisreadOperators
+            "a sum is evaluated before this shift: parentheses say what is meant"
+        AddedState MisreadOperators
+            "the sum is evaluated before this: parentheses say what is meant"
+        NegatedNumber MisreadOperators
+            "! of this number is 0: ~ inverts its bits"
+        NegatedMask MisreadOperators
+            "! gives 0 or 1: ~ inverts bits"
+        TwoUnits(one: &'static str, other: &'static str) MixedUnits
+            "one value is in {one} and the other in {other}, and nothing converts them"
+        ExchangedText(other: i64) ExchangedText
+            "this is the text of the enumerator {other}"
+        OtherSelection(other: String) ExchangedText
+            "these are the texts of the enumerators of {other}, and not of what is selected on"
+        ShiftedCases(label: i64, missing: i64) UnenterableCase
+            "the limits keep {label} from being entered, and {missing} has no case"
+        UntestedDivisor(variable: String, number: i64) UntestedDivisor
+            "this traps where {variable} is {number}"
         ImpossibleCase(label: i64) SettledComparison
             "the case {label} is never taken: this never gives it"
         EqualOperands EqualOperands

@@ -39,8 +39,14 @@ kinds! {
             "{qualifier} is there already"
         HiddenQualifiers HiddenQualifier
             "this entry is HIDDEN, so its other qualifiers do nothing"
+        UnreadableEntry(item: String) UnreadableValue
+            "the HANDLING of {item} is WRITE: there is no value to show"
         RepeatedMember(item: String) RepeatedMember
             "{item} is in this list already"
+        LeftOverName(word: String, expected: String) LeftOverName
+            "this is {word}, where {expected} may be meant: the items of the same name have their own number here"
+        LeftOverNumber(number: u32, own: u32) LeftOverName
+            "this is the LABEL of the item with the number {number}, and this one has {own}"
         EmptyList(item: String) EmptyList
             "{item} has nothing in it"
         EmptyMethod(method: String) EmptyMethod

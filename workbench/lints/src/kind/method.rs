@@ -134,6 +134,56 @@ kinds! {
             "nothing comes behind this that could abort"
         LoopedAbortMethod LoopedAbortMethod
             "this adds the abort method again in each turn"
+        ExchangedNumbers(command: i64, transaction: i64) MissingCommand
+            "no command has the number {transaction}: the transaction {transaction} of the command {command} is meant"
+        EveryChoice MissingChoice
+            "this holds for each of the choices"
+        LostEntry(variable: String) LostValue
+            "the reply replaces what was entered for {variable}, and nothing has sent it"
+        LostStore(variable: String) LostValue
+            "the reply replaces what was stored in {variable}, and nothing has sent it"
+        EarlySave EarlySave
+            "this saves before the values are changed"
+        LateCopy(local: String, variable: String) LateCopy
+            "{local} keeps what {variable} was just set to, and not what it was before"
+        OpensSame EndlessLoop
+            "this begins the same turn again: nothing has changed before it"
+        MissedEnd(counter: String, number: i64) MissedEnd
+            "where its condition ends this loop {counter} is {number}"
+        StoredElement StoredElement
+            "this keeps an element where the number of an element is meant"
+        StoredNumber StoredElement
+            "this keeps the number of an element where the element is meant"
+        OtherQuestion(asked: String, set: String) OtherQuestion
+            "this asks for {asked} and sets {set}"
+        FailsOnSuccess ExchangedBranches
+            "this is done where the command has succeeded: 0 is the code of what went well"
+        LoopsOnSuccess ExchangedBranches
+            "this loop goes on as long as the command succeeds: 0 is the code of what went well"
+        RestartedSum RestartedSum
+            "this is 0 again in each turn before something is added"
+        RepeatedTurns RepeatedTurns
+            "each turn of this loop does the same: nothing in it depends on its counter"
+        NamedDelay(named: i64, seconds: i64) ContradictingRange
+            "this says {named} seconds, and the delay is {seconds}"
+        ExchangedChoice(choice: String) ExchangedText
+            "the choice is {choice}, which is another enumerator"
+        ReplacedInTurns DeadStore
+            "each turn of this loop replaces what the one before has stored, and nothing reads it"
+        UnevenAverage(turns: i64, divisor: i64) UnevenAverage
+            "the loop before adds up {turns} values, and this divides by {divisor}"
+        RestoredElsewhere(local: String, variable: String) LateCopy
+            "{local} keeps {variable}, which was set since, and is stored in another variable"
+        StoreAtMost(greatest: i64) StoreOutsideLimits
+            "this is never below the variable's MAX_VALUE {greatest}"
+        StoreAtLeast(least: i64) StoreOutsideLimits
+            "this is never over the variable's MIN_VALUE {least}"
+        OppositeState(says: String, state: String) OppositeState
+            "the method says {says}, and this sets {state}"
+        ComparedCopy ComparedCopy
+            "both sides are the same: one was copied from the other, and nothing has changed since"
+        SucceedsOnFailure ExchangedBranches
+            "this is said where the command has failed: 0 is the code of what went well"
         HidingLocals(local: String) HidingLocal
             "this local hides the local {local} around it"
     }

@@ -27,6 +27,18 @@ kinds! {
             "this comment has a character that turns its direction and is not seen, U+{character:X}"
         EmptyText EmptyText
             "this text is empty"
+        UnevenNumbers(first: String, code: String, other: String, second: String) UnevenNumbers
+            "this text has {first} in {code}, but {other} in {second}"
+        ExchangedLanguages ExchangedLanguages
+            "the languages of this text are exchanged"
+        OppositeTranslation OppositeTranslation
+            "one language of this text says the opposite of the other"
+        SameSentence UntranslatedText
+            "this sentence is the same in two languages"
+        EscapedPath EscapedPath
+            "this begins a new line or a tab: two backslashes show one"
+        SwallowedCode SwallowedCode
+            "another comment begins in this one: it was not closed, and what stands between is no code"
         Untranslated(code: String) UntranslatedText
             "this text is in {code} alone, and most texts are in more languages"
         BracedItem(item: String) BracedItem

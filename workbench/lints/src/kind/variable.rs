@@ -84,6 +84,38 @@ kinds! {
             "no number has {width} digits"
         UnreadDynamic(variable: String) UnreadDynamic
             "no command reads {variable}, which is DYNAMIC"
+        ConditionalDefault(number: i64) ConditionalDefault
+            "the DEFAULT_VALUE {number} is an enumerator under a condition alone"
+        UnreachableEnumerator(number: i64, variable: String) UnreachableEnumerator
+            "{number} can be chosen only where {variable} is {number} already"
+        NamedUnit(named: &'static str, own: &'static str) ContradictingUnit
+            "this names the unit {named}, and the CONSTANT_UNIT is {own}"
+        OtherUnit(own: &'static str, usual: &'static str) ContradictingUnit
+            "this is in {own}, and the variables of the same name are in {usual}"
+        UnitOfBits UnitOfBits
+            "bits have no unit"
+        SetConstant(variable: String) ConflictingClasses
+            "{variable} is CONSTANT, and a method sets it"
+        NamedRange(low: i64, high: i64, least: i64, greatest: i64) ContradictingRange
+            "this says {low} to {high}, and the limits are {least} to {greatest}"
+        NamedDefault(named: i64, default: i64) ContradictingRange
+            "this says that {named} is the default, and the DEFAULT_VALUE is {default}"
+        OppositeLabel(word: &'static str, other: &'static str) ContradictingName
+            "this says {word}, and the name says {other}"
+        OppositeLimit(limit: NumberRole, other: String) ContradictingName
+            "this {limit} is {other}, which its name puts at the other end"
+        OppositeOperation(operation: &'static str, verb: &'static str) ContradictingName
+            "this says {operation}, and the name of the command says {verb}"
+        OppositeMember(member: String, item: String) ContradictingName
+            "{member} names {item}: the other one may be meant"
+        ExchangedMembers(one: String, other: String) ContradictingName
+            "{one} and {other} are exchanged in this list"
+        OtherVariable(command: String, variable: String) ContradictingName
+            "{command} does not carry {variable}, which its name has"
+        LockedOut(variable: String, number: i64) LockedOut
+            "nothing lets {variable} be changed where it is {number}"
+        Unsent(variable: String) UnsentVariable
+            "{variable} may be written, and no command sends it: the next reply replaces what is entered"
         Ineffective(variable: String) IneffectiveVariable
             "what is entered for {variable} has no effect: no command sends it, and nothing reads it"
     }

@@ -36,6 +36,11 @@ impl<T, V: Copy + Default> Addresses<T, V> {
         self.get_at(of(node))
     }
 
+    /// Makes room for so many more.
+    pub(crate) fn reserve(&mut self, count: usize) {
+        self.values.reserve(count);
+    }
+
     pub(crate) fn insert_at(&mut self, address: Address, value: V) {
         self.values.insert(address, value);
     }

@@ -76,7 +76,7 @@ impl<'s> Locator<'s> {
             source,
             closing: closing_of(source),
             next: 0,
-            places: Places::default(),
+            places: Places::with_room(source.tokens.len()),
         }
     }
 

@@ -14,7 +14,6 @@ use edd_syntax::expr::Expr;
 use edd_syntax::item::{Attribute, Item, MenuEntry};
 use edd_syntax::operators::Comparison;
 use edd_syntax::reference::Target;
-use std::collections::BTreeMap;
 
 impl<'t> Conditionals<'t> for Ways<'_, '_, '_> {
     fn take<V: Value>(&mut self, all: &'t [Cond<Target, V>]) {
@@ -153,8 +152,11 @@ fn may_hold(conditional: &Cond<Target, bool>, known: &Environment<'_, '_>) -> bo
     }
 }
 
-// What holds where a menu is shown. Entries that test it again are careful.
-fn where_valid<'c, 'd>(menu: &Item<Target>, known: Environment<'c, 'd>) -> Environment<'c, 'd> {
+/// What holds where a menu is shown. Entries that test it again are careful.
+pub(crate) fn where_valid<'c, 'd>(
+    menu: &Item<Target>,
+    known: Environment<'c, 'd>,
+) -> Environment<'c, 'd> {
     let condition = menu
         .attributes
         .iter()
@@ -188,12 +190,7 @@ pub(crate) fn check_attributes<'d>(
     context: &Context<'d>,
     findings: &mut Findings<'d>,
 ) {
-    let mut ways = Ways {
-        context,
-        findings,
-        counters: BTreeMap::new(),
-        is_chained: false,
-    };
+    let mut ways = Ways::new(context, findings);
     for attribute in &item.attributes {
         if let Attribute::Items(_, entries) = attribute {
             let known = where_valid(item, Environment::new(Sort::Attribute, context));

@@ -102,13 +102,24 @@ pub(super) fn counter_of(looped: &ForLoop<'_>) -> Option<(Storage, Range)> {
     Some((storage_of(target)?, range)).filter(|_| is_plain)
 }
 
-/// What a counter is behind its loop, where no `break` leaves it.
-pub(super) fn reached_behind(looped: &ForLoop<'_>, range: Range) -> Option<i64> {
+/// What a counter may be behind its loop: it has counted once more, or a `break` has left the loop.
+pub(super) fn reached_behind(looped: &ForLoop<'_>, range: Range) -> Option<Range> {
     let (target, step) = step_of(looped.update)?;
     let mut uses = Uses::of(target);
     visit_statement(looped.body, &mut uses);
     let last = if step < 0 { range.low } else { range.high };
-    last.checked_add(step).filter(|_| !uses.breaks)
+    let reached = last.checked_add(step)?;
+    Some(if uses.breaks {
+        Range {
+            low: range.low.min(reached),
+            high: range.high.max(reached),
+        }
+    } else {
+        Range {
+            low: reached,
+            high: reached,
+        }
+    })
 }
 
 // What the last statement of a body counts, by how much, and what is before it.

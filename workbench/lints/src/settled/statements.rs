@@ -14,7 +14,7 @@ use crate::source::{TokenIndex, index};
 use crate::values::Values;
 use crate::values::environment::{Environment, Storage, storage_of};
 use crate::values::evaluation::Nobody;
-use crate::visit::{Visitor, visit_parts, visit_statement};
+use crate::visit::{Visitor, for_children, visit_parts, visit_statement};
 use crate::warning::Findings;
 use edd_arithmetic::wrapped;
 use edd_constants::evaluate;
@@ -23,7 +23,7 @@ use edd_syntax::expr::Expr;
 use edd_syntax::operators::Comparison;
 use edd_syntax::reference::Target;
 use edd_syntax::stmt::{Declarator, Part, Stmt};
-use std::collections::BTreeMap;
+use std::collections::BTreeSet;
 
 /// Forgets what the nodes that it visits may change.
 struct Forgetting<'k, 'c, 'd> {
@@ -33,6 +33,37 @@ struct Forgetting<'k, 'c, 'd> {
 impl<'t> Visitor<'t> for Forgetting<'_, '_, '_> {
     fn expression(&mut self, e: &'t Expr<Target>, _: Sort) {
         self.known.forget_change(e);
+    }
+}
+
+/// Notes the places that conditions read.
+struct Testing<'k>(&'k mut BTreeSet<Storage>);
+
+impl Testing<'_> {
+    fn add(&mut self, e: &Expr<Target>) {
+        if let Expr::Reference(target) = e {
+            self.0.extend(storage_of(*target));
+        }
+        for_children(e, |inner| self.add(inner));
+    }
+}
+
+impl<'t> Visitor<'t> for Testing<'_> {
+    fn expression(&mut self, e: &'t Expr<Target>, _: Sort) {
+        if let Expr::Compare(..) = e {
+            self.add(e);
+        }
+    }
+
+    fn statement(&mut self, s: &'t Stmt<Target>) {
+        if let Stmt::If(test, _)
+        | Stmt::IfElse(test, ..)
+        | Stmt::While(test, _)
+        | Stmt::Do(_, test)
+        | Stmt::Switch(test, _) = s
+        {
+            self.add(test);
+        }
     }
 }
 
@@ -64,8 +95,17 @@ impl<'c, 'd> Ways<'c, 'd, '_> {
             if let Some(e) = &declarator.value {
                 let values = self.follow(e, known);
                 known.store(declarator.place, values);
+            } else if 0 < self.loops && !self.is_told(declarator) {
+                // It is 0 in each turn, also where the one before has set it.
+                known.store(declarator.place, Values::exactly(0));
             }
         }
+    }
+
+    // Whether a local has a warning where it is declared.
+    fn is_told(&self, declarator: &Declarator<Target>) -> bool {
+        let at = self.context.places.declarator(declarator);
+        self.findings.is_reported(self.context.source.span(at))
     }
 
     /// Follows a statement, and returns what is known behind it; nothing where it does not go on.
@@ -93,6 +133,8 @@ impl<'c, 'd> Ways<'c, 'd, '_> {
             Stmt::While(condition, body) => {
                 self.check_begin(at, condition, &known);
                 let counter = counter_of_while(condition, body, &known);
+                self.check_search(s, body, &known);
+                self.loops = self.loops.saturating_add(1);
                 self.forget_in(s, &mut known);
                 self.test_at(at, condition, &mut known);
                 if let Some(mut inner) = known.clone().refined(condition, true) {
@@ -100,6 +142,7 @@ impl<'c, 'd> Ways<'c, 'd, '_> {
                     self.statement(body, inner);
                     self.close_counter(counter);
                 }
+                self.loops = self.loops.saturating_sub(1);
                 Some(known)
             }
             Stmt::Do(body, condition) => {
@@ -107,10 +150,13 @@ impl<'c, 'd> Ways<'c, 'd, '_> {
                     let at = self.context.places.sign(condition);
                     self.findings.add(at, ConditionKind::SettledHere(false));
                 }
+                self.check_search(s, body, &known);
+                self.loops = self.loops.saturating_add(1);
                 self.forget_in(s, &mut known);
                 if let Some(mut behind) = self.statement(body, known.clone()) {
                     self.test_at(at, condition, &mut behind);
                 }
+                self.loops = self.loops.saturating_sub(1);
                 Some(known)
             }
             Stmt::For {
@@ -191,7 +237,7 @@ impl<'c, 'd> Ways<'c, 'd, '_> {
         }
     }
 
-    fn forget_in(&self, s: &Stmt<Target>, known: &mut Environment<'c, 'd>) {
+    pub(super) fn forget_in(&self, s: &Stmt<Target>, known: &mut Environment<'c, 'd>) {
         visit_statement(s, &mut Forgetting { known });
     }
 
@@ -235,6 +281,7 @@ impl<'c, 'd> Ways<'c, 'd, '_> {
             let at = self.context.places.statement(s).sign;
             self.check_begin(at, condition, &known);
         }
+        self.check_search(s, looped.body, &known);
         self.forget_in(s, &mut known);
         let mut inner = Some(known.clone());
         if let Some(condition) = looped.condition {
@@ -247,15 +294,17 @@ impl<'c, 'd> Ways<'c, 'd, '_> {
         };
         let counter = counter_of(looped);
         self.open_counter(counter, &mut inner);
+        self.loops = self.loops.saturating_add(1);
         if let Some(mut behind) = self.statement(looped.body, inner)
             && let Some(e) = looped.update
         {
             self.follow(e, &mut behind);
         }
+        self.loops = self.loops.saturating_sub(1);
         self.close_counter(counter);
         let behind = counter.and_then(|(storage, range)| {
             let reached = reached_behind(looped, range)?;
-            Some((storage, Values::exactly(reached)))
+            Some((storage, Values::within(reached)))
         });
         // A request may have set a variable.
         if let Some((storage @ Storage::Local(_), reached)) = behind {
@@ -311,11 +360,7 @@ pub(crate) fn check_body<'d>(
     context: &Context<'d>,
     findings: &mut Findings<'d>,
 ) {
-    let mut ways = Ways {
-        context,
-        findings,
-        counters: BTreeMap::new(),
-        is_chained: false,
-    };
+    let mut ways = Ways::new(context, findings);
+    visit_parts(parts, &mut Testing(&mut ways.tested));
     ways.parts(parts, Environment::new(Sort::Method, context));
 }

@@ -65,6 +65,20 @@ fn kind_of(ways: &Ways<'_, '_, '_>, variable: u16, values: Values) -> Option<Wro
     if let Some(least) = variable.least.filter(|least| high < *least && !is_zero) {
         return Some(Wrong::Store(MethodKind::StoreBelowLimit(high, least)));
     }
+    // Where the other one of two was chosen, nothing but the limit is within.
+    let is_wide = low < high;
+    if let Some(greatest) = variable
+        .greatest
+        .filter(|greatest| is_wide && *greatest == low)
+    {
+        return Some(Wrong::Store(MethodKind::StoreAtMost(greatest)));
+    }
+    if let Some(least) = variable
+        .least
+        .filter(|least| is_wide && *least == high && *least != 0)
+    {
+        return Some(Wrong::Store(MethodKind::StoreAtLeast(least)));
+    }
     let greatest = variable.greatest.filter(|greatest| *greatest < low)?;
     Some(Wrong::Store(MethodKind::StoreOverLimit(low, greatest)))
 }

@@ -54,12 +54,12 @@ COMMAND c { NUMBER 1; OPERATION READ; TRANSACTION { REPLY { a <0x0F>, a <0xF0> }
         name: "overlapping-masks",
         level: Level::Warn,
         summary: "two masks of a variable in one message that have a bit in common",
-        details: "two masks of one variable in one list that have a bit in common.",
+        details: "two masks of one variable in one list that have a bit in common; and two that follow each other, of two variables, each of which has bits of the other one and bits that the other one has not: they neither share an octet nor fill one each.",
         example: "VARIABLE a { TYPE BIT_ENUMERATED; }
 COMMAND c { NUMBER 1; OPERATION READ; TRANSACTION { REPLY { a <0x0F>, a <0x18> } } }",
         counterexample: "VARIABLE a { TYPE BIT_ENUMERATED; }
 COMMAND c { NUMBER 1; OPERATION READ; TRANSACTION { REPLY { a <0x0F>, a <0x30> } } }",
-        notes: "`a <0x0F>, a <0x30>` has no warning. Masks of two variables are not compared: no rule of this profile says which of them share an octet.",
+        notes: "`a <0x0F>, a <0x30>` has no warning. Masks of two variables that are the same, or of which one has all bits of the other one, may be of two octets.",
     },
     Row {
         lint: Lint::WideMask,
@@ -78,7 +78,7 @@ COMMAND c { NUMBER 1; OPERATION READ; TRANSACTION { REPLY { a <0x80> } } }",
         name: "silent-read",
         level: Level::Warn,
         summary: "a READ command that asks for variables and gets nothing",
-        details: "a transaction of a READ command with variables in its REQUEST and nothing in its REPLY: REPLY is meant.",
+        details: "a transaction of a READ command with variables in its REQUEST and nothing in its REPLY: REPLY is meant. So it is of one whose REPLY has variables for INFO alone: nothing is kept.",
         example: "VARIABLE a { TYPE INTEGER; }
 COMMAND c { NUMBER 1; OPERATION READ; TRANSACTION { REQUEST { a } REPLY { } } }",
         counterexample: "VARIABLE a { TYPE INTEGER; }
@@ -147,6 +147,74 @@ COMMAND c { NUMBER 1; OPERATION WRITE; TRANSACTION { REQUEST { a (INFO) } } }",
         details: "RESPONSE_CODES without any, which says the same as none.",
         example: "COMMAND c { NUMBER 1; OPERATION READ; TRANSACTION { } RESPONSE_CODES { } }",
         counterexample: "COMMAND c { NUMBER 1; OPERATION READ; TRANSACTION { } }",
+        notes: "",
+    },
+    Row {
+        lint: Lint::NarrowMask,
+        name: "narrow-mask",
+        level: Level::Warn,
+        summary: "a mask with too few bits for the enumerators of its variable",
+        details: "a mask of an ENUMERATED variable that has fewer bits than its enumerators need, all masks of the variable in the list together.",
+        example: r#"VARIABLE e { TYPE ENUMERATED { { 0, "off" } { 1, "on" } { 3, "hold" } } }
+COMMAND c { NUMBER 1; OPERATION READ; TRANSACTION { REPLY { e <0x80> } } }"#,
+        counterexample: r#"VARIABLE e { TYPE ENUMERATED { { 0, "off" } { 1, "on" } { 3, "hold" } } }
+COMMAND c { NUMBER 1; OPERATION READ; TRANSACTION { REPLY { e <0xC0> } } }"#,
+        notes: "",
+    },
+    Row {
+        lint: Lint::RepeatedResponseText,
+        name: "repeated-response-text",
+        level: Level::Warn,
+        summary: "two response codes of a command with one class and one text",
+        details: "two response codes of one command with the same class and the same text: another one was copied. Texts such as `Reserved` may be there again.",
+        example: r#"COMMAND c { NUMBER 1; OPERATION READ; TRANSACTION { } RESPONSE_CODES { 3, DATA_ENTRY_ERROR, "Too large"; 4, DATA_ENTRY_ERROR, "Too large" } }"#,
+        counterexample: r#"COMMAND c { NUMBER 1; OPERATION READ; TRANSACTION { } RESPONSE_CODES { 3, DATA_ENTRY_ERROR, "Too large"; 4, DATA_ENTRY_ERROR, "Too small" } }"#,
+        notes: "",
+    },
+    Row {
+        lint: Lint::UnevenEcho,
+        name: "uneven-echo",
+        level: Level::Warn,
+        summary: "a reply that repeats something else than its request has, where all others repeat that",
+        details: "the one transaction of a command whose REPLY begins with the constant of another one's REQUEST, where two at least begin with that of their own; and the one transaction of all WRITE commands whose REPLY has other variables than its REQUEST, where four at least have the same.",
+        example: "VARIABLE a { TYPE INTEGER; }
+COMMAND c { NUMBER 1; OPERATION READ;
+    TRANSACTION 0 { REQUEST { 0 } REPLY { 0, a } }
+    TRANSACTION 1 { REQUEST { 1 } REPLY { 0, a } }
+    TRANSACTION 2 { REQUEST { 2 } REPLY { 2, a } }
+}",
+        counterexample: "VARIABLE a { TYPE INTEGER; }
+COMMAND c { NUMBER 1; OPERATION READ;
+    TRANSACTION 0 { REQUEST { 0 } REPLY { 0, a } }
+    TRANSACTION 1 { REQUEST { 1 } REPLY { 1, a } }
+    TRANSACTION 2 { REQUEST { 2 } REPLY { 2, a } }
+}",
+        notes: "",
+    },
+    Row {
+        lint: Lint::OppositeClass,
+        name: "opposite-class",
+        level: Level::Warn,
+        summary: "a response code whose text says the opposite of its class",
+        details: "a response code of class SUCCESS whose text says that something went wrong, as `Value too large`, and one of the class of an error whose text is `OK`, `Done` or another word for what went well.",
+        example: r#"COMMAND c { NUMBER 1; OPERATION READ; TRANSACTION { } RESPONSE_CODES { 0, SUCCESS, "OK"; 3, SUCCESS, "Value too large" } }"#,
+        counterexample: r#"COMMAND c { NUMBER 1; OPERATION READ; TRANSACTION { } RESPONSE_CODES { 0, SUCCESS, "OK"; 3, DATA_ENTRY_ERROR, "Value too large" } }"#,
+        notes: "",
+    },
+    Row {
+        lint: Lint::UnsharedCondition,
+        name: "unshared-condition",
+        level: Level::Warn,
+        summary: "a condition in a message on a variable that no message carries",
+        details: "a condition in a REQUEST or a REPLY on variables that can be entered, that no message carries and no method sets, two of whose branches have other items with the same octets for some values: who sends and who receives them have other values for the condition ([OCTETS](OCTETS.md#rules)), and nothing in the message tells the branches apart. Branches of which one is longer, or has another constant at a place, can be told apart, and one with masks is not looked at.",
+        example: "VARIABLE a { TYPE INTEGER; }
+VARIABLE b { TYPE INTEGER; }
+VARIABLE mode { TYPE UNSIGNED_INTEGER; }
+COMMAND c { NUMBER 1; OPERATION READ; TRANSACTION { REPLY { IF (mode == 0) { a } ELSE { b } } } }",
+        counterexample: "VARIABLE a { TYPE INTEGER; }
+VARIABLE b { TYPE INTEGER; }
+VARIABLE mode { TYPE UNSIGNED_INTEGER; }
+COMMAND c { NUMBER 1; OPERATION READ; TRANSACTION { REQUEST { mode } REPLY { IF (mode == 0) { a } ELSE { b } } } }",
         notes: "",
     },
 ];

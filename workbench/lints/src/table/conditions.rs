@@ -45,7 +45,7 @@ VARIABLE b { TYPE INTEGER; }",
         name: "misread-operators",
         level: Level::Warn,
         summary: "operators that bind otherwise than they look: parentheses say what is meant",
-        details: "operators that bind otherwise than they look: a comparison that is an operand of `&`, `|` or `^` without parentheses, since comparisons bind closer; a comparison of what a comparison gives, as in `1 < a < 5`; and `!` before a comparison, or before an operand of `&`, `|` or `^`, as in `!flags & 4`. So it is of `10 ^ 3`, which is no power, where both are plain decimal numbers and the first is 2 or 10. `!a == !b` and `a == 1 | a == 2` are evaluated as they look and have no warning.",
+        details: "operators that bind otherwise than they look: a comparison that is an operand of `&`, `|` or `^` without parentheses, since comparisons bind closer; a comparison of what a comparison gives, as in `1 < a < 5`; and `!` before a comparison, or before an operand of `&`, `|` or `^`, as in `!flags & 4`. So it is of `10 ^ 3`, which is no power, where both are plain decimal numbers and the first is 2 or 10; of `!4`, where `~4` inverts bits; of a sum in a shift, as in `a << 8 + b` and `a + b << 8`; and of a sum with a variable of enumerators that is compared with a number, as in `limit + mode == 1`. `!a == !b` and `a == 1 | a == 2` are evaluated as they look and have no warning.",
         example: "VARIABLE a { TYPE INTEGER { MAX_VALUE b & 2 == 2; } }
 VARIABLE b { TYPE INTEGER; }",
         counterexample: "VARIABLE a { TYPE INTEGER { MAX_VALUE (b & 2) == 2; } }
@@ -154,7 +154,7 @@ MENU x { ITEMS { e, IF (e == 1) { "on" } } }"#,
         name: "settled-condition",
         level: Level::Warn,
         summary: "a comparison or a test of bits that is settled where it stands",
-        details: "a comparison that always holds, or never does, by what is known at its place: by the conditions around it, by the last store to a local or a variable, by the bits of a mask; and a condition of bits that are never 0, or always. What is known of variables is forgotten at each request, and of all that a loop sets before the loop. Behind an `if` of one comparison that was not taken it is known that this fails: what can never hold then has a warning, and what always holds is a careful test. Where the last condition of a chain always holds, an `else` behind it is never reached, and has one. Behind a `for` without `break` its counter is at its end. An element of a constant number is the variable that it is. Where several are joined nothing is known behind them.",
+        details: "a comparison that always holds, or never does, by what is known at its place: by the conditions around it, by the last store to a local or a variable, by the bits of a mask; and a condition of bits that are never 0, or always. What is known of variables is forgotten at each request, and of all that a loop sets before the loop. Behind an `if` of one comparison that was not taken it is known that this fails: what can never hold then has a warning, and what always holds is a careful test. Where the last condition of a chain always holds, an `else` behind it is never reached, and has one. Behind a `for` without `break` its counter is at its end. An element of a constant number is the variable that it is, and another one holds what one of all elements does. A local that a loop declares is 0 in each turn, and one that a branch alone sets, under a comparison with itself, is what it is before the loop as long as that fails. Where several are joined nothing is known behind them.",
         example: r#"VARIABLE e { TYPE ENUMERATED { { 0, "off" } { 1, "on" } { 3, "hold" } } }
 METHOD m { DEFINITION { if (e == 1) { if (e == 0) send_command(1); } } }"#,
         counterexample: r#"VARIABLE e { TYPE ENUMERATED { { 0, "off" } { 1, "on" } { 3, "hold" } } }
@@ -238,7 +238,7 @@ METHOD m { DEFINITION { if (b & 5) send_command(1); } }"#,
         name: "untested-index",
         level: Level::Warn,
         summary: "an index that may be a number of which the array has no element",
-        details: "a variable as an index, of which an enumerator, or a number from its constant MIN_VALUE to its constant MAX_VALUE, is the number of no element, where no condition around it says more of the variable.",
+        details: "a variable as an index, of which an enumerator, or a number from its constant MIN_VALUE to its constant MAX_VALUE, is the number of no element, where no condition around it says more of the variable. So it is of an index that is computed from one such variable, and of a comparison, `!` and a remainder, which give few numbers.",
         example: r#"VARIABLE e { TYPE ENUMERATED { { 0, "off" } { 1, "on" } { 3, "hold" } } }
 VARIABLE v { TYPE INTEGER { MAX_VALUE r[e]; } }
 ARRAY OF VARIABLE r { ELEMENTS { 1, e; } }"#,
@@ -246,5 +246,53 @@ ARRAY OF VARIABLE r { ELEMENTS { 1, e; } }"#,
 VARIABLE v { TYPE INTEGER { MAX_VALUE r[c]; } }
 ARRAY OF VARIABLE r { ELEMENTS { 1, c; } }",
         notes: "Of a variable without enumerators and without both limits nothing is known.",
+    },
+    Row {
+        lint: Lint::MixedUnits,
+        name: "mixed-units",
+        level: Level::Warn,
+        summary: "values of two units that are compared, added, stored or limits of each other",
+        details: "two variables whose CONSTANT_UNIT are two known units and that are compared, added or stored in each other, or one of which is a limit of the other one, as they are: nothing converts them.",
+        example: r#"VARIABLE a { CONSTANT_UNIT "m"; TYPE INTEGER; }
+VARIABLE b { CONSTANT_UNIT "mm"; TYPE INTEGER (2) { MAX_VALUE a; } }"#,
+        counterexample: r#"VARIABLE a { CONSTANT_UNIT "m"; TYPE INTEGER; }
+VARIABLE b { CONSTANT_UNIT "mm"; TYPE INTEGER (2) { MAX_VALUE a * 1000; } }"#,
+        notes: "",
+    },
+    Row {
+        lint: Lint::ExchangedText,
+        name: "exchanged-text",
+        level: Level::Warn,
+        summary: "a CASE with the text of another enumerator",
+        details: "a CASE of a SELECT over a variable of enumerators whose text is that of another enumerator, and a choice of a SELECT_FROM_LIST that sets such a variable to another enumerator than the one with the text of the choice.",
+        example: r#"VARIABLE e { TYPE ENUMERATED { { 0, "bar" } { 1, "mbar" } } }
+VARIABLE v { CONSTANT_UNIT SELECT (e) { CASE 0: "bar"; CASE 1: "bar"; } TYPE INTEGER; }"#,
+        counterexample: r#"VARIABLE e { TYPE ENUMERATED { { 0, "bar" } { 1, "mbar" } } }
+VARIABLE v { CONSTANT_UNIT SELECT (e) { CASE 0: "bar"; CASE 1: "mbar"; } TYPE INTEGER; }"#,
+        notes: "",
+    },
+    Row {
+        lint: Lint::UnenterableCase,
+        name: "unenterable-case",
+        level: Level::Warn,
+        summary: "cases over a variable that its limits shift",
+        details: "a label of a SELECT or `switch` without a default, over a variable that can be entered, that is outside of its constant limits, where a number within them has no case: they are counted from another number.",
+        example: r#"VARIABLE c { TYPE INTEGER { MIN_VALUE 1; MAX_VALUE 2; } }
+VARIABLE v { HELP SELECT (c) { CASE 0: "left"; CASE 1: "right"; } TYPE INTEGER; }"#,
+        counterexample: r#"VARIABLE c { TYPE INTEGER { MIN_VALUE 1; MAX_VALUE 2; } }
+VARIABLE v { HELP SELECT (c) { CASE 1: "left"; CASE 2: "right"; } TYPE INTEGER; }"#,
+        notes: "",
+    },
+    Row {
+        lint: Lint::UntestedDivisor,
+        name: "untested-divisor",
+        level: Level::Warn,
+        summary: "a computed divisor that is 0 for what its variable may be set to",
+        details: "a divisor that is computed from one variable, or is one of enumerators, and that is 0 for an enumerator of it or for a number within its constant limits, where no condition tests the variable. So it is of a number of bits by which something can't be shifted.",
+        example: "VARIABLE c { TYPE INTEGER { MIN_VALUE 1; MAX_VALUE 2; } }
+VARIABLE v { TYPE INTEGER { MAX_VALUE 100 / (c - 1); } }",
+        counterexample: "VARIABLE c { TYPE INTEGER { MIN_VALUE 1; MAX_VALUE 2; } }
+VARIABLE v { TYPE INTEGER { MAX_VALUE 100 / (c + 1); } }",
+        notes: "",
     },
 ];

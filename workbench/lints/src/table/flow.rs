@@ -20,7 +20,7 @@ pub(super) const ROWS: &[Row] = &[
         name: "endless-loop",
         level: Level::Warn,
         summary: "a loop that nothing ends",
-        details: "a loop whose condition always holds, with no `break` of its own, no `return`, no `abort` and no request in it. A loop that makes requests can be ended by the host, which may answer with an abort. The same is a loop in which nothing sets what its condition reads: it never runs, or never ends.",
+        details: "a loop whose condition always holds, with no `break` of its own, no `return`, no `abort` and no request in it. A loop that makes requests can be ended by the host, which may answer with an abort. The same is a loop in which nothing sets what its condition reads: it never runs, or never ends. So it is of a `while` that a `continue` begins again before anything in it has been set or asked for.",
         example: "VARIABLE a { TYPE INTEGER; }
 METHOD m { DEFINITION { while (1) a = a + 1; } }",
         counterexample: "METHOD m { DEFINITION { int i; while (1) { i = i + 1; if (i > 9) break; } } }",
@@ -149,7 +149,7 @@ METHOD m { DEFINITION { do { DELAY(1, "Wait"); send_command(1); } while (e != 3)
         name: "counted-twice",
         level: Level::Warn,
         summary: "a for whose body counts its counter too",
-        details: "a statement right in the body of a `for`, under no condition, that counts what the head of the `for` counts or sets it to a constant; and a `for` in the body that counts the same, where nothing leaves the loop.",
+        details: "a statement right in the body of a `for`, under no condition, that counts what the head of the `for` counts or sets it to a constant; and a `for` in the body that counts the same, where nothing leaves the loop, or the inner one.",
         example: "METHOD m { DEFINITION { int i; for (i = 0; i < 4; i++) { send_command(i); i++; } } }",
         counterexample: "METHOD m { DEFINITION { int i; for (i = 0; i < 4; i++) { send_command(i); if (i == 2) i++; } } }",
         notes: "",
@@ -223,6 +223,56 @@ METHOD n { DEFINITION { save_values(); } }",
 METHOD n { DEFINITION { save_values(); } }",
         counterexample: "METHOD m { DEFINITION { int i; add_abort_method(n); for (i = 0; i < 4; i++) send_command(i); } }
 METHOD n { DEFINITION { save_values(); } }",
+        notes: "",
+    },
+    Row {
+        lint: Lint::MissedEnd,
+        name: "missed-end",
+        level: Level::Warn,
+        summary: "a test behind a loop of what its counter was one step before",
+        details: "a test right behind a loop, which a `break` may leave, of whether its counter is what the condition of the loop has compared it with: as in `while (n-- > 0)`, it has counted once more by then.",
+        example: "METHOD m { DEFINITION { int n = 10; while (n-- > 0) { if (send_command(1) == 0) break; } if (n == 0) abort(); } }",
+        counterexample: "METHOD m { DEFINITION { int n = 10; while (n-- > 0) { if (send_command(1) == 0) break; } if (n < 0) abort(); } }",
+        notes: "",
+    },
+    Row {
+        lint: Lint::RestartedSum,
+        name: "restarted-sum",
+        level: Level::Warn,
+        summary: "a sum that each turn of a loop begins again",
+        details: "a local that the body of a loop declares or sets to 0 first, and to which it adds something once: it is what is added, and no sum.",
+        example: "VARIABLE a { TYPE INTEGER; }
+METHOD m { DEFINITION { int i; for (i = 0; i < 4; i++) { int sum = 0; send_command(i); sum += a; if (sum > 100) abort(); } } }",
+        counterexample: "VARIABLE a { TYPE INTEGER; }
+METHOD m { DEFINITION { int i, sum = 0; for (i = 0; i < 4; i++) { send_command(i); sum += a; if (sum > 100) abort(); } } }",
+        notes: "",
+    },
+    Row {
+        lint: Lint::RepeatedTurns,
+        name: "repeated-turns",
+        level: Level::Warn,
+        summary: "a `for` whose turns all do the same",
+        details: "a `for` whose body reads an element of an array and has nothing to do with the counter, adds nothing up, asks for nothing and does not leave it: another counter is meant in it.",
+        example: "VARIABLE v { TYPE INTEGER; }
+VARIABLE w { TYPE INTEGER; }
+ARRAY OF VARIABLE r { ELEMENTS { 1, v; 2, w; } }
+METHOD m { DEFINITION { int i = 1, j, high = 0; for (j = 1; j <= 2; j++) if (r[i] > 5) high = 1; if (high) send_command(1); } }",
+        counterexample: "VARIABLE v { TYPE INTEGER; }
+VARIABLE w { TYPE INTEGER; }
+ARRAY OF VARIABLE r { ELEMENTS { 1, v; 2, w; } }
+METHOD m { DEFINITION { int j, high = 0; for (j = 1; j <= 2; j++) if (r[j] > 5) high = 1; if (high) send_command(1); } }",
+        notes: "",
+    },
+    Row {
+        lint: Lint::UnevenAverage,
+        name: "uneven-average",
+        level: Level::Warn,
+        summary: "a mean whose divisor is one beside how many values were added",
+        details: "a sum that a `for` with a constant number of turns adds up in each of them, and that is divided behind it by one more or one less.",
+        example: "VARIABLE a { TYPE INTEGER; }
+METHOD m { DEFINITION { int i, sum = 0; for (i = 0; i < 5; i++) { send_command(1); sum += a; } a = sum / 4; } }",
+        counterexample: "VARIABLE a { TYPE INTEGER; }
+METHOD m { DEFINITION { int i, sum = 0; for (i = 0; i < 5; i++) { send_command(1); sum += a; } a = sum / 5; } }",
         notes: "",
     },
 ];

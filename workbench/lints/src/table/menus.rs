@@ -201,4 +201,38 @@ MENU m { ITEMS { c } }",
         counterexample: r#"METHOD m { LABEL "Reset"; DEFINITION { /* not yet */ } }"#,
         notes: "",
     },
+    Row {
+        lint: Lint::UnreadableValue,
+        name: "unreadable-value",
+        level: Level::Warn,
+        summary: "a value that is shown or read though its HANDLING is WRITE",
+        details: "an entry with DISPLAY_VALUE or READ_ONLY of a variable with HANDLING WRITE, under no condition, and such a variable in the REPLY of a READ command: nobody may read it.",
+        example: r#"VARIABLE a { LABEL "Key"; HANDLING WRITE; TYPE INTEGER; }
+MENU m { ITEMS { a (DISPLAY_VALUE) } }"#,
+        counterexample: r#"VARIABLE a { LABEL "Key"; HANDLING WRITE; TYPE INTEGER; }
+MENU m { ITEMS { a } }"#,
+        notes: "",
+    },
+    Row {
+        lint: Lint::LeftOverName,
+        name: "left-over-name",
+        level: Level::Warn,
+        summary: "a name or a number that is left over from the item that was copied",
+        details: "in an item with a number at the end of its name, as `alarm_2`, the name of another item with the number of a sibling, as `input_1`, where there is one with its own and the siblings name theirs; and a LABEL with the number of a sibling, which has the same LABEL.",
+        example: "VARIABLE input_1 { TYPE INTEGER; }
+VARIABLE input_2 { TYPE INTEGER; }
+VARIABLE input_3 { TYPE INTEGER; }
+VARIABLE alarm_1 { TYPE INTEGER { MAX_VALUE input_1; } }
+VARIABLE alarm_2 { TYPE INTEGER { MAX_VALUE input_1; } }
+VARIABLE alarm_3 { TYPE INTEGER { MAX_VALUE input_3; } }
+MENU m { ITEMS { input_2, alarm_1, alarm_2, alarm_3 } }",
+        counterexample: "VARIABLE input_1 { TYPE INTEGER; }
+VARIABLE input_2 { TYPE INTEGER; }
+VARIABLE input_3 { TYPE INTEGER; }
+VARIABLE alarm_1 { TYPE INTEGER { MAX_VALUE input_1; } }
+VARIABLE alarm_2 { TYPE INTEGER { MAX_VALUE input_2; } }
+VARIABLE alarm_3 { TYPE INTEGER { MAX_VALUE input_3; } }
+MENU m { ITEMS { input_2, alarm_1, alarm_2, alarm_3 } }",
+        notes: "",
+    },
 ];

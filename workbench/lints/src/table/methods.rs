@@ -84,7 +84,7 @@ METHOD m { DEFINITION { v = 255; } }",
         name: "missing-command",
         level: Level::Warn,
         summary: "a command over 127, or below 0, that the description does not have",
-        details: "a constant number of a command that is over 127 or negative, in a description with commands of which none has it. Numbers up to 127 may be those that every device of the protocol has ([`undeclared-command`](#off-unless-denied) asks for them).",
+        details: "a constant number of a command that is over 127 or negative, in a description with commands of which none has it. Numbers up to 127 may be those that every device of the protocol has ([`undeclared-command`](#off-unless-denied) asks for them), unless a command has the number of the transaction, and a transaction that of the command: both are exchanged.",
         example: "COMMAND c { NUMBER 130; OPERATION READ; TRANSACTION { } }
 METHOD m { DEFINITION { send_command(131); } }",
         counterexample: "COMMAND c { NUMBER 130; OPERATION READ; TRANSACTION { } }
@@ -163,7 +163,7 @@ METHOD m { DEFINITION { int code; code = GET_DEV_VAR_VALUE("Limit?", a); if (cod
         name: "missing-choice",
         level: Level::Warn,
         summary: "a choice that the list of a SELECT_FROM_LIST does not have",
-        details: "what a SELECT_FROM_LIST, or a local that keeps answers of such alone, is compared with by `==`, `!=`, `>=` or `>`, or a label of a `switch` over it, that is no choice: they are counted from 0. What is joined by `&&` or `||` may test a range, and has none for an order.",
+        details: "what a SELECT_FROM_LIST, or a local that keeps answers of such alone, is compared with by `==`, `!=`, `>=` or `>`, or a label of a `switch` over it, that is no choice: they are counted from 0. What is joined by `&&` or `||` may test a range, and has none for an order. So it is of an order that each choice has to the number.",
         example: r#"METHOD m { DEFINITION { if (SELECT_FROM_LIST("Go?", "Yes;No") == 2) abort(); } }"#,
         counterexample: r#"METHOD m { DEFINITION { if (SELECT_FROM_LIST("Go?", "Yes;No") == 1) abort(); } }"#,
         notes: "",
@@ -227,12 +227,12 @@ METHOD m { DEFINITION { a = 100; send_command(1); } }",
         name: "dead-store",
         level: Level::Warn,
         summary: "a value that is replaced before anything reads it",
-        details: "a value that is stored by a statement, and replaced by one after it in the same block, with other assignments between at most, none of which reads it. So it is of what a technician has entered, also where another question asks for the same variable.",
+        details: "a value that is stored by a statement, and replaced by one after it in the same block, with other assignments between at most, none of which reads it. So it is of what a technician has entered, also where another question asks for the same variable; of a value that both branches of an `if` replace; and of the code of a command that a local keeps, where that of another command replaces it.",
         example: "VARIABLE a { TYPE INTEGER; }
 METHOD m { DEFINITION { a = 5; a = 6; send_command(1); } }",
         counterexample: "VARIABLE a { TYPE INTEGER; }
 METHOD m { DEFINITION { a = 5; send_command(1); a = 6; send_command(1); } }",
-        notes: "The value of a declaration is left alone, and so are 0 and that of a request.",
+        notes: "The value of a declaration is left alone, and so are 0 and that of any other request. A command that is sent again in the next statement may be a second try.",
     },
     Row {
         lint: Lint::EmptyThen,
@@ -308,6 +308,108 @@ METHOD m { DEFINITION {
         if (a > 10) send_command(1);
         else send_command(2);
 } }",
+        notes: "",
+    },
+    Row {
+        lint: Lint::LostValue,
+        name: "lost-value",
+        level: Level::Warn,
+        summary: "a value that a reply replaces before a command has sent it",
+        details: "what is entered for a variable or stored in it, where the next command that has to do with it sends something else and gets it in its REPLY.",
+        example: r#"VARIABLE a { TYPE INTEGER; }
+COMMAND c { NUMBER 130; OPERATION WRITE; TRANSACTION 0 { REQUEST { 0, a } REPLY { a } } TRANSACTION 1 { REQUEST { 1 } REPLY { a } } }
+METHOD m { DEFINITION { GET_DEV_VAR_VALUE("Limit?", a); send_command_trans(130, 1); } }"#,
+        counterexample: r#"VARIABLE a { TYPE INTEGER; }
+COMMAND c { NUMBER 130; OPERATION WRITE; TRANSACTION 0 { REQUEST { 0, a } REPLY { a } } TRANSACTION 1 { REQUEST { 1 } REPLY { a } } }
+METHOD m { DEFINITION { GET_DEV_VAR_VALUE("Limit?", a); send_command_trans(130, 0); } }"#,
+        notes: "",
+    },
+    Row {
+        lint: Lint::EarlySave,
+        name: "early-save",
+        level: Level::Warn,
+        summary: "a save_values before the values are changed",
+        details: "the last save_values of a body, behind which variables are set and nothing is sent or saved any more.",
+        example: "VARIABLE a { TYPE INTEGER; }
+METHOD m { DEFINITION { save_values(); a = 5; } }",
+        counterexample: "VARIABLE a { TYPE INTEGER; }
+METHOD m { DEFINITION { a = 5; save_values(); } }",
+        notes: "",
+    },
+    Row {
+        lint: Lint::LateCopy,
+        name: "late-copy",
+        level: Level::Warn,
+        summary: "a copy of a variable that was just set to a constant, and is stored back",
+        details: "a local that keeps a variable right after that was set to a constant, and is stored back in it: what the variable was before is lost.",
+        example: "VARIABLE a { TYPE INTEGER; }
+METHOD m { DEFINITION { int before; a = 3; before = a; send_command(1); a = before; send_command(1); } }",
+        counterexample: "VARIABLE a { TYPE INTEGER; }
+METHOD m { DEFINITION { int before; before = a; a = 3; send_command(1); a = before; send_command(1); } }",
+        notes: "",
+    },
+    Row {
+        lint: Lint::StoredElement,
+        name: "stored-element",
+        level: Level::Warn,
+        summary: "an element that is kept where its number is meant, or a number where an element is",
+        details: "an element of an array that is stored in what is an index of that array in the same method; and the index of an element that is stored in what the element was compared with.",
+        example: "VARIABLE a { TYPE INTEGER; }
+VARIABLE c { TYPE INTEGER; }
+ARRAY OF VARIABLE r { ELEMENTS { 1, a; 2, c; } }
+METHOD m { DEFINITION { int i, best = 1; for (i = 1; i <= 2; i++) if (r[i] > r[best]) best = r[i]; c = best; } }",
+        counterexample: "VARIABLE a { TYPE INTEGER; }
+VARIABLE c { TYPE INTEGER; }
+ARRAY OF VARIABLE r { ELEMENTS { 1, a; 2, c; } }
+METHOD m { DEFINITION { int i, best = 1; for (i = 1; i <= 2; i++) if (r[i] > r[best]) best = i; c = best; } }",
+        notes: "",
+    },
+    Row {
+        lint: Lint::OtherQuestion,
+        name: "other-question",
+        level: Level::Warn,
+        summary: "a question for another variable than the one that it sets",
+        details: "a GET_DEV_VAR_VALUE whose question has the LABEL of another variable, which can be entered as well, and no word of the LABEL or the name of its own.",
+        example: r#"VARIABLE a { LABEL "Limit"; TYPE INTEGER; }
+VARIABLE c { LABEL "Channel"; TYPE INTEGER; }
+METHOD m { DEFINITION { GET_DEV_VAR_VALUE("Which channel?", a); send_command(c); } }"#,
+        counterexample: r#"VARIABLE a { LABEL "Limit"; TYPE INTEGER; }
+VARIABLE c { LABEL "Channel"; TYPE INTEGER; }
+METHOD m { DEFINITION { GET_DEV_VAR_VALUE("Which channel?", c); send_command(a); } }"#,
+        notes: "",
+    },
+    Row {
+        lint: Lint::ExchangedBranches,
+        name: "exchanged-branches",
+        level: Level::Warn,
+        summary: "what is said or done of a command where the opposite has come about",
+        details: "an abort alone, or a message that something has failed, where the answer of a command is 0, and a message that it has succeeded where it is not: 0 is the code of what went well.",
+        example: r#"METHOD m { DEFINITION { if (send_command(1)) PUT_MESSAGE("The limit is written"); else PUT_MESSAGE("The device has refused"); } }"#,
+        counterexample: r#"METHOD m { DEFINITION { if (send_command(1) == 0) PUT_MESSAGE("The limit is written"); else PUT_MESSAGE("The device has refused"); } }"#,
+        notes: "",
+    },
+    Row {
+        lint: Lint::ComparedCopy,
+        name: "compared-copy",
+        level: Level::Warn,
+        summary: "a comparison of a value with its copy",
+        details: "an `if` that compares a variable or a local with what was copied from it by the statements right before: both are the same.",
+        example: "VARIABLE a { TYPE INTEGER; }
+METHOD m { DEFINITION { int old = a; if (a != old) send_command(1); } }",
+        counterexample: "VARIABLE a { TYPE INTEGER; }
+METHOD m { DEFINITION { int old = a; send_command(1); if (a != old) send_command(2); } }",
+        notes: "",
+    },
+    Row {
+        lint: Lint::OppositeState,
+        name: "opposite-state",
+        level: Level::Warn,
+        summary: "a method whose name says the opposite of what it sets",
+        details: "a method whose name or LABEL has a word such as `on`, `start` or `open`, and that sets a variable of enumerators to one alone whose text says the opposite, as `off`, `stop` or `closed`.",
+        example: r#"VARIABLE a { TYPE ENUMERATED { { 0, "Off" } { 1, "On" } } }
+METHOD switch_on { DEFINITION { a = 0; send_command(1); } }"#,
+        counterexample: r#"VARIABLE a { TYPE ENUMERATED { { 0, "Off" } { 1, "On" } } }
+METHOD switch_on { DEFINITION { a = 1; send_command(1); } }"#,
         notes: "",
     },
 ];

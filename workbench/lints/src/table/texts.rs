@@ -80,10 +80,10 @@ pub(super) const ROWS: &[Row] = &[
         name: "joined-texts",
         level: Level::Warn,
         summary: "two texts of a list without a comma between: they are one",
-        details: "two strings of a list that are one text, where a comma between would make them two, and which meet in what looks like one word: an enumerator, a member or an element without help, and entries of a menu.",
+        details: "two strings of a list that are one text, where a comma between would make them two, and which meet in what looks like one word: an enumerator, a member or an element without help, and entries of a menu. So it is of two strings of a LABEL, a HELP, a message or a response code between which a sentence goes on without a blank.",
         example: r#"VARIABLE a { TYPE ENUMERATED { { 1, "on" "off" } } }"#,
         counterexample: r#"VARIABLE a { TYPE ENUMERATED { { 1, "on ", "off" } } }"#,
-        notes: r#"`"on " "off"`, `"|en|on" "|de|ein"` and the strings of a HELP or a message have no warning."#,
+        notes: r#"`"on " "off"`, and `"|en|on" "|de|ein"` have no warning."#,
     },
     Row {
         lint: Lint::BidirectionalText,
@@ -192,5 +192,63 @@ METHOD m { DEFINITION { PUT_MESSAGE("Level {mm}"); } }"#,
         example: "VARIABLE a { TYPE INTEGER; } // edd: allow unusd-item",
         counterexample: "VARIABLE a { TYPE INTEGER; } // edd: allow unused-item, as it is for later",
         notes: "`edd: allow unknown-lint` on the line before allows it.",
+    },
+    Row {
+        lint: Lint::UnevenNumbers,
+        name: "uneven-numbers",
+        level: Level::Warn,
+        summary: "a text with other numbers in one language than in another",
+        details: "a text that has as many numbers in one language as in another, and not the same ones. Texts with units that one language converts are left alone.",
+        example: r#"MENU a { LABEL "|en|Input 2|de|Eingang 1"; ITEMS { "x" } }"#,
+        counterexample: r#"MENU a { LABEL "|en|Input 2|de|Eingang 2"; ITEMS { "x" } }"#,
+        notes: "",
+    },
+    Row {
+        lint: Lint::ExchangedLanguages,
+        name: "exchanged-languages",
+        level: Level::Warn,
+        summary: "a text whose languages are exchanged",
+        details: "a text whose English and German are those of another text, the other way round, which is there more often, or of which the English one alone has German words or letters.",
+        example: r#"MENU a { LABEL "|en|Größe der Pumpe|de|Size of the pump"; ITEMS { "x" } }"#,
+        counterexample: r#"MENU a { LABEL "|en|Size of the pump|de|Größe der Pumpe"; ITEMS { "x" } }"#,
+        notes: "",
+    },
+    Row {
+        lint: Lint::OppositeTranslation,
+        name: "opposite-translation",
+        level: Level::Warn,
+        summary: "a text that says the opposite in another language",
+        details: "a short text, or a choice of a SELECT_FROM_LIST, whose German has a word that says the opposite of one of its English, as `Upper` and `Untere`, `On` and `Aus`, `Yes` and `Nein`.",
+        example: r#"MENU a { LABEL "|en|Upper limit|de|Untere Grenze"; ITEMS { "x" } }"#,
+        counterexample: r#"MENU a { LABEL "|en|Upper limit|de|Obere Grenze"; ITEMS { "x" } }"#,
+        notes: "",
+    },
+    Row {
+        lint: Lint::EscapedPath,
+        name: "escaped-path",
+        level: Level::Warn,
+        summary: "`\\n` or `\\t` where a path has a backslash",
+        details: "`\\n` or `\\t` in a word that two languages have alike, that begins with a drive, or that has the ending of a file: a path is cut there.",
+        example: r#"MENU a { LABEL "|en|See doc\notes|de|Siehe doc\notes"; ITEMS { "x" } }"#,
+        counterexample: r#"MENU a { LABEL "|en|See doc\\notes|de|Siehe doc\\notes"; ITEMS { "x" } }"#,
+        notes: "",
+    },
+    Row {
+        lint: Lint::SwallowedCode,
+        name: "swallowed-code",
+        level: Level::Warn,
+        summary: "a comment in which another one begins behind some code",
+        details: "a comment in which another one begins, where a line before that ends as code does: it was not closed, and what stands there is left out.",
+        example: "METHOD m { DEFINITION { /* read first
+    send_command(1);
+    /* then save */
+    save_values();
+} }",
+        counterexample: "METHOD m { DEFINITION { /* read first */
+    send_command(1);
+    /* then save */
+    save_values();
+} }",
+        notes: "",
     },
 ];

@@ -145,7 +145,7 @@ VARIABLE b { TYPE INTEGER; }",
         name: "conflicting-classes",
         level: Level::Warn,
         summary: "a variable of CLASS CONSTANT & DYNAMIC",
-        details: "a variable whose CLASS has both CONSTANT and DYNAMIC: its value never changes and always does.",
+        details: "a variable whose CLASS has both CONSTANT and DYNAMIC: its value never changes and always does. So it is of one that is CONSTANT and that a method sets.",
         example: "VARIABLE a { CLASS CONSTANT & DYNAMIC; TYPE INTEGER; }",
         counterexample: "VARIABLE a { CLASS CONSTANT; TYPE INTEGER; }",
         notes: "",
@@ -175,7 +175,7 @@ VARIABLE b { TYPE INTEGER; }",
         name: "unread-dynamic",
         level: Level::Warn,
         summary: "a variable of CLASS DYNAMIC that no reply carries",
-        details: "a variable of CLASS DYNAMIC that a menu or an expression has, that is in no message of a command and that no method sets, where there are commands that read. One of CLASS LOCAL is the host's.",
+        details: "a variable of CLASS DYNAMIC that a menu or an expression has, that no REPLY sets and no method, where there are commands that read. An item for INFO sets nothing. One of CLASS LOCAL is the host's.",
         example: "VARIABLE a { TYPE INTEGER; }
 VARIABLE d { CLASS DYNAMIC; HANDLING READ; TYPE INTEGER; }
 COMMAND c { NUMBER 1; OPERATION READ; TRANSACTION { REPLY { a } } }
@@ -184,6 +184,97 @@ MENU m { ITEMS { d } }",
 VARIABLE d { CLASS DYNAMIC; HANDLING READ; TYPE INTEGER; }
 COMMAND c { NUMBER 1; OPERATION READ; TRANSACTION { REPLY { a, d } } }
 MENU m { ITEMS { d } }",
+        notes: "",
+    },
+    Row {
+        lint: Lint::UnsentVariable,
+        name: "unsent-variable",
+        level: Level::Warn,
+        summary: "a variable that is read and may be written, and that no command sends",
+        details: "a variable whose HANDLING is WRITE or READ & WRITE, under no condition, that the REPLY of a READ command sets, and that is in no REQUEST, where there are commands that write: it has readers and no writer ([OCTETS](OCTETS.md#which-command-carries-a-variable)). One that an expression or a method has may be entered for that, and one of CLASS DYNAMIC, CONSTANT or LOCAL is not the device's to keep.",
+        example: "VARIABLE a { TYPE INTEGER; }
+VARIABLE v { HANDLING READ & WRITE; TYPE INTEGER; }
+COMMAND c { NUMBER 1; OPERATION READ; TRANSACTION { REPLY { a, v } } }
+COMMAND d { NUMBER 2; OPERATION WRITE; TRANSACTION { REQUEST { a } } }",
+        counterexample: "VARIABLE a { TYPE INTEGER; }
+VARIABLE v { HANDLING READ & WRITE; TYPE INTEGER; }
+COMMAND c { NUMBER 1; OPERATION READ; TRANSACTION { REPLY { a, v } } }
+COMMAND d { NUMBER 2; OPERATION WRITE; TRANSACTION { REQUEST { a, v } } }",
+        notes: "Without HANDLING there is no warning: makers leave it out where nothing is to be written.",
+    },
+    Row {
+        lint: Lint::ConditionalDefault,
+        name: "conditional-default",
+        level: Level::Warn,
+        summary: "a default that is an enumerator under a condition alone",
+        details: "a DEFAULT_VALUE that the enumerators have under a condition alone, and not where this fails. Where all variables of the condition have their own defaults, it may hold.",
+        example: r#"VARIABLE e { TYPE ENUMERATED { { 0, "off" } { 1, "on" } { 3, "hold" } } }
+VARIABLE a { TYPE ENUMERATED { DEFAULT_VALUE 2; { 0, "short" } IF (e == 1) { { 2, "long" } } } }"#,
+        counterexample: r#"VARIABLE e { TYPE ENUMERATED { { 0, "off" } { 1, "on" } { 3, "hold" } } }
+VARIABLE a { TYPE ENUMERATED { DEFAULT_VALUE 0; { 0, "short" } IF (e == 1) { { 2, "long" } } } }"#,
+        notes: "",
+    },
+    Row {
+        lint: Lint::UnreachableEnumerator,
+        name: "unreachable-enumerator",
+        level: Level::Warn,
+        summary: "an enumerator that is offered only where it is chosen already",
+        details: "an enumerator of a variable that neither a reply nor a method sets, under a condition on the variable itself that no other enumerator meets.",
+        example: r#"VARIABLE a { TYPE ENUMERATED { { 0, "short" } { 1, "mid" } IF (a == 2) { { 2, "long" } } } }"#,
+        counterexample: r#"VARIABLE a { TYPE ENUMERATED { { 0, "short" } { 1, "mid" } IF (a == 1) { { 2, "long" } } } }"#,
+        notes: "",
+    },
+    Row {
+        lint: Lint::ContradictingUnit,
+        name: "contradicting-unit",
+        level: Level::Warn,
+        summary: "a LABEL or HELP that names another unit than CONSTANT_UNIT",
+        details: "a LABEL that ends with a unit, as `(mbar)` or `in mm`, or a HELP with one, as `in seconds`, where CONSTANT_UNIT is another one of the same kind.",
+        example: r#"VARIABLE a { LABEL "Level (mm)"; CONSTANT_UNIT "m"; TYPE INTEGER; }"#,
+        counterexample: r#"VARIABLE a { LABEL "Level (mm)"; CONSTANT_UNIT "mm"; TYPE INTEGER; }"#,
+        notes: "",
+    },
+    Row {
+        lint: Lint::ContradictingRange,
+        name: "contradicting-range",
+        level: Level::Warn,
+        summary: "a text that names other limits, or another default, than the type has",
+        details: "a LABEL, HELP or question of a GET_DEV_VAR_VALUE that names a range, as `0 to 63`, beyond the constant limits of the variable, or that is another range and nothing else; and one that names another default than DEFAULT_VALUE. So it is of the text of a DELAY that names another time than the delay has. Numbers that differ by a power of ten may be those that are shown.",
+        example: r#"VARIABLE a { HELP "0 to 63"; TYPE INTEGER { MIN_VALUE 0; MAX_VALUE 15; } }"#,
+        counterexample: r#"VARIABLE a { HELP "0 to 15"; TYPE INTEGER { MIN_VALUE 0; MAX_VALUE 15; } }"#,
+        notes: "",
+    },
+    Row {
+        lint: Lint::ContradictingName,
+        name: "contradicting-name",
+        level: Level::Warn,
+        summary: "a name that says the opposite of what it stands for",
+        details: "a LABEL that says the opposite of the name of its variable, as `Upper` of `lower_limit`; a member of a collection that does of its item; two members or elements with numbers at the ends of their names that have each other's, where all others have their own; and a command that is called after a variable, as `read_limit`, and carries others alone.",
+        example: r#"VARIABLE low_limit { LABEL "High limit"; TYPE INTEGER; }"#,
+        counterexample: r#"VARIABLE low_limit { LABEL "Low limit"; TYPE INTEGER; }"#,
+        notes: "",
+    },
+    Row {
+        lint: Lint::LockedOut,
+        name: "locked-out",
+        level: Level::Warn,
+        summary: "a variable that can be changed only where it has a value already",
+        details: "a variable that no reply sets, and that the menus and methods which change it are there for only where it has a value already: at another one, or at its DEFAULT_VALUE, nothing can change it any more. So it is of a switch whose only entry is in the menu that it switches.",
+        example: r#"VARIABLE a { LABEL "Expert"; TYPE INTEGER; }
+MENU m { VALIDITY IF (a == 1) { TRUE; } ELSE { FALSE; } ITEMS { a } }"#,
+        counterexample: r#"VARIABLE a { LABEL "Expert"; TYPE INTEGER; }
+MENU m { VALIDITY IF (a == 1) { TRUE; } ELSE { FALSE; } ITEMS { "x" } }
+MENU n { ITEMS { a, m } }"#,
+        notes: "",
+    },
+    Row {
+        lint: Lint::UnitOfBits,
+        name: "unit-of-bits",
+        level: Level::Warn,
+        summary: "a CONSTANT_UNIT of a BIT_ENUMERATED",
+        details: "a CONSTANT_UNIT with words of a BIT_ENUMERATED variable: each of its bits is there or not.",
+        example: r#"VARIABLE a { CONSTANT_UNIT "mm"; TYPE BIT_ENUMERATED { { 1, "hot" } { 2, "dirty" } } }"#,
+        counterexample: r#"VARIABLE a { CONSTANT_UNIT ""; TYPE BIT_ENUMERATED { { 1, "hot" } { 2, "dirty" } } }"#,
         notes: "",
     },
 ];

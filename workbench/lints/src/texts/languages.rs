@@ -2,9 +2,9 @@
 //! twice, without words or with other choices.
 
 use super::codes::{code_text, is_language};
-use super::spoken::Spoken;
+use super::translated::{Translated, Translations};
 use super::usual::Usual;
-use super::variants::{Variant, Variants};
+use super::variants::Variant;
 use crate::kind::TextKind;
 use crate::source::TokenIndex;
 use crate::warning::Findings;
@@ -51,24 +51,23 @@ impl<'r> Wrong<'r> {
     }
 }
 
-// The languages of a text by themselves. Returns their codes.
-fn check_text<'r>(raw: &'r [u8], at: TokenIndex, findings: &mut Findings<'_>) -> Vec<&'r [u8]> {
+// The languages of a text by themselves.
+fn check_text<'r>(text: Translated<'r>, codes: &mut Vec<&'r [u8]>, findings: &mut Findings<'_>) {
+    let at = text.spoken.at;
     let mut wrong = Wrong::default();
-    let mut variants = Variants::of(raw);
-    let all: Vec<_> = variants.by_ref().collect();
-    let mut codes: Vec<_> = all.iter().map(|variant| variant.code).collect();
+    codes.clear();
+    codes.extend(text.languages.iter().map(|one| one.code));
     codes.sort_unstable();
     // Few texts have a language twice: only there it matters which is the first.
     let has_repeated = codes.windows(2).any(|pair| pair.first() == pair.last());
     let mut seen = BTreeSet::new();
-    for variant in all {
-        wrong.add(variant, has_repeated && !seen.insert(variant.code));
+    for variant in text.languages {
+        wrong.add(*variant, has_repeated && !seen.insert(variant.code));
     }
-    if variants.has_stray_bar {
+    if text.has_stray_bar {
         findings.add(at, TextKind::StrayBar);
     }
     wrong.report(at, findings);
-    codes
 }
 
 // How many choices words have: semicolons part them.
@@ -77,13 +76,14 @@ fn count_choices(words: &[u8]) -> usize {
 }
 
 // A language with another number of choices than the first one.
-fn check_choices(raw: &[u8], at: TokenIndex, findings: &mut Findings<'_>) {
-    let mut variants = Variants::of(raw);
-    let Some(first) = variants.next() else {
+fn check_choices(text: Translated<'_>, findings: &mut Findings<'_>) {
+    let Some((first, others)) = text.languages.split_first() else {
         return;
     };
+    let at = text.spoken.at;
     let count = count_choices(first.words);
-    if let Some(other) = variants.find(|variant| count_choices(variant.words) != count) {
+    let mut others = others.iter();
+    if let Some(other) = others.find(|variant| count_choices(variant.words) != count) {
         findings.add(
             at,
             TextKind::UnevenChoices(
@@ -98,13 +98,14 @@ fn check_choices(raw: &[u8], at: TokenIndex, findings: &mut Findings<'_>) {
 
 /// Checks the languages of the texts of a description. A text without bars is in one language, of
 /// which nothing is to be said.
-pub(super) fn check_languages(texts: &[Spoken<'_>], findings: &mut Findings<'_>) {
+pub(super) fn check_languages(texts: &Translations<'_>, findings: &mut Findings<'_>) {
     let mut usual = Usual::default();
-    for spoken in texts.iter().filter(|spoken| spoken.raw.contains(&b'|')) {
-        let codes = check_text(&spoken.raw, spoken.at, findings);
-        usual.add(spoken.at, &codes);
-        if spoken.is_choices {
-            check_choices(&spoken.raw, spoken.at, findings);
+    let mut codes = Vec::new();
+    for text in texts.iter() {
+        check_text(text, &mut codes, findings);
+        usual.add(text.spoken.at, text.languages);
+        if text.spoken.is_choices {
+            check_choices(text, findings);
         }
     }
     usual.check_missing(findings);

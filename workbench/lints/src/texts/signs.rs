@@ -83,6 +83,9 @@ fn joined_at(spoken: &Spoken<'_>) -> Option<TokenIndex> {
         {
             spoken.seam
         }
+        Keyword::Label | Keyword::Help | Keyword::Definition | Keyword::ResponseCodes => {
+            spoken.run_on
+        }
         _ => None,
     }
 }

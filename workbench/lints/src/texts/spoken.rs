@@ -7,6 +7,9 @@ use edd_syntax::operators::RequestKind;
 use edd_syntax::symbols::{Keyword, Symbol};
 use std::borrow::Cow;
 
+/// How much of a sentence is looked at where another string goes on with it.
+const LONGEST_SENTENCE: usize = 256;
+
 /// A text: strings that follow each other are one.
 pub(crate) struct Spoken<'s> {
     /// Its first string.
@@ -21,6 +24,8 @@ pub(crate) struct Spoken<'s> {
     pub(crate) is_before_comma: bool,
     /// A string that begins with a letter where the one before it ends with one.
     pub(crate) seam: Option<TokenIndex>,
+    /// A string that goes on with a sentence, and no blank is between.
+    pub(crate) run_on: Option<TokenIndex>,
 }
 
 /// A walk over the tokens.
@@ -80,6 +85,27 @@ fn meets(before: &[u8], behind: &[u8]) -> bool {
     }
 }
 
+// Whether a string goes on with a sentence of the strings before it, and a blank is missing between. A
+// single word may be what a macro stands for, and addresses have no blanks.
+fn runs_on(before: &[u8], behind: &[u8], is_choices: bool) -> bool {
+    let start = before.len().saturating_sub(LONGEST_SENTENCE);
+    let before = before.get(start..).unwrap_or_default();
+    let sentence = before.rsplit(|byte| *byte == b'|').next();
+    let sentence = sentence.unwrap_or_default();
+    let last_word = sentence.rsplit(|byte| *byte == b' ').next();
+    let is_address = last_word.is_some_and(|word| word.contains(&b'/') || word.starts_with(b"www"));
+    let begins = matches!(behind, [b'a'..=b'z' | b'A'..=b'Z', b'a'..=b'z' | b' ', ..]);
+    let goes_on = behind.contains(&b' ') || sentence.split(|byte| *byte == b' ').count() > 2;
+    let is_ended = match sentence {
+        [.., b'.' | b',' | b':' | b'!' | b'?'] => true,
+        [.., b';'] => !is_choices,
+        [.., b'a'..=b'z'] => sentence.contains(&b' '),
+        _ => false,
+    };
+    let is_escape = sentence.ends_with(b"\\n") || sentence.ends_with(b"\\t");
+    begins && is_ended && goes_on && !is_address && !is_escape
+}
+
 impl<'s> Gathering<'s> {
     fn add(&mut self, source: Source<'s>, at: TokenIndex) {
         if source.kind(at) != Some(TokenKind::String) {
@@ -91,6 +117,9 @@ impl<'s> Gathering<'s> {
                 if last.seam.is_none() && meets(&last.raw, inside) {
                     last.seam = Some(at);
                 }
+                if last.run_on.is_none() && runs_on(&last.raw, inside, last.is_choices) {
+                    last.run_on = Some(at);
+                }
                 last.raw.to_mut().extend_from_slice(inside);
             }
             None => self.all.push(Spoken {
@@ -101,6 +130,7 @@ impl<'s> Gathering<'s> {
                 is_after_comma: self.is_after_comma,
                 is_before_comma: false,
                 seam: None,
+                run_on: None,
             }),
         }
         self.goes_on = true;

@@ -3,17 +3,23 @@
 
 use super::codes::code_text;
 use super::spoken::Spoken;
-use super::variants::{Variant, Variants};
+use super::translated::{Translated, Translations};
 use crate::context::Context;
 use crate::kind::TextKind;
+use crate::units::Unit;
 use crate::warning::Findings;
+use crate::words::Vocabulary;
 use edd_syntax::symbols::Keyword;
+use std::sync::LazyLock;
 
 /// How many letters, of which all but the first are small, make a word that is to be translated.
 const WORD: usize = 4;
 
 /// How many texts of two languages there have to be.
 const FEWEST: usize = 3;
+
+/// How many bytes the name of a unit has at most.
+const LONGEST_UNIT: usize = 24;
 
 /// Words that several languages write alike, so that one text does for them.
 const SHARED: [&str; 29] = [
@@ -48,22 +54,23 @@ const SHARED: [&str; 29] = [
     "version",
 ];
 
+static KNOWN: LazyLock<Vocabulary<()>> =
+    LazyLock::new(|| Vocabulary::of(SHARED.map(|word| (word, ()))));
+
 // Whether a text has a word of some letters, and not only a unit, a number or an abbreviation.
 fn has_word(words: &[u8]) -> bool {
     let mut runs = words.split(|byte| !byte.is_ascii_alphabetic());
     runs.any(|run| {
         let small = run.iter().filter(|byte| byte.is_ascii_lowercase()).count();
         let is_word = WORD <= run.len() && run.len() <= small.saturating_add(1);
-        let mut shared = SHARED.iter();
-        is_word && !shared.any(|shared| shared.as_bytes().eq_ignore_ascii_case(run))
+        is_word && !str::from_utf8(run).is_ok_and(|run| KNOWN.get(run).is_some())
     })
 }
 
-// What a text has, where it is in one language.
-fn single_language(raw: &[u8]) -> Option<Variant<'_>> {
-    let mut variants = Variants::of(raw);
-    let first = variants.next()?;
-    variants.next().is_none().then_some(first)
+// Whether a text is the sign or the name of a unit.
+fn is_unit(words: &[u8]) -> bool {
+    let is_short = words.trim_ascii().len() <= LONGEST_UNIT;
+    is_short && str::from_utf8(words).is_ok_and(|words| Unit::of(words.trim()).is_some())
 }
 
 fn is_for_readers(spoken: &Spoken<'_>) -> bool {
@@ -81,30 +88,54 @@ fn is_for_readers(spoken: &Spoken<'_>) -> bool {
     )
 }
 
-/// Warns of texts in one language, where nearly all others have more.
-pub(super) fn check_translations(texts: &[Spoken<'_>], findings: &mut Findings<'_>) {
+// The code of the language of a text that is to be translated, where it is in one.
+fn untranslated<'t>(
+    spoken: &'t Spoken<'_>,
+    translated: Option<Translated<'t>>,
+) -> Option<&'t [u8]> {
+    let says_language = spoken.raw.starts_with(b"|");
+    if !says_language && !is_for_readers(spoken) {
+        return None;
+    }
+    let (code, words) = match translated {
+        None => (b"en".as_slice(), &*spoken.raw),
+        Some(text) => match text.languages {
+            [single] => (single.code, single.words),
+            _ => return None,
+        },
+    };
+    let is_told = says_language || !is_unit(words);
+    (has_word(words) && is_told).then_some(code)
+}
+
+// Whether three of four texts are translated.
+fn are_translated(texts: &[Spoken<'_>], translations: &Translations<'_>) -> bool {
     let mut all = 0_usize;
     let mut translated = 0_usize;
-    for spoken in texts {
-        if is_for_readers(spoken) && has_word(&spoken.raw) {
-            let has_more = single_language(&spoken.raw).is_none();
+    for (spoken, text) in translations.beside(texts) {
+        if is_for_readers(spoken) && has_word(&spoken.raw) && !is_unit(&spoken.raw) {
+            let has_more = text.is_some_and(|text| 1 < text.languages.len());
             all = all.saturating_add(1);
             translated = translated.saturating_add(usize::from(has_more));
         }
     }
-    // Three of four are translated.
-    if translated < FEWEST || translated.saturating_mul(4) < all.saturating_mul(3) {
+    FEWEST <= translated && all.saturating_mul(3) <= translated.saturating_mul(4)
+}
+
+/// Warns of texts in one language, where nearly all others have more.
+pub(super) fn check_translations(
+    texts: &[Spoken<'_>],
+    translations: &Translations<'_>,
+    findings: &mut Findings<'_>,
+) {
+    let all = translations.beside(texts);
+    let suspects = all.filter_map(|(one, text)| Some((one.at, untranslated(one, text)?)));
+    let suspects: Vec<_> = suspects.collect();
+    if suspects.is_empty() || !are_translated(texts, translations) {
         return;
     }
-    for spoken in texts {
-        let Some(Variant { code, words }) = single_language(&spoken.raw) else {
-            continue;
-        };
-        let says_language = spoken.raw.starts_with(b"|");
-        if has_word(words) && (says_language || is_for_readers(spoken)) {
-            let code = code_text(code).to_owned();
-            findings.add(spoken.at, TextKind::Untranslated(code));
-        }
+    for (at, code) in suspects {
+        findings.add(at, TextKind::Untranslated(code_text(code).to_owned()));
     }
 }
 

@@ -80,3 +80,10 @@ impl<'r> Iterator for Variants<'r> {
         Some(Variant { code, words })
     }
 }
+
+/// What a text says in its first language, without blanks around.
+pub(crate) fn first_words(text: &str) -> &str {
+    let first = Variants::of(text.as_bytes()).next();
+    let words = first.map_or("", |one| str::from_utf8(one.words).unwrap_or_default());
+    words.trim()
+}

@@ -9,6 +9,7 @@ use crate::visit::has_child;
 use edd_constants::evaluate;
 use edd_instructions::Sort;
 use edd_syntax::expr::Expr;
+use edd_syntax::numbers::ItemNo;
 use edd_syntax::operators::{Comparison, Operator, UnaryOperator};
 use edd_syntax::reference::Target;
 use std::collections::{BTreeMap, BTreeSet};
@@ -75,8 +76,21 @@ impl<'c, 'd> Environment<'c, 'd> {
         let element = self.context.instrument.element_at(array, index, self.sort);
         match element.and_then(storage_of) {
             Some(storage) => self.get(storage),
-            None => Values::any(self.sort),
+            None => self.any_element(array),
         }
+    }
+
+    // What any of the elements of an array may hold.
+    fn any_element(&self, array: Target) -> Values {
+        let any = Values::any(self.sort);
+        let Target::Item(ItemNo::Array(array)) = array else {
+            return any;
+        };
+        self.context
+            .instrument
+            .element_range(array.0)
+            .filter(|range| any.holds(range.low) && any.holds(range.high))
+            .map_or(any, Values::within)
     }
 
     /// Whether more is known of a place than its type says.
