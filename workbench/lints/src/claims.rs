@@ -79,8 +79,17 @@ fn range_at(text: &str, unit: Option<Unit>) -> Option<(i64, i64, &str)> {
     (low < high && ends_range(rest, unit)).then_some((low, high, rest))
 }
 
+// Whether a text has two numbers, as each range has.
+fn has_two_numbers(text: &str) -> bool {
+    let mut runs = text.as_bytes().split(|byte| !byte.is_ascii_digit());
+    runs.by_ref().any(|run| !run.is_empty()) && runs.any(|run| !run.is_empty())
+}
+
 // The one range that a text names.
 fn range_in(text: &str, unit: Option<Unit>) -> Option<Named> {
+    if !has_two_numbers(text) {
+        return None;
+    }
     let mut found = None;
     let mut before = b' ';
     let mut passed = 0_usize;

@@ -15,7 +15,7 @@ use crate::parallel::Threads;
 use crate::places::Places;
 use crate::remarks::Remarks;
 use crate::source::{Source, TokenIndex};
-use crate::texts::check_texts;
+use crate::texts::{check_comments, check_texts};
 use crate::traffic::check_carried;
 use crate::unused::check_uses;
 use crate::usage::Usage;
@@ -32,7 +32,9 @@ fn elements_of(description: &Checked) -> Vec<Element> {
 }
 
 /// What is checked of a description as a whole.
-const WHOLE: [fn(&Context<'_>, &mut Findings<'_>); 10] = [
+const WHOLE: [fn(&Context<'_>, &mut Findings<'_>); 11] = [
+    check_texts,
+    check_comments,
     check_echoes,
     check_lockouts,
     check_families,
@@ -41,7 +43,6 @@ const WHOLE: [fn(&Context<'_>, &mut Findings<'_>); 10] = [
     check_menus,
     check_entries,
     check_uses,
-    check_texts,
     check_abort_methods,
 ];
 

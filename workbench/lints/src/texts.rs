@@ -15,7 +15,6 @@ pub(crate) mod variants;
 
 use crate::context::Context;
 use crate::warning::Findings;
-use comments::check_comments;
 use contents::check_contents;
 use exchanged::check_exchanged;
 use languages::check_languages;
@@ -25,7 +24,7 @@ use spoken::spoken_in;
 use translated::Translations;
 use translations::{check_insides, check_translations};
 
-/// Checks all texts and comments.
+/// Checks all texts.
 pub(crate) fn check_texts(context: &Context<'_>, findings: &mut Findings<'_>) {
     let texts = spoken_in(context.source);
     let translations = Translations::of(&texts);
@@ -37,5 +36,9 @@ pub(crate) fn check_texts(context: &Context<'_>, findings: &mut Findings<'_>) {
     check_opposites(&pairs, findings);
     check_translations(&texts, &translations, findings);
     check_insides(&texts, context, findings);
-    check_comments(context.source, findings);
+}
+
+/// Checks all comments.
+pub(crate) fn check_comments(context: &Context<'_>, findings: &mut Findings<'_>) {
+    comments::check_comments(context.source, findings);
 }

@@ -16,12 +16,27 @@ const CONVERTED: [&str; 8] = [
 /// How many letters a part of a path has at least.
 const SHORTEST: usize = 2;
 
+// The numbers in words, in their order.
+fn runs_in(words: &[u8]) -> impl Iterator<Item = &[u8]> {
+    let runs = words.split(|byte| !byte.is_ascii_digit());
+    runs.filter(|run| !run.is_empty())
+}
+
 // The numbers in words, from the least text to the greatest.
 fn numbers_in(words: &[u8]) -> Vec<&[u8]> {
-    let runs = words.split(|byte| !byte.is_ascii_digit());
-    let mut numbers: Vec<_> = runs.filter(|run| !run.is_empty()).collect();
+    let mut numbers: Vec<_> = runs_in(words).collect();
     numbers.sort_unstable();
     numbers
+}
+
+// Whether words have as many numbers as others, and not the same.
+fn are_uneven(one: &[u8], other: &[u8]) -> bool {
+    // Most have the same in the same order.
+    if runs_in(one).eq(runs_in(other)) {
+        return false;
+    }
+    let (numbers, others) = (numbers_in(one), numbers_in(other));
+    others.len() == numbers.len() && others != numbers
 }
 
 fn is_converted(raw: &[u8]) -> bool {
@@ -34,11 +49,8 @@ fn uneven_numbers<'t>(text: Translated<'t>) -> Option<(Variant<'t>, Variant<'t>)
     if !first.words.iter().any(u8::is_ascii_digit) {
         return None;
     }
-    let numbers = numbers_in(first.words);
-    let other = others.iter().find(|other| {
-        let others = numbers_in(other.words);
-        others.len() == numbers.len() && others != numbers
-    })?;
+    let mut others = others.iter();
+    let other = others.find(|other| are_uneven(first.words, other.words))?;
     (!is_converted(&text.spoken.raw)).then_some((*first, *other))
 }
 
