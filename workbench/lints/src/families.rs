@@ -27,7 +27,7 @@ type Numbers = BTreeMap<u32, TokenIndex>;
 struct Member<'d> {
     number: u32,
     /// By their stems.
-    named: HashMap<&'d str, Numbers>,
+    named: BTreeMap<&'d str, Numbers>,
 }
 
 /// The items with numbers that are looked at: those of families of which a member names another one's items.
@@ -128,7 +128,7 @@ impl<'d> Families<'d> {
     fn add(&mut self, place: usize, stem: &'d str, number: u32, context: &Context<'d>) {
         let mut member = Member {
             number,
-            named: HashMap::new(),
+            named: BTreeMap::new(),
         };
         for (at, other, number) in named_by(place, "", context) {
             if other != stem && context.instrument.has_name(context.source.word(at)) {
@@ -176,8 +176,11 @@ impl<'d> Families<'d> {
             let others = agreeing.get(stem).copied().unwrap_or(0);
             // Where one other member alone names its own, both may share it.
             let is_copied = 2 <= others || (others == 1 && names_own);
+            if *other == own || !is_copied {
+                continue;
+            }
             let expected = format!("{stem}{own}");
-            if *other != own && is_copied && context.instrument.has_name(&expected) {
+            if context.instrument.has_name(&expected) {
                 let word = context.source.word(*at).to_owned();
                 findings.add(*at, MenuKind::LeftOverName(word, expected));
             }
