@@ -12,13 +12,14 @@ use common::sources_in;
 use std::collections::BTreeSet;
 
 /// The calls that ask for something and that the library uses.
-const TRIED: [&str; 9] = [
+const TRIED: [&str; 10] = [
     "attribute_of_device",
     "element_array",
     "element_number",
     "element_variable",
     "help",
     "label",
+    "number_of",
     "open",
     "reopen",
     "reply",

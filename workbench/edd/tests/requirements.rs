@@ -17,8 +17,8 @@ mod common;
 
 use common::{IMAGES, image_of, methods};
 use edd::{
-    Answer, AnswerFault, Attr, AttrRef, CmdNo, Command, Device, DeviceFault, Drive, EditFault,
-    Happened, Host, Image, ItemNo, LoadFault, MenuNo, Message, MethNo, OctetsFault, Panel,
+    Answer, AnswerFault, Attr, AttrRef, Carried, CmdNo, Command, Device, DeviceFault, Drive, EditFault,
+    Happened, Host, Image, ItemNo, LoadFault, MenuNo, Message, MessageField, MethNo, OctetsFault, Panel,
     PlayFault, ReadFault, Request, Session, SetFault, Side, StartFault, StrNo, Turn, Values,
     ValuesFault, VarNo, WrongValues, drive, play,
 };
@@ -180,6 +180,25 @@ fn octets_are_those_of_messages_and_values_of_the_image() {
     assert_eq!(image.readers(VarNo(0), &values), Ok(vec![reply]));
     assert_eq!(image.readers(VarNo(u16::MAX), &values), Ok(Vec::new()));
     assert_eq!(image.writers(VarNo(0), &values), Ok(Vec::new()));
+}
+
+/// `number_of` of `edd_octets` wants at most four octets. A field gives it as many as its width, and none
+/// where a caller made that wider.
+#[test]
+fn a_field_has_at_most_four_octets() {
+    let octets = [1, 2, 3, 4, 5, 6];
+    for width in 0..octets.len() {
+        let field = MessageField {
+            width,
+            carries: Carried::Constant(0),
+        };
+        for length in 0..octets.len() {
+            let number = field.number_in(&octets[..length]);
+            let expected = [0, 0x1, 0x102, 0x0001_0203, 0x0102_0304];
+            let is_whole = length == width && width < expected.len();
+            assert_eq!(number, is_whole.then(|| expected[width]), "{length} of {width}");
+        }
+    }
 }
 
 /// What is decoded is a value that `Values` takes, so that a host can set it.

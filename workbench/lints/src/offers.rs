@@ -253,6 +253,23 @@ impl<'t> Places<'t> {
     }
 }
 
+// The values that are offered one after the other, from the first one on.
+fn reached_from(start: i64, places: &Places<'_>) -> HashSet<i64> {
+    let mut reached = HashSet::from([start]);
+    loop {
+        let offered = places
+            .all
+            .iter()
+            .filter(|(_, there)| reached.iter().any(|value| there.holds(*value)))
+            .map(|(one, _)| one.value);
+        let further: Vec<i64> = offered.filter(|value| !reached.contains(value)).collect();
+        if further.is_empty() {
+            return reached;
+        }
+        reached.extend(further);
+    }
+}
+
 // Enumerators that no other value of the variable offers. A device or a method may set them.
 fn check_reached(
     number: u16,
@@ -275,16 +292,7 @@ fn check_reached(
         places.add(element, &known);
     }
     let default = default_of(variable).and_then(|part| part.number());
-    let mut reached: HashSet<i64> = default.into_iter().collect();
-    for (one, there) in &places.all {
-        let mut others = variable
-            .enumerators
-            .iter()
-            .filter(|other| **other != one.value);
-        if others.any(|other| there.holds(*other)) {
-            reached.insert(one.value);
-        }
-    }
+    let reached = reached_from(default.unwrap_or(0), &places);
     for (one, _) in places.all {
         if !reached.contains(&one.value) {
             let name = variable.name().to_owned();

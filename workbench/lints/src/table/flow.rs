@@ -137,7 +137,7 @@ METHOD m { DEFINITION { int new_level = 2; send_command(new_level); } }",
         name: "unrefreshed-wait",
         level: Level::Warn,
         summary: "a loop that waits for a variable, and never reads it from the device",
-        details: "a loop with requests, but no `break`, `return` or abort, whose condition reads a variable that nothing in it sets, and which asks for nothing but DELAY, PUT_MESSAGE and ACKNOWLEDGE: only a command reads the variable from the device.",
+        details: "a loop with requests, but no `break`, `return` or abort, whose condition reads a variable that nothing in it sets, and which asks for nothing but DELAY, PUT_MESSAGE, ACKNOWLEDGE and commands of the description of which no reply names it: only such a reply brings the variable from the device.",
         example: r#"VARIABLE e { TYPE ENUMERATED { { 0, "off" } { 1, "on" } { 3, "hold" } } }
 METHOD m { DEFINITION { do { DELAY(1, "Wait"); } while (e != 3); } }"#,
         counterexample: r#"VARIABLE e { TYPE ENUMERATED { { 0, "off" } { 1, "on" } { 3, "hold" } } }
