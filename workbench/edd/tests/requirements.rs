@@ -17,10 +17,10 @@ mod common;
 
 use common::{IMAGES, image_of, methods};
 use edd::{
-    Answer, AnswerFault, Attr, AttrRef, Carried, CmdNo, Command, Device, DeviceFault, Drive, EditFault,
-    Happened, Host, Image, ItemNo, LoadFault, MenuNo, Message, MessageField, MethNo, OctetsFault, Panel,
-    PlayFault, ReadFault, Request, Session, SetFault, Side, StartFault, StrNo, Turn, Values,
-    ValuesFault, VarNo, WrongValues, drive, play,
+    Answer, AnswerFault, Attr, AttrRef, Carried, CmdNo, Command, Device, DeviceFault, Drive,
+    EditFault, Happened, Host, Image, ItemNo, LoadFault, MenuNo, Message, MessageField, MethNo,
+    OctetsFault, Panel, PlayFault, ReadFault, Request, Session, SetFault, Side, StartFault, StrNo,
+    Turn, Values, ValuesFault, VarNo, WrongValues, drive, play,
 };
 use std::convert::Infallible;
 
@@ -196,7 +196,11 @@ fn a_field_has_at_most_four_octets() {
             let number = field.number_in(&octets[..length]);
             let expected = [0, 0x1, 0x102, 0x0001_0203, 0x0102_0304];
             let is_whole = length == width && width < expected.len();
-            assert_eq!(number, is_whole.then(|| expected[width]), "{length} of {width}");
+            assert_eq!(
+                number,
+                is_whole.then(|| expected[width]),
+                "{length} of {width}"
+            );
         }
     }
 }
