@@ -124,7 +124,9 @@ impl<'t> Visitor<'t> for Elements<'_, '_, '_> {
                 self.indexes.extend(array_number(*array).zip(place));
             }
             Expr::Assign(to, value) => {
-                let array = element_by(value).and_then(|(array, _)| array_number(array));
+                // `a = r[a]` follows a chain from number to number.
+                let element = element_by(value).filter(|(_, by)| referred(by) != Some(*to));
+                let array = element.and_then(|(array, _)| array_number(array));
                 if let (Some(array), Some(place)) = (array, storage_of(*to)) {
                     self.kept.push((array, place, self.context.places.sign(e)));
                 }
