@@ -71,6 +71,11 @@ fn set_by(items: &[Cond<Target, DataItem<Target>>]) -> impl Iterator<Item = u16>
 }
 
 impl Exchange {
+    /// Whether it has no variables.
+    pub(crate) fn is_empty(&self) -> bool {
+        self.sent.numbers().is_empty() && self.received.numbers().is_empty()
+    }
+
     fn of(attribute: &Attribute<Target>) -> Option<Exchange> {
         let Attribute::Transaction { at, number, parts } = attribute else {
             return None;

@@ -128,8 +128,9 @@ fn with_defaults<'c, 'd>(read: &HashSet<u16>, context: &'c Context<'d>) -> Envir
     known
 }
 
-// What an option gives where all that it reads has its default.
-fn number_with_defaults(part: &NumberPart<'_>, context: &Context<'_>) -> Option<i64> {
+// What an option of a variable gives where all that it reads has its default. One that reads the variable
+// itself goes in a circle, which is told elsewhere.
+fn number_with_defaults(part: &NumberPart<'_>, own: u16, context: &Context<'_>) -> Option<i64> {
     let Cond::Value(e) = part.value else {
         return None;
     };
@@ -141,6 +142,9 @@ fn number_with_defaults(part: &NumberPart<'_>, context: &Context<'_>) -> Option<
     let mut read = Read::default();
     visit_conditional(part.value, &mut read);
     let read: HashSet<u16> = read.variables.into_iter().collect();
+    if read.contains(&own) {
+        return None;
+    }
     with_defaults(&read, context)
         .evaluate(e, &mut Nobody)
         .number()
@@ -156,7 +160,7 @@ pub(crate) fn check_set_back(
     let Some(default) = part(NumberOption::DefaultValue) else {
         return;
     };
-    let Some(number) = number_with_defaults(&default, context) else {
+    let Some(number) = number_with_defaults(&default, variable.number, context) else {
         return;
     };
     for which in [NumberOption::MinValue, NumberOption::MaxValue] {
@@ -166,7 +170,8 @@ pub(crate) fn check_set_back(
         // Of two constants, and of what is known whatever holds, it is told elsewhere.
         let is_plain = limit.number().is_some() && default.number().is_some();
         let is_told = findings.is_reported(findings.source.span(default.at));
-        let Some(end) = number_with_defaults(&limit, context).filter(|_| !is_plain && !is_told)
+        let Some(end) = number_with_defaults(&limit, variable.number, context)
+            .filter(|_| !is_plain && !is_told)
         else {
             continue;
         };
@@ -292,9 +297,10 @@ fn check_reached(
         places.add(element, &known);
     }
     let default = default_of(variable).and_then(|part| part.number());
-    let reached = reached_from(default.unwrap_or(0), &places);
+    let mut reached = reached_from(default.unwrap_or(0), &places);
+    // Each is told once.
     for (one, _) in places.all {
-        if !reached.contains(&one.value) {
+        if reached.insert(one.value) {
             let name = variable.name().to_owned();
             let kind = VariableKind::UnreachableEnumerator(one.value, name);
             findings.add(index(one.at), kind);

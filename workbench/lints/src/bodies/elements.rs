@@ -124,7 +124,7 @@ impl<'t> Visitor<'t> for Elements<'_, '_, '_> {
                 self.indexes.extend(array_number(*array).zip(place));
             }
             Expr::Assign(to, value) => {
-                // A place that goes on to its own element walks along the array.
+                // `a = r[a]` follows a chain from number to number.
                 let element = element_by(value).filter(|(_, by)| referred(by) != Some(*to));
                 let array = element.and_then(|(array, _)| array_number(array));
                 if let (Some(array), Some(place)) = (array, storage_of(*to)) {

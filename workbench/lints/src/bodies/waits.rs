@@ -95,14 +95,15 @@ impl Doings {
         variables.any(|variable| self.receives(variable, walk))
     }
 
-    // Whether the reply of a command that is sent may have a variable: of one that is not known it may.
+    // Whether the reply of a command that is sent may have a variable: that of one that is not known may, and so
+    // may that of a transaction which has nothing yet.
     fn receives(&self, variable: u16, walk: &Walk<'_, '_>) -> bool {
         self.sent.iter().any(|(command, transaction, count)| {
             let is_known = *count == 1 || transaction.is_some();
             let known = command.filter(|_| is_known);
             let instrument = &walk.context.instrument;
             let exchange = known.and_then(|number| instrument.exchange(number, *transaction));
-            exchange.is_none_or(|exchange| exchange.received.contains(variable))
+            exchange.is_none_or(|one| one.received.contains(variable) || one.is_empty())
         })
     }
 
