@@ -275,3 +275,16 @@ pub(crate) fn visit_statement<'t>(s: &'t Stmt<Target>, visitor: &mut impl Visito
         Stmt::Empty | Stmt::Break { .. } | Stmt::Continue { .. } | Stmt::Return => {}
     }
 }
+
+/// The statements right in a block, and the body itself.
+pub(crate) fn statements_right_in(body: &Stmt<Target>) -> impl Iterator<Item = &Stmt<Target>> {
+    let parts = match body {
+        Stmt::Block(parts) => &**parts,
+        _ => &[],
+    };
+    let inner = parts.iter().filter_map(|part| match part {
+        Part::Statement(s) => Some(s),
+        _ => None,
+    });
+    inner.chain(slice::from_ref(body))
+}

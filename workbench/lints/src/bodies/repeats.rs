@@ -8,7 +8,9 @@ use crate::expressions::stores::without_parentheses;
 use crate::kind::MethodKind;
 use crate::source::TokenIndex;
 use crate::values::environment::{Storage, storage_of};
-use crate::visit::{Visitor, for_children, has_child, visit_parts, visit_statement};
+use crate::visit::{
+    Visitor, for_children, has_child, statements_right_in, visit_parts, visit_statement,
+};
 use crate::warning::Findings;
 use edd_constants::evaluate;
 use edd_instructions::Sort;
@@ -300,16 +302,7 @@ fn breaks(body: &Stmt<Target>) -> bool {
 
 // The locals to which each turn adds something.
 fn added_in(body: &Stmt<Target>) -> Vec<Storage> {
-    let single = std::slice::from_ref(body);
-    let parts: &[Part<Target>] = match body {
-        Stmt::Block(parts) => parts,
-        _ => &[],
-    };
-    let inner = parts.iter().filter_map(|part| match part {
-        Part::Statement(s) => Some(s),
-        _ => None,
-    });
-    let added = inner.chain(single).filter_map(|s| match s {
+    let added = statements_right_in(body).filter_map(|s| match s {
         Stmt::Evaluate(Expr::CompoundAssign(Operator::Add, to, value)) => {
             let is_constant = evaluate(value, Sort::Method).number().is_some();
             storage_of(*to).filter(|_| !is_constant)

@@ -6,12 +6,12 @@ use crate::expressions::stores::without_parentheses;
 use crate::kind::ConditionKind;
 use crate::values::environment::{Environment, Storage, storage_of};
 use crate::values::evaluation::Nobody;
-use crate::visit::{Visitor, visit_statement};
+use crate::visit::{Visitor, statements_right_in, visit_statement};
 use edd_constants::evaluate;
 use edd_instructions::Sort;
 use edd_syntax::expr::Expr;
 use edd_syntax::reference::Target;
-use edd_syntax::stmt::{Part, Stmt};
+use edd_syntax::stmt::Stmt;
 use std::collections::BTreeMap;
 
 /// How often a statement sets each place.
@@ -67,18 +67,9 @@ impl<'c, 'd> Ways<'c, 'd, '_> {
         body: &Stmt<Target>,
         known: &Environment<'c, 'd>,
     ) {
-        let single = std::slice::from_ref(body);
-        let parts: &[Part<Target>] = match body {
-            Stmt::Block(parts) => parts,
-            _ => &[],
-        };
-        let inner = parts.iter().filter_map(|part| match part {
-            Part::Statement(s) => Some(s),
-            _ => None,
-        });
         // What the loop sets is counted once, where it has such a branch.
         let mut counted = None;
-        for s in inner.chain(single) {
+        for s in statements_right_in(body) {
             let Stmt::If(condition, branch) = s else {
                 continue;
             };
