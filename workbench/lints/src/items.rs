@@ -77,6 +77,17 @@ fn check_variable(variable: &Variable<'_>, context: &Context<'_>, findings: &mut
     check_set_back(variable, context, findings);
 }
 
+// Checks what items of all kinds have.
+fn check_each<'d>(item: &Item<Target>, context: &Context<'d>, findings: &mut Findings<'d>) {
+    check_classes(item, context, findings);
+    check_gaps(item, context, findings);
+    check_listings(item, context, findings);
+    for attribute in &item.attributes {
+        check_label(attribute, findings);
+    }
+    check_attributes(item, context, findings);
+}
+
 /// Checks items by themselves: what is found in one depends on no finding in another one.
 pub(crate) fn check_items<'d>(
     part: &Part<'_, 'd>,
@@ -91,12 +102,10 @@ pub(crate) fn check_items<'d>(
         check_branches(item, context, findings);
         let is_variable = item.sort == ItemKind::Variable;
         let variable = is_variable.then(|| variables.next()).flatten();
+        if let Some(variable) = variable {
+            check_variable(variable, context, findings);
+        }
         match item.sort {
-            ItemKind::Variable => {
-                if let Some(variable) = variable {
-                    check_variable(variable, context, findings);
-                }
-            }
             ItemKind::Command => {
                 check_command(item, context, findings);
                 check_traffic(item, context, findings);
@@ -105,15 +114,9 @@ pub(crate) fn check_items<'d>(
                 let own = methods.next().map(|number| ItemNo::Method(MethNo(number)));
                 check_method(item, own, context, findings);
             }
-            ItemKind::Menu | ItemKind::Collection(_) | ItemKind::Array => {}
+            ItemKind::Variable | ItemKind::Menu | ItemKind::Collection(_) | ItemKind::Array => {}
         }
-        check_classes(item, context, findings);
-        check_gaps(item, context, findings);
-        check_listings(item, context, findings);
-        for attribute in &item.attributes {
-            check_label(attribute, findings);
-        }
-        check_attributes(item, context, findings);
+        check_each(item, context, findings);
         match item.sort {
             ItemKind::Variable => {
                 if let Some(variable) = variable {

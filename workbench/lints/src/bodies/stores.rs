@@ -352,6 +352,21 @@ fn pass<'t>(part: &'t Part<Target>, pending: &mut Pending<'t>, walk: &mut Walk<'
     *pending = Pending::default();
 }
 
+// Checks an expression that is evaluated for what it does alone, as a question to the technician.
+fn check_evaluated<'t>(
+    e: &'t Expr<Target>,
+    at: TokenIndex,
+    pending: &mut Pending<'t>,
+    walk: &mut Walk<'_, '_>,
+) {
+    if let Some(earlier) = pending.entered_before(e) {
+        walk.findings
+            .add_beside(earlier, MethodKind::ReplacedEntry, at);
+    }
+    pending.read(e);
+    pending.enter(e, at);
+}
+
 /// Checks the stores of a block, one after the other.
 pub(super) fn check_stores(parts: &[Part<Target>], walk: &mut Walk<'_, '_>) {
     let mut pending = Pending::default();
@@ -365,12 +380,7 @@ pub(super) fn check_stores(parts: &[Part<Target>], walk: &mut Walk<'_, '_>) {
         pending.change(e);
         let at = walk.context.places.sign(e);
         let Expr::Assign(to, value) = e else {
-            if let Some(earlier) = pending.entered_before(e) {
-                walk.findings
-                    .add_beside(earlier, MethodKind::ReplacedEntry, at);
-            }
-            pending.read(e);
-            pending.enter(e, at);
+            check_evaluated(e, at, &mut pending, walk);
             continue;
         };
         pending.read(value);
